@@ -3,8 +3,10 @@
 
 pub use address::{CoreId, LineAddr, Local, Offset, SliceId, WordAddr};
 pub use block::Block;
+pub use config::{Checked, Config, ConfigError};
 pub use request::{Op, Request};
 
 mod address;
 mod block;
+mod config;
 mod request;

@@ -26,7 +26,7 @@ record IsPlace (v : View) (request : Request) (local : Local) (offset : Offset) 
   pub tag : request.tag < 64
 
 within-miss : (v : View) (r : Request) (side : SideView) (local : Local) (offset : Offset) (next : CopyState) (ask : RequestMessage)
-  → IsPlace v r local offset → IsWithin v r (miss_of side local offset next ask)
+    → IsPlace v r local offset → IsWithin v r (miss_of side local offset next ask)
 within-miss v r side local offset next ask h = by_register (is_some side.register)
   where
     by_register : (b : Bool) → IsWithin v r (if b then decisions.Stall stalls.NoRegister else decisions.Miss local offset next ask)
@@ -34,14 +34,14 @@ within-miss v r side local offset next ask h = by_register (is_some side.registe
     by_register false = (h.line, h.word, h.tag)
 
 within-row : (v : View) (r : Request) (side : SideView) (local : Local) (offset : Offset) (row : Row)
-  → IsPlace v r local offset → IsWithin v r (by_row side local offset row)
+    → IsPlace v r local offset → IsWithin v r (by_row side local offset row)
 within-row v r side local offset (rows.Go next sends.Nothing) h = (h.line, h.word)
 within-row v r side local offset (rows.Go next sends.GetS) h = within-miss v r side local offset next requests.GetS h
 within-row v r side local offset (rows.Go next sends.GetM) h = within-miss v r side local offset next requests.GetM h
 within-row v r side local offset _ h = tt
 
 pub within-access : (v : View) (r : Request) (d : Decision) (side : SideView) (local : Local) (offset : Offset) (op : Op)
-  → d ≡ access_of side local offset op → local.0 < length v.lines → offset.0 < 8 → r.tag < 64 → IsWithin v r d
+    → d ≡ access_of side local offset op → local.0 < length v.lines → offset.0 < 8 → r.tag < 64 → IsWithin v r d
 within-access v r d side local offset op decided line word tag = rw decided (by_wait (waits_for side.register local.0))
   where
     row : Row

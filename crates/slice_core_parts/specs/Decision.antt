@@ -64,13 +64,13 @@ decision_of v core request =
     let line = request.word.0 / 8 in
     let side = side_at v core.0 in
     if nat_lt line (length v.lines * v.slices) then
-      if line % v.slices == v.slice then
-        if nat_lt request.tag 64 then
-          if is_free (tag_at side request.tag) then
-            access_of side (record { 0 = line / v.slices }) (record { 0 = request.word.0 % 8 }) request.op
-          else decisions.Refuse refusals.TagBusy
-        else decisions.Refuse refusals.TagRange
-      else decisions.Refuse refusals.WrongSlice
+    if line % v.slices == v.slice then
+    if nat_lt request.tag 64 then
+    if is_free (tag_at side request.tag) then
+    access_of side (record { 0 = line / v.slices }) (record { 0 = request.word.0 % 8 }) request.op
+    else decisions.Refuse refusals.TagBusy
+    else decisions.Refuse refusals.TagRange
+    else decisions.Refuse refusals.WrongSlice
     else decisions.Refuse refusals.OutOfRange
 
 -- An access that isn't put off is at a place of the slice, under a tag that there is.

@@ -60,7 +60,7 @@ abbrev pub after_hit : SideView → ℕ → ℕ → Op → CopyState → SideVie
 after_hit side local offset op next =
     record side {
       accepted = side.accepted + 1;
-      copies = slice_set side.copies local (record { block = performed_on (copy_at side local).block offset op; state = next })
+      copies = slice_set side.copies local (record { block = performed_on (copy_at side local).block offset op; state = next });
     }
 
 -- the access missed: it is the target of the miss register, its tag is open, and the copy waits
@@ -70,7 +70,7 @@ after_miss side local next offset request since =
       accepted = side.accepted + 1;
       copies = slice_set side.copies local.0 (record (copy_at side local.0) { state = next });
       register = Some (record { target = record { op = request.op; seq = side.accepted; since = since; offset = offset; tag = request.tag }; local = local });
-      tags = slice_set side.tags request.tag tags.Open
+      tags = slice_set side.tags request.tag tags.Open;
     }
 
 -- data came, the target was performed on them under this number, and the register is free
@@ -79,12 +79,17 @@ after_fill side local block next target number =
     record side {
       copies = slice_set side.copies local (record { block = performed_on block target.offset.0 target.op; state = next });
       register = None;
-      tags = slice_set side.tags target.tag (tags.Performed number)
+      tags = slice_set side.tags target.tag (tags.Performed number);
     }
 
 -- the entry that the tag named is handed out
 abbrev pub after_hand : SideView → ℕ → SideView
 after_hand side tag = record side { tags = slice_set side.tags tag tags.Free }
+
+-- The reply of least number is handed out, and its tag is free; or there is none, and nothing has changed.
+abbrev pub AfterHand : SideView → Option ℕ → SideView → Type 0
+AfterHand old None new = IsLeastReply old.tags None × (new ≡ old)
+AfterHand old (Some number) new = (tag : ℕ) × IsLeastReply old.tags (Some (tag, number)) × (new ≡ after_hand old tag)
 
 -- neither a miss register nor a reply that isn't handed out
 pub record IsSideQuiet (side : SideView) : Type 0 where

@@ -1,5 +1,4 @@
 ghost use Rattle.std.specs.Prelude.{◌≡◌, ℕ, ◌+◌, ◌*◌, ◌^◌, ◌<◌, ◌≤◌, ◌↔◌, length, vec_capacity, IfOk, OnOk, OnErr, IsTrue};
-
 ghost use Rattle.std.specs.Prelude.{replicate};
 ghost use Rattle.slice_core_line.specs.Line.{new_line};
 ghost use Rattle.slice_core_parts.specs.Side.{new_side};
@@ -11,6 +10,8 @@ use slice_core_log::Entry;
 use std::alloc::{AllocError, Global};
 use std::marker::Model;
 
+mod deliver;
+mod hand;
 mod issue;
 
 /// One slice: its lines, each core's side and the log.
@@ -27,22 +28,21 @@ pub struct Parts {
 
 impl Model for Parts {
     ghost use Rattle.std.specs.Prelude.{◌<◌, vec_capacity};
-    ghost use Rattle.slice_core_parts.specs.Parts.{PartsView};
+    ghost use Rattle.slice_core_parts.specs.Parts.{PartsView, IsNew};
 
     ghost Value = { PartsView };
 
     ghost view = { λ p. record {
-        view = record { lines = p.lines.items; sides = p.sides.items; log = p.log.items; slices = p.slices; slice = p.slice };
-        pending = p.pending;
-        room = vec_capacity p.log
+      view = record { lines = p.lines.items; sides = p.sides.items; log = p.log.items; slices = p.slices; slice = p.slice };
+      pending = p.pending;
+      room = vec_capacity p.log;
     } };
 
     ghost invariant = { λ p. p.slice < p.slices };
 }
 
 impl Parts {
-    ghost use Rattle.slice_core_parts.specs.Parts.{PartsView};
-    ghost use Rattle.slice_core_parts.specs.View.{new_view};
+    ghost use Rattle.slice_core_parts.specs.Parts.{PartsView, IsNew};
 
     /// A slice of zeros in which nothing was asked for yet, for this many cores and lines.
     pub fn new(
@@ -53,7 +53,7 @@ impl Parts {
         slice: u64,
     ) -> Result<Parts, AllocError>
         requires { slice < slices }
-        ensures { IfOk result (λ parts. parts.view ≡ new_view cores lines slices slice) }
+        ensures { IfOk result (IsNew cores lines slices slice) }
     {
         Ok(Parts {
             lines: new_lines(alloc, cores, lines)?,

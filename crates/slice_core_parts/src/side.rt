@@ -52,8 +52,7 @@ impl Model for Side {
 }
 
 impl Side {
-    ghost use Rattle.slice_core_parts.specs.Side.{new_side, copy_at, tag_at, word_at, after_hit, after_miss, after_fill, after_hand, IsSideQuiet};
-    ghost use Rattle.slice_core_parts.specs.Tags.{IsLeastReply};
+    ghost use Rattle.slice_core_parts.specs.Side.{new_side, copy_at, tag_at, word_at, after_hit, after_miss, after_fill, AfterHand, IsSideQuiet};
 
     /// A side with nothing in it, with a copy in I of each of the slice's lines.
     pub fn new(alloc: Global, lines: usize) -> Result<Side, AllocError>
@@ -148,7 +147,13 @@ impl Side {
 
     /// Data came: the copy gets the block and the next state, the register's target is performed on it under the given
     /// number, and the register is freed. Answers the target and its reply.
-    pub fn fill(&mut self, local: Local, block: Block, next: CopyState, number: u64) -> (Target, u64)
+    pub fn fill(
+        &mut self,
+        local: Local,
+        block: Block,
+        next: CopyState,
+        number: u64,
+    ) -> (Target, u64)
         requires held { local.0 < length self.old.copies }
         requires waits { IfSome self.old.register (λ r. (r.target.offset.0 < 8) × (r.target.tag < 64)) × IsSome self.old.register }
         ensures target { option_map (λ r. r.target) self.old.register ≡ Some result.0 }
@@ -168,25 +173,19 @@ impl Side {
         (target, reply_to(target.op, value))
     }
 
-    /// The tag whose entry has the least number of those that aren't handed out, and that number.
-    pub fn least_reply(&self) -> Option<(u8, u64)>
-        ensures { IsLeastReply self.now.tags result }
+    /// Hands out the reply of least number, if there is one: its tag is free then. Answers the number.
+    pub fn hand(&mut self) -> Option<u64>
+        ensures { AfterHand self.old result self.new }
     {
-        least_reply(&self.tags)
-    }
-
-    /// Frees a tag: its entry is handed out.
-    pub fn free(&mut self, tag: u8)
-        requires { tag < 64 }
-        ensures { self.new ≡ after_hand self.old tag }
-    {
+        let (tag, number) = least_reply(&self.tags)?;
         self.tags[tag as usize] = TagState::Free;
+        Some(number)
     }
 
     /// Whether the core has neither a miss register nor a reply that isn't handed out.
     pub fn is_quiet(&self) -> bool
         ensures { IsTrue result ↔ IsSideQuiet self.now }
     {
-        self.register.is_none() && self.least_reply().is_none()
+        self.register.is_none() && least_reply(&self.tags).is_none()
     }
 }

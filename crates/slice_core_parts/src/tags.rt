@@ -1,4 +1,4 @@
-ghost use Rattle.std.specs.Prelude.{◌≡◌, ◌≤◌, length};
+ghost use Rattle.std.specs.Prelude.{◌≡◌, ◌<◌, ◌≤◌, length, IfSome};
 ghost use Rattle.slice_core_parts.specs.Tags.{earlier, IsLeastReply};
 
 /// What a tag of a core names.
@@ -14,7 +14,8 @@ pub enum TagState {
 // The reply of least number that the tags name, with its tag.
 pub fn least_reply(tags: &[TagState]) -> Option<(u8, u64)>
     requires { length tags.now ≤ 64 }
-    ensures { IsLeastReply tags.now result }
+    ensures least { IsLeastReply tags.now result }
+    ensures tag { IfSome result (λ least. least.0 < length tags.now) }
 {
     let mut least: Option<(u8, u64)> = None;
     for (tag, state) in tags.iter().enumerate() {

@@ -19,7 +19,9 @@ impl Parts {
         requires shaped { IsShaped self.old.view }
         requires counted { (side_at self.old.view core.0).accepted + 1 < 2 ^ 64 }
         requires pending { self.old.pending + 1 < 2 ^ 64 }
-        ensures { AfterIssue self.old core request result self.new }
+        requires bounded { self.old.room < 2 ^ 63 }
+        ensures step { AfterIssue self.old core request result self.new }
+        ensures bounded { self.new.room < 2 ^ 63 }
     {
         match self.decide(core, request) {
             Decision::Refuse(refused) => Err(refused),
@@ -78,6 +80,7 @@ impl Parts {
         ensures room { OnOk result (length self.old.view.log + self.old.pending + 1 ≤ self.new.room) }
         ensures refused { IfErr result (λ e. e ≡ Refused.Memory) }
         ensures kept { self.old.room ≤ self.new.room }
+        ensures bounded { self.new.room < 2 ^ 63 }
     {
         match self.log.reserve(self.pending + 1) {
             Ok(()) => Ok(()),

@@ -1,0 +1,16 @@
+//! The table of a directory: what the directory's entry of a line does at each request, and at data that come home.
+//!
+//! The states are the Primer's (Sorin, Hill and Wood, *A Primer on Memory Consistency and Cache Coherence*): in I nobody
+//! has the line, in S its sharers may read it, in M its owner has the only copy, and in S_D the directory waits for the
+//! block that the last owner sends home. [`dir_row`] is the table itself, one cell one line, for both settings of the
+//! exclusive state; its contract is the same table, and above it the laws by which the directory knows who may read and
+//! who may write. `state` has the entry, `cores` sets of cores as bits, `row` the events, the sends and the table.
+#![tactic(auto)]
+
+pub use cores::is_among;
+pub use row::{DirEvent, DirRow, DirSends, dir_row};
+pub use state::{DirEntry, DirState};
+
+mod cores;
+mod row;
+mod state;

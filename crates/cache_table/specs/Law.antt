@@ -17,6 +17,11 @@ IfGo (rows.Go next sent) P = P next sent
 IfGo rows.Blocked P = Unit {0}
 IfGo rows.NoEntry P = Unit {0}
 
+-- Where the row is blocked, the fact holds.
+abbrev pub IfBlocked : Row → Type 0 → Type 0
+IfBlocked rows.Blocked P = P
+IfBlocked _ P = Unit {0}
+
 -- ---- events
 
 -- with this event all that a write awaits has come: the data, and each acknowledgement that they name

@@ -1,1 +1,2 @@
 pub mod CoreSets
+pub mod RowLaws

@@ -3,7 +3,6 @@
 use Rattle.std.specs.Prelude.{◌≡◌, ◌⊎◌, ℕ, ◌+◌, ◌==◌, ◌<◌, ◌≤◌, ◌&&◌, ◌||◌, Bool, true, false, not, if◌then◌else◌, Option, Some, None, is_some, IfSome, IsTrue, IsFalse}
 use Rattle.address_map.specs.declared.address.CoreId.{CoreId}
 use Rattle.directory_table.specs.Cores.{count_of, is_among}
-use Rattle.directory_table.specs.declared.state.DirEntry.{DirEntry}
 use Rattle.directory_table.specs.declared.state.DirState.{DirState}
 use Rattle.directory_table.specs.declared.state.DirState.TheVariants as states
 use Rattle.directory_table.specs.declared.row.DirEvent.{DirEvent}
@@ -18,6 +17,11 @@ abbrev pub IfGo : DirRow → (DirState → Option CoreId → ℕ → DirSends �
 IfGo (rows.Go state owner sharers sent writes) P = P state owner sharers sent writes
 IfGo rows.Blocked P = Unit {0}
 IfGo rows.NoEntry P = Unit {0}
+
+-- Where the row is blocked, the fact holds.
+abbrev pub IfBlocked : DirRow → Type 0 → Type 0
+IfBlocked rows.Blocked P = P
+IfBlocked _ P = Unit {0}
 
 -- ---- states and owners
 
@@ -116,27 +120,27 @@ abbrev pub HasOwnerInM : DirState → Option CoreId → Type 0
 HasOwnerInM state owner = is_some owner ≡ is_modified state
 
 -- The message's block is the newest: it comes from the last owner, or the owner writes it back.
-abbrev pub brings_home : DirEntry → DirEvent → Bool
-brings_home entry event = is_data_home event || is_written_back entry.state entry.owner event
+abbrev pub brings_home : DirState → Option CoreId → DirEvent → Bool
+brings_home state owner event = is_data_home event || is_written_back state owner event
 
 -- Data leave the home copy only while it is current, in I and S; else the request is forwarded to the owner, another core.
-pub record Serves (entry : DirEntry) (event : DirEvent) (sent : DirSends) : Type 0 where
-  pub current : IsTrue (sends_data sent) → IsTrue (is_idle entry.state || is_shared entry.state)
-  pub forwarded : IfSome (forwarded_to sent) (λ to. (entry.owner ≡ Some to) × IsFalse (is_named (requester event) to.0))
+pub record Serves (state : DirState) (owner : Option CoreId) (event : DirEvent) (sent : DirSends) : Type 0 where
+  pub current : IsTrue (sends_data sent) → IsTrue (is_idle state || is_shared state)
+  pub forwarded : IfSome (forwarded_to sent) (λ to. (owner ≡ Some to) × IsFalse (is_named (requester event) to.0))
 
 -- Who is given the line then stands in the entry.
 abbrev pub KnowsRequester : DirEvent → Option CoreId → ℕ → Type 0
 KnowsRequester event owner sharers = IfSome (getter event) (λ core. IsTrue (is_among sharers core.0 || is_named owner core.0))
 
 -- A GetM makes its requester the owner. Nothing else makes a new owner but, under the setting, a GetS of a line that nobody has.
-pub record GrantsWriting (exclusive : Bool) (entry : DirEntry) (event : DirEvent) (owner : Option CoreId) : Type 0 where
-  pub granted : IfSome (writer event) (λ core. owner ≡ Some core)
-  pub asked : IfSome owner (λ core. (entry.owner ≡ Some core) ⊎ (writer event ≡ Some core) ⊎ (IsTrue (exclusive && is_idle entry.state) × (reader event ≡ Some core)))
+pub record GrantsWriting (exclusive : Bool) (state : DirState) (owner : Option CoreId) (event : DirEvent) (next : Option CoreId) : Type 0 where
+  pub granted : IfSome (writer event) (λ core. next ≡ Some core)
+  pub asked : IfSome next (λ core. (owner ≡ Some core) ⊎ (writer event ≡ Some core) ⊎ (IsTrue (exclusive && is_idle state) × (reader event ≡ Some core)))
 
 -- A GetM of a shared line has each sharer invalidated but the requester. Nothing else invalidates.
-abbrev pub Invalidates : DirEntry → DirEvent → DirSends → Type 0
-Invalidates entry event sent = (core : ℕ) → core < 64
-    → is_sent_inv sent core ≡ (is_shared entry.state && is_some (writer event) && is_among entry.sharers core && not (is_named (writer event) core))
+abbrev pub Invalidates : DirState → ℕ → DirEvent → DirSends → Type 0
+Invalidates state sharers event sent = (core : ℕ) → core < 64
+    → is_sent_inv sent core ≡ (is_shared state && is_some (writer event) && is_among sharers core && not (is_named (writer event) core))
 
 -- The requester is told to await as many acknowledgements as cores are sent an invalidation.
 abbrev pub AwaitsInvalidated : DirSends → Type 0
@@ -156,9 +160,9 @@ stays_sharer exclusive states.S_D owner (events.PutS leaves) was core = was && n
 stays_sharer exclusive states.S_D owner (events.PutM leaves) was core = was && not (core == leaves.0)
 stays_sharer _ _ _ _ was _ = was
 
-abbrev pub is_sharer_after : Bool → DirEntry → DirEvent → ℕ → Bool
-is_sharer_after exclusive entry event core =
-    stays_sharer exclusive entry.state entry.owner event (is_among entry.sharers core) core
+abbrev pub is_sharer_after : Bool → DirState → Option CoreId → ℕ → DirEvent → ℕ → Bool
+is_sharer_after exclusive state owner sharers event core =
+    stays_sharer exclusive state owner event (is_among sharers core) core
 
 -- Each core is sent one message at most, invalidations included.
 abbrev pub SendsOneToEach : DirEvent → DirSends → Type 0

@@ -1,7 +1,7 @@
 //! Sets of cores, in which bit c is core c.
 
-ghost use Rattle.std.specs.Prelude.{◌≡◌, ◌==◌, ◌<◌, ◌&&◌, ◌||◌, not};
-ghost use Rattle.directory_table.specs.Cores.{HasExactly, count_of, is_among, only, with, without};
+ghost use Rattle.std.specs.Prelude.{◌≡◌, ◌<◌};
+ghost use Rattle.directory_table.specs.Cores.{count_of, is_among, only, with, without};
 
 use address_map::CoreId;
 
@@ -16,8 +16,7 @@ pub const fn is_among(cores: u64, core: CoreId) -> bool
 /// The core alone.
 pub(super) const fn only(core: CoreId) -> u64
     requires { core.0 < 64 }
-    ensures set { result ≡ only core.0 }
-    ensures members { HasExactly result (λ c. c == core.0) }
+    ensures { result ≡ only core.0 }
 {
     1 << core.0
 }
@@ -25,8 +24,7 @@ pub(super) const fn only(core: CoreId) -> u64
 /// The set and the core.
 pub(super) const fn with(cores: u64, core: CoreId) -> u64
     requires { core.0 < 64 }
-    ensures set { result ≡ with cores core.0 }
-    ensures members { HasExactly result (λ c. is_among cores c || c == core.0) }
+    ensures { result ≡ with cores core.0 }
 {
     cores | only(core)
 }
@@ -34,8 +32,7 @@ pub(super) const fn with(cores: u64, core: CoreId) -> u64
 /// The set without the core.
 pub(super) const fn without(cores: u64, core: CoreId) -> u64
     requires { core.0 < 64 }
-    ensures set { result ≡ without cores core.0 }
-    ensures members { HasExactly result (λ c. is_among cores c && not (c == core.0)) }
+    ensures { result ≡ without cores core.0 }
 {
     cores & !only(core)
 }

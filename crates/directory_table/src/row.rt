@@ -1,8 +1,8 @@
 ghost use Rattle.std.specs.Option.{ForSome};
-ghost use Rattle.std.specs.Prelude.{◌≡◌, ℕ, ◌==◌, ◌<◌, ◌&&◌, not};
-ghost use Rattle.directory_table.specs.Cores.{HasExactly, count_of_others, is_among, without};
-ghost use Rattle.directory_table.specs.Law.{AwaitsHome, AwaitsInvalidated, ForgetsNobody, GivesOnlyCopy, GrantsWriting, HasOwnerInM, IfGo, Invalidates, KnowsRequester, SendsOneToEach, Serves, WaitsForHome, brings_home, is_sent_inv, is_sharer_after};
-ghost use Rattle.directory_table.specs.Row.{IsOfCore, goes, goes_home, row_of, shared_by};
+ghost use Rattle.std.specs.Prelude.{◌≡◌, ◌<◌};
+ghost use Rattle.directory_table.specs.Cores.{HasExactly, count_of_others, without};
+ghost use Rattle.directory_table.specs.Law.{AwaitsHome, AwaitsInvalidated, ForgetsNobody, GivesOnlyCopy, GrantsWriting, HasOwnerInM, IfBlocked, IfGo, Invalidates, KnowsRequester, SendsOneToEach, Serves, WaitsForHome, brings_home, is_sharer_after};
+ghost use Rattle.directory_table.specs.Row.{IsOfCore, cell, goes, goes_home, row_of, shared_by};
 
 use super::cores::{count, only, with, without};
 use super::state::{DirEntry, DirState};
@@ -55,7 +55,6 @@ pub enum DirRow {
 
 /// The cell of the table at an entry and an event. `exclusive` is the setting by which a request to read a line that
 /// nobody has is given the only copy.
-#[rattlefmt::skip]
 pub fn dir_row(exclusive: bool, entry: &DirEntry, event: DirEvent) -> DirRow
     requires requester { IsOfCore event }
     requires owner { ForSome entry.now.owner (λ owner. owner.0 < 64) }
@@ -63,24 +62,34 @@ pub fn dir_row(exclusive: bool, entry: &DirEntry, event: DirEvent) -> DirRow
 
     // Why the directory knows who may read and who may write.
     ensures owner { HasOwnerInM entry.now.state entry.now.owner → IfGo result (λ state owner _ _ _. HasOwnerInM state owner) }
-    ensures home { IfGo result (λ _ _ _ _ writes. writes ≡ brings_home entry.now event) }
-    ensures served { IfGo result (λ _ _ _ sent _. Serves entry.now event sent) }
+    ensures home { IfGo result (λ _ _ _ _ writes. writes ≡ brings_home entry.now.state entry.now.owner event) }
+    ensures served { IfGo result (λ _ _ _ sent _. Serves entry.now.state entry.now.owner event sent) }
     ensures known { IfGo result (λ _ owner sharers _ _. KnowsRequester event owner sharers) }
-    ensures granted { IfGo result (λ _ owner _ _ _. GrantsWriting exclusive entry.now event owner) }
-    ensures invalidated { IfGo result (λ _ _ _ sent _. Invalidates entry.now event sent) }
+    ensures granted { IfGo result (λ _ owner _ _ _. GrantsWriting exclusive entry.now.state entry.now.owner event owner) }
+    ensures invalidated { IfGo result (λ _ _ _ sent _. Invalidates entry.now.state entry.now.sharers event sent) }
     ensures acknowledgements { IfGo result (λ _ _ _ sent _. AwaitsInvalidated sent) }
-    ensures sharers { IfGo result (λ _ _ sharers _ _. HasExactly sharers (is_sharer_after exclusive entry.now event)) }
+    ensures sharers { let after = is_sharer_after exclusive entry.now.state entry.now.owner entry.now.sharers event
+        in IfGo result (λ _ _ sharers _ _. HasExactly sharers after) }
     ensures messages { IfGo result (λ _ _ _ sent _. SendsOneToEach event sent) }
     ensures idle { IfGo result (λ state _ sharers _ _. ForgetsNobody entry.now.state state sharers) }
     ensures awaited { IfGo result (λ state _ _ _ _. AwaitsHome entry.now.state event state) }
-    ensures blocked { result ≡ DirRow.Blocked → WaitsForHome entry.now.state event }
+    ensures blocked { IfBlocked result (WaitsForHome entry.now.state event) }
     ensures exclusive { IfGo result (λ _ _ _ sent _. GivesOnlyCopy exclusive entry.now.state sent) }
+{
+    cell(exclusive, entry.state, entry.owner, entry.sharers, event)
+}
+
+// The table itself, one cell one line.
+#[rattlefmt::skip]
+fn cell(exclusive: bool, state: DirState, owner: Option<CoreId>, sharers: u64, event: DirEvent) -> DirRow
+    requires requester { IsOfCore event }
+    requires owner { ForSome owner (λ owner. owner.0 < 64) }
+    ensures { result ≡ cell exclusive state owner sharers event }
 {
     use DirEvent::*;
     use DirRow::{Blocked, NoEntry};
     use DirSends::*;
     use DirState::*;
-    let DirEntry { sharers, owner, state, .. } = *entry;
     match (state, owner, event) {
         (I, _, GetS(core)) if exclusive => go(M, Some(core), sharers, DataE),
         (I, _, GetS(core)) => go(S, owner, only(core), Data { acks: 0 }),
@@ -140,9 +149,7 @@ const fn shared_by(sharers: u64) -> DirState
 /// Data to the requester, and an invalidation to each other sharer, whose acknowledgement the data name.
 const fn invalidate_others(sharers: u64, requester: CoreId) -> DirSends
     requires { requester.0 < 64 }
-    ensures sent { result ≡ DirSends.DataAndInv (count_of_others sharers requester.0) (without sharers requester.0) }
-    ensures invalidated { (core : ℕ) → core < 64 → is_sent_inv result core ≡ (is_among sharers core && not (core == requester.0)) }
-    ensures acknowledgements { AwaitsInvalidated result }
+    ensures { result ≡ DirSends.DataAndInv (count_of_others sharers requester.0) (without sharers requester.0) }
 {
     let invalidated = without(sharers, requester);
     DirSends::DataAndInv {

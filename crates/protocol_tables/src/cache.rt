@@ -1,8 +1,7 @@
 //! The table of a private cache, in two parts.
 
-use std::{fmt, io};
-
 use cache_table::{CacheEvent, CacheSends, CopyState, Row, cache_row};
+use std::{fmt, io};
 
 const STATES: [CopyState; 12] = [
     CopyState::I,
@@ -72,7 +71,9 @@ pub fn print(rt: &impl Print) -> io::Result<()> {
     println!(rt; "|---|---|---|---|---|---|---|---|")?;
     print_part(rt, &ASKED)?;
     println!(rt;)?;
-    println!(rt; "| Cache | Data, k = n | Data, k < n | Data, k > n | Inv-Ack, k + 1 = n | Inv-Ack, k + 1 < n | Inv-Ack, k + 1 > n | Data-E, loads alone | Data-E, a write too |")?;
+    println!(rt;
+        "| Cache | Data, k = n | Data, k < n | Data, k > n | Inv-Ack, k + 1 = n | Inv-Ack, k + 1 < n | Inv-Ack, k + 1 > n | Data-E, loads alone | Data-E, a write too |"
+    )?;
     println!(rt; "|---|---|---|---|---|---|---|---|---|")?;
     print_part(rt, &ANSWERED)
 }

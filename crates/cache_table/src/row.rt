@@ -57,7 +57,7 @@ pub enum Row {
 pub const fn cache_row(state: CopyState, event: CacheEvent) -> Row
     ensures table { result ≡ row_of state event }
 
-    // Why a line has one writer or only readers, whatever the cells are.
+    // What the coherence of a line rests on, whatever the cells are.
     ensures write_right { IfGo result (λ next _. TakesWriteRight state event next) }
     ensures read_right { IfGo result (λ next _. TakesReadRight state event next) }
     ensures given_up { IfGo result (λ next _. GivesUp event next) }

@@ -1,5 +1,5 @@
 -- Laws of the table, in words that are not its cells: who owns and who shares a line, from whom its data come, and what
--- each core is sent. They are why the directory knows who may read a line and who may write it.
+-- each core is sent.
 use Rattle.std.specs.Prelude.{◌≡◌, ◌⊎◌, ℕ, ◌+◌, ◌==◌, ◌<◌, ◌≤◌, ◌&&◌, ◌||◌, Bool, true, false, not, if◌then◌else◌, Option, Some, None, is_some, IfSome, IsTrue, IsFalse}
 use Rattle.address_map.specs.declared.address.CoreId.{CoreId}
 use Rattle.directory_table.specs.Cores.{count_of, is_among}

@@ -60,7 +60,7 @@ pub fn dir_row(exclusive: bool, entry: &DirEntry, event: DirEvent) -> DirRow
     requires owner { ForSome entry.now.owner (λ owner. owner.0 < 64) }
     ensures table { result ≡ row_of exclusive entry.now event }
 
-    // Why the directory knows who may read and who may write.
+    // What the coherence of a line rests on, whatever the cells are.
     ensures owner { HasOwnerInM entry.now.state entry.now.owner → IfGo result (λ state owner _ _ _. HasOwnerInM state owner) }
     ensures home { IfGo result (λ _ _ _ _ writes. writes ≡ brings_home entry.now.state entry.now.owner event) }
     ensures served { IfGo result (λ _ _ _ sent _. Serves entry.now.state entry.now.owner event sent) }

@@ -1,0 +1,13 @@
+//! The channels of one slice, kept by line: a line's channels are found without a look at other lines.
+#![tactic(auto)]
+
+pub use line_queues::LineQueues;
+pub use slice_queues_message::{
+    Channel, Class, DataMessage, ForwardedMessage, Message, Pick, RequestMessage,
+};
+
+mod core_queues;
+mod forwarded_queue;
+mod line_by_channel;
+mod line_queues;
+mod senders;

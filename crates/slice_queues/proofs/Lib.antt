@@ -1,2 +1,3 @@
 pub mod AckLaws
 pub mod LineLaws
+pub mod SliceLaws

@@ -51,7 +51,7 @@ IsWithinCores-set cores c x within senders = record {
 }
 
 -- what is read within a list doesn't depend on the default
-pub read_default : (xs : List CoreChannels) (i : ℕ) (x y : CoreChannels) → i < length xs → get_or xs i x ≡ get_or xs i y
+pub read_default : {A : Type 0} (xs : List A) (i : ℕ) (x y : A) → i < length xs → get_or xs i x ≡ get_or xs i y
 read_default [] i x y within = absurd (omega arith)
 read_default (z ∷ zs) zero x y within = refl
 read_default (z ∷ zs) (suc i) x y within = let shorter : i < length zs = omega arith in read_default zs i x y shorter

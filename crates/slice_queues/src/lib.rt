@@ -2,6 +2,7 @@
 #![tactic(auto)]
 
 pub use line_queues::LineQueues;
+pub use queues::Queues;
 pub use slice_queues_message::{
     Channel, Class, DataMessage, ForwardedMessage, Message, Pick, RequestMessage,
 };
@@ -10,4 +11,5 @@ mod core_queues;
 mod forwarded_queue;
 mod line_by_channel;
 mod line_queues;
+mod queues;
 mod senders;

@@ -2,7 +2,8 @@ ghost use Rattle.std.specs.Prelude.{◌≡◌, ◌<◌, ◌++◌, ◌↔◌, [],
 ghost use Rattle.std.specs.Option.{option_copied};
 
 use super::forwarded_queue::ForwardedQueue;
-use super::senders::Senders;
+use super::waiting::CoreWaiting;
+use super::core_set::CoreSet;
 use address_map::CoreId;
 use slice_queues_message::{DataMessage, ForwardedMessage, RequestMessage};
 use std::marker::Model;
@@ -12,7 +13,7 @@ use std::marker::Model;
 pub struct CoreQueues {
     request: Option<RequestMessage>,
     data_message: Option<DataMessage>,
-    acks: Senders,
+    acks: CoreSet,
     forwarded: ForwardedQueue,
 }
 
@@ -28,6 +29,7 @@ impl Model for CoreQueues {
 impl CoreQueues {
     ghost use Rattle.slice_queues.specs.Acks.{has_ack, with_ack, without_ack};
     ghost use Rattle.slice_queues.specs.Line.{no_messages};
+    ghost use Rattle.slice_queues.specs.Waiting.{core_waiting};
 
     pub fn new() -> Self
         ensures { result ≡ no_messages }
@@ -35,7 +37,7 @@ impl CoreQueues {
         CoreQueues {
             request: None,
             data_message: None,
-            acks: Senders::none(),
+            acks: CoreSet::none(),
             forwarded: ForwardedQueue::Empty,
         }
     }
@@ -126,6 +128,19 @@ impl CoreQueues {
         let waited = self.acks.has(from);
         self.acks.remove(from);
         waited
+    }
+
+    /// The channels in which a message waits, of the core with this number.
+    pub fn waiting(&self, core: CoreId) -> CoreWaiting
+        ensures { result ≡ core_waiting core self.now }
+    {
+        CoreWaiting::new(
+            core,
+            self.request.is_some(),
+            self.forwarded.front().is_some(),
+            self.data_message.is_some(),
+            self.acks,
+        )
     }
 
     pub fn is_empty(&self) -> bool

@@ -8,8 +8,9 @@ pub use slice_queues_message::{
 };
 
 mod core_queues;
+mod core_set;
 mod forwarded_queue;
 mod line_by_channel;
 mod line_queues;
 mod queues;
-mod senders;
+mod waiting;

@@ -1,28 +1,44 @@
-ghost use Rattle.std.specs.Prelude.{◌≡◌, ◌<◌};
+ghost use Rattle.std.specs.Prelude.{◌≡◌, ◌<◌, [], ◌∷◌, None, IfSome};
 ghost use Rattle.slice_queues.specs.Acks.{has_ack, with_ack, without_ack};
+ghost use Rattle.slice_queues.specs.Members.{members};
 
 use address_map::CoreId;
 use std::marker::Model;
 
 /// A set of cores, each of which takes one bit.
-#[derive(Drop)]
-pub struct Senders {
+#[derive(Clone, Copy)]
+pub struct CoreSet {
     bits: u64,
 }
 
-impl Model for Senders {
+impl Model for CoreSet {
     ghost use Rattle.std.specs.Prelude.{ℕ};
 
     ghost Value = { ℕ };
 
-    ghost view = { λ senders. senders.bits };
+    ghost view = { λ set. set.bits };
+
+    ghost inverse = { λ bits. record { bits = bits } };
 }
 
-impl Senders {
+impl CoreSet {
     pub fn none() -> Self
         ensures { result ≡ 0 }
     {
-        Senders { bits: 0 }
+        CoreSet { bits: 0 }
+    }
+
+    /// Takes the lowest core out of the set.
+    pub fn pop_first(&mut self) -> Option<CoreId>
+        ensures none { result ≡ None → (members self.old ≡ []) × (members self.new ≡ []) }
+        ensures first { IfSome result (λ core. members self.old ≡ core.0 ∷ members self.new) }
+    {
+        if self.bits == 0 {
+            return None;
+        }
+        let first = CoreId(self.bits.trailing_zeros() as u8);
+        self.remove(first);
+        Some(first)
     }
 
     pub fn bits(&self) -> u64

@@ -1,0 +1,66 @@
+-- The channels in which a message waits, each once, in a fixed order.
+use Rattle.std.specs.Prelude.{ℕ, ◌+◌, ◌*◌, ◌/◌, ◌++◌, nat_lt, if◌then◌else◌, is_some, length, List, [], ◌∷◌, map, take, drop, Bool}
+use Rattle.address_map.specs.declared.address.CoreId.{CoreId}
+use Rattle.address_map.specs.declared.address.LineAddr.{LineAddr}
+use Rattle.slice_queues_message.specs.declared.channel.Channel.{Channel}
+use Rattle.slice_queues_message.specs.declared.channel.Channel.TheVariants as channels
+use Rattle.slice_queues_message.specs.declared.channel.Pick.{Pick}
+use Rattle.slice_queues_message.specs.Pick.{pick_at}
+use Rattle.slice_queues.specs.Line.{CoreChannels, LineChannels}
+use Rattle.slice_queues.specs.Members.{members}
+use Rattle.slice_queues.specs.Slice.{SliceChannels}
+
+-- the channel, where a message waits in it
+abbrev pub only_if : Bool → Channel → List Channel
+only_if waits channel = if waits then channel ∷ [] else []
+
+-- the core's channels in which a message waits: request, forwarded, data, then the acknowledgements by their senders
+abbrev pub channels_left : CoreId → Bool → Bool → Bool → ℕ → List Channel
+channels_left core request forwarded message acks =
+    only_if request (channels.Req core)
+    ++ (only_if forwarded (channels.Fwd core)
+    ++ (only_if message (channels.Data core) ++ map (λ from. channels.Ack core (record { 0 = from })) (members acks)))
+
+abbrev pub core_waiting : CoreId → CoreChannels → List Channel
+core_waiting core queues =
+    channels_left
+    core
+    (is_some queues.request)
+    (nat_lt 0 (length queues.forwarded))
+    (is_some queues.data)
+    queues.acks
+
+-- those of the cores from this number on
+abbrev pub cores_waiting : ℕ → List CoreChannels → List Channel
+cores_waiting core [] = []
+cores_waiting core (queues ∷ rest) = core_waiting (record { 0 = core }) queues ++ cores_waiting (core + 1) rest
+
+-- what is left of a line: these channels, those of the cores from this number on, and home
+abbrev pub line_left : List Channel → ℕ → List CoreChannels → Bool → List Channel
+line_left current core rest home = current ++ (cores_waiting core rest ++ only_if home channels.Home)
+
+-- the line's channels in which a message waits: core by core, and then home
+abbrev pub line_waiting : LineChannels → List Channel
+line_waiting line = cores_waiting 0 line.cores ++ only_if (is_some line.home) channels.Home
+
+-- the line of the memory at a place of a slice
+abbrev pub line_number : ℕ → ℕ → ℕ → LineAddr
+line_number slice slices place = record { 0 = place * slices + slice }
+
+-- the picks with a message of the lines from this place on, line by line
+abbrev pub lines_waiting : ℕ → ℕ → ℕ → List LineChannels → List Pick
+lines_waiting slice slices place [] = []
+lines_waiting slice slices place (line ∷ rest) =
+    map (pick_at (line_number slice slices place)) (line_waiting line)
+    ++ lines_waiting slice slices (place + 1) rest
+
+-- the picks with a message: those of the start line first, then those of the lines behind it, and at last those of the
+-- lines before it
+abbrev pub picks_waiting : SliceChannels → LineAddr → List Pick
+picks_waiting queues start =
+    lines_waiting
+    queues.slice
+    queues.slices
+    (start.0 / queues.slices)
+    (drop (start.0 / queues.slices) queues.lines)
+    ++ lines_waiting queues.slice queues.slices 0 (take (start.0 / queues.slices) queues.lines)

@@ -2,4 +2,3 @@ pub mod AckLaws
 pub mod LineLaws
 pub mod SliceLaws
 pub mod MembersLaws
-pub mod WaitingLaws

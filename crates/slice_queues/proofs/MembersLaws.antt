@@ -26,25 +26,26 @@ filter-lowest : (n a s t : ℕ) → a ≤ t → t < a + n → has_ack s t ≡ tr
 filter-lowest zero a s t from within there lowest = absurd (omega arith)
 filter-lowest (suc n) a s t from within there lowest =
     elim (cases_eq a t) [
-      inl here ↦
-        let first : has_ack s a ≡ true = rw here there in
-        let gone : has_ack (without_ack s t) a ≡ false = rw here (has_ack-without_same s t) in
-        let later : filter (has_ack s) (range_with_len (a + 1) n) ≡ filter (has_ack (without_ack s t)) (range_with_len (a + 1) n) =
-            filter-same n (a + 1) s (without_ack s t) (λ i behind. sym (has_ack-without_other s t i (omega arith))) in
-        chosen _ _ a t _ _ here first gone later
-    | inr apart ↦
-        let before : a < t = omega arith in
-        let skipped : has_ack s a ≡ false = lowest a before in
-        let skipped_too : has_ack (without_ack s t) a ≡ false = has_ack-without_other s t a apart ∙ skipped in
-        passed _ _ a t _ _ skipped skipped_too (filter-lowest n (a + 1) s t (omega arith) (omega arith) there lowest)
+      | inl here ↦
+          let first : has_ack s a ≡ true = rw here there in
+          let gone : has_ack (without_ack s t) a ≡ false = rw here (has_ack-without_same s t) in
+          let later : filter (has_ack s) (range_with_len (a + 1) n) ≡ filter (has_ack (without_ack s t)) (range_with_len (a + 1) n) =
+          filter-same n (a + 1) s (without_ack s t) (λ i behind. sym (has_ack-without_other s t i (omega arith))) in
+          chosen _ _ a t _ _ here first gone later
+      | inr apart ↦
+          let before : a < t = omega arith in
+          let skipped : has_ack s a ≡ false = lowest a before in
+          let skipped_too : has_ack (without_ack s t) a ≡ false = has_ack-without_other s t a apart ∙ skipped in
+          passed _ _ a t _ _ skipped skipped_too (filter-lowest n (a + 1) s t (omega arith) (omega arith) there lowest)
     ]
   where
-  chosen : (b c : Bool) (a t : ℕ) (xs ys : List ℕ) → a ≡ t → b ≡ true → c ≡ false → xs ≡ ys →
-      (if b then a ∷ xs else xs) ≡ t ∷ (if c then a ∷ ys else ys)
-  chosen b c a t xs ys e f g h = rw (f, g) cc
-  passed : (b c : Bool) (a t : ℕ) (xs ys : List ℕ) → b ≡ false → c ≡ false → xs ≡ t ∷ ys →
-      (if b then a ∷ xs else xs) ≡ t ∷ (if c then a ∷ ys else ys)
-  passed b c a t xs ys f g h = rw (f, g) h
+    chosen : (b c : Bool) (a t : ℕ) (xs ys : List ℕ) → a ≡ t → b ≡ true → c ≡ false → xs ≡ ys →
+        (if b then a ∷ xs else xs) ≡ t ∷ (if c then a ∷ ys else ys)
+    chosen b c a t xs ys e f g h = rw (f, g) cc
+
+    passed : (b c : Bool) (a t : ℕ) (xs ys : List ℕ) → b ≡ false → c ≡ false → xs ≡ t ∷ ys →
+        (if b then a ∷ xs else xs) ≡ t ∷ (if c then a ∷ ys else ys)
+    passed b c a t xs ys f g h = rw (f, g) h
 
 filter-none : (n a : ℕ) → filter (has_ack 0) (range_with_len a n) ≡ []
 filter-none zero a = refl

@@ -1,5 +1,5 @@
 -- The channels in which a message waits, each once, in a fixed order.
-use Rattle.std.specs.Prelude.{ℕ, ◌+◌, ◌*◌, ◌/◌, ◌++◌, nat_lt, if◌then◌else◌, is_some, length, List, [], ◌∷◌, map, take, drop, Bool}
+use Rattle.std.specs.Prelude.{ℕ, ◌+◌, ◌*◌, ◌/◌, ◌^◌, ◌<◌, ◌++◌, nat_lt, if◌then◌else◌, is_some, length, List, [], ◌∷◌, map, take, drop, Bool}
 use Rattle.address_map.specs.declared.address.CoreId.{CoreId}
 use Rattle.address_map.specs.declared.address.LineAddr.{LineAddr}
 use Rattle.slice_queues_message.specs.declared.channel.Channel.{Channel}
@@ -53,6 +53,16 @@ lines_waiting slice slices place [] = []
 lines_waiting slice slices place (line ∷ rest) =
     map (pick_at (line_number slice slices place)) (line_waiting line)
     ++ lines_waiting slice slices (place + 1) rest
+
+-- what is left of a run of lines: these channels of one line, and the lines from this place on
+abbrev pub lines_left : ℕ → ℕ → LineAddr → List Channel → ℕ → List LineChannels → List Pick
+lines_left slice slices line current place rest =
+    map (pick_at line) current ++ lines_waiting slice slices place rest
+
+-- the numbers of the lines from this place on are below 2 ^ 64
+pub record IsAddressedFrom (place lines slice slices : ℕ) : Type 0 where
+  pub one_of_them : slice < slices
+  pub in_range : (place + lines) * slices < 2 ^ 64
 
 -- the picks with a message: those of the start line first, then those of the lines behind it, and at last those of the
 -- lines before it

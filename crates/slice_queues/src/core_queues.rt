@@ -1,9 +1,9 @@
 ghost use Rattle.std.specs.Prelude.{◌≡◌, ◌<◌, ◌++◌, ◌↔◌, [], ◌∷◌, length, slice_get, drop, IsTrue, Some, None};
 ghost use Rattle.std.specs.Option.{option_copied};
 
+use super::core_set::CoreSet;
 use super::forwarded_queue::ForwardedQueue;
 use super::waiting::CoreWaiting;
-use super::core_set::CoreSet;
 use address_map::CoreId;
 use slice_queues_message::{DataMessage, ForwardedMessage, RequestMessage};
 use std::marker::Model;

@@ -2,6 +2,7 @@
 #![tactic(auto)]
 
 pub use line_queues::LineQueues;
+pub use picks::Picks;
 pub use queues::Queues;
 pub use slice_queues_message::{
     Channel, Class, DataMessage, ForwardedMessage, Message, Pick, RequestMessage,
@@ -12,5 +13,6 @@ mod core_set;
 mod forwarded_queue;
 mod line_by_channel;
 mod line_queues;
+mod picks;
 mod queues;
 mod waiting;

@@ -5,6 +5,7 @@ ghost use Rattle.slice_queues_message.specs.declared.channel.Channel.TheVariants
 ghost use Rattle.slice_queues_message.specs.declared.message.Message.TheVariants as messages;
 
 use super::core_queues::CoreQueues;
+use super::waiting::LineWaiting;
 use address_map::{Block, CoreId};
 use slice_queues_message::{Channel, DataMessage, ForwardedMessage, Message, RequestMessage};
 use std::alloc::{AllocError, Global};
@@ -30,6 +31,7 @@ impl Model for LineQueues {
 /// The channels one kind at a time: nothing is copied to look at a message.
 impl LineQueues {
     ghost use Rattle.slice_queues.specs.Acks.{has_ack};
+    ghost use Rattle.slice_queues.specs.Waiting.{line_waiting};
     ghost use Rattle.slice_queues.specs.Line.{core_at, messages_at, after_send, after_take, HasRoom, HasChannel, empty_line, IsEmptyLine};
 
     /// Takes the memory for a line of `cores` cores.
@@ -66,6 +68,13 @@ impl LineQueues {
             Channel::Ack { to, from } => (to.0 as usize) < cores && (from.0 as usize) < cores,
             Channel::Home => true,
         }
+    }
+
+    /// The channels in which a message waits, each once: core by core, and then home.
+    pub fn waiting(&self) -> LineWaiting<'_>
+        ensures { result ≡ line_waiting self.now }
+    {
+        LineWaiting::new(&self.cores, self.home.is_some())
     }
 
     pub fn front_request(&self, core: CoreId) -> Option<&RequestMessage>

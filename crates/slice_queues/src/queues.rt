@@ -4,6 +4,7 @@ ghost use Rattle.std.specs.Borrow.{sem};
 ghost use Rattle.slice_queues_message.specs.Pick.{line_of, channel_of};
 
 use super::line_queues::LineQueues;
+use super::picks::{LinesWaiting, Picks};
 use address_map::{LineAddr, SliceId};
 use slice_queues_message::{Message, Pick};
 use std::alloc::{AllocError, Global};
@@ -32,6 +33,7 @@ impl Queues {
     ghost use Rattle.slice_queues.specs.Line.{Carries};
     ghost use Rattle.slice_queues.specs.Slice.{HasLine, line_at, messages_in, HasPick, HasRoomIn, after_send_in, after_take_in, SendsOnlyIn, TakesOnlyIn, IsEmptySlice, empty_slice};
     ghost use Rattle.slice_queues.specs.Lending.{LendsLine};
+    ghost use Rattle.slice_queues.specs.Waiting.{picks_waiting};
 
     /// Takes all the memory that the slice will ever need, for `lines` lines of `cores` cores each.
     pub fn build(
@@ -123,6 +125,21 @@ impl Queues {
         } else {
             None
         }
+    }
+
+    /// The picks with a message, each once and no other: those of the start line first, then those of the lines behind
+    /// it, and at last those of the lines before it. Within a line they come core by core, and home last. It takes no
+    /// memory.
+    pub fn picks_from(&self, start: LineAddr) -> Picks<'_>
+        requires { HasLine self.now start }
+        ensures { result ≡ picks_waiting self.now start }
+    {
+        let place = (start.0 / self.slices as u64) as usize;
+        let (before, from) = self.lines.split_at(place);
+        Picks::new(
+            LinesWaiting::new(from, place, self.slice, self.slices),
+            LinesWaiting::new(before, 0, self.slice, self.slices),
+        )
     }
 
     /// Whether no message waits anywhere in the slice.

@@ -29,7 +29,13 @@ impl Model for CoreWaiting {
 impl CoreWaiting {
     ghost use Rattle.slice_queues.specs.Waiting.{channels_left};
 
-    pub fn new(core: CoreId, request: bool, forwarded: bool, data_message: bool, acks: CoreSet) -> Self
+    pub fn new(
+        core: CoreId,
+        request: bool,
+        forwarded: bool,
+        data_message: bool,
+        acks: CoreSet,
+    ) -> Self
         ensures { result ≡ channels_left core request forwarded data_message acks }
     {
         CoreWaiting {
@@ -71,7 +77,10 @@ impl CoreWaiting {
             return Some(Channel::Data(self.core));
         }
         let from = self.acks.pop_first()?;
-        Some(Channel::Ack { to: self.core, from })
+        Some(Channel::Ack {
+            to: self.core,
+            from,
+        })
     }
 }
 
@@ -109,6 +118,18 @@ impl<'a> LineWaiting<'a> {
             current: CoreWaiting::none(),
             next_core: 0,
             home,
+        }
+    }
+
+    /// No channel.
+    pub fn none() -> Self
+        ensures { result ≡ [] }
+    {
+        LineWaiting {
+            cores: &[],
+            current: CoreWaiting::none(),
+            next_core: 0,
+            home: false,
         }
     }
 

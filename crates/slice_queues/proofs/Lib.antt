@@ -2,3 +2,4 @@ pub mod AckLaws
 pub mod LineLaws
 pub mod SliceLaws
 pub mod MembersLaws
+pub mod OnceLaws

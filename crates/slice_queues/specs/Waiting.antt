@@ -1,12 +1,12 @@
 -- The channels in which a message waits, each once, in a fixed order.
-use Rattle.std.specs.Prelude.{ℕ, ◌+◌, ◌*◌, ◌/◌, ◌^◌, ◌<◌, ◌++◌, nat_lt, if◌then◌else◌, is_some, length, List, [], ◌∷◌, map, take, drop, Bool}
+use Rattle.std.specs.Prelude.{◌≡◌, ◌==◌, ◌&&◌, true, false, count_by, ℕ, ◌+◌, ◌*◌, ◌/◌, ◌^◌, ◌<◌, ◌++◌, nat_lt, if◌then◌else◌, is_some, length, List, [], ◌∷◌, map, take, drop, Bool}
 use Rattle.address_map.specs.declared.address.CoreId.{CoreId}
 use Rattle.address_map.specs.declared.address.LineAddr.{LineAddr}
 use Rattle.slice_queues_message.specs.declared.channel.Channel.{Channel}
 use Rattle.slice_queues_message.specs.declared.channel.Channel.TheVariants as channels
 use Rattle.slice_queues_message.specs.declared.channel.Pick.{Pick}
 use Rattle.slice_queues_message.specs.Pick.{pick_at}
-use Rattle.slice_queues.specs.Line.{CoreChannels, LineChannels}
+use Rattle.slice_queues.specs.Line.{CoreChannels, LineChannels, messages_at}
 use Rattle.slice_queues.specs.Members.{members}
 use Rattle.slice_queues.specs.Slice.{SliceChannels}
 
@@ -42,6 +42,26 @@ line_left current core rest home = current ++ (cores_waiting core rest ++ only_i
 -- the line's channels in which a message waits: core by core, and then home
 abbrev pub line_waiting : LineChannels → List Channel
 line_waiting line = cores_waiting 0 line.cores ++ only_if (is_some line.home) channels.Home
+
+-- the two are the same channel
+abbrev pub is_same_channel : Channel → Channel → Bool
+is_same_channel (channels.Req core) (channels.Req other) = core.0 == other.0
+is_same_channel (channels.Fwd core) (channels.Fwd other) = core.0 == other.0
+is_same_channel (channels.Data core) (channels.Data other) = core.0 == other.0
+is_same_channel (channels.Ack to from) (channels.Ack other_to other_from) =
+    (to.0 == other_to.0) && (from.0 == other_from.0)
+is_same_channel channels.Home channels.Home = true
+is_same_channel channel other = false
+
+-- a message waits in the channel
+abbrev pub is_waiting : LineChannels → Channel → Bool
+is_waiting line channel = nat_lt 0 (length (messages_at line channel))
+
+-- each channel in which a message waits stands in the list once, and no other does
+abbrev pub HasEachOnce : LineChannels → List Channel → Type 0
+HasEachOnce line names =
+    (channel : Channel) →
+    count_by (is_same_channel channel) names ≡ (if is_waiting line channel then 1 else 0)
 
 -- the line of the memory at a place of a slice
 abbrev pub line_number : ℕ → ℕ → ℕ → LineAddr

@@ -31,7 +31,7 @@ impl Model for LineQueues {
 /// The channels one kind at a time: nothing is copied to look at a message.
 impl LineQueues {
     ghost use Rattle.slice_queues.specs.Acks.{has_ack};
-    ghost use Rattle.slice_queues.specs.Waiting.{line_waiting};
+    ghost use Rattle.slice_queues.specs.Waiting.{line_waiting, HasEachOnce};
     ghost use Rattle.slice_queues.specs.Line.{core_at, messages_at, after_send, after_take, HasRoom, HasChannel, empty_line, IsEmptyLine};
 
     /// Takes the memory for a line of `cores` cores.
@@ -72,7 +72,8 @@ impl LineQueues {
 
     /// The channels in which a message waits, each once: core by core, and then home.
     pub fn waiting(&self) -> LineWaiting<'_>
-        ensures { result ≡ line_waiting self.now }
+        ensures order { result ≡ line_waiting self.now }
+        ensures once { HasEachOnce self.now result }
     {
         LineWaiting::new(&self.cores, self.home.is_some())
     }

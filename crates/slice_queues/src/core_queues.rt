@@ -11,10 +11,11 @@ use std::marker::Model;
 /// One core's channels of a line: its request to the directory, and what waits for it.
 #[derive(Drop)]
 pub struct CoreQueues {
-    request: Option<RequestMessage>,
-    data_message: Option<DataMessage>,
+    // What is small stands together, so that a look for waiting messages reads two cache lines and not three.
     acks: CoreSet,
     forwarded: ForwardedQueue,
+    request: Option<RequestMessage>,
+    data_message: Option<DataMessage>,
 }
 
 impl Model for CoreQueues {

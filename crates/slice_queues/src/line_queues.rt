@@ -1,4 +1,4 @@
-ghost use Rattle.std.specs.Prelude.{◌≡◌, ◌<◌, ◌≤◌, ◌++◌, ◌↔◌, [], ◌∷◌, length, slice_get, drop, Some, None, false, IsTrue, IfOk, EachIndex, slice_index_or};
+ghost use Rattle.std.specs.Prelude.{◌≡◌, ◌<◌, ◌≤◌, ◌↔◌, [], length, slice_get, Some, None, false, IsTrue, IfOk, EachIndex, slice_index_or};
 ghost use Rattle.slice_queues.specs.Line.{no_messages};
 ghost use Rattle.std.specs.Option.{option_copied};
 ghost use Rattle.slice_queues_message.specs.declared.channel.Channel.TheVariants as channels;
@@ -7,7 +7,7 @@ ghost use Rattle.slice_queues_message.specs.declared.message.Message.TheVariants
 use super::core_queues::CoreQueues;
 use super::waiting::LineWaiting;
 use address_map::{Block, CoreId};
-use slice_queues_message::{Channel, DataMessage, ForwardedMessage, Message, RequestMessage};
+use slice_queues_message::{Channel, DataMessage, ForwardedMessage, RequestMessage};
 use std::alloc::{AllocError, Global};
 use std::marker::Model;
 
@@ -49,6 +49,7 @@ impl LineQueues {
         })
     }
 
+    /// How many cores the line has.
     pub fn cores(&self) -> usize
         ensures { result ≡ length self.now.cores }
     {
@@ -78,6 +79,7 @@ impl LineQueues {
         LineWaiting::new(&self.cores, self.home.is_some())
     }
 
+    /// The request that waits for the directory.
     pub fn front_request(&self, core: CoreId) -> Option<&RequestMessage>
         requires { HasChannel self.now (channels.Req core) }
         ensures { option_copied result ≡ (core_at self.now core.0).request }
@@ -85,6 +87,7 @@ impl LineQueues {
         self.cores[core.0 as usize].request()
     }
 
+    /// Sends a core's request to the directory.
     pub fn send_request(&mut self, core: CoreId, message: RequestMessage)
         requires there { HasChannel self.old (channels.Req core) }
         requires room { HasRoom self.old (channels.Req core) }
@@ -93,6 +96,7 @@ impl LineQueues {
         self.cores[core.0 as usize].put_request(message);
     }
 
+    /// Takes a core's request; `None` where none waits.
     pub fn take_request(&mut self, core: CoreId) -> Option<RequestMessage>
         requires { HasChannel self.old (channels.Req core) }
         ensures taken { result ≡ (core_at self.old core.0).request }
@@ -101,6 +105,7 @@ impl LineQueues {
         self.cores[core.0 as usize].take_request()
     }
 
+    /// The oldest forwarded message that waits for the core.
     pub fn front_forwarded(&self, core: CoreId) -> Option<&ForwardedMessage>
         requires { HasChannel self.now (channels.Fwd core) }
         ensures { option_copied result ≡ slice_get (core_at self.now core.0).forwarded 0 }
@@ -108,6 +113,7 @@ impl LineQueues {
         self.cores[core.0 as usize].forwarded()
     }
 
+    /// Forwards a message to the core, behind the one that may wait.
     pub fn send_forwarded(&mut self, core: CoreId, message: ForwardedMessage)
         requires there { HasChannel self.old (channels.Fwd core) }
         requires room { HasRoom self.old (channels.Fwd core) }
@@ -116,6 +122,7 @@ impl LineQueues {
         self.cores[core.0 as usize].push_forwarded(message);
     }
 
+    /// Takes the oldest forwarded message; `None` where none waits.
     pub fn take_forwarded(&mut self, core: CoreId) -> Option<ForwardedMessage>
         requires { HasChannel self.old (channels.Fwd core) }
         ensures taken { result ≡ slice_get (core_at self.old core.0).forwarded 0 }
@@ -132,6 +139,7 @@ impl LineQueues {
         self.cores[core.0 as usize].takes_forwarded()
     }
 
+    /// The data that wait for the core.
     pub fn front_data(&self, core: CoreId) -> Option<&DataMessage>
         requires { HasChannel self.now (channels.Data core) }
         ensures { option_copied result ≡ (core_at self.now core.0).data }
@@ -139,6 +147,7 @@ impl LineQueues {
         self.cores[core.0 as usize].data_message()
     }
 
+    /// Sends data to the core.
     pub fn send_data(&mut self, core: CoreId, message: DataMessage)
         requires there { HasChannel self.old (channels.Data core) }
         requires room { HasRoom self.old (channels.Data core) }
@@ -147,6 +156,7 @@ impl LineQueues {
         self.cores[core.0 as usize].put_data(message);
     }
 
+    /// Takes the core's data; `None` where none wait.
     pub fn take_data(&mut self, core: CoreId) -> Option<DataMessage>
         requires { HasChannel self.old (channels.Data core) }
         ensures taken { result ≡ (core_at self.old core.0).data }
@@ -155,6 +165,7 @@ impl LineQueues {
         self.cores[core.0 as usize].take_data()
     }
 
+    /// Whether an acknowledgement from the one core waits for the other.
     pub fn has_ack(&self, to: CoreId, from: CoreId) -> bool
         requires { HasChannel self.now (channels.Ack to from) }
         ensures { result ≡ has_ack (core_at self.now to.0).acks from.0 }
@@ -162,6 +173,7 @@ impl LineQueues {
         self.cores[to.0 as usize].has_ack(from)
     }
 
+    /// Acknowledges an invalidation to the core that asked for it.
     pub fn send_ack(&mut self, to: CoreId, from: CoreId)
         requires there { HasChannel self.old (channels.Ack to from) }
         requires room { HasRoom self.old (channels.Ack to from) }
@@ -179,12 +191,14 @@ impl LineQueues {
         self.cores[to.0 as usize].take_ack(from)
     }
 
+    /// The block that waits for the directory.
     pub fn front_home(&self) -> Option<&Block>
         ensures { option_copied result ≡ self.now.home }
     {
         self.home.as_ref()
     }
 
+    /// Sends a block home to the directory.
     pub fn send_home(&mut self, block: Block)
         requires { HasRoom self.old channels.Home }
         ensures { self.new ≡ after_send self.old channels.Home (messages.Home block) }
@@ -192,6 +206,7 @@ impl LineQueues {
         self.home = Some(block);
     }
 
+    /// Takes the block that waits for the directory; `None` where none waits.
     pub fn take_home(&mut self) -> Option<Block>
         ensures taken { result ≡ self.old.home }
         ensures rest { self.new ≡ after_take self.old channels.Home }
@@ -207,6 +222,7 @@ impl LineQueues {
     }
 }
 
+// Whether no core has a message.
 fn all_empty(cores: &[CoreQueues]) -> bool
     ensures { IsTrue result ↔ EachIndex cores.now (λ c. slice_index_or cores.now c no_messages ≡ no_messages) }
 {

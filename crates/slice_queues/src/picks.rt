@@ -1,4 +1,4 @@
-ghost use Rattle.std.specs.Prelude.{◌≡◌, ◌++◌, [], length, drop, slice_get};
+ghost use Rattle.std.specs.Prelude.{◌≡◌, ◌++◌, length, drop, slice_get};
 
 use super::line_queues::LineQueues;
 use super::waiting::LineWaiting;
@@ -47,6 +47,7 @@ impl<'a> LinesWaiting<'a> {
         }
     }
 
+    /// The next pick, `None` behind the last.
     pub fn next(&mut self) -> Option<Pick>
         ensures first { result ≡ slice_get self.old 0 }
         ensures rest { self.new ≡ drop 1 self.old }

@@ -1,7 +1,7 @@
 ghost use Rattle.std.specs.Prelude.{◌≡◌, ◌<◌, ◌≤◌, ◌*◌, ◌^◌, ◌↔◌, slice_get, IsTrue, IfOk, EachIndex, slice_index_or};
 ghost use Rattle.slice_queues.specs.Line.{empty_line, IsEmptyLine};
 ghost use Rattle.std.specs.Borrow.{sem};
-ghost use Rattle.slice_queues_message.specs.Pick.{line_of, channel_of};
+ghost use Rattle.slice_queues_message.specs.Pick.{channel_of};
 
 use super::line_queues::LineQueues;
 use super::picks::{LinesWaiting, Picks};
@@ -150,6 +150,7 @@ impl Queues {
     }
 }
 
+// Whether every line is empty.
 fn all_empty(lines: &[LineQueues]) -> bool
     ensures { IsTrue result ↔ EachIndex lines.now (λ i. IsEmptyLine (slice_index_or lines.now i (empty_line 0))) }
 {

@@ -1,5 +1,5 @@
 -- What a set of cores has after a core is put in or taken out.
-use Rattle.std.proofs.Common.{◌≡◌, ◌≢◌, ℕ, ◌^◌, ◌==◌, ◌%◌, ◌+◌, Bool, true, false, refl, ap, sym, ◌∙◌, arith, bit_or, bit_xor, if◌then◌else◌, eqb-true}
+use Rattle.std.proofs.Common.{◌≡◌, ◌≢◌, ℕ, ◌^◌, ◌==◌, Bool, true, false, refl, ap, arith, bit_xor, if◌then◌else◌, eqb-true}
 use Rattle.std.specs.Int.{bit_at}
 use Rattle.std.proofs.lemmas.Bool.{eqb-false}
 use Rattle.std.proofs.lemmas.Nat.Bits.{bit_at_or, bit_at_xor, bit_at-pow_same, bit_at-pow_other, bit_at-lt, bit_at-zero, same_from_bits}

@@ -1,5 +1,5 @@
 -- A line's waiting channels: each stands in the list once, and no other does.
-use Rattle.std.proofs.Common.{◌≡◌, ◌≢◌, ℕ, ◌+◌, ◌<◌, ◌≤◌, ◌==◌, ◌&&◌, Bool, true, false, cond, if◌then◌else◌, List, [], ◌∷◌, ◌++◌, length, map, filter, sum_by, count_by, zero, suc, refl, ap, sym, ◌∙◌, arith, inl, inr, get_or, is_some, nat_lt, eq-eqb, Option, Some, None, add-zero, zero-add}
+use Rattle.std.proofs.Common.{◌≡◌, ◌≢◌, ℕ, ◌+◌, ◌<◌, ◌≤◌, ◌==◌, Bool, true, false, cond, if◌then◌else◌, List, [], ◌∷◌, ◌++◌, length, map, filter, sum_by, count_by, zero, suc, refl, ap, sym, ◌∙◌, arith, inl, inr, get_or, is_some, nat_lt, eq-eqb, Option, Some, None, add-zero, zero-add}
 use Rattle.std.specs.List.{range_with_len}
 use Rattle.std.proofs.lemmas.Bool.{cases_eq, cases_lt, ne_eqb, false_from_ne_true}
 use Rattle.std.proofs.lemmas.List.{length-map}
@@ -13,7 +13,7 @@ use Rattle.address_map.specs.declared.block.Block.{Block}
 use Rattle.slice_queues.specs.Acks.{has_ack}
 use Rattle.slice_queues.specs.Members.{members}
 use Rattle.slice_queues.specs.Line.{CoreChannels, LineChannels, no_messages, core_at, request_messages, data_messages, home_messages, ack_messages}
-use Rattle.slice_queues.specs.Waiting.{only_if, core_waiting, cores_waiting, line_waiting, is_same_channel, is_waiting, HasEachOnce}
+use Rattle.slice_queues.specs.Waiting.{only_if, core_waiting, cores_waiting, line_waiting, is_same_channel, HasEachOnce}
 use Rattle.slice_queues.proofs.AckLaws.{has_ack-zero}
 
 -- how often a channel stands in a list

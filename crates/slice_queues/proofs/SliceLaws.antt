@@ -1,5 +1,5 @@
 -- A send and a take change their own pick alone.
-use Rattle.std.proofs.Common.{◌≡◌, ◌≢◌, ℕ, ◌+◌, ◌*◌, ◌/◌, ◌%◌, ◌<◌, ◌==◌, ◌↔◌, Bool, true, false, IsTrue, EachIndex, if◌then◌else◌, List, [], ◌∷◌, ◌++◌, length, drop, refl, ap, sym, ◌∙◌, subst, arith, inl, inr, get_or, eq-eqb, eqb-true}
+use Rattle.std.proofs.Common.{◌≡◌, ◌≢◌, ℕ, ◌+◌, ◌*◌, ◌/◌, ◌%◌, ◌<◌, ◌↔◌, Bool, true, false, IsTrue, EachIndex, if◌then◌else◌, List, [], ◌∷◌, ◌++◌, length, drop, refl, ap, sym, ◌∙◌, subst, inl, inr, get_or, eq-eqb, eqb-true}
 use Rattle.std.proofs.Math.ListN.{set}
 use Rattle.std.proofs.Math.Nat.{div-add-mod}
 use Rattle.std.proofs.lemmas.Nat.{mod-mul-add, div-mul-add}
@@ -12,9 +12,9 @@ use Rattle.slice_queues_message.specs.declared.channel.Pick.{Pick}
 use Rattle.slice_queues_message.specs.declared.channel.Pick.TheVariants as picks
 use Rattle.slice_queues_message.specs.declared.message.Message.{Message}
 use Rattle.slice_queues_message.specs.Pick.{line_of, channel_of, pick_at}
-use Rattle.slice_queues.specs.Line.{LineChannels, messages_at, HasChannel, Carries, after_send, after_take, empty_line, IsEmptyLine, SendsOnly, TakesOnly}
-use Rattle.slice_queues.specs.Slice.{SliceChannels, is_of_slice, HasLine, line_at, with_line, messages_in, HasPick, HasRoomIn, after_send_in, after_take_in, SendsOnlyIn, TakesOnlyIn, IsEmptySlice}
-use Rattle.slice_queues.proofs.LineLaws.{sends_only, takes_only, IsEmptyLine-from_cores, read-replicate}
+use Rattle.slice_queues.specs.Line.{LineChannels, messages_at, Carries, after_send, empty_line, IsEmptyLine, SendsOnly, TakesOnly}
+use Rattle.slice_queues.specs.Slice.{SliceChannels, is_of_slice, HasLine, line_at, with_line, messages_in, HasPick, HasRoomIn, after_send_in, SendsOnlyIn, TakesOnlyIn, IsEmptySlice}
+use Rattle.slice_queues.proofs.LineLaws.{sends_only, IsEmptyLine-from_cores, read-replicate}
 
 -- a pick is its line and its channel
 pub pick_at-parts : (pick : Pick) → pick_at (line_of pick) (channel_of pick) ≡ pick

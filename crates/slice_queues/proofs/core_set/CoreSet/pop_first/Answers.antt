@@ -1,4 +1,4 @@
-use Rattle.std.proofs.Common.{arith, ◌≡◌, ◌<◌, ◌^◌, sym, ◌∙◌}
+use Rattle.std.proofs.Common.{arith, ◌≡◌, ◌<◌, sym, ◌∙◌}
 use Rattle.slice_queues.proofs.MembersLaws.{members-zero, members-lowest}
 use Rattle.slice_queues.proofs.core_set.CoreSet.pop_first.Goals as goal
 

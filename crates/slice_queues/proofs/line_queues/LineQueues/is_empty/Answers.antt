@@ -1,4 +1,4 @@
-use Rattle.std.proofs.Common.{◌≡◌, true, false, is_some, rules}
+use Rattle.std.proofs.Common.{◌≡◌, true, is_some, rules}
 use Rattle.slice_queues.proofs.LineLaws.{IsEmptyLine-from_test, not_empty-from_home}
 use Rattle.slice_queues.proofs.line_queues.LineQueues.is_empty.Goals as goal
 

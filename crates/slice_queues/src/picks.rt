@@ -85,7 +85,7 @@ impl<'a> Model for Picks<'a> {
 }
 
 impl<'a> Picks<'a> {
-    pub fn new(from_start: LinesWaiting<'a>, before_start: LinesWaiting<'a>) -> Self
+    pub(crate) fn new(from_start: LinesWaiting<'a>, before_start: LinesWaiting<'a>) -> Self
         ensures { result ≡ from_start.entry ++ before_start.entry }
     {
         Picks {

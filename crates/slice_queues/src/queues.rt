@@ -10,7 +10,8 @@ use slice_queues_message::{Message, Pick};
 use std::alloc::{AllocError, Global};
 use std::marker::Model;
 
-/// The channels of one slice, by line.
+/// The channels of one slice, by line. Of `slices` slices this is number `slice`: it has the lines l of the memory with
+/// `l % slices` equal to `slice`, line l at place `l / slices`.
 #[derive(Drop)]
 pub struct Queues {
     lines: Vec<LineQueues>,

@@ -109,7 +109,7 @@ impl<'a> LineWaiting<'a> {
     ghost use Rattle.slice_queues_message.specs.declared.channel.Channel.TheVariants as channels;
     ghost use Rattle.slice_queues.specs.Waiting.{cores_waiting, only_if};
 
-    pub fn new(cores: &'a [CoreQueues], home: bool) -> Self
+    pub(crate) fn new(cores: &'a [CoreQueues], home: bool) -> Self
         requires { length cores.now ≤ 64 }
         ensures { result ≡ cores_waiting 0 cores.now ++ only_if home channels.Home }
     {
@@ -122,7 +122,7 @@ impl<'a> LineWaiting<'a> {
     }
 
     /// No channel.
-    pub fn none() -> Self
+    pub(crate) fn none() -> Self
         ensures { result ≡ [] }
     {
         LineWaiting {

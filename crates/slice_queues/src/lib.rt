@@ -13,7 +13,7 @@
 //! - [`Queues`] says the same of a slice (specs/Slice.antt), where a pick names a line of the whole memory.
 //!   [`Queues::picks_from`] goes through its lines, the start line first, round and round (specs/Waiting.antt).
 //!
-//! All memory is taken by [`Queues::build`], the only call that can fail: 184 bytes for each core of a line, and 104
+//! All memory is taken by [`Queues::build`], the only call that can fail: 184 bytes for each core of a line, and 96
 //! for the line. The largest slice, 65536 lines of 64 cores, takes 780 MB, and its building 0.6 to 0.8 s, nearly all of
 //! it for the first touch of the pages. A send or a take costs the same whatever the number of lines and cores.
 //! [`LineQueues::is_empty`] and [`LineQueues::waiting`] look at each core of the line, those of the slice at each line.

@@ -3,10 +3,14 @@
 
 pub use address::{CoreId, LineAddr, Local, Offset, SliceId, WordAddr};
 pub use block::Block;
-pub use config::{Checked, Config, ConfigError};
+pub use config::{Checked, Config, ConfigError, MOST_CORES, PolicyKind, is_counter};
+pub use place::{Place, join, split};
 pub use request::{Op, Request};
+pub use words::{CounterWords, InitialValues};
 
 mod address;
 mod block;
 mod config;
+mod place;
 mod request;
+mod words;

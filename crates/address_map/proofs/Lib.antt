@@ -1,0 +1,3 @@
+pub mod WordLists
+pub mod Places
+pub mod Limits

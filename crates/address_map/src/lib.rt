@@ -13,4 +13,6 @@ mod block;
 mod config;
 mod place;
 mod request;
+#[cfg(test)]
+mod tests;
 mod words;

@@ -33,10 +33,11 @@ word_count c = 8 * c.lines
 abbrev pub slice_lines : Config → ℕ
 slice_lines c = c.lines / c.slices
 
+-- whether n is at least the one and at most the other
 abbrev pub is_within : ℕ → ℕ → ℕ → Bool
 is_within least most n = nat_le least n && nat_le n most
 
--- whether the field that an error names is allowed, the fields before it being so
+-- whether the field that an error names is allowed
 abbrev pub allows : Config → ConfigError → Bool
 allows c errors.Cores = is_within 1 MOST_CORES c.cores
 allows c errors.Slices = c.slices == 1 || c.slices == 2 || c.slices == 4

@@ -58,9 +58,9 @@ pub struct Config {
     pub sets: u64,
     /// Lines of a set: 1 to 16.
     pub ways: u64,
-    /// Miss registers (MSHRs) of a core in each slice: 1 to 32.
+    /// Miss registers (Kroft's MSHRs) of a core in each slice: 1 to 32.
     pub mshrs: u64,
-    /// Targets of a miss register: 1 to 32.
+    /// Targets of a miss register, each with its word (Farkas and Jouppi's explicit addressing): 1 to 32.
     pub targets: u64,
     /// Entries of a core's write-back buffer in each slice: 1 to 16.
     pub writebacks: u64,

@@ -1,3 +1,4 @@
-pub mod WordLists
-pub mod Places
+pub mod Ascending
+pub mod Find
 pub mod Limits
+pub mod Places

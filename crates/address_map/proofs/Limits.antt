@@ -1,20 +1,26 @@
 -- A configuration without a fault is within all limits.
-use Rattle.std.proofs.Common.{◌≡◌, ℕ, ◌<◌, ◌≤◌, true, List, length, get_or, None, ◌%◌, ⊎_elim, arith, lit<, lit≤}
-use Rattle.std.specs.Prelude.{All, AllPairs, nat_lt, not, ◌==◌, ◌||◌, nat_le}
+use Rattle.std.proofs.Common.{◌≡◌, ℕ, ◌<◌, ◌≤◌, Bool, true, List, length, get_or, None, ◌%◌, arith, lit<, lit≤}
+use Rattle.std.specs.Prelude.{All, nat_lt, not, ◌==◌, ◌||◌, nat_le}
 use Rattle.std.specs.Int.{is_power_of_two}
-use Rattle.std.proofs.lemmas.Bool.{and_parts, or_cases, leb-true, eqb-true, not-false}
+use Rattle.std.proofs.lemmas.Bool.{and_parts, leb-true, ltb-true, eqb-true, not-false}
+use Rattle.std.proofs.lemmas.Bool.Decides.{nat_tests}
+use Rattle.std.proofs.lemmas.List.Elements.{All-weaker}
+use Rattle.std.proofs.lemmas.List.Sums.{AllPass-from_list_all}
 use Rattle.std.specs.List.{list_all}
 use Rattle.address_map.specs.declared.config.TheConstants.{MOST_CORES}
 use Rattle.address_map.specs.declared.config.Config.{Config}
 use Rattle.address_map.specs.declared.config.ConfigError.{ConfigError}
 use Rattle.address_map.specs.declared.config.ConfigError.TheVariants as errors
 use Rattle.address_map.specs.Config.{IsAllowed, first_fault, fields, allows, is_within, word_count}
-use Rattle.address_map.specs.Words.{is_ascending_by, are_words_below}
-use Rattle.address_map.proofs.WordLists.{AllPairs-from_ascending, All-from_words_below, All-from_find_none}
+use Rattle.address_map.specs.Words.{is_ascending_by, IsAscendingBy, are_words_below}
+use Rattle.address_map.proofs.Ascending.{IsAscendingBy-from_test}
+use Rattle.address_map.proofs.Find.{All-from_find_none}
 
--- each field passes
-passes-at : (c : Config) → first_fault c ≡ None → (k : ℕ) (d : ConfigError) → k < length fields → allows c (get_or fields k d) ≡ true
-passes-at c none k d inside = not-false (allows c (get_or fields k d)) (All-from_find_none (λ field. not (allows c field)) fields none k d inside)
+-- Where no field is at fault, the field at each place of the order passes, so each one does.
+passes-at : (c : Config) → first_fault c ≡ None
+    → (k : ℕ) (d : ConfigError) → k < length fields → allows c (get_or fields k d) ≡ true
+passes-at c none k d inside =
+    not-false (allows c (get_or fields k d)) (All-from_find_none (λ field. not (allows c field)) fields none k d inside)
 
 passes : (c : Config) → first_fault c ≡ None → (field : ConfigError) → allows c field ≡ true
 passes c none errors.Cores = passes-at c none 0 errors.Cores (lit< tt)
@@ -28,26 +34,23 @@ passes c none errors.Writebacks = passes-at c none 7 errors.Writebacks (lit< tt)
 passes c none errors.Init = passes-at c none 8 errors.Init (lit< tt)
 passes c none errors.Counters = passes-at c none 9 errors.Counters (lit< tt)
 
+-- what the tests of the fields say
 is_within-true : (least most n : ℕ) → is_within least most n ≡ true → (least ≤ n) × (n ≤ most)
 is_within-true least most n within =
     let parts = and_parts (nat_le least n) (nat_le n most) within in
     (leb-true least n parts.0, leb-true n most parts.1)
 
 slices-true : (n : ℕ) → (n == 1 || n == 2 || n == 4) ≡ true → (1 ≤ n) × (n ≤ 4)
-slices-true n few =
-    ⊎_elim
-    (λ low.
-    ⊎_elim
-    (λ one. let is : n ≡ 1 = eqb-true n 1 one in (omega arith, omega arith))
-    (λ two. let is : n ≡ 2 = eqb-true n 2 two in (omega arith, omega arith))
-    (or_cases (n == 1) (n == 2) low))
-    (λ four. let is : n ≡ 4 = eqb-true n 4 four in (omega arith, omega arith))
-    (or_cases (n == 1 || n == 2) (n == 4) few)
+slices-true n few = (grind (arith, nat_tests), grind (arith, nat_tests))
 
-words-true : {X : Type 0} (word : X → ℕ) (limit : ℕ) (xs : List X) → are_words_below word limit xs ≡ true → AllPairs (λ a b. word a < word b) xs × All (λ x. word x < limit) xs
-words-true word limit xs below =
-    let parts = and_parts (is_ascending_by word xs) (list_all (λ x. nat_lt (word x) limit) xs) below in
-    (AllPairs-from_ascending word xs parts.0, All-from_words_below word limit xs parts.1)
+words-true : {X : Type 0} (word : X → ℕ) (limit : ℕ) (xs : List X)
+    → are_words_below word limit xs ≡ true → IsAscendingBy word xs × All (λ x. word x < limit) xs
+words-true {X} word limit xs both =
+    let below : X → Bool = λ x. nat_lt (word x) limit in
+    let parts = and_parts (is_ascending_by word xs) (list_all below xs) both in
+    let each_below = AllPass-from_list_all below xs parts.1 in
+    let in_range = All-weaker (λ x. below x ≡ true) (λ x. word x < limit) (λ x. ltb-true (word x) limit) xs each_below in
+    (IsAscendingBy-from_test word xs parts.0, in_range)
 
 pub IsAllowed-from_no_fault : (c : Config) → first_fault c ≡ None → IsAllowed c
 IsAllowed-from_no_fault c none =
@@ -63,9 +66,8 @@ IsAllowed-from_no_fault c none =
     let targets = is_within-true 1 32 c.targets (passes c none errors.Targets) in
     let writebacks = is_within-true 1 16 c.writebacks (passes c none errors.Writebacks) in
     let init = words-true (λ pair. pair.0.0) (word_count c) c.init (passes c none errors.Init) in
-    let counters =
-    and_parts (nat_le (length c.counters) 8) (are_words_below (λ word. word.0) (word_count c) c.counters) (passes c none errors.Counters)
-    in
+    let counters_below = are_words_below (λ word. word.0) (word_count c) c.counters in
+    let counters = and_parts (nat_le (length c.counters) 8) counters_below (passes c none errors.Counters) in
     let counter_words = words-true (λ word. word.0) (word_count c) c.counters counters.1 in
     record {
       some_core = cores.0;

@@ -1,5 +1,5 @@
 -- Which configurations a machine can be built from.
-use Rattle.std.specs.Prelude.{◌≡◌, ℕ, ◌<◌, ◌*◌, Bool, ◌==◌, ◌||◌, ◌&&◌, not, nat_le, ◌≤◌, ◌/◌, ◌%◌, List, [], ◌∷◌, length, Option, Result, Ok, Err, find, All, AllPairs, IsTrue}
+use Rattle.std.specs.Prelude.{◌≡◌, ℕ, ◌<◌, ◌*◌, Bool, ◌==◌, ◌||◌, ◌&&◌, not, nat_le, ◌≤◌, ◌/◌, ◌%◌, List, [], ◌∷◌, length, Option, Result, Ok, Err, find, All, IsTrue}
 use Rattle.std.specs.Int.{is_power_of_two}
 use Rattle.std.specs.Option.{option_map_or}
 use Rattle.address_map.specs.declared.config.Config.{Config}
@@ -7,7 +7,7 @@ use Rattle.address_map.specs.declared.config.ConfigError.{ConfigError}
 use Rattle.address_map.specs.declared.config.ConfigError.TheVariants as errors
 use Rattle.address_map.specs.declared.config.PolicyKind.TheVariants as policies
 use Rattle.address_map.specs.declared.config.TheConstants.{MOST_CORES}
-use Rattle.address_map.specs.Words.{are_words_below}
+use Rattle.address_map.specs.Words.{IsAscendingBy, are_words_below}
 
 -- the machine of a text that configures nothing
 abbrev pub default_config : Config
@@ -85,8 +85,8 @@ pub record IsAllowed (c : Config) : Type 0 where
   pub few_targets : c.targets ≤ 32
   pub some_writeback : 1 ≤ c.writebacks
   pub few_writebacks : c.writebacks ≤ 16
-  pub init_ascending : AllPairs (λ first later. first.0.0 < later.0.0) c.init
+  pub init_ascending : IsAscendingBy (λ pair. pair.0.0) c.init
   pub init_in_range : All (λ pair. pair.0.0 < word_count c) c.init
   pub few_counters : length c.counters ≤ 8
-  pub counters_ascending : AllPairs (λ first later. first.0 < later.0) c.counters
+  pub counters_ascending : IsAscendingBy (λ word. word.0) c.counters
   pub counters_in_range : All (λ word. word.0 < word_count c) c.counters

@@ -1,5 +1,5 @@
 -- Lists of words: in order, in range, and the values that memory begins with.
-use Rattle.std.specs.Prelude.{ℕ, Bool, true, List, [], ◌∷◌, ◌==◌, ◌&&◌, nat_lt, find}
+use Rattle.std.specs.Prelude.{ℕ, Bool, true, List, [], ◌∷◌, ◌==◌, ◌&&◌, ◌<◌, nat_lt, find, AllPairs}
 use Rattle.std.specs.Option.{option_map_or}
 use Rattle.std.specs.List.{list_all}
 use Rattle.address_map.specs.declared.address.WordAddr.{WordAddr}
@@ -9,6 +9,10 @@ abbrev pub is_ascending_by : {X : Type 0} → (X → ℕ) → List X → Bool
 is_ascending_by number [] = true
 is_ascending_by number (x ∷ []) = true
 is_ascending_by number (x ∷ y ∷ xs) = nat_lt (number x) (number y) && is_ascending_by number (y ∷ xs)
+
+-- the number of each element is below those of all later ones
+abbrev pub IsAscendingBy : {X : Type 0} → (X → ℕ) → List X → Type 0
+IsAscendingBy number xs = AllPairs (λ first later. number first < number later) xs
 
 -- whether the elements' words ascend strictly, and lie below the limit
 abbrev pub are_words_below : {X : Type 0} → (X → ℕ) → ℕ → List X → Bool

@@ -1,6 +1,6 @@
-ghost use Rattle.std.specs.Prelude.{◌≡◌, [], ◌∷◌, ◌++◌, length, ◌<◌, ◌↔◌, nat_lt, IsTrue, OnOk, OnErr, AllPairs};
+ghost use Rattle.std.specs.Prelude.{◌≡◌, [], ◌∷◌, ◌++◌, length, ◌↔◌, nat_lt, IsTrue, OnOk, OnErr};
 ghost use Rattle.std.specs.List.{list_all};
-ghost use Rattle.address_map.specs.Words.{is_ascending_by, initial_value};
+ghost use Rattle.address_map.specs.Words.{IsAscendingBy, is_ascending_by, initial_value};
 
 use super::address::WordAddr;
 use std::alloc::{AllocError, Global};
@@ -74,7 +74,7 @@ impl InitialValues {
 
     /// The value that a word begins with, where the words ascend.
     pub(super) fn value_of(&self, word: WordAddr) -> u64
-        requires { AllPairs (λ first later. first.0.0 < later.0.0) self.now }
+        requires { IsAscendingBy (λ pair. pair.0.0) self.now }
         ensures { result ≡ initial_value self.now word }
     {
         let pairs = self.as_slice();

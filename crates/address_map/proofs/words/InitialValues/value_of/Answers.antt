@@ -1,6 +1,6 @@
 use Rattle.std.proofs.Common.{rules, refl, Ok, Err}
 use Rattle.std.proofs.lemmas.List.Sorted.{answers_always}
-use Rattle.address_map.proofs.WordLists.{find-searched}
+use Rattle.address_map.proofs.Find.{find-searched}
 use Rattle.address_map.proofs.words.InitialValues.value_of.Goals as goal
 
 pub returns-in-Ok : goal.returns-in-Ok

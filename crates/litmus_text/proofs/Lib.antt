@@ -1,0 +1,4 @@
+pub mod PlaceLemmas
+pub mod LineLemmas
+pub mod WordLemmas
+pub mod NumberLemmas

@@ -1,2 +1,6 @@
 pub mod Text
 pub mod Number
+pub mod Fault
+pub mod Form
+pub mod Command
+pub mod ConfigLine

@@ -2,3 +2,4 @@ pub mod PlaceLemmas
 pub mod LineLemmas
 pub mod WordLemmas
 pub mod NumberLemmas
+pub mod RowLemmas

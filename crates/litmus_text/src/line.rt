@@ -1,4 +1,4 @@
-ghost use Rattle.std.specs.Prelude.{◌≡◌, ℕ, ◌<◌, ◌==◌, List, ◌∷◌, length};
+ghost use Rattle.std.specs.Prelude.{◌≡◌, ℕ, ◌<◌, ◌≤◌, ◌==◌, List, ◌∷◌, length};
 ghost use Rattle.std.specs.List.{position};
 ghost use Rattle.std.specs.Iterator.{YieldsFirstRef, item_count};
 ghost use Rattle.std.specs.Str.Lines.{lines, strip_carriage_return};
@@ -21,7 +21,8 @@ impl<'a> Lines<'a> {
     /// The lines of a text. A line ends with a line feed, which the last one may lack; a carriage return
     /// directly before the line feed belongs to it.
     pub const fn of(text: &'a [u8]) -> Self
-        ensures { result ≡ lines text.now }
+        ensures value { result ≡ lines text.now }
+        ensures len { length result ≤ length text.now }
     {
         Lines { rest: text }
     }

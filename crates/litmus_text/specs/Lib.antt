@@ -4,3 +4,4 @@ pub mod Fault
 pub mod Form
 pub mod Command
 pub mod ConfigLine
+pub mod Statement

@@ -8,6 +8,7 @@ pub use line::Lines;
 pub use number::parse_number;
 pub use parse::parse_command;
 pub use row::{MOST_WORDS, first_words};
+pub use statement::{Statement, Statements};
 pub use word::Words;
 
 mod command;
@@ -18,4 +19,5 @@ mod number;
 mod parse;
 mod range;
 mod row;
+mod statement;
 mod word;

@@ -1,0 +1,3 @@
+pub mod CopyState
+pub mod Law
+pub mod Row

@@ -1,0 +1,4 @@
+pub mod Handed
+pub mod Quiet
+pub mod Replies
+pub mod Within

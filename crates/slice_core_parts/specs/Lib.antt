@@ -1,0 +1,6 @@
+pub mod Side
+pub mod Tags
+pub mod Decision
+pub mod Delivery
+pub mod View
+pub mod Parts

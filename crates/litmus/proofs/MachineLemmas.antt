@@ -1,7 +1,15 @@
 -- A machine keeps its shape: each call on a slice leaves it the cores, the lines and the place that it had.
-use Rattle.std.proofs.Common.{◌≡◌, ◌≢◌, ℕ, ◌+◌, ◌<◌, List, [], ◌∷◌, ◌++◌, length, get_or, set, Option, Some, None, Result, Ok, Err, refl, sym, ap, ◌∙◌, subst, arith, inl, inr, length-set, length-append}
-use Rattle.std.proofs.lemmas.List.{get_or-set_same, get_or-set_other}
-use Rattle.address_map.specs.Config.{slice_lines}
+use Rattle.std.proofs.Common.{◌≡◌, ◌≢◌, ℕ, ◌+◌, ◌/◌, ◌%◌, ◌<◌, ◌≤◌, List, [], ◌∷◌, ◌++◌, length, get_or, set, Option, Some, None, Result, Ok, Err, refl, sym, ap, ◌∙◌, subst, arith, inl, inr, length-set, length-append}
+use Rattle.std.proofs.lemmas.List.{get_or-set_same, get_or-set_other, length-replicate}
+use Rattle.std.proofs.Math.ListN.{get_or-append}
+use Rattle.std.proofs.Math.Seq.{get_or-append_seam}
+use Rattle.std.proofs.Math.Nat.{mul-le-mul_left}
+use Rattle.std.proofs.lemmas.Bool.{cases_eq, cases_lt}
+use Rattle.std.proofs.lemmas.Bool.Decides.{nat_tests}
+use Rattle.std.specs.Prelude.{IsTrue}
+use Rattle.slice_core_line.specs.Line.{new_line}
+use Rattle.slice_core_parts.specs.Side.{new_side}
+use Rattle.address_map.specs.Config.{IsAllowed, slice_lines}
 use Rattle.address_map.specs.declared.address.CoreId.{CoreId}
 use Rattle.address_map.specs.declared.config.Config.{Config}
 use Rattle.address_map.specs.declared.request.Request.{Request}
@@ -14,8 +22,11 @@ use Rattle.slice_core_parts.specs.declared.decide.Decision.{Decision}
 use Rattle.slice_core_parts.specs.declared.decide.Decision.TheVariants as decisions
 use Rattle.slice_core_parts.specs.declared.decide.Delivery.{Delivery}
 use Rattle.slice_core_parts.specs.declared.decide.Delivery.TheVariants as deliveries
-use Rattle.slice_core_parts.specs.Parts.{PartsView, AfterDecision, AfterDeciding, AfterHand}
-use Rattle.slice_core_parts.specs.View.{View, after_hit, after_miss, after_granting, after_filling, after_handing}
+use Rattle.slice_core_parts.specs.Parts.{PartsView, IsNew, AfterDecision, AfterDeciding, AfterIssue, AfterDelivery, AfterHand}
+use Rattle.slice_core_parts.specs.Decision.{decision_of}
+use Rattle.slice_core_parts.specs.Delivery.{delivery_of}
+use Rattle.slice_queues_message.specs.declared.channel.Pick.{Pick}
+use Rattle.slice_core_parts.specs.View.{View, has_line, after_hit, after_miss, after_granting, after_filling, after_handing}
 use Rattle.litmus.specs.Machine.{IsSliceOf, AreSlicesOf, IsMachine}
 
 -- the new view has the shape of the old one
@@ -86,9 +97,63 @@ done-within (decisions.Miss local offset next ask) old new core request number (
 done-within (decisions.Miss local offset next ask) old new core request number (inr accepted) = cc (accepted.accepted)
 
 -- the machine with one state replaced by one of the same slice
-pub IsMachine-set : (config : Config) (slices : List PartsView) (i : ℕ) (p : PartsView) → i < length slices → IsSliceOf config i p
+pub is_machine_after_set : (config : Config) (slices : List PartsView) (i : ℕ) (p : PartsView) → i < length slices → IsSliceOf config i p
     → IsMachine config slices → IsMachine config (set slices i p)
-IsMachine-set config slices i p h is machine = record {
+is_machine_after_set config slices i p h is machine = record {
   count = length-set slices i p ∙ machine.count;
-  each = ?;
+  each = λ j d below. elim (cases_eq i j) [
+    | inl same ↦ subst (λ k. IsSliceOf config k (get_or (set slices i p) k d)) same (rw (get_or-set_same slices i p d h) is)
+    | inr other ↦ let differs : j ≢ i = λ e. other (sym e) in rw (get_or-set_other slices i j p d differs) (machine.each j d (subst (λ n. j < n) (length-set slices i p) below))
+  ];
 }
+
+pub is_machine_after_issue : (config : Config) (slices : List PartsView) (i : ℕ) (old new : PartsView) (core : CoreId) (request : Request) (answer : Result Issue Refused)
+    → IsMachine config slices → i < length slices → old ≡ get_or slices i old → AfterIssue old core request answer new → IsMachine config (set slices i new)
+is_machine_after_issue config slices i old new core request answer machine h read step =
+    let is = subst (IsSliceOf config i) (sym read) (machine.each i old h) in
+    is_machine_after_set config slices i new h (kept-issue config i (decision_of old.view core request) old new core request answer step is) machine
+
+pub is_machine_after_delivery : (config : Config) (slices : List PartsView) (i : ℕ) (old new : PartsView) (pick : Pick) (answer : Delivered)
+    → IsMachine config slices → i < length slices → old ≡ get_or slices i old → AfterDelivery old pick answer new → IsMachine config (set slices i new)
+is_machine_after_delivery config slices i old new pick answer machine h read step =
+    let is = subst (IsSliceOf config i) (sym read) (machine.each i old h) in
+    is_machine_after_set config slices i new h (kept-deliver config i (delivery_of old.view pick) old new answer step is) machine
+
+pub is_machine_after_hand : (config : Config) (slices : List PartsView) (i : ℕ) (old new : PartsView) (core : ℕ) (answer : Option Numbered)
+    → IsMachine config slices → i < length slices → old ≡ get_or slices i old → AfterHand old core answer new → IsMachine config (set slices i new)
+is_machine_after_hand config slices i old new core answer machine h read step =
+    let is = subst (IsSliceOf config i) (sym read) (machine.each i old h) in
+    is_machine_after_set config slices i new h (kept-hand config i old new core answer step is) machine
+
+below_share : (line lines n : ℕ) → 1 ≤ n → lines % n ≡ 0 → line < lines → line / n < lines / n
+below_share line lines n some even below = elim (cases_lt (line / n) (lines / n)) [
+    | inl less ↦ less
+    | inr more ↦ absurd (omega (arith, mul-le-mul_left n more))
+  ]
+
+-- a line of the memory is one of its own slice's
+pub has_line_in_turn : (config : Config) (line i : ℕ) (p : PartsView) → IsAllowed config → IsSliceOf config i p → i ≡ line % config.slices → line < config.lines
+    → IsTrue (has_line p.view line)
+has_line_in_turn config line i p allowed is turn below =
+    let within : line / p.view.slices < length p.view.lines = rw (is.slices, is.lines) (below_share line config.lines config.slices allowed.some_slice allowed.even below) in
+    let here : line % p.view.slices ≡ p.view.slice = rw (is.slices, is.slice) (sym turn) in
+    grind (arith, nat_tests)
+
+-- a state that was built is a slice's
+pub of_new : (config : Config) (i : ℕ) (p : PartsView) → IsNew config.cores (slice_lines config) config.slices i p → IsSliceOf config i p
+of_new config i p new = record {
+  cores = ap (λ (v : View). length v.sides) new.view ∙ length-replicate config.cores (new_side (slice_lines config));
+  lines = ap (λ (v : View). length v.lines) new.view ∙ length-replicate (slice_lines config) (new_line config.cores);
+  slices = ap (λ (v : View). v.slices) new.view;
+  slice = ap (λ (v : View). v.slice) new.view;
+}
+
+-- one more state, of the next slice
+pub are_slices_push : (config : Config) (slices : List PartsView) (i : ℕ) (p : PartsView) → AreSlicesOf config slices → length slices ≡ i → IsSliceOf config i p
+    → AreSlicesOf config (slices ++ p ∷ [])
+are_slices_push config slices i p each count is = λ j d below. elim (cases_lt j (length slices)) [
+    | inl before ↦ rw (get_or-append slices (p ∷ []) d j before) (each j d before)
+    | inr last ↦
+      let at : j ≡ length slices = omega (arith, simp length-append at below) in
+      subst (λ k. IsSliceOf config k (get_or (slices ++ p ∷ []) k d)) (sym at) (rw (get_or-append_seam slices p [] d) (rw count is))
+  ]

@@ -5,11 +5,11 @@ use Rattle.address_map.specs.Config.{slice_lines}
 use Rattle.slice_core_parts.specs.Parts.{PartsView}
 
 -- the state is of this slice, with the configured cores and its share of the lines
-pub record IsSliceOf (config : Config) (slice : ℕ) (p : PartsView) : Type 0 where
+pub record IsSliceOf (config : Config) (id : ℕ) (p : PartsView) : Type 0 where
   pub cores : length p.view.sides ≡ config.cores
   pub lines : length p.view.lines ≡ slice_lines config
   pub slices : p.view.slices ≡ config.slices
-  pub slice : p.view.slice ≡ slice
+  pub slice : p.view.slice ≡ id
 
 -- each state is that of the slice at its place
 abbrev pub AreSlicesOf : Config → List PartsView → Type 0

@@ -1,5 +1,6 @@
 ghost use Rattle.std.specs.Prelude.{◌≡◌, ◌/◌, ◌%◌, ◌<◌, length, IfOk};
 ghost use Rattle.litmus_text.specs.Command.{IsInRange, HasCore};
+ghost use Rattle.address_map.specs.Config.{IsAllowed};
 ghost use Rattle.litmus.specs.Machine.{IsMachine};
 
 use super::trace::write_trace;
@@ -121,6 +122,7 @@ impl Machine {
     fn slice_of(&self, line: LineAddr) -> usize
         ensures slice { result ≡ line.0 % self.now.config.slices }
         ensures known { result < length self.now.slices.items }
+        ensures allowed { IsAllowed self.now.config }
     {
         (line.0 % self.config.slices() as u64) as usize
     }

@@ -1,32 +1,69 @@
 -- Which configurations a machine can be built from.
-use Rattle.std.specs.Prelude.{◌≡◌, ℕ, Bool, ◌==◌, ◌||◌, ◌&&◌, nat_le, ◌≤◌, ◌/◌, ◌%◌, if◌then◌else◌, Result, Ok, Err}
+use Rattle.std.specs.Prelude.{◌≡◌, ℕ, ◌<◌, ◌*◌, Bool, ◌==◌, ◌||◌, ◌&&◌, not, nat_le, ◌≤◌, ◌/◌, ◌%◌, List, [], ◌∷◌, length, Option, Result, Ok, Err, find, All, IsTrue}
+use Rattle.std.specs.Int.{is_power_of_two}
+use Rattle.std.specs.Option.{option_map_or}
 use Rattle.address_map.specs.declared.config.Config.{Config}
 use Rattle.address_map.specs.declared.config.ConfigError.{ConfigError}
 use Rattle.address_map.specs.declared.config.ConfigError.TheVariants as errors
+use Rattle.address_map.specs.declared.config.PolicyKind.TheVariants as policies
+use Rattle.address_map.specs.declared.config.TheConstants.{MOST_CORES}
+use Rattle.address_map.specs.Words.{IsAscendingBy, are_words_below}
 
 -- the machine of a text that configures nothing
 abbrev pub default_config : Config
-default_config = record { cores = 2; slices = 1; lines = 16 }
+default_config = record {
+  cores = 2;
+  slices = 1;
+  lines = 16;
+  sets = 4;
+  ways = 2;
+  mshrs = 4;
+  targets = 4;
+  writebacks = 2;
+  policy = policies.Lru;
+  init = [];
+  counters = [];
+}
 
-abbrev pub allows_cores : ℕ → Bool
-allows_cores cores = cores == 1
+-- how many words the memory has: eight in each line
+abbrev pub word_count : Config → ℕ
+word_count c = 8 * c.lines
 
-abbrev pub allows_slices : ℕ → Bool
-allows_slices slices = slices == 1 || slices == 2 || slices == 4
+-- the lines of each slice
+abbrev pub slice_lines : Config → ℕ
+slice_lines c = c.lines / c.slices
 
--- 1 to 65536 lines, as many in each slice
-abbrev pub allows_lines : ℕ → ℕ → Bool
-allows_lines lines slices = nat_le 1 lines && nat_le lines 65536 && (lines % slices == 0)
+-- whether n is at least the one and at most the other
+abbrev pub is_within : ℕ → ℕ → ℕ → Bool
+is_within least most n = nat_le least n && nat_le n most
 
--- the configuration itself, or the first field that isn't allowed
+-- whether the field that an error names is allowed
+abbrev pub allows : Config → ConfigError → Bool
+allows c errors.Cores = is_within 1 MOST_CORES c.cores
+allows c errors.Slices = c.slices == 1 || c.slices == 2 || c.slices == 4
+-- as many lines in each slice
+allows c errors.Lines = is_within 1 65536 c.lines && (c.lines % c.slices == 0)
+allows c errors.Sets = is_power_of_two c.sets && is_within 1 256 c.sets
+allows c errors.Ways = is_within 1 16 c.ways
+allows c errors.Mshrs = is_within 1 32 c.mshrs
+allows c errors.Targets = is_within 1 32 c.targets
+allows c errors.Writebacks = is_within 1 16 c.writebacks
+allows c errors.Init = are_words_below (λ pair. pair.0.0) (word_count c) c.init
+allows c errors.Counters = nat_le (length c.counters) 8 && are_words_below (λ word. word.0) (word_count c) c.counters
+
+-- the fields that can be at fault, in the order in which they are judged
+abbrev pub fields : List ConfigError
+fields =
+    errors.Cores ∷ errors.Slices ∷ errors.Lines ∷ errors.Sets ∷ errors.Ways ∷ errors.Mshrs ∷ errors.Targets
+    ∷ errors.Writebacks ∷ errors.Init ∷ errors.Counters ∷ []
+
+-- the first field at fault
+abbrev pub first_fault : Config → Option ConfigError
+first_fault c = find (λ field. not (allows c field)) fields
+
+-- the configuration itself, or its first field at fault
 abbrev pub checked_of : Config → Result Config ConfigError
-checked_of c =
-    if allows_cores c.cores then
-    if allows_slices c.slices then
-    if allows_lines c.lines c.slices then Ok c
-    else Err errors.Lines
-    else Err errors.Slices
-    else Err errors.Cores
+checked_of c = option_map_or (λ fault. Err fault) (first_fault c) (Ok c)
 
 -- what holds of each configuration that was checked
 pub record IsAllowed (c : Config) : Type 0 where
@@ -37,7 +74,19 @@ pub record IsAllowed (c : Config) : Type 0 where
   pub some_line : 1 ≤ c.lines
   pub few_lines : c.lines ≤ 65536
   pub even : c.lines % c.slices ≡ 0
-
--- the lines of each slice
-abbrev pub slice_lines : Config → ℕ
-slice_lines c = c.lines / c.slices
+  pub some_set : 1 ≤ c.sets
+  pub few_sets : c.sets ≤ 256
+  pub sets_power : IsTrue (is_power_of_two c.sets)
+  pub some_way : 1 ≤ c.ways
+  pub few_ways : c.ways ≤ 16
+  pub some_mshr : 1 ≤ c.mshrs
+  pub few_mshrs : c.mshrs ≤ 32
+  pub some_target : 1 ≤ c.targets
+  pub few_targets : c.targets ≤ 32
+  pub some_writeback : 1 ≤ c.writebacks
+  pub few_writebacks : c.writebacks ≤ 16
+  pub init_ascending : IsAscendingBy (λ pair. pair.0.0) c.init
+  pub init_in_range : All (λ pair. pair.0.0 < word_count c) c.init
+  pub few_counters : length c.counters ≤ 8
+  pub counters_ascending : IsAscendingBy (λ word. word.0) c.counters
+  pub counters_in_range : All (λ word. word.0 < word_count c) c.counters

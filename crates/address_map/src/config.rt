@@ -1,7 +1,13 @@
-ghost use Rattle.std.specs.Prelude.{◌≡◌, ◌<◌};
+ghost use Rattle.std.specs.Prelude.{◌≡◌, ◌<◌, ◌↔◌, IsTrue, OnOk, Contains};
 
+use super::address::WordAddr;
+use super::words::{CounterWords, InitialValues};
+use std::alloc::Global;
 use std::marker::Model;
 use thiserror::Error;
+
+/// How many cores a machine may have. Until the protocol's tables know of a second core it is 1, and then 64.
+pub const MOST_CORES: u64 = 1;
 
 /// The field of a configuration that was refused: the first one at fault, in this order.
 #[derive(Clone, Copy, Debug, PartialEq, Eq, Error)]
@@ -12,17 +18,58 @@ pub enum ConfigError {
     Slices,
     #[error("3 Lines")]
     Lines,
+    #[error("4 Sets")]
+    Sets,
+    #[error("5 Ways")]
+    Ways,
+    #[error("6 Mshrs")]
+    Mshrs,
+    #[error("7 Targets")]
+    Targets,
+    #[error("8 Writebacks")]
+    Writebacks,
+    #[error("9 Init")]
+    Init,
+    #[error("10 Counters")]
+    Counters,
+}
+
+/// Which line of a full set a miss replaces.
+#[derive(Clone, Copy, Debug, PartialEq, Eq)]
+pub enum PolicyKind {
+    /// The one that was used longest ago.
+    Lru,
+    /// The one that came first.
+    Fifo,
+    /// One at random, from generators that this seed starts.
+    Random(u64),
 }
 
 /// The shape of a machine, before it is checked.
 #[derive(Debug, Drop)]
 pub struct Config {
-    /// Cores with a private cache each. For now exactly 1.
+    /// Cores with a private cache each: 1 to `MOST_CORES`.
     pub cores: u64,
     /// Slices of the last level: 1, 2 or 4.
     pub slices: u64,
     /// Lines of the whole memory: 1 to 65536, and a multiple of the slices.
     pub lines: u64,
+    /// Sets of a core's array in each slice: a power of two, 1 to 256.
+    pub sets: u64,
+    /// Lines of a set: 1 to 16.
+    pub ways: u64,
+    /// Miss registers (Kroft's MSHRs) of a core in each slice: 1 to 32.
+    pub mshrs: u64,
+    /// Targets of a miss register, each with its word (Farkas and Jouppi's explicit addressing): 1 to 32.
+    pub targets: u64,
+    /// Entries of a core's write-back buffer in each slice: 1 to 16.
+    pub writebacks: u64,
+    /// The replacement policy of all arrays.
+    pub policy: PolicyKind,
+    /// What memory begins with: words of it, strictly ascending.
+    pub init: InitialValues,
+    /// The counters: at most 8 words of the memory, strictly ascending.
+    pub counters: CounterWords,
 }
 
 /// A configuration that was checked. Only `Config::check` makes one.
@@ -44,37 +91,83 @@ impl Model for Checked {
 }
 
 impl Config {
-    ghost use Rattle.address_map.specs.Config.{default_config, checked_of};
+    ghost use Rattle.address_map.specs.Config.{default_config, first_fault, checked_of, IsAllowed};
 
-    /// The machine that a text has where it says nothing else: 2 cores, 1 slice, 16 lines.
-    pub const fn new() -> Self
+    /// The machine that a text has where it says nothing else: 2 cores, 1 slice of 16 lines, 4 sets of 2 ways,
+    /// 4 miss registers of 4 targets, 2 write-back entries, LRU, and no initial value and no counter.
+    pub fn new(alloc: Global) -> Self
         ensures { result ≡ default_config }
     {
         Config {
             cores: 2,
             slices: 1,
             lines: 16,
+            sets: 4,
+            ways: 2,
+            mshrs: 4,
+            targets: 4,
+            writebacks: 2,
+            policy: PolicyKind::Lru,
+            init: InitialValues::new(alloc),
+            counters: CounterWords::new(alloc),
         }
     }
 
+    /// Takes no memory. A configuration that is refused is dropped.
     pub fn check(self) -> Result<Checked, ConfigError>
-        ensures { result ≡ checked_of self }
+        ensures value { result ≡ checked_of self }
+        ensures allowed { OnOk result (IsAllowed self) }
     {
-        if self.cores != 1 {
-            return Err(ConfigError::Cores);
+        match self.first_fault() {
+            Some(fault) => Err(fault),
+            None => Ok(Checked { config: self }),
+        }
+    }
+
+    fn first_fault(&self) -> Option<ConfigError>
+        ensures { result ≡ first_fault self.now }
+    {
+        if !matches!(self.cores, 1..=MOST_CORES) {
+            return Some(ConfigError::Cores);
         }
         if !matches!(self.slices, 1 | 2 | 4) {
-            return Err(ConfigError::Slices);
+            return Some(ConfigError::Slices);
         }
-        if self.lines == 0 || self.lines > 65536 || self.lines % self.slices != 0 {
-            return Err(ConfigError::Lines);
+        if !matches!(self.lines, 1..=65536) || self.lines % self.slices != 0 {
+            return Some(ConfigError::Lines);
         }
-        Ok(Checked { config: self })
+        if !self.sets.is_power_of_two() || self.sets > 256 {
+            return Some(ConfigError::Sets);
+        }
+        if !matches!(self.ways, 1..=16) {
+            return Some(ConfigError::Ways);
+        }
+        if !matches!(self.mshrs, 1..=32) {
+            return Some(ConfigError::Mshrs);
+        }
+        if !matches!(self.targets, 1..=32) {
+            return Some(ConfigError::Targets);
+        }
+        if !matches!(self.writebacks, 1..=16) {
+            return Some(ConfigError::Writebacks);
+        }
+        let words = 8 * self.lines;
+        if !self.init.is_ascending() || !self.init.is_below(words) {
+            return Some(ConfigError::Init);
+        }
+        if self.counters.len() > 8
+            || !self.counters.is_ascending()
+            || !self.counters.is_below(words)
+        {
+            return Some(ConfigError::Counters);
+        }
+        None
     }
 }
 
 impl Checked {
     ghost use Rattle.address_map.specs.Config.{IsAllowed, slice_lines};
+    ghost use Rattle.address_map.specs.Words.{initial_value};
 
     pub fn cores(&self) -> usize
         ensures cores { result ≡ self.now.cores }
@@ -90,6 +183,14 @@ impl Checked {
         self.config.slices as usize
     }
 
+    /// How many lines the whole memory has.
+    pub fn lines(&self) -> usize
+        ensures lines { result ≡ self.now.lines }
+        ensures allowed { IsAllowed self.now }
+    {
+        self.config.lines as usize
+    }
+
     /// How many lines each slice has.
     pub fn slice_lines(&self) -> usize
         ensures lines { result ≡ slice_lines self.now }
@@ -97,4 +198,81 @@ impl Checked {
     {
         (self.config.lines / self.config.slices) as usize
     }
+
+    /// How many sets a core's array has in each slice.
+    pub fn sets(&self) -> usize
+        ensures sets { result ≡ self.now.sets }
+        ensures allowed { IsAllowed self.now }
+    {
+        self.config.sets as usize
+    }
+
+    /// How many lines a set has.
+    pub fn ways(&self) -> usize
+        ensures ways { result ≡ self.now.ways }
+        ensures allowed { IsAllowed self.now }
+    {
+        self.config.ways as usize
+    }
+
+    /// How many miss registers a core has in each slice.
+    pub fn mshrs(&self) -> usize
+        ensures mshrs { result ≡ self.now.mshrs }
+        ensures allowed { IsAllowed self.now }
+    {
+        self.config.mshrs as usize
+    }
+
+    /// How many targets a miss register has.
+    pub fn targets(&self) -> usize
+        ensures targets { result ≡ self.now.targets }
+        ensures allowed { IsAllowed self.now }
+    {
+        self.config.targets as usize
+    }
+
+    /// How many entries the write-back buffer of a core has in each slice.
+    pub fn writebacks(&self) -> usize
+        ensures writebacks { result ≡ self.now.writebacks }
+        ensures allowed { IsAllowed self.now }
+    {
+        self.config.writebacks as usize
+    }
+
+    pub fn policy(&self) -> PolicyKind
+        ensures policy { result ≡ self.now.policy }
+        ensures allowed { IsAllowed self.now }
+    {
+        self.config.policy
+    }
+
+    /// The words that begin with a value of their own, ascending.
+    pub fn init(&self) -> &[(WordAddr, u64)]
+        ensures value { result.now ≡ self.now.init }
+        ensures allowed { IsAllowed self.now }
+    {
+        self.config.init.as_slice()
+    }
+
+    /// The counters, ascending.
+    pub fn counters(&self) -> &[WordAddr]
+        ensures value { result.now ≡ self.now.counters }
+        ensures allowed { IsAllowed self.now }
+    {
+        self.config.counters.as_slice()
+    }
+
+    /// The value that a word begins with.
+    pub fn initial_word(&self, word: WordAddr) -> u64
+        ensures { result ≡ initial_value self.now.init word }
+    {
+        self.config.init.value_of(word)
+    }
+}
+
+/// Whether a word is a counter.
+pub fn is_counter(config: &Checked, word: WordAddr) -> bool
+    ensures { IsTrue result ↔ Contains config.now.counters word }
+{
+    config.counters().contains(&word)
 }

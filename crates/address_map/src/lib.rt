@@ -1,12 +1,23 @@
-//! Words, lines, slices and cores: how they are named, and what a core may ask of a word.
+//! Words, lines, slices and cores: how they are named, what a core may ask of a word, and how a machine is configured.
+//!
+//! Memory is an array of words of 64 bits. Eight words are a line, and lines are dealt out to the slices in turn.
+//! `split` finds the place of a word and `join` the word at a place, and each one's contract says that the other undoes
+//! it. `Config::check` answers the first field at fault, or a `Checked`, whose getters say what it may be relied on for
+//! (`IsAllowed` in `specs/Config.antt`). Only naming an initial value or a counter takes memory.
 #![tactic(auto)]
 
 pub use address::{CoreId, LineAddr, Local, Offset, SliceId, WordAddr};
 pub use block::Block;
-pub use config::{Checked, Config, ConfigError};
+pub use config::{Checked, Config, ConfigError, MOST_CORES, PolicyKind, is_counter};
+pub use place::{Place, join, split};
 pub use request::{Op, Request};
+pub use words::{CounterWords, InitialValues};
 
 mod address;
 mod block;
 mod config;
+mod place;
 mod request;
+#[cfg(test)]
+mod tests;
+mod words;

@@ -1,5 +1,5 @@
 -- Laws of the table, in words that are not its cells. They say when a core gains the right to read or to write a line,
--- when it gives the right up, and what it owes to others: the reasons why a line has one writer or only readers.
+-- when it gives the right up, and what it owes to others.
 use Rattle.std.specs.Prelude.{◌≡◌, ◌+◌, ◌==◌, ◌&&◌, ◌||◌, Bool, true, false, not, IsTrue, IsFalse}
 use Rattle.cache_table.specs.CopyState.{is_leaving, is_readable, is_waiting, is_writer}
 use Rattle.cache_table.specs.declared.state.CopyState.{CopyState}
@@ -16,6 +16,11 @@ abbrev pub IfGo : Row → (CopyState → CacheSends → Type 0) → Type 0
 IfGo (rows.Go next sent) P = P next sent
 IfGo rows.Blocked P = Unit {0}
 IfGo rows.NoEntry P = Unit {0}
+
+-- Where the row is blocked, the fact holds.
+abbrev pub IfBlocked : Row → Type 0 → Type 0
+IfBlocked rows.Blocked P = P
+IfBlocked _ P = Unit {0}
 
 -- ---- events
 

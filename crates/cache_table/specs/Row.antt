@@ -1,6 +1,6 @@
 -- The table of a private cache, cell by cell: states down, events across. What is not listed has no entry.
 -- It is this project's own profile, in the manner of the Primer's directory protocols (Sorin, Hill and Wood).
-use Rattle.std.specs.Prelude.{◌+◌, ◌==◌, nat_lt, if◌then◌else◌, true, false}
+use Rattle.std.specs.Prelude.{ℕ, ◌+◌, ◌==◌, nat_lt, if◌then◌else◌, true, false}
 use Rattle.cache_table.specs.declared.state.CopyState.{CopyState}
 use Rattle.cache_table.specs.declared.state.CopyState.TheVariants as states
 use Rattle.cache_table.specs.declared.row.CacheEvent.{CacheEvent}
@@ -8,6 +8,13 @@ use Rattle.cache_table.specs.declared.row.CacheEvent.TheVariants as events
 use Rattle.cache_table.specs.declared.row.CacheSends.TheVariants as sends
 use Rattle.cache_table.specs.declared.row.Row.{Row}
 use Rattle.cache_table.specs.declared.row.Row.TheVariants as rows
+
+-- M where all n acknowledgements have come, and else the state that awaits the rest
+abbrev pub counted : ℕ → ℕ → CopyState → Row
+counted come n waits =
+    if come == n then rows.Go states.M sends.Nothing
+    else if nat_lt come n then rows.Go waits sends.Nothing
+    else rows.NoEntry
 
 abbrev pub row_of : CopyState → CacheEvent → Row
 -- nothing: a miss asks for the line
@@ -21,14 +28,12 @@ row_of states.IS_D events.Inv = rows.Blocked
 row_of states.IS_D events.FwdGetS = rows.Blocked
 row_of states.IS_D events.FwdGetM = rows.Blocked
 -- a write missed: data are awaited, and n acknowledgements, of which k have come
-row_of states.IM_AD (events.Data n k) =
-    if k == n then rows.Go states.M sends.Nothing else if nat_lt k n then rows.Go states.IM_A sends.Nothing else rows.NoEntry
+row_of states.IM_AD (events.Data n k) = counted k n states.IM_A
 row_of states.IM_AD (events.InvAck n k) = rows.Go states.IM_AD sends.Nothing
 row_of states.IM_AD events.FwdGetS = rows.Blocked
 row_of states.IM_AD events.FwdGetM = rows.Blocked
 -- a write missed, and the data have come: the last acknowledgement gives M
-row_of states.IM_A (events.InvAck n k) =
-    if k + 1 == n then rows.Go states.M sends.Nothing else if nat_lt (k + 1) n then rows.Go states.IM_A sends.Nothing else rows.NoEntry
+row_of states.IM_A (events.InvAck n k) = counted (k + 1) n states.IM_A
 row_of states.IM_A events.FwdGetS = rows.Blocked
 row_of states.IM_A events.FwdGetM = rows.Blocked
 -- a shared copy
@@ -37,14 +42,12 @@ row_of states.S events.Write = rows.Go states.SM_AD sends.GetM
 row_of states.S events.Eviction = rows.Go states.SI_A sends.PutS
 row_of states.S events.Inv = rows.Go states.I sends.InvAckToRequester
 -- a write to a shared copy: as for a write that missed, but the copy may be invalidated meanwhile
-row_of states.SM_AD (events.Data n k) =
-    if k == n then rows.Go states.M sends.Nothing else if nat_lt k n then rows.Go states.SM_A sends.Nothing else rows.NoEntry
+row_of states.SM_AD (events.Data n k) = counted k n states.SM_A
 row_of states.SM_AD (events.InvAck n k) = rows.Go states.SM_AD sends.Nothing
 row_of states.SM_AD events.Inv = rows.Go states.IM_AD sends.InvAckToRequester
 row_of states.SM_AD events.FwdGetS = rows.Blocked
 row_of states.SM_AD events.FwdGetM = rows.Blocked
-row_of states.SM_A (events.InvAck n k) =
-    if k + 1 == n then rows.Go states.M sends.Nothing else if nat_lt (k + 1) n then rows.Go states.SM_A sends.Nothing else rows.NoEntry
+row_of states.SM_A (events.InvAck n k) = counted (k + 1) n states.SM_A
 row_of states.SM_A events.FwdGetS = rows.Blocked
 row_of states.SM_A events.FwdGetM = rows.Blocked
 -- the only copy, written (M) or clean (E)

@@ -2,9 +2,10 @@
 //!
 //! The stable states are those of the Primer (Sorin, Hill and Wood, *A Primer on Memory Consistency and Cache
 //! Coherence*): M may be written, E is the only copy and clean, S may be read, I is nothing. A transient state `XY_Z`
-//! goes from X to Y and waits for Z: D for data, A for acknowledgements. [`cache_row`] is the table itself, one cell one
-//! line; its contract is the same table over all states and events, and above it the laws by which a line has one
-//! writer or only readers. `state` has the states, `row` the events, the sends and the table.
+//! goes from X to Y and waits for Z: D for data, A for acknowledgements. [`cache_row`] is the table. Its contract says so
+//! cell by cell, and above that gives the laws on which the coherence of a line rests: when a core gains and loses the
+//! right to read or to write, and what it owes to others. `state` has the states, `row` the events, the sends and the
+//! table, and `docs/PROTOCOL.md` shows it.
 #![tactic(auto)]
 
 pub use row::{CacheEvent, CacheSends, Row, cache_row};

@@ -1,5 +1,5 @@
 ghost use Rattle.std.specs.Prelude.{◌≡◌};
-ghost use Rattle.cache_table.specs.Law.{Answers, Asks, EndsEviction, EndsMiss, GivesUp, IfGo, TakesReadRight, TakesWriteRight, WaitsForMiss};
+ghost use Rattle.cache_table.specs.Law.{Answers, Asks, EndsEviction, EndsMiss, GivesUp, IfBlocked, IfGo, TakesReadRight, TakesWriteRight, WaitsForMiss};
 ghost use Rattle.cache_table.specs.Row.{row_of};
 
 use super::state::CopyState;
@@ -54,11 +54,10 @@ pub enum Row {
 ///
 /// A hit stays where it is and sends nothing, but in E a write goes to M. Accesses to a line that has a miss register
 /// or stands in the write-back buffer never come to the table.
-#[rattlefmt::skip]
 pub const fn cache_row(state: CopyState, event: CacheEvent) -> Row
     ensures table { result ≡ row_of state event }
 
-    // Why a line has one writer or only readers, whatever the cells are.
+    // What the coherence of a line rests on, whatever the cells are.
     ensures write_right { IfGo result (λ next _. TakesWriteRight state event next) }
     ensures read_right { IfGo result (λ next _. TakesReadRight state event next) }
     ensures given_up { IfGo result (λ next _. GivesUp event next) }
@@ -66,7 +65,15 @@ pub const fn cache_row(state: CopyState, event: CacheEvent) -> Row
     ensures asked { IfGo result (λ next sent. Asks state next sent) }
     ensures miss { IfGo result (λ next _. EndsMiss state next) }
     ensures eviction { IfGo result (λ next _. EndsEviction state event next) }
-    ensures blocked { result ≡ Row.Blocked → WaitsForMiss state event }
+    ensures blocked { IfBlocked result (WaitsForMiss state event) }
+{
+    cell(state, event)
+}
+
+// The table itself, one cell one line.
+#[rattlefmt::skip]
+const fn cell(state: CopyState, event: CacheEvent) -> Row
+    ensures { result ≡ row_of state event }
 {
     use CacheEvent::*;
     use CacheSends::*;

@@ -1,5 +1,5 @@
 -- One line: the directory's entry, the home copy, and the messages in flight.
-use Rattle.std.specs.Prelude.{◌≡◌, ℕ, ◌<◌, List, length, replicate, slice_index_or, slice_set, Some, None, All}
+use Rattle.std.specs.Prelude.{◌≡◌, ℕ, List, replicate, slice_index_or, slice_set, Some, None, All}
 use Rattle.address_map.specs.declared.block.Block.{Block}
 use Rattle.slice_core_line.specs.declared.directory.Directory.{Directory}
 use Rattle.slice_core_line.specs.declared.directory.Directory.TheVariants as directories

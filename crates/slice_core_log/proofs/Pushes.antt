@@ -9,7 +9,7 @@ use Rattle.slice_core_log.specs.Log.{value, IsLegal, IsOrdered, IsAfter}
 
 -- a place of a list with one more element is a place of the list, or the new last one
 pub slice_get-push : {X : Type 0} (xs : List X) (y : X) (k : ℕ) (x : X) → slice_get (xs ++ y ∷ []) k ≡ Some x
-  → ((k < length xs) × (slice_get xs k ≡ Some x)) ⊎ ((k ≡ length xs) × (x ≡ y))
+    → ((k < length xs) × (slice_get xs k ≡ Some x)) ⊎ ((k ≡ length xs) × (x ≡ y))
 slice_get-push [] y zero x h = inr (refl, cc)
 slice_get-push [] y (suc k) x h = cc
 slice_get-push (z ∷ zs) y zero x h = inl (omega arith, h)
@@ -20,18 +20,18 @@ pub IsLegal-nil : (initial : ℕ → ℕ) → IsLegal initial []
 IsLegal-nil initial = record { replies = λ k e h. cc }
 
 pub IsLegal-push : (initial : ℕ → ℕ) (log : List Entry) (e : Entry) → IsLegal initial log
-  → e.reply ≡ reply_of e.op (value (initial e.word.0) log e.word.0) → IsLegal initial (log ++ e ∷ [])
+    → e.reply ≡ reply_of e.op (value (initial e.word.0) log e.word.0) → IsLegal initial (log ++ e ∷ [])
 IsLegal-push initial log e legal fits = record {
   replies = λ k x at. elim (slice_get-push log e k x at) [
     | inl w ↦ rw (take-append-le k log (e ∷ []) (omega arith)) (legal.replies k x w.1)
     | inr w ↦ rw (w.1, take_at log (e ∷ []) k (sym w.0)) fits
-  ]
+  ];
 }
 
 -- a log that is read from its front stays legal with its next entry
 pub IsLegal-more : (initial : ℕ → ℕ) (log : List Entry) (i v : ℕ) (d : Entry) → i < length log → IsLegal initial (take i log)
-  → v ≡ value (initial (get_or log i d).word.0) (take i log) (get_or log i d).word.0
-  → (get_or log i d).reply ≡ reply_of (get_or log i d).op v → IsLegal initial (take (i + 1) log)
+    → v ≡ value (initial (get_or log i d).word.0) (take i log) (get_or log i d).word.0
+    → (get_or log i d).reply ≡ reply_of (get_or log i d).op v → IsLegal initial (take (i + 1) log)
 IsLegal-more initial log i v d within so_far found fits =
     let e = get_or log i d in
     rw (take_more log i d within) (IsLegal-push initial (take i log) e so_far (fits ∙ ap (reply_of e.op) found))
@@ -41,7 +41,7 @@ All-slice_get : {X : Type 0} (P : X → Type 0) (xs : List X) (k : ℕ) (x : X) 
 All-slice_get P xs k x all at = subst P (get_or_from_slice_get xs k x x at) (all k x (slice_get_within xs k x at))
 
 pub IsOrdered-push : (log : List Entry) (e : Entry) → IsOrdered log → All (λ d. IsAfter d e) log → e.since ≤ length log
-  → IsOrdered (log ++ e ∷ [])
+    → IsOrdered (log ++ e ∷ [])
 IsOrdered-push log e ordered last early = record {
   core_order = λ j k a b before at_j at_k. elim (slice_get-push log e k b at_k) [
     | inl w ↦ elim (slice_get-push log e j a at_j) [

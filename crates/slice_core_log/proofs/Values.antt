@@ -1,5 +1,5 @@
 -- How a word's value changes as entries are added to a log.
-use Rattle.std.proofs.Common.{◌≡◌, ◌≢◌, ℕ, ◌+◌, ◌%◌, ◌^◌, ◌<◌, ◌==◌, Bool, true, false, not, List, [], ◌∷◌, ◌++◌, reverse, length, take, get_or, sum_by, Option, Some, None, refl, sym, ap, ◌∙◌, arith, cond, add-zero, lit<, eq-eqb, eqb}
+use Rattle.std.proofs.Common.{◌≡◌, ◌≢◌, ℕ, ◌+◌, ◌%◌, ◌^◌, ◌<◌, ◌==◌, Bool, true, false, not, List, [], ◌∷◌, ◌++◌, reverse, length, take, get_or, sum_by, Option, Some, None, refl, sym, ap, ◌∙◌, arith, add-zero, lit<, eq-eqb, eqb}
 use Rattle.std.proofs.lemmas.Bool.{ne_eqb}
 use Rattle.std.proofs.Math.Nat.{mod-add-mod, mod-eq_of_lt}
 use Rattle.std.specs.Prelude.{find, take_while, is_some, unwrap_or, option_and_then}
@@ -18,7 +18,7 @@ abbrev pub settled : (Entry → Option ℕ) → (Entry → ℕ) → ℕ → List
 settled f g initial r = (unwrap_or (option_and_then f (find (λ e. is_some (f e)) r)) initial + sum_by g (take_while (λ e. not (is_some (f e))) r)) % 2 ^ 64
 
 pub settled-cons : (f : Entry → Option ℕ) (g : Entry → ℕ) (initial : ℕ) (e : Entry) (r : List Entry) (s : Option ℕ) → f e ≡ s
-  → settled f g initial (e ∷ r) ≡ value_past s (settled f g initial r) (g e)
+    → settled f g initial (e ∷ r) ≡ value_past s (settled f g initial r) (g e)
 settled-cons f g initial e r None h =
     let m = 2 ^ 64 in
     let before = unwrap_or (option_and_then f (find (λ d. is_some (f d)) r)) initial in
@@ -26,7 +26,7 @@ settled-cons f g initial e r None h =
     let regrouped : before + (g e + since) ≡ before + since + g e = omega arith in
     rw (take_while-cons (λ d. not (is_some (f d))) e r)
     (rw h (ap (λ n. (before + n) % m) (sum_by-cons g e (take_while (λ d. not (is_some (f d))) r)) ∙ ap (λ n. n % m) regrouped
-      ∙ sym (mod-add-mod (before + since) m (g e))))
+    ∙ sym (mod-add-mod (before + since) m (g e))))
 settled-cons f g initial e r (Some x) h =
     rw (take_while-cons (λ d. not (is_some (f d))) e r) (rw h (ap (λ o. (unwrap_or o initial + 0) % 2 ^ 64) h ∙ ap (λ n. n % 2 ^ 64) (add-zero x)))
 
@@ -36,13 +36,13 @@ value-nil initial w small = ap (λ n. n % 2 ^ 64) (add-zero initial) ∙ mod-eq_
 
 -- one more entry
 pub value-push : (initial : ℕ) (log : List Entry) (e : Entry) (w : ℕ)
-  → value initial (log ++ e ∷ []) w ≡ value_past (stored w e) (value initial log w) (added w e)
+    → value initial (log ++ e ∷ []) w ≡ value_past (stored w e) (value initial log w) (added w e)
 unfolding value
 value-push initial log e w = rw (reverse-append log (e ∷ [])) (settled-cons (stored w) (added w) initial e (reverse log) (stored w e) refl)
 
 -- one more entry of a log that is read from its front
 pub value-more : (initial : ℕ) (log : List Entry) (i w v r : ℕ) (d : Entry) → i < length log → v ≡ value initial (take i log) w
-  → r ≡ value_past (stored w (get_or log i d)) v (added w (get_or log i d)) → r ≡ value initial (take (i + 1) log) w
+    → r ≡ value_past (stored w (get_or log i d)) v (added w (get_or log i d)) → r ≡ value initial (take (i + 1) log) w
 value-more initial log i w v r d h so_far step =
     let e = get_or log i d in
     step ∙ ap (λ n. value_past (stored w e) n (added w e)) so_far ∙ sym (value-push initial (take i log) e w)
@@ -65,7 +65,7 @@ value_past-same (ops.Cas expect new) reply v small h = rw h (cas (v == expect))
     cas false = ap (λ n. n % 2 ^ 64) (add-zero v) ∙ mod-eq_of_lt small
 
 pub value-perform : (initial : ℕ) (log : List Entry) (e : Entry) (w : ℕ) → e.word.0 ≡ w → e.reply ≡ reply_of e.op (value initial log w)
-  → value initial (log ++ e ∷ []) w ≡ value_of e.op (value initial log w)
+    → value initial (log ++ e ∷ []) w ≡ value_of e.op (value initial log w)
 value-perform initial log e w here h =
     let is_here : eqb e.word.0 w ≡ true = eq-eqb e.word.0 w here in
     value-push initial log e w ∙ rw is_here (value_past-same e.op e.reply (value initial log w) (value-lt initial log w) h)

@@ -1,5 +1,5 @@
 -- The value of a word after a list of performed accesses, and what makes a log of them legal and ordered.
-use Rattle.std.specs.Prelude.{◌≡◌, ℕ, ◌+◌, ◌/◌, ◌%◌, ◌^◌, ◌<◌, ◌≤◌, ◌==◌, Bool, not, ◌&&◌, if◌then◌else◌, List, reverse, take, sum_by, find, take_while, slice_get, Option, Some, None, is_some, unwrap_or, option_and_then}
+use Rattle.std.specs.Prelude.{◌≡◌, ℕ, ◌+◌, ◌/◌, ◌%◌, ◌^◌, ◌<◌, ◌≤◌, ◌==◌, Bool, not, if◌then◌else◌, List, reverse, take, sum_by, find, take_while, slice_get, Option, Some, None, is_some, unwrap_or, option_and_then}
 use Rattle.address_map.specs.declared.request.Op.{Op}
 use Rattle.address_map.specs.declared.request.Op.TheVariants as ops
 use Rattle.slice_core_log.specs.declared.entry.Entry.{Entry}
@@ -37,7 +37,7 @@ unfoldable pub value : ℕ → List Entry → ℕ → ℕ
 value initial log w =
     let newest_first = reverse log in
     (unwrap_or (option_and_then (stored w) (find (is_store w) newest_first)) initial
-      + sum_by (added w) (take_while (λ e. not (is_store w e)) newest_first)) % 2 ^ 64
+    + sum_by (added w) (take_while (λ e. not (is_store w e)) newest_first)) % 2 ^ 64
 
 -- what one more entry makes of a word's value
 abbrev pub value_past : Option ℕ → ℕ → ℕ → ℕ

@@ -21,12 +21,6 @@ pub fn performed(op: Op, value: u64) -> u64
         Op::Load => value,
         Op::Store(new) => new,
         Op::Add(delta) => value.wrapping_add(delta),
-        Op::Cas { expect, new } => {
-            if value == expect {
-                new
-            } else {
-                value
-            }
-        }
+        Op::Cas { expect, new } => { if value == expect { new } else { value } }
     }
 }

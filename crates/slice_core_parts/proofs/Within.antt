@@ -1,5 +1,5 @@
 -- An access that isn't put off is at the place that was asked for.
-use Rattle.std.proofs.Common.{◌≡◌, ◌<◌, ℕ, Bool, true, false, cond, length, Option, Some, None, refl}
+use Rattle.std.proofs.Common.{◌≡◌, ◌<◌, Bool, true, false, length}
 use Rattle.std.specs.Prelude.{is_some, if◌then◌else◌}
 use Rattle.address_map.specs.declared.address.Local.{Local}
 use Rattle.address_map.specs.declared.address.Offset.{Offset}

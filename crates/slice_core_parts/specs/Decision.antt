@@ -1,7 +1,6 @@
 -- What is to be done with a request and at a channel, as a function of the state.
-use Rattle.std.specs.Prelude.{ℕ, ◌+◌, ◌*◌, ◌/◌, ◌%◌, ◌==◌, ◌&&◌, ◌<◌, nat_lt, Bool, true, false, if◌then◌else◌, List, length, slice_index_or, Option, Some, None, is_some}
+use Rattle.std.specs.Prelude.{ℕ, ◌*◌, ◌/◌, ◌%◌, ◌==◌, ◌<◌, nat_lt, Bool, true, false, if◌then◌else◌, length, Option, Some, None, is_some}
 use Rattle.address_map.specs.declared.address.CoreId.{CoreId}
-use Rattle.address_map.specs.declared.address.LineAddr.{LineAddr}
 use Rattle.address_map.specs.declared.address.Local.{Local}
 use Rattle.address_map.specs.declared.address.Offset.{Offset}
 use Rattle.address_map.specs.declared.request.Op.{Op}
@@ -23,7 +22,7 @@ use Rattle.slice_core_parts.specs.declared.decide.Decision.TheVariants as decisi
 use Rattle.slice_core_parts.specs.declared.side.Register.{Register}
 use Rattle.slice_core_parts.specs.declared.tags.TagState.{TagState}
 use Rattle.slice_core_parts.specs.declared.tags.TagState.TheVariants as tags
-use Rattle.slice_core_parts.specs.View.{View, side_at, has_line}
+use Rattle.slice_core_parts.specs.View.{View, side_at}
 use Rattle.slice_core_parts.specs.Side.{SideView, copy_at, tag_at}
 
 -- the event of the cache's table that an access is

@@ -1,0 +1,4 @@
+pub mod Ascending
+pub mod Find
+pub mod Limits
+pub mod Places

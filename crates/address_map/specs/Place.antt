@@ -1,0 +1,41 @@
+-- Where a word stands: lines are dealt out to the slices in turn, and each slice numbers its own lines from 0.
+use Rattle.std.specs.Prelude.{◌<◌, ◌+◌, ◌*◌, ◌/◌, ◌%◌, nat_lt, if◌then◌else◌, Option, Some, None}
+use Rattle.address_map.specs.declared.address.WordAddr.{WordAddr}
+use Rattle.address_map.specs.declared.address.LineAddr.{LineAddr}
+use Rattle.address_map.specs.declared.address.Local.{Local}
+use Rattle.address_map.specs.declared.address.Offset.{Offset}
+use Rattle.address_map.specs.declared.address.SliceId.{SliceId}
+use Rattle.address_map.specs.declared.config.Config.{Config}
+use Rattle.address_map.specs.declared.place.Place.{Place}
+use Rattle.address_map.specs.Config.{word_count, slice_lines}
+
+-- the line of a word, and the word's place within it: a line is eight words
+abbrev pub line_of : WordAddr → LineAddr
+line_of word = record { 0 = word.0 / 8 }
+
+abbrev pub offset_of : WordAddr → Offset
+offset_of word = record { 0 = word.0 % 8 }
+
+-- the slice that has a line, and the line's place among that slice's lines
+abbrev pub slice_of : Config → LineAddr → SliceId
+slice_of c line = record { 0 = line.0 % c.slices }
+
+abbrev pub local_of : Config → LineAddr → Local
+local_of c line = record { 0 = line.0 / c.slices }
+
+-- the place of a word of the memory; a word past the last has none
+abbrev pub place_of : Config → WordAddr → Option Place
+place_of c word =
+    if nat_lt word.0 (word_count c)
+    then Some (record { local = local_of c (line_of word); slice = slice_of c (line_of word); offset = offset_of word })
+    else None
+
+-- a place that the memory has
+pub record IsInRange (c : Config) (place : Place) : Type 0 where
+  pub slice : place.slice.0 < c.slices
+  pub local : place.local.0 < slice_lines c
+  pub offset : place.offset.0 < 8
+
+-- the word at a place
+abbrev pub word_at : Config → Place → WordAddr
+word_at c place = record { 0 = 8 * (place.local.0 * c.slices + place.slice.0) + place.offset.0 }

@@ -1,0 +1,192 @@
+use super::{
+    Checked, Config, ConfigError, CounterWords, InitialValues, Local, MOST_CORES, Offset, Place,
+    PolicyKind, SliceId, WordAddr, is_counter, join, split,
+};
+use std::alloc::{AllocError, Global};
+use std::test::Fail;
+
+// The numbers are, in order: cores, slices, lines, sets, ways, miss registers, targets, write-back entries.
+fn shaped(alloc: Global, shape: [u64; 8]) -> Config {
+    let [cores, slices, lines, sets, ways, mshrs, targets, writebacks] = shape;
+    Config {
+        cores,
+        slices,
+        lines,
+        sets,
+        ways,
+        mshrs,
+        targets,
+        writebacks,
+        policy: PolicyKind::Fifo,
+        init: InitialValues::new(alloc),
+        counters: CounterWords::new(alloc),
+    }
+}
+
+// Two slices of 8 lines, with these initial values and counters.
+fn worded(alloc: Global, init: &[u64], counters: &[u64]) -> Result<Config, AllocError> {
+    let mut config = shaped(alloc, [1, 2, 16, 4, 2, 4, 4, 2]);
+    for word in init {
+        config.init.push(WordAddr(*word), 7)?;
+    }
+    for word in counters {
+        config.counters.push(WordAddr(*word))?;
+    }
+    Ok(config)
+}
+
+fn fault(checked: Result<Checked, ConfigError>) -> Option<ConfigError> {
+    checked.err()
+}
+
+#[test]
+fn refuses_the_first_number_at_fault(rt: HostRuntime) {
+    for (shape, want) in [
+        ([1, 1, 16, 4, 2, 4, 4, 2], None),
+        ([0, 1, 16, 4, 2, 4, 4, 2], Some(ConfigError::Cores)),
+        ([65, 1, 16, 4, 2, 4, 4, 2], Some(ConfigError::Cores)),
+        ([MOST_CORES, 1, 16, 4, 2, 4, 4, 2], None),
+        (
+            [MOST_CORES + 1, 1, 16, 4, 2, 4, 4, 2],
+            Some(ConfigError::Cores),
+        ),
+        ([1, 0, 16, 4, 2, 4, 4, 2], Some(ConfigError::Slices)),
+        ([1, 3, 15, 4, 2, 4, 4, 2], Some(ConfigError::Slices)),
+        ([1, 8, 16, 4, 2, 4, 4, 2], Some(ConfigError::Slices)),
+        ([1, 1, 0, 4, 2, 4, 4, 2], Some(ConfigError::Lines)),
+        ([1, 1, 65537, 4, 2, 4, 4, 2], Some(ConfigError::Lines)),
+        ([1, 4, 18, 4, 2, 4, 4, 2], Some(ConfigError::Lines)),
+        ([1, 1, 16, 0, 2, 4, 4, 2], Some(ConfigError::Sets)),
+        ([1, 1, 16, 6, 2, 4, 4, 2], Some(ConfigError::Sets)),
+        ([1, 1, 16, 512, 2, 4, 4, 2], Some(ConfigError::Sets)),
+        ([1, 1, 16, 4, 0, 4, 4, 2], Some(ConfigError::Ways)),
+        ([1, 1, 16, 4, 17, 4, 4, 2], Some(ConfigError::Ways)),
+        ([1, 1, 16, 4, 2, 0, 4, 2], Some(ConfigError::Mshrs)),
+        ([1, 1, 16, 4, 2, 33, 4, 2], Some(ConfigError::Mshrs)),
+        ([1, 1, 16, 4, 2, 4, 0, 2], Some(ConfigError::Targets)),
+        ([1, 1, 16, 4, 2, 4, 33, 2], Some(ConfigError::Targets)),
+        ([1, 1, 16, 4, 2, 4, 4, 0], Some(ConfigError::Writebacks)),
+        ([1, 1, 16, 4, 2, 4, 4, 17], Some(ConfigError::Writebacks)),
+        ([0, 3, 16, 4, 2, 4, 4, 2], Some(ConfigError::Cores)),
+        ([1, 3, 0, 4, 2, 4, 4, 2], Some(ConfigError::Slices)),
+        ([1, 1, 16, 6, 0, 4, 4, 0], Some(ConfigError::Sets)),
+        ([1, 1, 16, 4, 2, 0, 0, 2], Some(ConfigError::Mshrs)),
+        ([1, 1, 1, 1, 1, 1, 1, 1], None),
+        ([1, 4, 65536, 256, 16, 32, 32, 16], None),
+    ] {
+        assert_eq!(rt;
+            fault(shaped(rt.alloc(), shape).check()),
+            want,
+            "at {shape:?}"
+        );
+    }
+}
+
+#[test]
+fn refuses_words_out_of_order_or_range(rt: HostRuntime) -> Result<(), Fail> {
+    let none: &[u64] = &[];
+    let eight: &[u64] = &[0, 1, 2, 3, 4, 5, 6, 127];
+    let nine: &[u64] = &[0, 1, 2, 3, 4, 5, 6, 7, 8];
+    for (init, counters, want) in [
+        (none, none, None),
+        (nine, eight, None),
+        (&[5, 3], none, Some(ConfigError::Init)),
+        (&[3, 3], none, Some(ConfigError::Init)),
+        (&[128], none, Some(ConfigError::Init)),
+        (none, nine, Some(ConfigError::Counters)),
+        (none, &[5, 3], Some(ConfigError::Counters)),
+        (none, &[3, 3], Some(ConfigError::Counters)),
+        (none, &[128], Some(ConfigError::Counters)),
+        (&[128], nine, Some(ConfigError::Init)),
+    ] {
+        let config = worded(rt.alloc(), init, counters)?;
+        assert_eq!(rt; fault(config.check()), want, "at {init:?} and {counters:?}");
+    }
+    Ok(())
+}
+
+#[test]
+fn begins_as_a_text_that_configures_nothing(rt: HostRuntime) -> Result<(), Fail> {
+    let mut config = Config::new(rt.alloc());
+    assert!(rt; config.init.is_empty() && config.counters.is_empty());
+    config.cores = 1;
+    config.policy = PolicyKind::Random(9);
+    let config = config.check()?;
+    let counts = [
+        config.cores(),
+        config.slices(),
+        config.lines(),
+        config.slice_lines(),
+        config.sets(),
+        config.ways(),
+        config.mshrs(),
+        config.targets(),
+        config.writebacks(),
+    ];
+    assert_eq!(rt; counts, [1, 1, 16, 16, 4, 2, 4, 4, 2]);
+    assert_eq!(rt; config.policy(), PolicyKind::Random(9));
+    Ok(())
+}
+
+#[test]
+fn deals_lines_out_to_slices(rt: HostRuntime) -> Result<(), Fail> {
+    let config = worded(rt.alloc(), &[], &[])?.check()?;
+    for (word, local, slice, offset) in [
+        (0, 0, 0, 0),
+        (8, 0, 1, 0),
+        (27, 1, 1, 3),
+        (127, 7, 1, 7),
+    ] {
+        let place = split(&config, WordAddr(word)).ok_or("past the end")?;
+        let want = Place {
+            local: Local(local),
+            slice: SliceId(slice),
+            offset: Offset(offset),
+        };
+        assert_eq!(rt; place, want, "at {word}");
+        assert_eq!(rt; join(&config, place), WordAddr(word));
+    }
+    assert_eq!(rt; split(&config, WordAddr(128)), None);
+    assert_eq!(rt; split(&config, WordAddr(u64::MAX)), None);
+    Ok(())
+}
+
+#[test]
+fn knows_its_words(rt: HostRuntime) -> Result<(), Fail> {
+    let config = worded(rt.alloc(), &[0, 9, 20], &[3, 127])?;
+    assert_eq!(rt; (config.init.len(), config.counters.len()), (3, 2));
+    let config = config.check()?;
+    assert_eq!(rt; (config.init().len(), config.counters().len()), (3, 2));
+    for (word, value, counter) in [
+        (0, 7, false),
+        (9, 7, false),
+        (20, 7, false),
+        (3, 0, true),
+        (21, 0, false),
+        (127, 0, true),
+    ] {
+        assert_eq!(rt; config.initial_word(WordAddr(word)), value, "at {word}");
+        assert_eq!(rt; is_counter(&config, WordAddr(word)), counter, "at {word}");
+    }
+    Ok(())
+}
+
+#[test]
+fn errors_print_their_number_and_field(rt: HostRuntime) -> Result<(), Fail> {
+    for (error, want) in [
+        (ConfigError::Cores, "1 Cores"),
+        (ConfigError::Slices, "2 Slices"),
+        (ConfigError::Lines, "3 Lines"),
+        (ConfigError::Sets, "4 Sets"),
+        (ConfigError::Ways, "5 Ways"),
+        (ConfigError::Mshrs, "6 Mshrs"),
+        (ConfigError::Targets, "7 Targets"),
+        (ConfigError::Writebacks, "8 Writebacks"),
+        (ConfigError::Init, "9 Init"),
+        (ConfigError::Counters, "10 Counters"),
+    ] {
+        let text = format!(in rt.alloc(); "{error}")?;
+        assert_eq!(rt; text.as_str(), want);
+    }
+    Ok(())
+}

@@ -1,0 +1,2 @@
+pub mod CoreSets
+pub mod RowLaws

@@ -1,0 +1,186 @@
+-- Laws of the table, in words that are not its cells: who owns and who shares a line, from whom its data come, and what
+-- each core is sent.
+use Rattle.std.specs.Prelude.{◌≡◌, ◌⊎◌, ℕ, ◌+◌, ◌==◌, ◌<◌, ◌≤◌, ◌&&◌, ◌||◌, Bool, true, false, not, if◌then◌else◌, Option, Some, None, is_some, IfSome, IsTrue, IsFalse}
+use Rattle.address_map.specs.declared.address.CoreId.{CoreId}
+use Rattle.directory_table.specs.Cores.{count_of, is_among}
+use Rattle.directory_table.specs.declared.state.DirState.{DirState}
+use Rattle.directory_table.specs.declared.state.DirState.TheVariants as states
+use Rattle.directory_table.specs.declared.row.DirEvent.{DirEvent}
+use Rattle.directory_table.specs.declared.row.DirEvent.TheVariants as events
+use Rattle.directory_table.specs.declared.row.DirSends.{DirSends}
+use Rattle.directory_table.specs.declared.row.DirSends.TheVariants as sends
+use Rattle.directory_table.specs.declared.row.DirRow.{DirRow}
+use Rattle.directory_table.specs.declared.row.DirRow.TheVariants as rows
+
+-- Where the row goes on, its state, owner, sharers, what it sends and whether it writes the home copy have this property.
+abbrev pub IfGo : DirRow → (DirState → Option CoreId → ℕ → DirSends → Bool → Type 0) → Type 0
+IfGo (rows.Go state owner sharers sent writes) P = P state owner sharers sent writes
+IfGo rows.Blocked P = Unit {0}
+IfGo rows.NoEntry P = Unit {0}
+
+-- Where the row is blocked, the fact holds.
+abbrev pub IfBlocked : DirRow → Type 0 → Type 0
+IfBlocked rows.Blocked P = P
+IfBlocked _ P = Unit {0}
+
+-- ---- states and owners
+
+-- nobody has the line
+abbrev pub is_idle : DirState → Bool
+is_idle states.I = true
+is_idle _ = false
+
+-- some cores may read it
+abbrev pub is_shared : DirState → Bool
+is_shared states.S = true
+is_shared _ = false
+
+-- one core may write it
+abbrev pub is_modified : DirState → Bool
+is_modified states.M = true
+is_modified _ = false
+
+-- its block is on the way home
+abbrev pub is_awaited : DirState → Bool
+is_awaited states.S_D = true
+is_awaited _ = false
+
+abbrev pub is_named : Option CoreId → ℕ → Bool
+is_named (Some named) core = core == named.0
+is_named None core = false
+
+-- ---- events
+
+abbrev pub reader : DirEvent → Option CoreId
+reader (events.GetS core) = Some core
+reader _ = None
+
+abbrev pub writer : DirEvent → Option CoreId
+writer (events.GetM core) = Some core
+writer _ = None
+
+-- the core that asks for the line, to read or to write it
+abbrev pub getter : DirEvent → Option CoreId
+getter (events.GetS core) = Some core
+getter event = writer event
+
+-- the core that asks for something
+abbrev pub requester : DirEvent → Option CoreId
+requester (events.PutS core) = Some core
+requester (events.PutM core) = Some core
+requester event = getter event
+
+abbrev pub is_data_home : DirEvent → Bool
+is_data_home events.DataHome = true
+is_data_home _ = false
+
+-- the owner writes the line back
+abbrev pub is_written_back : DirState → Option CoreId → DirEvent → Bool
+is_written_back states.M owner (events.PutM core) = is_named owner core.0
+is_written_back _ _ _ = false
+
+-- ---- messages
+
+-- the home copy goes to the requester
+abbrev pub sends_data : DirSends → Bool
+sends_data (sends.Data acks) = true
+sends_data sends.DataE = true
+sends_data (sends.DataAndInv acks invalidated) = true
+sends_data _ = false
+
+abbrev pub sends_only_copy : DirSends → Bool
+sends_only_copy sends.DataE = true
+sends_only_copy _ = false
+
+-- the requester is sent a message
+abbrev pub answers : DirSends → Bool
+answers sends.PutAck = true
+answers sent = sends_data sent
+
+-- the core to which the request is forwarded
+abbrev pub forwarded_to : DirSends → Option CoreId
+forwarded_to (sends.FwdGetS owner) = Some owner
+forwarded_to (sends.FwdGetM owner) = Some owner
+forwarded_to _ = None
+
+abbrev pub is_sent_inv : DirSends → ℕ → Bool
+is_sent_inv (sends.DataAndInv acks invalidated) core = is_among invalidated core
+is_sent_inv _ core = false
+
+abbrev pub messages_to : DirEvent → DirSends → ℕ → ℕ
+messages_to event sent core =
+    (if answers sent && is_named (requester event) core then 1 else 0)
+    + (if is_named (forwarded_to sent) core then 1 else 0)
+    + (if is_sent_inv sent core then 1 else 0)
+
+-- ---- laws
+
+-- An owner stands in the entry exactly in M.
+abbrev pub HasOwnerInM : DirState → Option CoreId → Type 0
+HasOwnerInM state owner = is_some owner ≡ is_modified state
+
+-- The message's block is the newest: it comes from the last owner, or the owner writes it back.
+abbrev pub brings_home : DirState → Option CoreId → DirEvent → Bool
+brings_home state owner event = is_data_home event || is_written_back state owner event
+
+-- Data leave the home copy only while it is current, in I and S; else the request is forwarded to the owner, another core.
+pub record Serves (state : DirState) (owner : Option CoreId) (event : DirEvent) (sent : DirSends) : Type 0 where
+  pub current : IsTrue (sends_data sent) → IsTrue (is_idle state || is_shared state)
+  pub forwarded : IfSome (forwarded_to sent) (λ to. (owner ≡ Some to) × IsFalse (is_named (requester event) to.0))
+
+-- Who is given the line then stands in the entry.
+abbrev pub KnowsRequester : DirEvent → Option CoreId → ℕ → Type 0
+KnowsRequester event owner sharers = IfSome (getter event) (λ core. IsTrue (is_among sharers core.0 || is_named owner core.0))
+
+-- A GetM makes its requester the owner. Nothing else makes a new owner but, under the setting, a GetS of a line that nobody has.
+pub record GrantsWriting (exclusive : Bool) (state : DirState) (owner : Option CoreId) (event : DirEvent) (next : Option CoreId) : Type 0 where
+  pub granted : IfSome (writer event) (λ core. next ≡ Some core)
+  pub asked : IfSome next (λ core. (owner ≡ Some core) ⊎ (writer event ≡ Some core) ⊎ (IsTrue (exclusive && is_idle state) × (reader event ≡ Some core)))
+
+-- A GetM of a shared line has each sharer invalidated but the requester. Nothing else invalidates.
+abbrev pub Invalidates : DirState → ℕ → DirEvent → DirSends → Type 0
+Invalidates state sharers event sent = (core : ℕ) → core < 64
+    → is_sent_inv sent core ≡ (is_shared state && is_some (writer event) && is_among sharers core && not (is_named (writer event) core))
+
+-- The requester is told to await as many acknowledgements as cores are sent an invalidation.
+abbrev pub AwaitsInvalidated : DirSends → Type 0
+AwaitsInvalidated (sends.Data acks) = acks ≡ 0
+AwaitsInvalidated (sends.DataAndInv acks invalidated) = acks ≡ count_of invalidated
+AwaitsInvalidated _ = Unit {0}
+
+-- whether a core is a sharer afterwards, by whether it was one
+abbrev pub stays_sharer : Bool → DirState → Option CoreId → DirEvent → Bool → ℕ → Bool
+stays_sharer false states.I owner (events.GetS reads) was core = core == reads.0
+stays_sharer exclusive states.S owner (events.GetS reads) was core = was || core == reads.0
+stays_sharer exclusive states.M (Some owner) (events.GetS reads) was core = core == owner.0 || core == reads.0
+stays_sharer exclusive states.S owner (events.GetM writes) was core = false
+stays_sharer exclusive states.S owner (events.PutS leaves) was core = was && not (core == leaves.0)
+stays_sharer exclusive states.S owner (events.PutM leaves) was core = was && not (core == leaves.0)
+stays_sharer exclusive states.S_D owner (events.PutS leaves) was core = was && not (core == leaves.0)
+stays_sharer exclusive states.S_D owner (events.PutM leaves) was core = was && not (core == leaves.0)
+stays_sharer _ _ _ _ was _ = was
+
+abbrev pub is_sharer_after : Bool → DirState → Option CoreId → ℕ → DirEvent → ℕ → Bool
+is_sharer_after exclusive state owner sharers event core =
+    stays_sharer exclusive state owner event (is_among sharers core) core
+
+-- Each core is sent one message at most, invalidations included.
+abbrev pub SendsOneToEach : DirEvent → DirSends → Type 0
+SendsOneToEach event sent = (core : ℕ) → core < 64 → messages_to event sent core ≤ 1
+
+-- A line is forgotten only when its last sharer has left.
+abbrev pub ForgetsNobody : DirState → DirState → ℕ → Type 0
+ForgetsNobody state next sharers = IsTrue (is_shared state || is_awaited state) → IsTrue (is_idle next) → sharers ≡ 0
+
+-- The directory waits for a block until it comes home, and only then does one come.
+pub record AwaitsHome (state : DirState) (event : DirEvent) (next : DirState) : Type 0 where
+  pub lasts : IsTrue (is_awaited state) → is_awaited next ≡ not (is_data_home event)
+  pub comes : IsTrue (is_data_home event) → IsTrue (is_awaited state)
+
+-- Only who asks for a line whose block is on its way home has to wait.
+abbrev pub WaitsForHome : DirState → DirEvent → Type 0
+WaitsForHome state event = IsTrue (is_awaited state && is_some (getter event))
+
+-- The only copy is given only under the setting, and of a line that nobody has.
+abbrev pub GivesOnlyCopy : Bool → DirState → DirSends → Type 0
+GivesOnlyCopy exclusive state sent = IsTrue (sends_only_copy sent) → IsTrue (exclusive && is_idle state)

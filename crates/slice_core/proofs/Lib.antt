@@ -1,0 +1,10 @@
+pub mod Accounts
+pub mod Blocks
+pub mod Calls
+pub mod Decided
+pub mod Deliveries
+pub mod Lift
+pub mod Links
+pub mod Places
+pub mod Rows
+pub mod Steps

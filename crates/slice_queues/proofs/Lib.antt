@@ -1,0 +1,5 @@
+pub mod AckLaws
+pub mod LineLaws
+pub mod SliceLaws
+pub mod MembersLaws
+pub mod OnceLaws

@@ -1,0 +1,356 @@
+-- A send and a take change their own channel alone.
+use Rattle.std.proofs.Common.{◌≡◌, ◌≢◌, ℕ, ◌<◌, ◌≤◌, Bool, true, false, List, [], ◌∷◌, ◌++◌, length, map, drop, refl, ap, sym, ◌∙◌, subst, arith, Option, Some, None, zero, suc, replicate, get_or, inl, inr, is_some, IsTrue, ◌↔◌, EachIndex}
+use Rattle.std.proofs.Math.ListN.{set, length-set}
+use Rattle.std.proofs.lemmas.List.{get_or-set_same, get_or-set_other, length-replicate, map-append}
+use Rattle.std.proofs.lemmas.Bool.{cases_eq}
+use Rattle.address_map.specs.declared.address.CoreId.{CoreId}
+use Rattle.address_map.specs.declared.block.Block.{Block}
+use Rattle.slice_queues_message.specs.declared.channel.Channel.{Channel}
+use Rattle.slice_queues_message.specs.declared.channel.Channel.TheVariants as channels
+use Rattle.slice_queues_message.specs.declared.message.Message.{Message}
+use Rattle.slice_queues_message.specs.declared.message.Message.TheVariants as messages
+use Rattle.slice_queues_message.specs.declared.message.RequestMessage.{RequestMessage}
+use Rattle.slice_queues_message.specs.declared.message.ForwardedMessage.{ForwardedMessage}
+use Rattle.slice_queues_message.specs.declared.message.DataMessage.{DataMessage}
+use Rattle.slice_queues.specs.Acks.{has_ack, with_ack, without_ack}
+use Rattle.slice_queues.specs.Line.{CoreChannels, LineChannels, no_messages, core_at, with_core, request_messages, data_messages, home_messages, ack_messages, messages_at, HasChannel, HasRoom, Carries, after_send, after_take, SendsOnly, TakesOnly, IsWithinCores, IsEmptyLine}
+use Rattle.slice_queues.proofs.AckLaws.{has_ack-with_same, has_ack-with_other, has_ack-without_same, has_ack-without_other, has_ack-zero, same_as_zero}
+
+-- cores with the same number are the same
+pub same_core : (c d : CoreId) → c.0 ≡ d.0 → c ≡ d
+same_core c d e = let core : ℕ → CoreId = λ n. record { 0 = n } in ap core e
+
+-- what a change at one place leaves alone there is unchanged at every place
+pub read-set_unchanged : {B : Type 0} (f : CoreChannels → B) (xs : List CoreChannels) (c d : ℕ) (x none : CoreChannels) →
+    f x ≡ f (get_or xs c none) →
+    f (get_or (set xs c x) d none) ≡ f (get_or xs d none)
+read-set_unchanged f [] c d x none e = refl
+read-set_unchanged f (y ∷ ys) zero zero x none e = e
+read-set_unchanged f (y ∷ ys) zero (suc d) x none e = refl
+read-set_unchanged f (y ∷ ys) (suc c) zero x none e = refl
+read-set_unchanged f (y ∷ ys) (suc c) (suc d) x none e = read-set_unchanged f ys c d x none e
+
+-- what holds of the new element and of the old ones holds at every place
+pub holds-set : (P : CoreChannels → Type 0) (xs : List CoreChannels) (c d : ℕ) (x none : CoreChannels) →
+    P x → P (get_or xs d none) → P (get_or (set xs c x) d none)
+holds-set P [] c d x none new old = old
+holds-set P (y ∷ ys) zero zero x none new old = new
+holds-set P (y ∷ ys) zero (suc d) x none new old = old
+holds-set P (y ∷ ys) (suc c) zero x none new old = old
+holds-set P (y ∷ ys) (suc c) (suc d) x none new old = holds-set P ys c d x none new old
+
+-- a core's change keeps the bounds where its own acknowledgements come from cores of the line
+pub IsWithinCores-set : (cores : List CoreChannels) (c : ℕ) (x : CoreChannels) →
+    IsWithinCores cores → ((from : ℕ) → has_ack x.acks from ≡ true → from < length cores) → IsWithinCores (set cores c x)
+IsWithinCores-set cores c x within senders = record {
+  at_most_64 = rw length-set within.at_most_64;
+  senders_are_cores = λ to from h.
+      let P : CoreChannels → Type 0 = λ k. has_ack k.acks from ≡ true → from < length cores in
+      let bound : from < length cores = holds-set P cores c to x no_messages (senders from) (within.senders_are_cores to from) h in
+      rw length-set bound;
+}
+
+-- what is read within a list doesn't depend on the default
+pub read_default : {A : Type 0} (xs : List A) (i : ℕ) (x y : A) → i < length xs → get_or xs i x ≡ get_or xs i y
+read_default [] i x y within = absurd (omega arith)
+read_default (z ∷ zs) zero x y within = refl
+read_default (z ∷ zs) (suc i) x y within = let shorter : i < length zs = omega arith in read_default zs i x y shorter
+
+-- so does an acknowledgement that a core of the line sends
+pub IsWithinCores-with_ack : (cores : List CoreChannels) (to from : ℕ) (old new : CoreChannels) →
+    to < length cores → old ≡ get_or cores to old → new.acks ≡ with_ack old.acks from →
+    IsWithinCores cores → from < length cores → IsWithinCores (set cores to new)
+IsWithinCores-with_ack cores to from old new there read is within sender = IsWithinCores-set cores to new within bound
+  where
+    bound : (k : ℕ) → has_ack new.acks k ≡ true → k < length cores
+    bound k h =
+        elim (cases_eq k from) [
+          | inl same ↦ rw same sender
+          | inr other ↦
+              let kept : has_ack new.acks k ≡ has_ack old.acks k = ap (λ acks. has_ack acks k) is ∙ has_ack-with_other old.acks from k other in
+              let here : old ≡ get_or cores to no_messages = read ∙ read_default cores to old no_messages there in
+              within.senders_are_cores to k (sym (ap (λ core. has_ack core.acks k) here) ∙ sym kept ∙ h)
+        ]
+
+-- and one that is taken
+pub IsWithinCores-without_ack : (cores : List CoreChannels) (to from : ℕ) (old new : CoreChannels) →
+    to < length cores → old ≡ get_or cores to old → new.acks ≡ without_ack old.acks from →
+    IsWithinCores cores → IsWithinCores (set cores to new)
+IsWithinCores-without_ack cores to from old new there read is within = IsWithinCores-set cores to new within bound
+  where
+    gone : {b : Bool} → b ≡ false → b ≡ true → ⊥
+    gone e f = cc
+
+    bound : (k : ℕ) → has_ack new.acks k ≡ true → k < length cores
+    bound k h =
+        elim (cases_eq k from) [
+          | inl same ↦
+              absurd
+              (gone
+              (ap (λ acks. has_ack acks k) is
+              ∙ ap (λ other. has_ack (without_ack old.acks from) other) same
+              ∙ has_ack-without_same old.acks from)
+              h)
+          | inr other ↦
+              let kept : has_ack new.acks k ≡ has_ack old.acks k = ap (λ acks. has_ack acks k) is ∙ has_ack-without_other old.acks from k other in
+              let here : old ≡ get_or cores to no_messages = read ∙ read_default cores to old no_messages there in
+              within.senders_are_cores to k (sym (ap (λ core. has_ack core.acks k) here) ∙ sym kept ∙ h)
+        ]
+
+-- every place of a list of the same is this
+pub read-replicate : (n i : ℕ) (x : CoreChannels) → get_or (replicate n x) i x ≡ x
+read-replicate zero i x = refl
+read-replicate (suc n) zero x = refl
+read-replicate (suc n) (suc i) x = read-replicate n i x
+
+-- a line in which nothing waits is within its cores
+pub IsWithinCores-empty : (cores : ℕ) → cores ≤ 64 → IsWithinCores (replicate cores no_messages)
+IsWithinCores-empty cores few = record {
+  at_most_64 = rw length-replicate few;
+  senders_are_cores = λ to from h. absurd (none-true (none-waits to from) h);
+}
+  where
+    none-waits : (to from : ℕ) → has_ack (get_or (replicate cores no_messages) to no_messages).acks from ≡ false
+    none-waits to from = rw read-replicate (has_ack-zero from)
+
+    none-true : {b : Bool} → b ≡ false → b ≡ true → ⊥
+    none-true e f = cc
+
+-- a channel with room for one message that has room is empty
+pub nil_of_room : (xs : List Message) → length xs < 1 → xs ≡ []
+nil_of_room [] room = refl
+nil_of_room (x ∷ xs) room = absurd (omega arith)
+
+-- another core has another request channel, and so on
+pub request_alone : (line : LineChannels) (core : CoreId) (request : Option RequestMessage) (other : Channel) →
+    other ≢ channels.Req core →
+    messages_at (with_core line core.0 (record (core_at line core.0) { request = request })) other ≡ messages_at line other
+request_alone line core request (channels.Req d) ne =
+    ap (λ k. request_messages k.request) (get_or-set_other line.cores core.0 d.0 _ no_messages (λ e. ne (ap channels.Req (same_core d core e))))
+request_alone line core request (channels.Fwd d) ne =
+    read-set_unchanged (λ k. map messages.Forwarded k.forwarded) line.cores core.0 d.0 _ no_messages refl
+request_alone line core request (channels.Data d) ne =
+    read-set_unchanged (λ k. data_messages k.data) line.cores core.0 d.0 _ no_messages refl
+request_alone line core request (channels.Ack to from) ne =
+    read-set_unchanged (λ k. ack_messages (has_ack k.acks from.0)) line.cores core.0 to.0 _ no_messages refl
+request_alone line core request channels.Home ne = refl
+
+pub forwarded_alone : (line : LineChannels) (core : CoreId) (forwarded : List ForwardedMessage) (other : Channel) →
+    other ≢ channels.Fwd core →
+    messages_at (with_core line core.0 (record (core_at line core.0) { forwarded = forwarded })) other ≡ messages_at line other
+forwarded_alone line core forwarded (channels.Req d) ne =
+    read-set_unchanged (λ k. request_messages k.request) line.cores core.0 d.0 _ no_messages refl
+forwarded_alone line core forwarded (channels.Fwd d) ne =
+    ap (λ k. map messages.Forwarded k.forwarded) (get_or-set_other line.cores core.0 d.0 _ no_messages (λ e. ne (ap channels.Fwd (same_core d core e))))
+forwarded_alone line core forwarded (channels.Data d) ne =
+    read-set_unchanged (λ k. data_messages k.data) line.cores core.0 d.0 _ no_messages refl
+forwarded_alone line core forwarded (channels.Ack to from) ne =
+    read-set_unchanged (λ k. ack_messages (has_ack k.acks from.0)) line.cores core.0 to.0 _ no_messages refl
+forwarded_alone line core forwarded channels.Home ne = refl
+
+pub data_alone : (line : LineChannels) (core : CoreId) (message : Option DataMessage) (other : Channel) →
+    other ≢ channels.Data core →
+    messages_at (with_core line core.0 (record (core_at line core.0) { «data» = message })) other ≡ messages_at line other
+data_alone line core message (channels.Req d) ne =
+    read-set_unchanged (λ k. request_messages k.request) line.cores core.0 d.0 _ no_messages refl
+data_alone line core message (channels.Fwd d) ne =
+    read-set_unchanged (λ k. map messages.Forwarded k.forwarded) line.cores core.0 d.0 _ no_messages refl
+data_alone line core message (channels.Data d) ne =
+    ap (λ k. data_messages k.data) (get_or-set_other line.cores core.0 d.0 _ no_messages (λ e. ne (ap channels.Data (same_core d core e))))
+data_alone line core message (channels.Ack to from) ne =
+    read-set_unchanged (λ k. ack_messages (has_ack k.acks from.0)) line.cores core.0 to.0 _ no_messages refl
+data_alone line core message channels.Home ne = refl
+
+pub acks_alone : (line : LineChannels) (to from : CoreId) (acks : ℕ) →
+    ((other : ℕ) → other ≢ from.0 → has_ack acks other ≡ has_ack (core_at line to.0).acks other) →
+    (other : Channel) → other ≢ channels.Ack to from →
+    messages_at (with_core line to.0 (record (core_at line to.0) { acks = acks })) other ≡ messages_at line other
+acks_alone line to from acks same (channels.Req d) ne =
+    read-set_unchanged (λ k. request_messages k.request) line.cores to.0 d.0 _ no_messages refl
+acks_alone line to from acks same (channels.Fwd d) ne =
+    read-set_unchanged (λ k. map messages.Forwarded k.forwarded) line.cores to.0 d.0 _ no_messages refl
+acks_alone line to from acks same (channels.Data d) ne =
+    read-set_unchanged (λ k. data_messages k.data) line.cores to.0 d.0 _ no_messages refl
+acks_alone line to from acks same (channels.Ack d e) ne =
+    elim (cases_eq e.0 from.0) [
+      | inl is ↦ ap (λ k. ack_messages (has_ack k.acks e.0)) (get_or-set_other line.cores to.0 d.0 _ no_messages (λ same_to. ne (cc (same_core d to same_to, same_core e from is))))
+      | inr is_not ↦ read-set_unchanged (λ k. ack_messages (has_ack k.acks e.0)) line.cores to.0 d.0 _ no_messages (ap ack_messages (same e.0 is_not))
+    ]
+acks_alone line to from acks same channels.Home ne = refl
+
+pub home_alone : (line : LineChannels) (home : Option Block) (other : Channel) →
+    other ≢ channels.Home →
+    messages_at (record line { home = home }) other ≡ messages_at line other
+home_alone line home (channels.Req d) ne = refl
+home_alone line home (channels.Fwd d) ne = refl
+home_alone line home (channels.Data d) ne = refl
+home_alone line home (channels.Ack to from) ne = refl
+home_alone line home channels.Home ne = absurd (ne refl)
+
+-- what is sent waits behind the others of its channel, and no other channel changes
+pub sends_only : (line : LineChannels) (channel : Channel) (message : Message) →
+    HasChannel line channel → HasRoom line channel → Carries channel message →
+    SendsOnly line (after_send line channel message) channel message
+sends_only line (channels.Req core) (messages.Request message) there room carried = record {
+  appended =
+      ap (λ k. request_messages k.request) (get_or-set_same line.cores core.0 _ no_messages there)
+      ∙ sym (ap (λ waiting. waiting ++ messages.Request message ∷ []) (nil_of_room _ room));
+  others = request_alone line core (Some message);
+}
+sends_only line (channels.Fwd core) (messages.Forwarded message) there room carried = record {
+  appended =
+      ap (λ k. map messages.Forwarded k.forwarded) (get_or-set_same line.cores core.0 _ no_messages there) ∙ simp map-append;
+  others = forwarded_alone line core _;
+}
+sends_only line (channels.Data core) (messages.Data message) there room carried = record {
+  appended =
+      ap (λ k. data_messages k.data) (get_or-set_same line.cores core.0 _ no_messages there)
+      ∙ sym (ap (λ waiting. waiting ++ messages.Data message ∷ []) (nil_of_room _ room));
+  others = data_alone line core (Some message);
+}
+sends_only line (channels.Ack to from) messages.InvAck there room carried = record {
+  appended =
+      ap (λ k. ack_messages (has_ack k.acks from.0)) (get_or-set_same line.cores to.0 _ no_messages there.0)
+      ∙ ap ack_messages (has_ack-with_same (core_at line to.0).acks from.0)
+      ∙ sym (ap (λ waiting. waiting ++ messages.InvAck ∷ []) (nil_of_room _ room));
+  others = acks_alone line to from _ (has_ack-with_other (core_at line to.0).acks from.0);
+}
+sends_only line channels.Home (messages.Home block) there room carried = record {
+  appended = sym (ap (λ waiting. waiting ++ messages.Home block ∷ []) (nil_of_room _ room));
+  others = home_alone line (Some block);
+}
+sends_only line channel message there room carried = absurd carried
+
+-- what is taken is the oldest message of its channel, and no other channel changes
+pub takes_only : (line : LineChannels) (channel : Channel) →
+    HasChannel line channel → TakesOnly line (after_take line channel) channel
+takes_only line (channels.Req core) there = record {
+  rest =
+      ap (λ k. request_messages k.request) (get_or-set_same line.cores core.0 _ no_messages there)
+      ∙ alone (core_at line core.0).request;
+  others = request_alone line core None;
+}
+  where
+    alone : (request : Option RequestMessage) → [] ≡ drop 1 (request_messages request)
+    alone None = refl
+    alone (Some message) = refl
+takes_only line (channels.Fwd core) there = record {
+  rest =
+      ap (λ k. map messages.Forwarded k.forwarded) (get_or-set_same line.cores core.0 _ no_messages there)
+      ∙ later (core_at line core.0).forwarded;
+  others = forwarded_alone line core _;
+}
+  where
+    later : (queue : List ForwardedMessage) → map messages.Forwarded (drop 1 queue) ≡ drop 1 (map messages.Forwarded queue)
+    later [] = refl
+    later (first ∷ queue) = refl
+takes_only line (channels.Data core) there = record {
+  rest =
+      ap (λ k. data_messages k.data) (get_or-set_same line.cores core.0 _ no_messages there)
+      ∙ alone (core_at line core.0).data;
+  others = data_alone line core None;
+}
+  where
+    alone : (message : Option DataMessage) → [] ≡ drop 1 (data_messages message)
+    alone None = refl
+    alone (Some message) = refl
+takes_only line (channels.Ack to from) there = record {
+  rest =
+      ap (λ k. ack_messages (has_ack k.acks from.0)) (get_or-set_same line.cores to.0 _ no_messages there.0)
+      ∙ ap ack_messages (has_ack-without_same (core_at line to.0).acks from.0)
+      ∙ alone (has_ack (core_at line to.0).acks from.0);
+  others = acks_alone line to from _ (has_ack-without_other (core_at line to.0).acks from.0);
+}
+  where
+    alone : (waits : Bool) → [] ≡ drop 1 (ack_messages waits)
+    alone false = refl
+    alone true = refl
+takes_only line channels.Home there = record { rest = alone line.home; others = home_alone line None }
+  where
+    alone : (block : Option Block) → [] ≡ drop 1 (home_messages block)
+    alone None = refl
+    alone (Some block) = refl
+
+-- a line of which no core has a message, nor the directory, is empty
+pub IsEmptyLine-from_cores : (line : LineChannels) →
+    ((c : ℕ) → core_at line c ≡ no_messages) → line.home ≡ None → IsEmptyLine line
+IsEmptyLine-from_cores line quiet home (channels.Req core) = ap (λ k. request_messages k.request) (quiet core.0)
+IsEmptyLine-from_cores line quiet home (channels.Fwd core) = ap (λ k. map messages.Forwarded k.forwarded) (quiet core.0)
+IsEmptyLine-from_cores line quiet home (channels.Data core) = ap (λ k. data_messages k.data) (quiet core.0)
+IsEmptyLine-from_cores line quiet home (channels.Ack to from) =
+    ap (λ k. ack_messages (has_ack k.acks from.0)) (quiet to.0) ∙ ap ack_messages (has_ack-zero from.0)
+IsEmptyLine-from_cores line quiet home channels.Home = ap home_messages home
+
+-- an empty channel shows that its field has nothing
+pub None-from_request : (request : Option RequestMessage) → request_messages request ≡ [] → request ≡ None
+None-from_request None e = refl
+None-from_request (Some message) e = cc
+
+pub nil-from_forwarded : (queue : List ForwardedMessage) → map messages.Forwarded queue ≡ [] → queue ≡ []
+nil-from_forwarded [] e = refl
+nil-from_forwarded (first ∷ queue) e = cc
+
+pub None-from_data : (message : Option DataMessage) → data_messages message ≡ [] → message ≡ None
+None-from_data None e = refl
+None-from_data (Some message) e = cc
+
+pub false-from_ack : (waits : Bool) → ack_messages waits ≡ [] → waits ≡ false
+false-from_ack false e = refl
+false-from_ack true e = cc
+
+pub None-from_home : (home : Option Block) → home_messages home ≡ [] → home ≡ None
+None-from_home None e = refl
+None-from_home (Some block) e = cc
+
+-- no core of an empty line has a message
+pub cores-from_IsEmptyLine : (line : LineChannels) → IsEmptyLine line → (c : ℕ) → core_at line c ≡ no_messages
+cores-from_IsEmptyLine line quiet c =
+    let core : CoreId = record { 0 = c } in
+    let request : (core_at line c).request ≡ None = None-from_request _ (quiet (channels.Req core)) in
+    let forwarded : (core_at line c).forwarded ≡ [] = nil-from_forwarded _ (quiet (channels.Fwd core)) in
+    let message : (core_at line c).data ≡ None = None-from_data _ (quiet (channels.Data core)) in
+    let acks : (core_at line c).acks ≡ 0 =
+    same_as_zero _ (λ from. false-from_ack _ (quiet (channels.Ack core (record { 0 = from })))) in
+    same_fields (core_at line c) request forwarded message acks
+  where
+    same_fields : (k : CoreChannels) → k.request ≡ None → k.forwarded ≡ [] → k.data ≡ None → k.acks ≡ 0 → k ≡ no_messages
+    same_fields k e f g h =
+        ap (λ (r : Option RequestMessage). let x : CoreChannels = record k { request = r } in x) e
+        ∙ ap (λ (q : List ForwardedMessage). let x : CoreChannels = record k { request = None; forwarded = q } in x) f
+        ∙ ap (λ (m : Option DataMessage). let x : CoreChannels = record k { request = None; forwarded = []; «data» = m } in x) g
+        ∙ ap (λ (a : ℕ). let x : CoreChannels = record { request = None; forwarded = []; «data» = None; acks = a } in x) h
+
+-- a list is the default everywhere where it is so within
+pub read-everywhere : (xs : List CoreChannels) (x : CoreChannels) →
+    ((i : ℕ) → i < length xs → get_or xs i x ≡ x) → (c : ℕ) → get_or xs c x ≡ x
+read-everywhere [] x each c = refl
+read-everywhere (y ∷ ys) x each zero = each 0 (omega arith)
+read-everywhere (y ∷ ys) x each (suc c) = read-everywhere ys x (λ i within. each (suc i) (omega arith)) c
+
+-- a line with no block for the directory is empty exactly where its cores have no message
+pub IsEmptyLine-from_test : (line : LineChannels) (cores : List CoreChannels) (home : Option Block) →
+    record { cores = cores; home = home } ≡ line → is_some home ≡ false →
+    (quiet : Bool) → (IsTrue quiet ↔ EachIndex cores (λ c. get_or cores c no_messages ≡ no_messages)) →
+    IsTrue quiet ↔ IsEmptyLine line
+IsEmptyLine-from_test line cores home viewed gone quiet test =
+    let here : LineChannels = record { cores = cores; home = home } in
+    let P : LineChannels → Type 0 = λ l. (IsTrue quiet ↔ IsEmptyLine l) in
+    subst
+    P
+    viewed (
+      (λ t. IsEmptyLine-from_cores here (read-everywhere cores no_messages (test.0 t)) (no_block home gone)),
+      (λ empty. test.1 (λ c within. cores-from_IsEmptyLine here empty c)),
+    )
+  where
+    no_block : (block : Option Block) → is_some block ≡ false → block ≡ None
+    no_block None e = refl
+    no_block (Some block) e = cc
+
+-- and one with such a block isn't empty
+pub not_empty-from_home : (line : LineChannels) (cores : List CoreChannels) (home : Option Block) →
+    record { cores = cores; home = home } ≡ line → is_some home ≡ true → IsEmptyLine line → ⊥
+not_empty-from_home line cores home viewed there empty = full home (there) (ap (λ l. l.home) viewed ∙ None-from_home line.home (empty channels.Home))
+  where
+    full : (block : Option Block) → is_some block ≡ true → block ≡ None → ⊥
+    full None e n = cc
+    full (Some block) e n = cc

@@ -1,0 +1,96 @@
+-- The channels in which a message waits, each once, in a fixed order.
+use Rattle.std.specs.Prelude.{◌≡◌, ◌==◌, ◌&&◌, true, false, count_by, ℕ, ◌+◌, ◌*◌, ◌/◌, ◌^◌, ◌<◌, ◌++◌, nat_lt, if◌then◌else◌, is_some, length, List, [], ◌∷◌, map, take, drop, Bool}
+use Rattle.address_map.specs.declared.address.CoreId.{CoreId}
+use Rattle.address_map.specs.declared.address.LineAddr.{LineAddr}
+use Rattle.slice_queues_message.specs.declared.channel.Channel.{Channel}
+use Rattle.slice_queues_message.specs.declared.channel.Channel.TheVariants as channels
+use Rattle.slice_queues_message.specs.declared.channel.Pick.{Pick}
+use Rattle.slice_queues_message.specs.Pick.{pick_at}
+use Rattle.slice_queues.specs.Line.{CoreChannels, LineChannels, messages_at}
+use Rattle.slice_queues.specs.Members.{members}
+use Rattle.slice_queues.specs.Slice.{SliceChannels}
+
+-- the channel, where a message waits in it
+abbrev pub only_if : Bool → Channel → List Channel
+only_if waits channel = if waits then channel ∷ [] else []
+
+-- the core's channels in which a message waits: request, forwarded, data, then the acknowledgements by their senders
+abbrev pub channels_left : CoreId → Bool → Bool → Bool → ℕ → List Channel
+channels_left core request forwarded message acks =
+    only_if request (channels.Req core)
+    ++ (only_if forwarded (channels.Fwd core)
+    ++ (only_if message (channels.Data core) ++ map (λ from. channels.Ack core (record { 0 = from })) (members acks)))
+
+abbrev pub core_waiting : CoreId → CoreChannels → List Channel
+core_waiting core queues =
+    channels_left
+    core
+    (is_some queues.request)
+    (nat_lt 0 (length queues.forwarded))
+    (is_some queues.data)
+    queues.acks
+
+-- those of the cores from this number on
+abbrev pub cores_waiting : ℕ → List CoreChannels → List Channel
+cores_waiting core [] = []
+cores_waiting core (queues ∷ rest) = core_waiting (record { 0 = core }) queues ++ cores_waiting (core + 1) rest
+
+-- what is left of a line: these channels, those of the cores from this number on, and home
+abbrev pub line_left : List Channel → ℕ → List CoreChannels → Bool → List Channel
+line_left current core rest home = current ++ (cores_waiting core rest ++ only_if home channels.Home)
+
+-- the line's channels in which a message waits: core by core, and then home
+abbrev pub line_waiting : LineChannels → List Channel
+line_waiting line = cores_waiting 0 line.cores ++ only_if (is_some line.home) channels.Home
+
+-- the two are the same channel
+abbrev pub is_same_channel : Channel → Channel → Bool
+is_same_channel (channels.Req core) (channels.Req other) = core.0 == other.0
+is_same_channel (channels.Fwd core) (channels.Fwd other) = core.0 == other.0
+is_same_channel (channels.Data core) (channels.Data other) = core.0 == other.0
+is_same_channel (channels.Ack to from) (channels.Ack other_to other_from) =
+    (to.0 == other_to.0) && (from.0 == other_from.0)
+is_same_channel channels.Home channels.Home = true
+is_same_channel channel other = false
+
+-- a message waits in the channel
+abbrev pub is_waiting : LineChannels → Channel → Bool
+is_waiting line channel = nat_lt 0 (length (messages_at line channel))
+
+-- each channel in which a message waits stands in the list once, and no other does
+abbrev pub HasEachOnce : LineChannels → List Channel → Type 0
+HasEachOnce line names =
+    (channel : Channel) →
+    count_by (is_same_channel channel) names ≡ (if is_waiting line channel then 1 else 0)
+
+-- the line of the memory at a place of a slice
+abbrev pub line_number : ℕ → ℕ → ℕ → LineAddr
+line_number slice slices place = record { 0 = place * slices + slice }
+
+-- the picks with a message of the lines from this place on, line by line
+abbrev pub lines_waiting : ℕ → ℕ → ℕ → List LineChannels → List Pick
+lines_waiting slice slices place [] = []
+lines_waiting slice slices place (line ∷ rest) =
+    map (pick_at (line_number slice slices place)) (line_waiting line)
+    ++ lines_waiting slice slices (place + 1) rest
+
+-- what is left of a run of lines: these channels of one line, and the lines from this place on
+abbrev pub lines_left : ℕ → ℕ → LineAddr → List Channel → ℕ → List LineChannels → List Pick
+lines_left slice slices line current place rest =
+    map (pick_at line) current ++ lines_waiting slice slices place rest
+
+-- the numbers of the lines from this place on are below 2 ^ 64
+pub record IsAddressedFrom (place lines slice slices : ℕ) : Type 0 where
+  pub one_of_them : slice < slices
+  pub in_range : (place + lines) * slices < 2 ^ 64
+
+-- the picks with a message: those of the start line first, then those of the lines behind it, and at last those of the
+-- lines before it
+abbrev pub picks_waiting : SliceChannels → LineAddr → List Pick
+picks_waiting queues start =
+    lines_waiting
+    queues.slice
+    queues.slices
+    (start.0 / queues.slices)
+    (drop (start.0 / queues.slices) queues.lines)
+    ++ lines_waiting queues.slice queues.slices 0 (take (start.0 / queues.slices) queues.lines)

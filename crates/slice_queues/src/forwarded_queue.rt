@@ -1,0 +1,59 @@
+ghost use Rattle.std.specs.Prelude.{◌≡◌, ◌<◌, ◌++◌, [], ◌∷◌, length, slice_get, drop, IsTrue, ◌↔◌};
+ghost use Rattle.std.specs.Option.{option_copied};
+
+use slice_queues_message::ForwardedMessage;
+
+/// At most two forwarded messages, the oldest first.
+#[derive(Clone, Copy, Debug, PartialEq, Eq)]
+pub enum ForwardedQueue {
+    Empty,
+    One(ForwardedMessage),
+    Two(ForwardedMessage, ForwardedMessage),
+}
+
+impl ForwardedQueue {
+    ghost use Rattle.slice_queues.specs.Forwarded.{queued};
+
+    pub fn is_full(&self) -> bool
+        ensures { IsTrue result ↔ (length (queued self.now) ≡ 2) }
+    {
+        matches!(self, ForwardedQueue::Two(..))
+    }
+
+    pub fn front(&self) -> Option<&ForwardedMessage>
+        ensures { option_copied result ≡ slice_get (queued self.now) 0 }
+    {
+        match self {
+            ForwardedQueue::Empty => None,
+            ForwardedQueue::One(first) | ForwardedQueue::Two(first, _) => Some(first),
+        }
+    }
+
+    pub fn push(&mut self, message: ForwardedMessage)
+        requires { length (queued self.old) < 2 }
+        ensures { queued self.new ≡ queued self.old ++ message ∷ [] }
+    {
+        *self = match *self {
+            ForwardedQueue::Empty => ForwardedQueue::One(message),
+            ForwardedQueue::One(first) => ForwardedQueue::Two(first, message),
+            ForwardedQueue::Two(..) => unreachable!(),
+        };
+    }
+
+    pub fn pop(&mut self) -> Option<ForwardedMessage>
+        ensures front { result ≡ slice_get (queued self.old) 0 }
+        ensures rest { queued self.new ≡ drop 1 (queued self.old) }
+    {
+        match *self {
+            ForwardedQueue::Empty => None,
+            ForwardedQueue::One(first) => {
+                *self = ForwardedQueue::Empty;
+                Some(first)
+            }
+            ForwardedQueue::Two(first, second) => {
+                *self = ForwardedQueue::One(second);
+                Some(first)
+            }
+        }
+    }
+}

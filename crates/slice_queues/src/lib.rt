@@ -1,0 +1,39 @@
+//! The channels of one slice, kept by line: those of a line are found without a look at other lines.
+//!
+//! For each core a line has a request channel with room for one message, a forwarded channel with room for two, first
+//! in first out, a data channel with room for one, and from each core a channel for one acknowledgement. One more
+//! channel takes a block home to the directory. An acknowledgement is one bit.
+//!
+//! - A line is seen as `LineChannels` of specs/Line.antt: for each core what waits, and the block on its way home.
+//!   `messages_at` lists what waits in a channel, the oldest first.
+//! - [`LineQueues::send`] puts a message behind those of its channel, [`LineQueues::take`] removes the oldest, and no
+//!   other channel changes (`SendsOnly`, `TakesOnly`). The calls for one kind of channel, as
+//!   [`LineQueues::front_request`], give references and copy no block.
+//! - [`LineQueues::waiting`] goes through the channels in which a message waits, each once and no other (`HasEachOnce`).
+//! - [`Queues`] says the same of a slice (specs/Slice.antt), where a pick names a line of the whole memory.
+//!   [`Queues::picks_from`] goes through its lines, the start line first, round and round (specs/Waiting.antt).
+//!
+//! All memory is taken by [`Queues::build`], the only call that can fail: 184 bytes for each core of a line, and 96
+//! for the line. The largest slice, 65536 lines of 64 cores, takes 780 MB, and its building 0.6 to 0.8 s, nearly all of
+//! it for the first touch of the pages. A send or a take costs the same whatever the number of lines and cores.
+//! [`LineQueues::is_empty`] and [`LineQueues::waiting`] look at each core of the line, those of the slice at each line.
+#![tactic(auto)]
+
+pub use line_queues::LineQueues;
+pub use picks::Picks;
+pub use queues::Queues;
+pub use slice_queues_message::{
+    Channel, Class, DataMessage, ForwardedMessage, Message, Pick, RequestMessage,
+};
+pub use waiting::LineWaiting;
+
+mod core_queues;
+mod core_set;
+mod forwarded_queue;
+mod line_by_channel;
+mod line_queues;
+mod picks;
+mod queues;
+#[cfg(test)]
+mod tests;
+mod waiting;

@@ -58,12 +58,12 @@ kept-issue config i (decisions.Hit local offset next) old new core request answe
     kept config i old new (shape-is old.view new.view old.view lacks.state.view (shape-same old.view)) is
 kept-issue config i (decisions.Hit local offset next) old new core request answer (inr accepted) is =
     kept config i old new (shape-is old.view new.view (after_hit old.view core request local offset next) accepted.state
-      (record { sides = simp length-set; lines = refl; slices = refl; slice = refl })) is
+    (record { sides = simp length-set; lines = refl; slices = refl; slice = refl })) is
 kept-issue config i (decisions.Miss local offset next ask) old new core request answer (inl lacks) is =
     kept config i old new (shape-is old.view new.view old.view lacks.state.view (shape-same old.view)) is
 kept-issue config i (decisions.Miss local offset next ask) old new core request answer (inr accepted) is =
     kept config i old new (shape-is old.view new.view (after_miss old.view core request local offset next ask) accepted.state
-      (record { sides = simp length-set; lines = simp length-set; slices = refl; slice = refl })) is
+    (record { sides = simp length-set; lines = simp length-set; slices = refl; slice = refl })) is
 
 pub kept-deliver : (config : Config) (i : ℕ) (d : Delivery) (old new : PartsView) (answer : Delivered)
     → AfterDeciding d old answer new → IsSliceOf config i old → IsSliceOf config i new
@@ -71,17 +71,17 @@ kept-deliver config i deliveries.Nothing old new answer h is = subst (IsSliceOf 
 kept-deliver config i (deliveries.Broken cell) old new answer h is = subst (IsSliceOf config i) (sym h.1) is
 kept-deliver config i (deliveries.Grant local core next) old new answer h is =
     kept config i old new (shape-is old.view new.view (after_granting old.view local core next) (ap (λ (p : PartsView). p.view) h.1)
-      (record { sides = refl; lines = simp length-set; slices = refl; slice = refl })) is
+    (record { sides = refl; lines = simp length-set; slices = refl; slice = refl })) is
 kept-deliver config i (deliveries.Fill local core next) old new answer h is =
     kept config i old new (shape-is old.view new.view (after_filling old.view local core next) (ap (λ (p : PartsView). p.view) h.1)
-      (record { sides = simp length-set; lines = simp length-set; slices = refl; slice = refl })) is
+    (record { sides = simp length-set; lines = simp length-set; slices = refl; slice = refl })) is
 
 pub kept-hand : (config : Config) (i : ℕ) (old new : PartsView) (core : ℕ) (answer : Option Numbered)
     → AfterHand old core answer new → IsSliceOf config i old → IsSliceOf config i new
 kept-hand config i old new core None h is = subst (IsSliceOf config i) (sym h.1) is
 kept-hand config i old new core (Some given) h is =
     kept config i old new (shape-is old.view new.view (after_handing old.view core h.0) (ap (λ (p : PartsView). p.view) h.3)
-      (record { sides = simp length-set; lines = refl; slices = refl; slice = refl })) is
+    (record { sides = simp length-set; lines = refl; slices = refl; slice = refl })) is
 
 -- what is done is in the log
 pub done-within : (d : Decision) (old new : PartsView) (core : CoreId) (request : Request) (number : ℕ)
@@ -127,9 +127,9 @@ is_machine_after_hand config slices i old new core answer machine h read step =
 
 below_share : (line lines n : ℕ) → 1 ≤ n → lines % n ≡ 0 → line < lines → line / n < lines / n
 below_share line lines n some even below = elim (cases_lt (line / n) (lines / n)) [
-    | inl less ↦ less
-    | inr more ↦ absurd (omega (arith, mul-le-mul_left n more))
-  ]
+  | inl less ↦ less
+  | inr more ↦ absurd (omega (arith, mul-le-mul_left n more))
+]
 
 -- a line of the memory is one of its own slice's
 pub has_line_in_turn : (config : Config) (line i : ℕ) (p : PartsView) → IsAllowed config → IsSliceOf config i p → i ≡ line % config.slices → line < config.lines
@@ -152,8 +152,8 @@ of_new config i p new = record {
 pub are_slices_push : (config : Config) (slices : List PartsView) (i : ℕ) (p : PartsView) → AreSlicesOf config slices → length slices ≡ i → IsSliceOf config i p
     → AreSlicesOf config (slices ++ p ∷ [])
 are_slices_push config slices i p each count is = λ j d below. elim (cases_lt j (length slices)) [
-    | inl before ↦ rw (get_or-append slices (p ∷ []) d j before) (each j d before)
-    | inr last ↦
+  | inl before ↦ rw (get_or-append slices (p ∷ []) d j before) (each j d before)
+  | inr last ↦
       let at : j ≡ length slices = omega (arith, simp length-append at below) in
       subst (λ k. IsSliceOf config k (get_or (slices ++ p ∷ []) k d)) (sym at) (rw (get_or-append_seam slices p [] d) (rw count is))
-  ]
+]

@@ -15,7 +15,7 @@ pub fn run_script<W: Write>(alloc: Global, input: &[u8], out: &mut W) -> Result<
     let Some(first) = statements.next() else {
         return Ok(0);
     };
-    let (config, command) = read_config(first, &mut statements)?;
+    let (config, command) = read_config(alloc, first, &mut statements)?;
     let mut machine = Machine::build(alloc, checked(config)?)?;
     if let Some(command) = command {
         run_statement(&mut machine, &command, out)?;
@@ -33,10 +33,11 @@ fn checked(config: Config) -> Result<Checked, TextFault> {
 /// Reads the lines that configure the machine. Answers also the first statement that isn't one of them, where
 /// there is one.
 fn read_config<'a>(
+    alloc: Global,
     first: Statement<'a>,
     statements: &mut Statements<'a>,
 ) -> Result<(Config, Option<Statement<'a>>), TextFault> {
-    let mut config = Config::new();
+    let mut config = Config::new(alloc);
     let mut statement = first;
     'lines: loop {
         if !is_config(statement.words.as_slice()) {

@@ -49,10 +49,10 @@ length-lines (b ∷ bs) =
     let shorter = length-lines bs in
     elim (cases_Bool (f b)) [
       | inl feed ↦
-        let some : 0 < length (slice_split f bs) = omega (arith, length-slice_split f bs) in
-        let next : lines (b ∷ bs) ≡ strip_carriage_return [] ∷ lines bs = ap lines_of_parts (slice_split-cons_yes f b bs feed) ∙ lines_of_parts-cons [] (slice_split f bs) some in
-        rw next (omega arith)
+          let some : 0 < length (slice_split f bs) = omega (arith, length-slice_split f bs) in
+          let next : lines (b ∷ bs) ≡ strip_carriage_return [] ∷ lines bs = ap lines_of_parts (slice_split-cons_yes f b bs feed) ∙ lines_of_parts-cons [] (slice_split f bs) some in
+          rw next (omega arith)
       | inr other ↦
-        let joined : lines (b ∷ bs) ≡ lines_of_parts (onto_first b (slice_split f bs)) = ap lines_of_parts (slice_split-cons_no f b bs other) in
-        rw joined (omega (arith, length-onto_first b (slice_split f bs)))
+          let joined : lines (b ∷ bs) ≡ lines_of_parts (onto_first b (slice_split f bs)) = ap lines_of_parts (slice_split-cons_no f b bs other) in
+          rw joined (omega (arith, length-onto_first b (slice_split f bs)))
     ]

@@ -33,7 +33,7 @@ pub fn line_in(config: &Checked, number: u64) -> Result<LineAddr, LineFault>
     ensures ok { OkIff result (number < config.now.lines) (record { 0 = number }) }
     ensures err { IfErr result (λ fault. fault ≡ LineFault.OutOfRange) }
 {
-    if number < lines(config) {
+    if number < config.lines() as u64 {
         Ok(LineAddr(number))
     } else {
         Err(LineFault::OutOfRange)
@@ -45,16 +45,9 @@ pub fn word_in(config: &Checked, number: u64) -> Result<WordAddr, LineFault>
     ensures ok { OkIff result (number / 8 < config.now.lines) (record { 0 = number }) }
     ensures err { IfErr result (λ fault. fault ≡ LineFault.OutOfRange) }
 {
-    if number / 8 < lines(config) {
+    if number / 8 < config.lines() as u64 {
         Ok(WordAddr(number))
     } else {
         Err(LineFault::OutOfRange)
     }
-}
-
-/// How many lines the memory has.
-fn lines(config: &Checked) -> u64
-    ensures { result ≡ config.now.lines }
-{
-    (config.slices() * config.slice_lines()) as u64
 }

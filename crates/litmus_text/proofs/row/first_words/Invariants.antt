@@ -6,5 +6,5 @@ use Rattle.litmus_text.proofs.row.first_words.Given as goal
 abbrev pub invariant-loop-word : goal.invariant-loop-word
 invariant-loop-word l = record {
   all : map (λ w. w.now) l.row.items ++ l.word-iterator ≡ words_of_line l.line;
-  few : length l.row.items ≤ MOST_WORDS
+  few : length l.row.items ≤ MOST_WORDS;
 }

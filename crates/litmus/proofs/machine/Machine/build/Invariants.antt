@@ -5,5 +5,5 @@ use Rattle.litmus.proofs.machine.Machine.build.Given as goal
 abbrev pub invariant-loop-slice : goal.invariant-loop-slice
 invariant-loop-slice l = record {
   count : length l.slices.items ≡ l.slice;
-  each : AreSlicesOf l.config l.slices.items
+  each : AreSlicesOf l.fn.config l.slices.items;
 }

@@ -6,7 +6,7 @@ use Rattle.litmus_text.proofs.statement.StatementsIterator.next.Given as goal
 abbrev pub invariant-loop-line : goal.invariant-loop-line
 invariant-loop-line l = record {
   same : statements_from l.self-inside.number l.self-inside.lines ≡ statements_from l.initial.self-inside.number l.initial.self-inside.lines;
-  counted : l.self-inside.number + length l.self-inside.lines < 2 ^ 64
+  counted : l.self-inside.number + length l.self-inside.lines < 2 ^ 64;
 }
 
 abbrev pub decreases-loop-line : goal.decreases-loop-line

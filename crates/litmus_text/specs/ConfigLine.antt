@@ -1,5 +1,5 @@
 -- How the lines that configure a machine are written.
-use Rattle.std.specs.Prelude.{ℕ, List, [], ◌∷◌, codes}
+use Rattle.std.specs.Prelude.{List, [], ◌∷◌, codes}
 use Rattle.address_map.specs.declared.config.Config.{Config}
 use Rattle.litmus_text.specs.declared.config_line.ConfigLine.{ConfigLine}
 use Rattle.litmus_text.specs.declared.config_line.ConfigLine.TheVariants.{Cores}

@@ -1,4 +1,4 @@
-use Rattle.std.proofs.Common.{◌≡◌, ◌/◌, sym, subst, ap}
+use Rattle.std.proofs.Common.{◌/◌, sym, subst}
 use Rattle.litmus.specs.Machine.{IsSliceOf}
 use Rattle.litmus.proofs.MachineLemmas.{has_line_in_turn}
 use Rattle.litmus.proofs.machine.Machine.word.Goals as goal

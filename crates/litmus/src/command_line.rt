@@ -46,3 +46,56 @@ fn script<'a>(alloc: Global) -> Result<Command<'a>, AllocError> {
                 .required(true),
         )
 }
+
+#[cfg(test)]
+mod tests {
+    use super::*;
+    use std::test::Fail;
+
+    fn words(alloc: Global, given: &[&str]) -> Result<Vec<String>, AllocError> {
+        let mut all = Vec::new(alloc);
+        for word in given {
+            all.push(String::from_str(alloc, word)?)?;
+        }
+        Ok(all)
+    }
+
+    #[test]
+    fn reads_a_script(rt: HostRuntime) -> Result<(), Fail> {
+        let words = words(rt.alloc(), &["lockup", "script", "first.txt"])?;
+        let line = read_line(rt.alloc(), &words)?;
+        assert!(rt; line == CommandLine::Script { file: "first.txt" });
+        Ok(())
+    }
+
+    #[test]
+    fn a_refused_line_ends_with_2(rt: HostRuntime) -> Result<(), Fail> {
+        let refused: [&[&str]; 4] = [
+            &["lockup"],
+            &["lockup", "script"],
+            &["lockup", "script", "a", "b"],
+            &["lockup", "scripts", "a"],
+        ];
+        for given in refused {
+            let words = words(rt.alloc(), given)?;
+            let error = read_line(rt.alloc(), &words).err().ok_or("refused")?;
+            assert_eq!(rt; error.exit_code(), 2);
+        }
+        Ok(())
+    }
+
+    #[test]
+    fn help_ends_with_0(rt: HostRuntime) -> Result<(), Fail> {
+        let asking: [&[&str]; 3] = [
+            &["lockup", "--help"],
+            &["lockup", "help"],
+            &["lockup", "script", "--help"],
+        ];
+        for given in asking {
+            let words = words(rt.alloc(), given)?;
+            let error = read_line(rt.alloc(), &words).err().ok_or("help")?;
+            assert_eq!(rt; error.exit_code(), 0);
+        }
+        Ok(())
+    }
+}

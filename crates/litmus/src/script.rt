@@ -91,3 +91,6 @@ fn late(words: &[&[u8]]) -> LineFault {
         Err(fault) => fault,
     }
 }
+
+#[cfg(test)]
+mod tests;

@@ -1,17 +1,16 @@
 -- Blocks that hold a line's values, as entries are added to the log.
 use Rattle.std.proofs.Common.{◌≡◌, ◌≢◌, ℕ, ◌+◌, ◌<◌, List, [], ◌∷◌, ◌++◌, length, get_or, inl, inr, refl, sym, ap, ◌∙◌, arith, subst}
 use Rattle.std.specs.Prelude.{slice_set}
-use Rattle.std.proofs.lemmas.List.{get_or-set_same, get_or-set_other, length-set, get_or-replicate}
+use Rattle.std.proofs.lemmas.List.{get_or-set_same, get_or-set_other, length-set}
 use Rattle.std.proofs.lemmas.Bool.{cases_eq}
 use Rattle.address_map.specs.declared.block.Block.{Block}
 use Rattle.address_map.specs.declared.request.Op.{Op}
 use Rattle.address_map.specs.declared.request.Op.TheVariants as ops
 use Rattle.cache_table.specs.declared.row.CacheEvent.TheVariants as events
-use Rattle.slice_core_line.specs.Line.{zero_block}
 use Rattle.slice_core_log.specs.declared.entry.Entry.{Entry}
 use Rattle.slice_core_log.specs.Log.{value}
 use Rattle.slice_core_log.specs.Op.{reply_of, value_of}
-use Rattle.slice_core_log.proofs.Values.{value-nil, value-perform, value-perform_other}
+use Rattle.slice_core_log.proofs.Values.{value-perform, value-perform_other}
 use Rattle.slice_core_parts.specs.Decision.{event_of}
 use Rattle.slice_core_parts.specs.Side.{word_at, performed_on}
 use Rattle.slice_core.specs.Sound.{HoldsLine}
@@ -81,10 +80,3 @@ HoldsLine-perform initial log base offset e block within performs holds = record
 pub reply-of-block : (initial : ℕ → ℕ) (log : List Entry) (base offset : ℕ) (op : Op) (block : Block) → offset < 8 → HoldsLine initial log base block
     → reply_of op (word_at block offset) ≡ reply_of op (value (initial (base + offset)) log (base + offset))
 reply-of-block initial log base offset op block within holds = ap (reply_of op) (holds.words offset within)
-
--- memory begins as zeros
-pub HoldsLine-zero : (base : ℕ) → HoldsLine (λ _. 0) [] base zero_block
-HoldsLine-zero base = record {
-  size = refl;
-  words = λ i small. get_or-replicate 8 i 0 0 small ∙ sym (value-nil 0 (base + i) (omega arith));
-}

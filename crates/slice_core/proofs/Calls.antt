@@ -1,6 +1,7 @@
 -- Each call leaves the slice sound, and what is sound keeps its promises.
-use Rattle.std.proofs.Common.{◌≡◌, ◌≢◌, ℕ, ◌+◌, ◌*◌, ◌/◌, ◌%◌, ◌^◌, ◌<◌, Bool, true, false, [], length, get_or, replicate, Option, Some, None, Result, inl, inr, refl, sym, ap, ◌∙◌, arith, subst}
-use Rattle.std.specs.Prelude.{nat_lt, if◌then◌else◌, ◌&&◌, ◌==◌, slice_set, IsTrue, is_some}
+use Rattle.std.proofs.Common.{◌≡◌, ◌≢◌, ℕ, ◌+◌, ◌*◌, ◌/◌, ◌%◌, ◌^◌, ◌<◌, Bool, true, false, List, [], ◌∷◌, length, get_or, replicate, Option, Some, None, Result, inl, inr, refl, sym, ap, ◌∙◌, arith, subst, eq-eqb}
+use Rattle.std.specs.Prelude.{nat_lt, if◌then◌else◌, ◌&&◌, ◌==◌, slice_set, IsTrue, is_some, find, filter}
+use Rattle.std.proofs.lemmas.Nat.{div-add-mod'}
 use Rattle.std.proofs.lemmas.List.{get_or_past, get_or-replicate, length-set, length-replicate}
 use Rattle.std.proofs.lemmas.List.Sums.{sum_by-set}
 use Rattle.std.proofs.lemmas.List.Folds.{sum_by-replicate}
@@ -29,18 +30,25 @@ use Rattle.slice_core_parts.specs.declared.side.CacheCopy.{CacheCopy}
 use Rattle.slice_core_parts.specs.declared.tags.TagState.TheVariants as tags
 use Rattle.slice_core_parts.specs.Decision.{decision_of}
 use Rattle.slice_core_parts.specs.Delivery.{delivery_of}
+use Rattle.address_map.specs.Config.{slice_lines}
+use Rattle.address_map.specs.Words.{initial_value}
+use Rattle.address_map.specs.declared.address.WordAddr.{WordAddr}
+use Rattle.address_map.specs.declared.config.Config.{Config}
+use Rattle.slice_core_log.specs.declared.entry.Entry.{Entry}
+use Rattle.slice_core_log.proofs.Values.{value-nil}
+use Rattle.slice_core_parts.specs.Initial.{IsInitialBlock, AreInitialLines, is_of_slice}
+use Rattle.std.specs.Option.{option_map_or}
 use Rattle.slice_core_parts.specs.Parts.{PartsView, IsNew, IsUnchanged, AfterIssue, AfterDecision, AfterDelivery, AfterDeciding, AfterHand}
 use Rattle.slice_core_parts.specs.Side.{SideView, no_copy, new_side, tag_at, targets_of, word_at, after_hand}
-use Rattle.slice_core_parts.specs.View.{View, new_view, side_at, line_at, after_hit, after_miss, after_handing, IsCore, IsQuiet, has_line, newest_block, word_now}
+use Rattle.slice_core_parts.specs.View.{View, side_at, line_at, after_hit, after_miss, after_handing, IsCore, IsQuiet, has_line, newest_block, word_now}
 use Rattle.slice_queues_message.specs.declared.channel.Pick.{Pick}
-use Rattle.slice_core.specs.Facts.{IsStanding}
+use Rattle.slice_core.specs.Facts.{IsStanding, initial_of}
 use Rattle.slice_core.specs.Sound.{HoldsLine, IsAccount, IsLink, IsSound, owner_of}
 use Rattle.slice_core.proofs.Accounts.{account-hand}
-use Rattle.slice_core.proofs.Blocks.{HoldsLine-zero}
 use Rattle.slice_core.proofs.Decided.{proper-of-decision, hits-of-access, misses-of-access, local_of, offset_of}
 use Rattle.slice_core.proofs.Deliveries.{grants-of-delivery, fills-of-delivery}
 use Rattle.slice_core.proofs.Lift.{side-after, base_of}
-use Rattle.slice_core.proofs.Places.{word-at-place}
+use Rattle.slice_core.proofs.Places.{word-at-place, slice-of-word}
 use Rattle.slice_core.proofs.Steps.{sound-hit, sound-miss, sound-grant, sound-fill}
 
 -- ---- promises
@@ -182,8 +190,26 @@ account-new core lines = record {
     Free_Performed : (number : ℕ) → tags.Free ≢ tags.Performed number
     Free_Performed number h = cc
 
-link-new : (base core : ℕ) → IsLink (λ _. 0) [] base core no_copy no_channels directories.I
-link-new base core = record {
+-- a slice's own pairs give each of its words the initial value that the configuration gives it
+find-filter : {X : Type 0} (q p : X → Bool) (xs : List X) → ((x : X) → q x ≡ true → p x ≡ true) → find q (filter p xs) ≡ find q xs
+find-filter q p [] kept = refl
+find-filter q p (x ∷ xs) kept = by_tests (p x) (q x) refl refl (find-filter q p xs kept)
+  where
+    by_tests : (a b : Bool) → p x ≡ a → q x ≡ b → find q (filter p xs) ≡ find q xs
+        → find q (if a then x ∷ filter p xs else filter p xs) ≡ (if b then Some x else find q xs)
+    by_tests true true passes found rest = rw found refl
+    by_tests true false passes missed rest = rw missed rest
+    by_tests false true fails found rest = absurd (false≢true (sym fails ∙ kept x found))
+    by_tests false false fails missed rest = rest
+
+initial-of-slice : (c : Config) (slice word : ℕ) → word / 8 % c.slices ≡ slice
+    → initial_value (filter (λ pair. is_of_slice c slice pair.0) c.init) (record { 0 = word }) ≡ initial_value c.init (record { 0 = word })
+initial-of-slice c slice word here = ap (λ o. option_map_or (λ pair. pair.1) o 0)
+    (find-filter (λ pair. pair.0.0 == word) (λ pair. is_of_slice c slice pair.0) c.init
+    (λ pair same. eq-eqb (pair.0.0 / 8 % c.slices) slice (ap (λ w. w / 8 % c.slices) (eqb-true pair.0.0 word same) ∙ here)))
+
+link-new : (initial : ℕ → ℕ) (base core : ℕ) → IsLink initial [] base core no_copy no_channels directories.I
+link-new initial base core = record {
   sent = λ b is. cc;
   held = λ reads. absurd (false≢true reads);
   reader = λ reads. absurd (false≢true reads);
@@ -195,32 +221,79 @@ link-new base core = record {
   asks_to_write = λ asks. cc;
 }
 
-pub sound-new : (p : PartsView) (cores lines slices slice : ℕ) → IsNew cores lines slices slice p → slice < slices → lines * slices < 2 ^ 60 → IsSound (λ _. 0) p
-sound-new p cores lines slices slice new within small =
-    subst (λ v. IsSound (λ _. 0) (record { view = v; pending = p.pending; room = p.room })) (sym new.view)
-    (subst (λ n. IsSound (λ _. 0) (record { view = new_view cores lines slices slice; pending = n; room = p.room })) (sym new.pending)
-    (record {
-      shaped = record {
-        copies = λ c there. ap (λ (s : SideView). length s.copies) (side c there) ∙ length-replicate lines no_copy ∙ sym (length-replicate lines (new_line cores));
-        channels = λ l there. ap (λ (n : LineView). length n.channels) (line l there) ∙ length-replicate cores no_channels ∙ sym (length-replicate cores (new_side lines));
-      };
-      small = rw (length-replicate lines (new_line cores)) small;
-      slice = within;
-      room = omega arith;
-      bounded = new.room;
-      pending = let none = sum_by-replicate (λ (s : SideView). length (targets_of s)) cores (new_side lines) in omega (arith, none);
-      legal = IsLegal-nil (λ _. 0);
-      accounts = λ c there. rw (side c there) (account-new c lines);
-      links = λ c l core_there line_there. rw (side c core_there, line l line_there, get_or-replicate_all lines l no_copy, get_or-replicate_all cores c no_channels) (link-new _ c);
-      home = λ l there free. rw (line l there) (HoldsLine-zero _);
-      owned = λ l there. rw (line l there) tt;
-    }))
-  where
-    side : (c : ℕ) → c < length (replicate cores (new_side lines)) → get_or (replicate cores (new_side lines)) c (new_side 0) ≡ new_side lines
-    side c there = get_or-replicate cores c (new_side lines) (new_side 0) (omega (arith, there, length-replicate cores (new_side lines)))
+-- the home copy that a line begins with has its initial values
+home-new : (c : Config) (slice local : ℕ) (block : Block) → slice < c.slices → IsInitialBlock c slice local block
+    → HoldsLine (λ w. initial_value (filter (λ pair. is_of_slice c slice pair.0) c.init) (record { 0 = w })) [] (8 * (local * c.slices + slice)) block
+home-new c slice local block within begins = record {
+  size = begins.size;
+  words = λ i small.
+      let word = 8 * (local * c.slices + slice) + i in
+      let own = initial-of-slice c slice word (slice-of-word local c.slices slice i within small) in
+      begins.words i small ∙ sym own ∙ sym (value-nil (initial_value (filter (λ pair. is_of_slice c slice pair.0) c.init) (record { 0 = word })) word (rw (own, ← begins.words i small) (begins.fits i small)));
+}
 
-    line : (l : ℕ) → l < length (replicate lines (new_line cores)) → get_or (replicate lines (new_line cores)) l (new_line 0) ≡ new_line cores
-    line l there = get_or-replicate lines l (new_line cores) (new_line 0) (omega (arith, there, length-replicate lines (new_line cores)))
+pub sound-new : (p : PartsView) (c : Config) (slice : ℕ) → slice < c.slices → IsNew c slice p → IsSound (initial_of p.view) p
+sound-new p c slice within new =
+    as_built p.view.lines p.view.sides p.view.log p.view.init p.view.counters p.view.slices p.view.slice p.pending p.room
+    new.lines new.sides new.log new.init new.slices new.slice_is new.pending new.room
+  where
+    as_built : (lines : List LineView) (sides : List SideView) (log : List Entry) (init : List (WordAddr × ℕ)) (counters : List WordAddr) (slices s pending room : ℕ)
+        → AreInitialLines c slice (slice_lines c) lines → sides ≡ replicate c.cores (new_side (slice_lines c)) → log ≡ []
+        → init ≡ filter (λ pair. is_of_slice c slice pair.0) c.init → slices ≡ c.slices → s ≡ slice → pending ≡ 0 → room < 2 ^ 63
+        → IsSound (λ w. initial_value init (record { 0 = w }))
+        (record { view = record { lines = lines; sides = sides; log = log; init = init; counters = counters; slices = slices; slice = s }; pending = pending; room = room })
+    as_built lines sides log init counters slices s pending room begin sides_is log_is init_is slices_is s_is pending_is bounded =
+        rw (sides_is, log_is, init_is, slices_is, s_is, pending_is) (record {
+          shaped = record {
+            copies = λ core there. ap (λ (x : SideView). length x.copies) (side core there) ∙ length-replicate (slice_lines c) no_copy ∙ sym begin.count_is;
+            channels = λ l there. ap (λ (n : LineView). length n.channels) (begin.each l (omega (arith, there, begin.count_is))).2 ∙ length-replicate c.cores no_channels ∙ sym (length-replicate c.cores (new_side (slice_lines c)));
+          };
+          small = rw begin.count_is (omega (arith, new.allowed.few_lines, div-add-mod' c.lines c.slices));
+          slice = within;
+          room = omega arith;
+          bounded = bounded;
+          pending = let none = sum_by-replicate (λ (x : SideView). length (targets_of x)) c.cores (new_side (slice_lines c)) in omega (arith, none);
+          legal = IsLegal-nil _;
+          accounts = λ core there. rw (side core there) (account-new core (slice_lines c));
+          links = λ core l core_there line_there.
+              rw (side core core_there, (begin.each l (omega (arith, line_there, begin.count_is))).2, get_or-replicate_all (slice_lines c) l no_copy, get_or-replicate_all c.cores core no_channels)
+              (link-new _ _ core);
+          home = λ l there free.
+              let line = begin.each l (omega (arith, there, begin.count_is)) in
+              rw line.2 (home-new c slice l line.0 within line.1);
+          owned = λ l there. rw (begin.each l (omega (arith, there, begin.count_is))).2 tt;
+        })
+      where
+        side : (core : ℕ) → core < length (replicate c.cores (new_side (slice_lines c))) → get_or (replicate c.cores (new_side (slice_lines c))) core (new_side 0) ≡ new_side (slice_lines c)
+        side core there = get_or-replicate c.cores core (new_side (slice_lines c)) (new_side 0) (omega (arith, there, length-replicate c.cores (new_side (slice_lines c))))
+
+-- ---- the initial values
+
+pub init-of-issue : (p q : PartsView) (core : CoreId) (request : Request) (answer : Result Issue Refused) → AfterIssue p core request answer q → q.view.init ≡ p.view.init
+init-of-issue p q core request answer = by_decision (decision_of p.view core request)
+  where
+    by_decision : (d : Decision) → AfterDecision d p core request answer q → q.view.init ≡ p.view.init
+    by_decision (decisions.Refuse refused) after = ap (λ (x : PartsView). x.view.init) after.1
+    by_decision (decisions.Stall stall) after = ap (λ (x : PartsView). x.view.init) after.1
+    by_decision (decisions.Hit local offset next) after = elim after [ inl lacks ↦ ap (λ (v : View). v.init) lacks.state.view | inr done ↦ ap (λ (v : View). v.init) done.state ]
+    by_decision (decisions.Miss local offset next ask) after = elim after [ inl lacks ↦ ap (λ (v : View). v.init) lacks.state.view | inr done ↦ ap (λ (v : View). v.init) done.state ]
+
+pub init-of-delivery : (p q : PartsView) (pick : Pick) (answer : Delivered) → AfterDelivery p pick answer q → q.view.init ≡ p.view.init
+init-of-delivery p q pick answer = by_decision (delivery_of p.view pick)
+  where
+    by_decision : (d : Delivery) → AfterDeciding d p answer q → q.view.init ≡ p.view.init
+    by_decision deliveries.Nothing after = ap (λ (x : PartsView). x.view.init) after.1
+    by_decision (deliveries.Broken cell) after = ap (λ (x : PartsView). x.view.init) after.1
+    by_decision (deliveries.Grant local core next) after = ap (λ (x : PartsView). x.view.init) after.1
+    by_decision (deliveries.Fill local core next) after = ap (λ (x : PartsView). x.view.init) after.1
+
+pub init-of-hand : (p q : PartsView) (core : ℕ) (answer : Option Numbered) → AfterHand p core answer q → q.view.init ≡ p.view.init
+init-of-hand p q core None after = ap (λ (x : PartsView). x.view.init) after.1
+init-of-hand p q core (Some given) after = ap (λ (x : PartsView). x.view.init) after.3
+
+-- what is sound for the initial values of one view is so for the same values of another
+pub sound-init : (p q : PartsView) → q.view.init ≡ p.view.init → IsSound (initial_of p.view) q → IsSound (initial_of q.view) q
+sound-init p q same h = subst (λ init. IsSound (λ w. initial_value init (record { 0 = w })) q) (sym same) h
 
 -- ---- a quiet slice
 
@@ -246,15 +319,15 @@ writer-readable states.E h = refl
 writer-readable _ h = cc
 
 -- where the slice is quiet, the word's value is what the log gives it
-pub word_now-quiet : (p : PartsView) (word : ℕ) → IsSound (λ _. 0) p → IsQuiet p.view → IsTrue (has_line p.view (word / 8))
-    → word_now p.view word ≡ value 0 p.view.log word
-word_now-quiet p word h quiet here = by_directory (line_at p.view (word / 8 / p.view.slices)).directory refl
+pub word_now-quiet : (initial : ℕ → ℕ) (p : PartsView) (word : ℕ) → IsSound initial p → IsQuiet p.view → IsTrue (has_line p.view (word / 8))
+    → word_now p.view word ≡ value (initial word) p.view.log word
+word_now-quiet initial p word h quiet here = by_directory (line_at p.view (word / 8 / p.view.slices)).directory refl
   where
     at : IsHere p.view word
     at = here-of-line p.view word here
 
-    newest : (block : Block) → HoldsLine (λ _. 0) p.view.log (base_of p.view (word / 8 / p.view.slices)) block → word_at block (word % 8) ≡ value 0 p.view.log word
-    newest block holds = holds.words (word % 8) (omega arith) ∙ ap (λ w. value 0 p.view.log w) (sym at.place)
+    newest : (block : Block) → HoldsLine initial p.view.log (base_of p.view (word / 8 / p.view.slices)) block → word_at block (word % 8) ≡ value (initial word) p.view.log word
+    newest block holds = holds.words (word % 8) (omega arith) ∙ ap (λ w. value (initial w) p.view.log w) (sym at.place)
 
     unsent : (core : ℕ) → (channels_of (line_at p.view (word / 8 / p.view.slices)) core).data ≡ None
     unsent core = elim (cases_lt core (length (line_at p.view (word / 8 / p.view.slices)).channels)) [
@@ -263,7 +336,7 @@ word_now-quiet p word h quiet here = by_directory (line_at p.view (word / 8 / p.
     ]
 
     by_directory : (d : Directory) → (line_at p.view (word / 8 / p.view.slices)).directory ≡ d
-        → word_at (newest_block p.view (word / 8 / p.view.slices) d) (word % 8) ≡ value 0 p.view.log word
+        → word_at (newest_block p.view (word / 8 / p.view.slices) d) (word % 8) ≡ value (initial word) p.view.log word
     by_directory directories.I is = newest _ (h.home (word / 8 / p.view.slices) at.line (ap owner_of is))
     by_directory (directories.S sharer) is = newest _ (h.home (word / 8 / p.view.slices) at.line (ap owner_of is))
     by_directory (directories.M owner) is =

@@ -56,7 +56,8 @@ proper-of-decision v core request d h done =
     let slice = went _ _ _ d range.1 (done refusals.WrongSlice) in
     let tag = went _ _ _ d slice.1 (done refusals.TagRange) in
     let busy = went _ _ _ d tag.1 (done refusals.TagBusy) in
-    (record { line = ltb-true _ _ range.0; here = eqb-true _ _ slice.0; tag = ltb-true _ _ tag.0; free = busy.0 }, busy.1)
+    let counter = went_not _ _ _ d busy.1 (done refusals.CounterStore) in
+    (record { line = ltb-true _ _ range.0; here = eqb-true _ _ slice.0; tag = ltb-true _ _ tag.0; free = busy.0 }, counter.1)
 
 -- ---- accesses
 

@@ -1,9 +1,14 @@
 -- What callers of a slice may rely on after every call.
 use Rattle.std.specs.Prelude.{◌≡◌, ℕ, ◌+◌, ◌<◌, ◌==◌, ◌&&◌, nat_lt, if◌then◌else◌, length, count_by, slice_get, Some}
+use Rattle.address_map.specs.Words.{initial_value}
 use Rattle.slice_core_log.specs.declared.entry.Entry.{Entry}
 use Rattle.slice_core_parts.specs.declared.tags.TagState.TheVariants as tags
 use Rattle.slice_core_parts.specs.Side.{targets_of, tag_at}
 use Rattle.slice_core_parts.specs.View.{View, side_at}
+
+-- the value that each word of the slice begins with
+abbrev pub initial_of : View → ℕ → ℕ
+initial_of v word = initial_value v.init (record { 0 = word })
 
 -- in how many places the core's request with this number stands: as a target, or as an entry of the log
 abbrev pub standings : View → ℕ → ℕ → ℕ

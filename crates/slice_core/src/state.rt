@@ -1,9 +1,8 @@
 ghost use Rattle.std.specs.Prelude.{◌≡◌, ℕ, ◌/◌, ◌<◌, ◌↔◌, length, IfOk, IsTrue};
-ghost use Rattle.address_map.specs.Config.{slice_lines};
 ghost use Rattle.slice_core_log.specs.Log.{value, IsLegal};
 ghost use Rattle.slice_core_parts.specs.Parts.{PartsView, IsNew, AfterIssue, AfterDelivery, AfterHand};
 ghost use Rattle.slice_core_parts.specs.View.{View, has_line, IsQuiet};
-ghost use Rattle.slice_core.specs.Facts.{IsStanding};
+ghost use Rattle.slice_core.specs.Facts.{IsStanding, initial_of};
 
 use address_map::{Checked, CoreId, Request, SliceId, WordAddr};
 use slice_core_log::{Entry, Numbered};
@@ -23,27 +22,22 @@ impl Model for SliceState {
 
     ghost Value = { PartsView };
 
+    ghost use Rattle.slice_core.specs.Facts.{initial_of};
     ghost use Rattle.slice_core.specs.Sound.{IsSound};
 
     ghost view = { λ s. s.parts };
 
-    ghost invariant = { λ s. IsSound (λ _. 0) s.parts };
+    ghost invariant = { λ s. IsSound (initial_of s.parts.view) s.parts };
 }
 
 impl SliceState {
-    /// A slice of zeros in which nothing was asked for yet.
+    /// A slice of the configured machine, with its initial values, in which nothing was asked for yet.
     pub fn build(alloc: Global, config: &Checked, slice: SliceId) -> Result<SliceState, AllocError>
         requires { slice.0 < config.now.slices }
-        ensures { IfOk result (IsNew config.now.cores (slice_lines config.now) config.now.slices slice.0) }
+        ensures { IfOk result (IsNew config.now slice.0) }
     {
         Ok(SliceState {
-            parts: Parts::new(
-                alloc,
-                config.cores(),
-                config.slice_lines(),
-                config.slices() as u64,
-                u64::from(slice.0),
-            )?,
+            parts: Parts::new(alloc, config, slice)?,
         })
     }
 
@@ -53,7 +47,7 @@ impl SliceState {
     pub fn issue(&mut self, core: CoreId, request: Request) -> Result<Issue, Refused>
         requires { core.0 < length self.old.view.sides }
         ensures step { AfterIssue self.old core request result self.new }
-        ensures legal { IsLegal (λ _. 0) self.new.view.log }
+        ensures legal { IsLegal (initial_of self.new.view) self.new.view.log }
         ensures standing { IsStanding self.new.view }
     {
         self.parts.issue(core, request)
@@ -62,7 +56,7 @@ impl SliceState {
     /// Takes the front message of a channel and does its row of the table, where there is one.
     pub fn deliver(&mut self, pick: Pick) -> Delivered
         ensures step { AfterDelivery self.old pick result self.new }
-        ensures legal { IsLegal (λ _. 0) self.new.view.log }
+        ensures legal { IsLegal (initial_of self.new.view) self.new.view.log }
         ensures standing { IsStanding self.new.view }
     {
         self.parts.deliver(pick)
@@ -72,7 +66,7 @@ impl SliceState {
     pub fn hand(&mut self, core: CoreId) -> Option<Numbered>
         requires { core.0 < length self.old.view.sides }
         ensures step { AfterHand self.old core.0 result self.new }
-        ensures legal { IsLegal (λ _. 0) self.new.view.log }
+        ensures legal { IsLegal (initial_of self.new.view) self.new.view.log }
         ensures standing { IsStanding self.new.view }
     {
         self.parts.hand(core)
@@ -81,9 +75,16 @@ impl SliceState {
     /// What was performed, in order.
     pub fn log(&self) -> &[Entry]
         ensures log { result.now ≡ self.now.view.log }
-        ensures legal { IsLegal (λ _. 0) result.now }
+        ensures legal { IsLegal (initial_of self.now.view) result.now }
     {
         self.parts.log()
+    }
+
+    /// The configured initial values of the slice's words, ascending. Every other word began as 0.
+    pub fn init(&self) -> &[(WordAddr, u64)]
+        ensures { result.now ≡ self.now.view.init }
+    {
+        self.parts.init()
     }
 
     /// Whether no message is in flight, no miss register is held and each reply is handed out.
@@ -97,7 +98,7 @@ impl SliceState {
     pub fn word_now(&self, word: WordAddr) -> u64
         requires quiet { IsQuiet self.now.view }
         requires here { IsTrue (has_line self.now.view (word.0 / 8)) }
-        ensures { result ≡ value 0 self.now.view.log word.0 }
+        ensures { result ≡ value (initial_of self.now.view word.0) self.now.view.log word.0 }
     {
         self.parts.word_now(word)
     }

@@ -19,9 +19,13 @@ no_channels = record { «data» = None; request = None }
 abbrev pub zero_block : Block
 zero_block = record { words = replicate 8 0 }
 
--- a line that nobody has, for this many cores
+-- a line of zeros that nobody has, for this many cores
 abbrev pub new_line : ℕ → LineView
 new_line cores = record { directory = directories.I; home = zero_block; channels = replicate cores no_channels }
+
+-- the same, with this home copy
+abbrev pub initial_line : ℕ → Block → LineView
+initial_line cores home = record (new_line cores) { home = home }
 
 -- what waits in the core's channels
 abbrev pub channels_of : LineView → ℕ → CoreChannels

@@ -30,18 +30,18 @@ impl Model for Line {
 }
 
 impl Line {
-    ghost use Rattle.slice_core_line.specs.Line.{LineView, new_line, channels_of, IsIdle, after_request, after_grant, after_data};
+    ghost use Rattle.slice_core_line.specs.Line.{LineView, initial_line, channels_of, IsIdle, after_request, after_grant, after_data};
 
-    /// A line of zeros that no core has, with room for one message in each channel.
-    pub fn new(alloc: Global, cores: usize) -> Result<Line, AllocError>
-        ensures { IfOk result (λ line. line ≡ new_line cores) }
+    /// A line that no core has, with this home copy and room for one message in each channel.
+    pub fn new(alloc: Global, cores: usize, home: Block) -> Result<Line, AllocError>
+        ensures { IfOk result (λ line. line ≡ initial_line cores home) }
     {
         let none = CoreChannels {
             data: None,
             request: None,
         };
         Ok(Line {
-            home: Block::zero(),
+            home,
             channels: vec![in alloc; none; cores]?,
             directory: Directory::I,
         })

@@ -1,3 +1,4 @@
+pub mod Begins
 pub mod Handed
 pub mod Quiet
 pub mod Replies

@@ -1,5 +1,7 @@
 -- What is to be done with a request and at a channel, as a function of the state.
-use Rattle.std.specs.Prelude.{ℕ, ◌*◌, ◌/◌, ◌%◌, ◌==◌, ◌<◌, nat_lt, Bool, true, false, if◌then◌else◌, length, Option, Some, None, is_some}
+use Rattle.std.specs.Prelude.{◌&&◌, ℕ, ◌*◌, ◌/◌, ◌%◌, ◌==◌, ◌<◌, nat_lt, Bool, true, false, if◌then◌else◌, length, Option, Some, None, is_some}
+use Rattle.std.specs.List.{list_any}
+use Rattle.address_map.specs.declared.address.WordAddr.{WordAddr}
 use Rattle.address_map.specs.declared.address.CoreId.{CoreId}
 use Rattle.address_map.specs.declared.address.Local.{Local}
 use Rattle.address_map.specs.declared.address.Offset.{Offset}
@@ -57,7 +59,17 @@ abbrev pub is_free : TagState → Bool
 is_free tags.Free = true
 is_free _ = false
 
--- A request, in the order in which it is judged: its word, its tag, and then the access itself.
+-- a store or a compare-exchange, which a counter refuses
+abbrev pub overwrites : Op → Bool
+overwrites (ops.Store new) = true
+overwrites (ops.Cas expect new) = true
+overwrites _ = false
+
+-- A counter is a configured word to which stores and compare-exchanges are refused.
+abbrev pub is_counter : View → WordAddr → Bool
+is_counter v word = list_any (λ counter. counter.0 == word.0) v.counters
+
+-- A request, in the order in which it is judged: its word, its tag, what it does to a counter, and then the access itself.
 abbrev pub decision_of : View → CoreId → Request → Decision
 decision_of v core request =
     let line = request.word.0 / 8 in
@@ -66,7 +78,8 @@ decision_of v core request =
     if line % v.slices == v.slice then
     if nat_lt request.tag 64 then
     if is_free (tag_at side request.tag) then
-    access_of side (record { 0 = line / v.slices }) (record { 0 = request.word.0 % 8 }) request.op
+    if overwrites request.op && is_counter v request.word then decisions.Refuse refusals.CounterStore
+    else access_of side (record { 0 = line / v.slices }) (record { 0 = request.word.0 % 8 }) request.op
     else decisions.Refuse refusals.TagBusy
     else decisions.Refuse refusals.TagRange
     else decisions.Refuse refusals.WrongSlice

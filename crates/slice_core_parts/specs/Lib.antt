@@ -1,3 +1,4 @@
+pub mod Initial
 pub mod Side
 pub mod Tags
 pub mod Decision

@@ -1,5 +1,5 @@
 -- A slice with what its view leaves out, and what an issue leaves of it.
-use Rattle.std.specs.Prelude.{◌≡◌, ℕ, ◌+◌, ◌-◌, ◌*◌, ◌^◌, ◌<◌, ◌≤◌, ◌⊎◌, length, IsTrue, IsSome, IfSome, slice_get, Option, Some, None, Result, Ok, Err}
+use Rattle.std.specs.Prelude.{◌≡◌, ℕ, ◌+◌, ◌-◌, ◌*◌, ◌^◌, ◌<◌, ◌≤◌, ◌⊎◌, [], length, replicate, filter, IsTrue, IsSome, IfSome, slice_get, Option, Some, None, Result, Ok, Err}
 use Rattle.address_map.specs.declared.address.CoreId.{CoreId}
 use Rattle.address_map.specs.declared.request.Request.{Request}
 use Rattle.slice_core_parts.specs.declared.answer.Issue.{Issue}
@@ -17,11 +17,14 @@ use Rattle.slice_core_parts.specs.declared.answer.Delivered.TheVariants as deliv
 use Rattle.slice_core_parts.specs.declared.decide.Delivery.{Delivery}
 use Rattle.slice_core_parts.specs.declared.decide.Delivery.TheVariants as deliveries
 use Rattle.slice_core_parts.specs.Delivery.{delivery_of}
-use Rattle.slice_core_parts.specs.Side.{copy_at, tag_at}
+use Rattle.address_map.specs.Config.{IsAllowed, slice_lines}
+use Rattle.address_map.specs.declared.config.Config.{Config}
+use Rattle.slice_core_parts.specs.Initial.{is_of_slice, AreInitialLines}
+use Rattle.slice_core_parts.specs.Side.{new_side, copy_at, tag_at}
 use Rattle.slice_core_parts.specs.Tags.{IsLeastReply}
 use Rattle.slice_core_parts.specs.declared.tags.TagState.TheVariants as tags
 use Rattle.slice_core_log.specs.declared.entry.Numbered.{Numbered}
-use Rattle.slice_core_parts.specs.View.{View, new_view, side_at, line_at, after_hit, after_miss, after_granting, after_filling, after_handing, IsShaped}
+use Rattle.slice_core_parts.specs.View.{View, side_at, line_at, after_hit, after_miss, after_granting, after_filling, after_handing, IsShaped}
 use Rattle.slice_queues_message.specs.declared.channel.Pick.{Pick}
 
 pub record PartsView : Type 0 where
@@ -31,9 +34,16 @@ pub record PartsView : Type 0 where
   -- how many entries the log can hold before it has to grow
   pub room : ℕ
 
--- nothing was asked for yet, and no room was taken
-pub record IsNew (cores lines slices slice : ℕ) (p : PartsView) : Type 0 where
-  pub view : p.view ≡ new_view cores lines slices slice
+-- A slice of the configured machine in which nothing was asked for yet.
+pub record IsNew (c : Config) (slice : ℕ) (p : PartsView) : Type 0 where
+  pub allowed : IsAllowed c
+  pub lines : AreInitialLines c slice (slice_lines c) p.view.lines
+  pub sides : p.view.sides ≡ replicate c.cores (new_side (slice_lines c))
+  pub log : p.view.log ≡ []
+  pub init : p.view.init ≡ filter (λ pair. is_of_slice c slice pair.0) c.init
+  pub counters : p.view.counters ≡ filter (is_of_slice c slice) c.counters
+  pub slices : p.view.slices ≡ c.slices
+  pub slice_is : p.view.slice ≡ slice
   pub pending : p.pending ≡ 0
   pub room : p.room < 2 ^ 63
 

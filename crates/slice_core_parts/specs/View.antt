@@ -1,6 +1,7 @@
 -- A slice as one value: its lines, its cores' sides and its log.
-use Rattle.std.specs.Prelude.{◌≡◌, ℕ, ◌+◌, ◌*◌, ◌/◌, ◌%◌, ◌==◌, ◌&&◌, ◌<◌, nat_lt, Bool, List, [], ◌∷◌, ◌++◌, length, replicate, slice_index_or, slice_set, Option, Some, None, unwrap_or, All}
+use Rattle.std.specs.Prelude.{◌≡◌, ℕ, ◌+◌, ◌*◌, ◌/◌, ◌%◌, ◌==◌, ◌&&◌, ◌<◌, nat_lt, Bool, List, [], ◌∷◌, ◌++◌, length, slice_index_or, slice_set, Option, Some, None, unwrap_or, All}
 use Rattle.address_map.specs.declared.address.CoreId.{CoreId}
+use Rattle.address_map.specs.declared.address.WordAddr.{WordAddr}
 use Rattle.address_map.specs.declared.address.Local.{Local}
 use Rattle.address_map.specs.declared.address.Offset.{Offset}
 use Rattle.address_map.specs.declared.block.Block.{Block}
@@ -23,14 +24,12 @@ pub record View : Type 0 where
   -- by core
   pub sides : List SideView
   pub log : List Entry
+  -- the configured initial values and counters of this slice
+  pub init : List (WordAddr × ℕ)
+  pub counters : List WordAddr
   -- how many slices the memory has, and which of them this is
   pub slices : ℕ
   pub slice : ℕ
-
--- a slice in which nothing was asked for yet
-abbrev pub new_view : ℕ → ℕ → ℕ → ℕ → View
-new_view cores lines slices slice =
-    record { lines = replicate lines (new_line cores); sides = replicate cores (new_side lines); log = []; slices = slices; slice = slice }
 
 abbrev pub line_at : View → ℕ → LineView
 line_at v local = slice_index_or v.lines local (new_line 0)

@@ -1,5 +1,5 @@
 ghost use Rattle.std.specs.Prelude.{◌≡◌, ◌<◌, length};
-ghost use Rattle.slice_core_parts.specs.Decision.{event_of, access_of};
+ghost use Rattle.slice_core_parts.specs.Decision.{event_of, access_of, overwrites};
 
 use super::answer::{Cell, Refused, Stall};
 use super::side::Side;
@@ -55,6 +55,13 @@ pub const fn event_of(op: Op) -> CacheEvent
         Op::Load => CacheEvent::Load,
         Op::Store(_) | Op::Add(_) | Op::Cas { .. } => CacheEvent::Write,
     }
+}
+
+/// Whether an access may overwrite its word: a counter refuses it then.
+pub const fn overwrites(op: Op) -> bool
+    ensures { result ≡ overwrites op }
+{
+    matches!(op, Op::Store(_) | Op::Cas { .. })
 }
 
 /// What is to be done with an access of a core to one of the slice's lines.

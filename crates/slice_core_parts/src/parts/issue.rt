@@ -5,7 +5,7 @@ ghost use Rattle.slice_core_parts.specs.View.{View, side_at, after_hit, after_mi
 
 use super::Parts;
 use crate::answer::{Issue, Refused};
-use crate::decide::{Decision, decide_access};
+use crate::decide::{Decision, decide_access, overwrites};
 use crate::tags::TagState;
 use address_map::{CoreId, Local, Offset, Request};
 use cache_table::CopyState;
@@ -67,6 +67,9 @@ impl Parts {
         let side = &self.sides[core.0 as usize];
         if side.tag(request.tag) != TagState::Free {
             return Decision::Refuse(Refused::TagBusy);
+        }
+        if overwrites(request.op) && self.counters.contains(&request.word) {
+            return Decision::Refuse(Refused::CounterStore);
         }
         let offset = Offset((request.word.0 % 8) as u8);
         decide_access(side, Local(local as usize), offset, request.op)

@@ -1,9 +1,12 @@
+use Rattle.slice_core.specs.Facts.{initial_of}
 use Rattle.slice_core.specs.Sound.{IsSound}
-use Rattle.slice_core.proofs.Calls.{sound-deliver, standing-of-sound}
+use Rattle.slice_core.proofs.Calls.{sound-deliver, init-of-delivery, sound-init, standing-of-sound}
 use Rattle.slice_core.proofs.state.SliceState.deliver.Goals as goal
 
-sound : (c : goal.After-deliver) → IsSound (λ _. 0) c.deliver.new.self
-sound c = sound-deliver (λ _. 0) c.self.inside.parts c.deliver.new.self c.args.pick c.deliver.result c.self.invariant c.deliver.ensures
+sound : (c : goal.After-deliver) → IsSound (initial_of c.deliver.new.self.view) c.deliver.new.self
+sound c =
+    sound-init c.self.inside.parts c.deliver.new.self (init-of-delivery c.self.inside.parts c.deliver.new.self c.args.pick c.deliver.result c.deliver.ensures)
+    (sound-deliver (initial_of c.self.inside.parts.view) c.self.inside.parts c.deliver.new.self c.args.pick c.deliver.result c.self.invariant c.deliver.ensures)
 
 pub invariant_of-self : goal.invariant_of-self
 invariant_of-self c = sound c
@@ -12,4 +15,4 @@ pub returns-clause-legal : goal.returns-clause-legal
 returns-clause-legal c = (sound c).legal
 
 pub returns-clause-standing : goal.returns-clause-standing
-returns-clause-standing c = standing-of-sound (λ _. 0) c.deliver.new.self (sound c)
+returns-clause-standing c = standing-of-sound _ c.deliver.new.self (sound c)

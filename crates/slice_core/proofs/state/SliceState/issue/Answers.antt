@@ -1,14 +1,16 @@
 use Rattle.std.proofs.Common.{arith, length, ap}
-use Rattle.slice_core.specs.Sound.{IsSound}
 use Rattle.slice_core_parts.specs.Parts.{PartsView}
-use Rattle.slice_core.proofs.Calls.{sound-issue, standing-of-sound}
+use Rattle.slice_core.specs.Facts.{initial_of}
+use Rattle.slice_core.specs.Sound.{IsSound}
+use Rattle.slice_core.proofs.Calls.{sound-issue, init-of-issue, sound-init, standing-of-sound}
 use Rattle.slice_core.proofs.state.SliceState.issue.Goals as goal
 
-sound : (c : goal.After-issue) → IsSound (λ _. 0) c.issue.new.self
+sound : (c : goal.After-issue) → IsSound (initial_of c.issue.new.self.view) c.issue.new.self
 sound c =
     let cores = ap (λ (p : PartsView). length p.view.sides) c.self.view_is in
-    sound-issue (λ _. 0) c.self.inside.parts c.issue.new.self c.args.core c.args.request c.issue.result c.self.invariant (omega (arith, cores))
-    c.issue.ensures.bounded c.issue.ensures.step
+    sound-init c.self.inside.parts c.issue.new.self (init-of-issue c.self.inside.parts c.issue.new.self c.args.core c.args.request c.issue.result c.issue.ensures.step)
+    (sound-issue (initial_of c.self.inside.parts.view) c.self.inside.parts c.issue.new.self c.args.core c.args.request c.issue.result c.self.invariant (omega (arith, cores))
+    c.issue.ensures.bounded c.issue.ensures.step)
 
 pub invariant_of-self : goal.invariant_of-self
 invariant_of-self c = sound c
@@ -17,4 +19,4 @@ pub returns-clause-legal : goal.returns-clause-legal
 returns-clause-legal c = (sound c).legal
 
 pub returns-clause-standing : goal.returns-clause-standing
-returns-clause-standing c = standing-of-sound (λ _. 0) c.issue.new.self (sound c)
+returns-clause-standing c = standing-of-sound _ c.issue.new.self (sound c)

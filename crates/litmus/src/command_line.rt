@@ -1,0 +1,101 @@
+use clap::error::ErrorKind;
+use clap::{Arg, ArgMatches, Command, Error};
+use std::alloc::{AllocError, Global};
+
+/// What the program's command line asks for.
+#[derive(Clone, Copy, Debug, PartialEq, Eq)]
+pub enum CommandLine<'a> {
+    /// Run the script in this file.
+    Script { file: &'a str },
+}
+
+/// Reads the program's words, of which the first is its own name. What is refused, and help, is an error that
+/// says what to show, where and with which status.
+pub fn read_line<'a>(alloc: Global, words: &'a [String]) -> Result<CommandLine<'a>, Error> {
+    let matches = lockup(alloc)?.try_get_matches_from(words)?;
+    match asked(&matches) {
+        Some(line) => Ok(line),
+        // The command asks for a subcommand and its file, so this isn't met.
+        None => Err(lockup(alloc)?.error(ErrorKind::MissingSubcommand, "a subcommand is missing")?),
+    }
+}
+
+fn asked<'a>(matches: &ArgMatches<'a>) -> Option<CommandLine<'a>> {
+    let (name, given) = matches.subcommand()?;
+    let file = given.get_str("FILE")?;
+    match name {
+        "script" => Some(CommandLine::Script { file }),
+        _ => None,
+    }
+}
+
+fn lockup<'a>(alloc: Global) -> Result<Command<'a>, AllocError> {
+    Command::new(alloc, "lockup")
+        .about("Runs a verified model of lockup-free caches under a directory protocol")
+        .subcommand_required(true)
+        .subcommand(script(alloc)?)
+}
+
+fn script<'a>(alloc: Global) -> Result<Command<'a>, AllocError> {
+    Command::new(alloc, "script")
+        .about("Runs a script on the state of each slice, without threads, and prints its answers")
+        .after_help("Example: lockup script examples/first_add.txt")
+        .arg(
+            Arg::new(alloc, "FILE")
+                .help("The script: one command a line")
+                .required(true),
+        )
+}
+
+#[cfg(test)]
+mod tests {
+    use super::*;
+    use std::test::Fail;
+
+    fn words(alloc: Global, given: &[&str]) -> Result<Vec<String>, AllocError> {
+        let mut all = Vec::new(alloc);
+        for word in given {
+            all.push(String::from_str(alloc, word)?)?;
+        }
+        Ok(all)
+    }
+
+    #[test]
+    fn reads_a_script(rt: HostRuntime) -> Result<(), Fail> {
+        let words = words(rt.alloc(), &["lockup", "script", "first.txt"])?;
+        let line = read_line(rt.alloc(), &words)?;
+        assert!(rt; line == CommandLine::Script { file: "first.txt" });
+        Ok(())
+    }
+
+    #[test]
+    fn a_refused_line_ends_with_2(rt: HostRuntime) -> Result<(), Fail> {
+        let refused: [&[&str]; 4] = [
+            &["lockup"],
+            &["lockup", "script"],
+            &["lockup", "script", "a", "b"],
+            &["lockup", "scripts", "a"],
+        ];
+        for given in refused {
+            let words = words(rt.alloc(), given)?;
+            let error = read_line(rt.alloc(), &words).err().ok_or("refused")?;
+            assert_eq!(rt; error.exit_code(), 2);
+        }
+        Ok(())
+    }
+
+    #[test]
+    fn help_ends_with_0(rt: HostRuntime) -> Result<(), Fail> {
+        let asking: [&[&str]; 3] = [
+            &["lockup", "--help"],
+            &["lockup", "help"],
+            &["lockup", "script", "--help"],
+        ];
+        for given in asking {
+            let words = words(rt.alloc(), given)?;
+            let error = read_line(rt.alloc(), &words).err().ok_or("help")?;
+            assert_eq!(rt; error.exit_code(), 0);
+        }
+        Ok(())
+    }
+}

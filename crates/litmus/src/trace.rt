@@ -1,0 +1,40 @@
+use address_map::{Checked, Op};
+use slice_core::Entry;
+use std::io;
+use std::io::Write;
+
+/// The most cores that a trace of version 1 can name.
+const VERSION_1_CORES: usize = 16;
+
+/// Writes a slice's log as a trace. Version 2 is written where version 1 has no words for the log: with more
+/// cores than it can name, or with a compare-exchange.
+pub fn write_trace<W: Write>(config: &Checked, log: &[Entry], out: &mut W) -> io::Result<()> {
+    let has_cas = log.iter().any(|entry| matches!(entry.op, Op::Cas { .. }));
+    let version = if has_cas || config.cores() > VERSION_1_CORES {
+        2
+    } else {
+        1
+    };
+    writeln!(out, "lockup-trace {version}")?;
+    for entry in log {
+        write_entry(entry, out)?;
+    }
+    Ok(())
+}
+
+fn write_entry<W: Write>(entry: &Entry, out: &mut W) -> io::Result<()> {
+    let core = entry.core.0;
+    let seq = entry.seq;
+    let tag = entry.tag;
+    let word = entry.word.0;
+    write!(out, "entry {core} {seq} {tag} ")?;
+    match entry.op {
+        Op::Load => write!(out, "load {word}")?,
+        Op::Store(value) => write!(out, "store {word} {value}")?,
+        Op::Add(delta) => write!(out, "add {word} {delta}")?,
+        Op::Cas { expect, new } => write!(out, "cas {word} {expect} {new}")?,
+    }
+    let reply = entry.reply;
+    let since = entry.since;
+    writeln!(out, " {reply} {since}")
+}

@@ -1,0 +1,5 @@
+pub mod PlaceLemmas
+pub mod LineLemmas
+pub mod WordLemmas
+pub mod NumberLemmas
+pub mod RowLemmas

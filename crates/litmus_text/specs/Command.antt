@@ -1,0 +1,63 @@
+-- How the commands of a script are written.
+use Rattle.std.specs.Prelude.{ℕ, ◌<◌, ◌/◌, List, [], ◌∷◌, codes}
+use Rattle.address_map.specs.declared.config.Config.{Config}
+use Rattle.address_map.specs.declared.address.CoreId.{CoreId}
+use Rattle.address_map.specs.declared.address.LineAddr.{LineAddr}
+use Rattle.address_map.specs.declared.request.Op.{Op}
+use Rattle.address_map.specs.declared.request.Op.TheVariants as ops
+use Rattle.slice_queues_message.specs.declared.channel.Pick.{Pick}
+use Rattle.slice_queues_message.specs.declared.channel.Pick.TheVariants as picks
+use Rattle.litmus_text.specs.declared.command.Command.{Command}
+use Rattle.litmus_text.specs.declared.command.Command.TheVariants as commands
+use Rattle.litmus_text.specs.Form.{Part, key, num, Writes}
+
+-- an access, by its name, its word and what else it takes
+unfoldable pub parts_of_op : Op → ℕ → List Part
+parts_of_op ops.Load word = key (codes "load") ∷ num word ∷ []
+parts_of_op (ops.Store value) word = key (codes "store") ∷ num word ∷ num value ∷ []
+parts_of_op (ops.Add delta) word = key (codes "add") ∷ num word ∷ num delta ∷ []
+parts_of_op (ops.Cas expect new) word = key (codes "cas") ∷ num word ∷ num expect ∷ num new ∷ []
+
+-- a channel, by its class, its line and its cores
+unfoldable pub parts_of_pick : Pick → List Part
+parts_of_pick (picks.Req line core) = key (codes "req") ∷ num line.0 ∷ num core.0 ∷ []
+parts_of_pick (picks.Fwd line core) = key (codes "fwd") ∷ num line.0 ∷ num core.0 ∷ []
+parts_of_pick (picks.Data line core) = key (codes "data") ∷ num line.0 ∷ num core.0 ∷ []
+parts_of_pick (picks.Ack line to from) = key (codes "ack") ∷ num line.0 ∷ num to.0 ∷ num from.0 ∷ []
+parts_of_pick (picks.Home line) = key (codes "home") ∷ num line.0 ∷ []
+
+-- each command of a script
+abbrev pub parts_of : Command → List Part
+parts_of (commands.Issue core request) = key (codes "issue") ∷ num core.0 ∷ num request.tag ∷ parts_of_op request.op request.word.0
+parts_of (commands.Deliver pick) = key (codes "deliver") ∷ parts_of_pick pick
+parts_of (commands.Hand core slice) = key (codes "hand") ∷ num core.0 ∷ num slice.0 ∷ []
+parts_of (commands.Word word) = key (codes "word") ∷ num word.0 ∷ []
+parts_of (commands.Log slice) = key (codes "log") ∷ num slice.0 ∷ []
+
+-- the machine has this core, and this line
+abbrev pub HasCore : Config → CoreId → Type 0
+HasCore config core = core.0 < config.cores
+
+abbrev pub HasLine : Config → LineAddr → Type 0
+HasLine config line = line.0 < config.lines
+
+-- the machine has the line and the cores of the channel
+unfoldable pub HasPick : Config → Pick → Type 0
+HasPick config (picks.Req line core) = HasLine config line × HasCore config core
+HasPick config (picks.Fwd line core) = HasLine config line × HasCore config core
+HasPick config (picks.Data line core) = HasLine config line × HasCore config core
+HasPick config (picks.Ack line to from) = HasLine config line × HasCore config to × HasCore config from
+HasPick config (picks.Home line) = HasLine config line
+
+-- the machine has all that the command names; the word of an access may be any
+abbrev pub IsInRange : Config → Command → Type 0
+IsInRange config (commands.Issue core request) = HasCore config core
+IsInRange config (commands.Deliver pick) = HasPick config pick
+IsInRange config (commands.Hand core slice) = HasCore config core × (slice.0 < config.slices)
+IsInRange config (commands.Word word) = word.0 / 8 < config.lines
+IsInRange config (commands.Log slice) = slice.0 < config.slices
+
+-- what a script's line that was read says, at a machine that has all it names
+pub record IsRead (config : Config) (words : List (List ℕ)) (command : Command) : Type 0 where
+  pub written : Writes words (parts_of command)
+  pub in_range : IsInRange config command

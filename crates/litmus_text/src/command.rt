@@ -1,0 +1,17 @@
+use address_map::{CoreId, Request, SliceId, WordAddr};
+use slice_queues_message::Pick;
+
+/// What one line of a script asks of the machine.
+#[derive(Clone, Copy, Debug, PartialEq, Eq)]
+pub enum Command {
+    /// The core asks for a word.
+    Issue { core: CoreId, request: Request },
+    /// The message at the front of a channel is delivered.
+    Deliver(Pick),
+    /// The core takes its next performed reply.
+    Hand { core: CoreId, slice: SliceId },
+    /// Shows a word of a quiet slice.
+    Word(WordAddr),
+    /// Shows a slice's log as a trace.
+    Log(SliceId),
+}

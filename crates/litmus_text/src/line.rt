@@ -1,0 +1,72 @@
+ghost use Rattle.std.specs.Prelude.{◌≡◌, ℕ, ◌<◌, ◌≤◌, ◌==◌, List, ◌∷◌, length};
+ghost use Rattle.std.specs.List.{position};
+ghost use Rattle.std.specs.Iterator.{YieldsFirstRef, item_count};
+ghost use Rattle.std.specs.Str.Lines.{lines, strip_carriage_return};
+
+use std::marker::Model;
+
+/// The lines of a text that are left to read.
+#[derive(Debug, Drop)]
+pub struct Lines<'a> {
+    rest: &'a [u8],
+}
+
+impl<'a> Model for Lines<'a> {
+    ghost Value = { List (List ℕ) };
+
+    ghost view = { λ l. lines l.rest.now };
+}
+
+impl<'a> Lines<'a> {
+    /// The lines of a text. A line ends with a line feed, which the last one may lack; a carriage return
+    /// directly before the line feed belongs to it.
+    pub const fn of(text: &'a [u8]) -> Self
+        ensures value { result ≡ lines text.now }
+        ensures len { length result ≤ length text.now }
+    {
+        Lines { rest: text }
+    }
+}
+
+impl<'a> Iterator for Lines<'a> {
+    type Item = &'a [u8];
+
+    ghost next_gives = { YieldsFirstRef (λ left. left) };
+
+    ghost remaining = { item_count (λ left. left) };
+
+    fn next(&mut self) -> Option<&'a [u8]> {
+        if self.rest.is_empty() {
+            return None;
+        }
+        let (line, rest) = split_line(self.rest);
+        self.rest = rest;
+        Some(line)
+    }
+}
+
+/// The first line of a text, and what follows it.
+fn split_line(text: &[u8]) -> (&[u8], &[u8])
+    requires { 0 < length text.now }
+    ensures { lines text.now ≡ result.0.now ∷ lines result.1.now }
+{
+    match line_feed_at(text) {
+        Some(end) => (without_carriage_return(&text[..end]), &text[end + 1..]),
+        None => (text, &[]),
+    }
+}
+
+fn line_feed_at(text: &[u8]) -> Option<usize>
+    ensures { result ≡ position (λ b. b == 10) text.now }
+{
+    text.iter().position(|byte| *byte == b'\n')
+}
+
+fn without_carriage_return(line: &[u8]) -> &[u8]
+    ensures { result.now ≡ strip_carriage_return line.now }
+{
+    match line {
+        [front @ .., b'\r'] => front,
+        _ => line,
+    }
+}

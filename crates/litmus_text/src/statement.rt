@@ -1,0 +1,67 @@
+ghost use Rattle.std.specs.Prelude.{◌≡◌, ℕ, ◌+◌, ◌<◌, ◌^◌, List, length, map};
+ghost use Rattle.std.specs.Iterator.{YieldsFirstBy, item_count};
+ghost use Rattle.std.specs.Str.Lines.{lines};
+ghost use Rattle.litmus_text.specs.Statement.{statements_from};
+
+use super::line::Lines;
+use super::row::{MOST_WORDS, first_words};
+use arrayvec::ArrayVec;
+use std::marker::Model;
+
+/// A line that has words, with its number, which counts from 1.
+#[derive(Debug, Drop)]
+pub struct Statement<'a> {
+    pub number: usize,
+    pub words: ArrayVec<&'a [u8], MOST_WORDS>,
+}
+
+/// The statements of a text that are left to read. Lines without words are counted and skipped.
+#[derive(Debug, Drop)]
+pub struct Statements<'a> {
+    lines: Lines<'a>,
+    /// How many lines were read.
+    number: usize,
+}
+
+impl<'a> Model for Statements<'a> {
+    ghost Value = { List (ℕ × List (List ℕ)) };
+
+    ghost view = { λ s. statements_from s.number s.lines };
+
+    ghost invariant = { λ s. s.number + length s.lines < 2 ^ 64 };
+}
+
+impl<'a> Statements<'a> {
+    pub fn of(text: &'a [u8]) -> Self
+        ensures { result ≡ statements_from 0 (lines text.now) }
+    {
+        Statements {
+            lines: Lines::of(text),
+            number: 0,
+        }
+    }
+}
+
+impl<'a> Iterator for Statements<'a> {
+    type Item = Statement<'a>;
+
+    ghost use Rattle.litmus_text.specs.declared.statement.Statement.{Statement};
+
+    ghost next_gives = { YieldsFirstBy (λ (s : Statement). (s.number, map (λ w. w.now) s.words.items)) (λ left. left) };
+
+    ghost remaining = { item_count (λ left. left) };
+
+    fn next(&mut self) -> Option<Statement<'a>> {
+        while let Some(line) = self.lines.next() {
+            self.number += 1;
+            let words = first_words(line);
+            if !words.is_empty() {
+                return Some(Statement {
+                    number: self.number,
+                    words,
+                });
+            }
+        }
+        None
+    }
+}

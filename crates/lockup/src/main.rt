@@ -1,0 +1,90 @@
+//! The program `lockup`: reads its command line, and runs the text that it names.
+//!
+//! Answers go to standard output, through one buffer. A fault goes to standard error as one line, behind all
+//! answers that came before it.
+#![tactic(auto)]
+
+use clap::Error;
+use clap::error::ErrorKind;
+use litmus::{CommandLine, read_line, run_script};
+use litmus_text::TextFault;
+use std::fmt::Display;
+use std::io::{BufWriter, Write};
+use std::process::ExitCode;
+use std::rt::{Env, Files};
+use std::{env, fs, io};
+
+/// The exit status where the command line or the file is refused.
+const REFUSED: u8 = 2;
+
+fn main(rt: HostRuntime) -> ExitCode {
+    ExitCode::from(run(&rt))
+}
+
+/// Does what the command line asks for, and answers the exit status.
+fn run<R: Env + Files + AllocGlobal + Print + Eprint>(rt: &R) -> u8 {
+    let words: Vec<String> = match env::args(rt).and_then(|words| Ok(words.collect(rt.alloc())?)) {
+        Ok(words) => words,
+        Err(error) => return report(rt, &error, "cannot read the command line"),
+    };
+    match read_line(rt.alloc(), &words) {
+        Ok(CommandLine::Script { file }) => script(rt, file),
+        Err(error) => show(rt, &error),
+    }
+}
+
+fn script<R: Files + AllocGlobal + Print + Eprint>(rt: &R, file: &str) -> u8 {
+    match fs::read(rt, file) {
+        Ok(input) => match print_script(rt, &input) {
+            Ok(status) => status,
+            Err(fault) => {
+                complain(rt, fault);
+                fault.status()
+            }
+        },
+        Err(error) => report(rt, &error, format_args!("cannot read {file}")),
+    }
+}
+
+/// Runs a script and prints its answers, also those before a fault.
+fn print_script<R: AllocGlobal + Print>(rt: &R, input: &[u8]) -> Result<u8, TextFault> {
+    let Ok(mut out) = BufWriter::new(rt.alloc(), io::writer(rt)) else {
+        return Err(TextFault::NoMemory);
+    };
+    let ran = run_script(rt.alloc(), input, &mut out);
+    match out.flush() {
+        Ok(()) => ran,
+        Err(_) => Err(TextFault::CannotWrite),
+    }
+}
+
+/// Shows what the reader of the command line has to say: help, or why it was refused.
+fn show<R: Print + Eprint>(rt: &R, error: &Error) -> u8 {
+    if error.kind() == ErrorKind::OutOfMemory {
+        complain(rt, TextFault::NoMemory);
+        return TextFault::NoMemory.status();
+    }
+    match error.print(rt) {
+        Ok(()) if !error.use_stderr() => 0,
+        Ok(()) => REFUSED,
+        Err(_) => {
+            complain(rt, TextFault::CannotWrite);
+            TextFault::CannotWrite.status()
+        }
+    }
+}
+
+/// Reports that input can't be read: for want of memory, or else as the text says.
+fn report<R: Eprint>(rt: &R, error: &io::Error, text: impl Display + Drop) -> u8 {
+    if error.kind() == io::ErrorKind::OutOfMemory {
+        complain(rt, TextFault::NoMemory);
+        return TextFault::NoMemory.status();
+    }
+    complain(rt, text);
+    REFUSED
+}
+
+/// Writes one line to standard error. Where that fails nobody is left to tell.
+fn complain<R: Eprint>(rt: &R, text: impl Display + Drop) {
+    let _ = eprintln!(rt; "lockup: {text}");
+}

@@ -1,0 +1,51 @@
+/* Preloaded into the program by tests/memory: refuses one allocation, the one that REFUSED counts to, from 1.
+   With REFUSED=0 it refuses none. At the end it says on descriptor 3 how many there were. */
+#define _GNU_SOURCE
+#include <dlfcn.h>
+#include <errno.h>
+#include <stdio.h>
+#include <stdlib.h>
+
+static unsigned long made;
+static unsigned long refused;
+
+__attribute__((constructor)) static void start(void) {
+    const char *number = getenv("REFUSED");
+    refused = number ? strtoul(number, NULL, 10) : 0;
+    made = 0;
+}
+
+__attribute__((destructor)) static void end(void) { dprintf(3, "%lu\n", made); }
+
+static int is_refused(void) {
+    made++;
+    if (refused != 0 && made == refused) {
+        errno = ENOMEM;
+        return 1;
+    }
+    return 0;
+}
+
+void *malloc(size_t size) {
+    static void *(*next)(size_t);
+    if (!next) next = (void *(*)(size_t))dlsym(RTLD_NEXT, "malloc");
+    return is_refused() ? NULL : next(size);
+}
+
+void *realloc(void *old, size_t size) {
+    static void *(*next)(void *, size_t);
+    if (!next) next = (void *(*)(void *, size_t))dlsym(RTLD_NEXT, "realloc");
+    return is_refused() ? NULL : next(old, size);
+}
+
+void *aligned_alloc(size_t align, size_t size) {
+    static void *(*next)(size_t, size_t);
+    if (!next) next = (void *(*)(size_t, size_t))dlsym(RTLD_NEXT, "aligned_alloc");
+    return is_refused() ? NULL : next(align, size);
+}
+
+int posix_memalign(void **to, size_t align, size_t size) {
+    static int (*next)(void **, size_t, size_t);
+    if (!next) next = (int (*)(void **, size_t, size_t))dlsym(RTLD_NEXT, "posix_memalign");
+    return is_refused() ? ENOMEM : next(to, align, size);
+}

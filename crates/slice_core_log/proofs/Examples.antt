@@ -1,4 +1,4 @@
--- What the definitions of a log come to on small logs, each by computation.
+-- What the definitions of a log come to on small logs.
 use Rattle.std.proofs.Common.{◌≡◌, ◌<◌, ◌≤◌, ℕ, [], ◌∷◌, refl, sym, ap, arith}
 use Rattle.std.specs.Prelude.{All}
 use Rattle.std.proofs.lemmas.List.Elements.{All-cons, All-nil}
@@ -58,16 +58,16 @@ illegal-stale_load : IsLegal (initially ((record { 0 = 3 }, 9) ∷ [])) (perform
 unfolding value
 illegal-stale_load legal = differ 7 9 (omega arith) (sym (legal.replies 1 (performed_at 3 ops.Load 9) refl))
 
--- Core 0's two loads of line 0 stand in its order; core 1 and line 1 have orders of their own.
-ordered-by_core_and_line : IsOrdered (asked_at 0 3 1 0 ∷ asked_at 1 3 0 0 ∷ asked_at 0 8 0 0 ∷ [])
-ordered-by_core_and_line =
+-- Core 0's two loads of line 0 stand in its order, and core 1's load between them is in no order with either.
+ordered-by_core : IsOrdered (asked_at 0 3 1 0 ∷ asked_at 1 3 0 0 ∷ asked_at 0 4 2 2 ∷ [])
+ordered-by_core =
     let a = asked_at 0 3 1 0 in
     let b = asked_at 1 3 0 0 in
-    let e = asked_at 0 8 0 0 in
-    let after_a : All (λ d. IsAfter d b) (a ∷ []) = All-cons (λ d. IsAfter d b) a [] (λ core line. absurd (differ 0 1 (omega arith) (ap (λ n. n.0) core))) (All-nil _) in
-    let after_b : All (λ d. IsAfter d e) (b ∷ []) = All-cons (λ d. IsAfter d e) b [] (λ core line. absurd (differ 0 1 (omega arith) (sym (ap (λ n. n.0) core)))) (All-nil _) in
-    let after : All (λ d. IsAfter d e) (a ∷ b ∷ []) = All-cons (λ d. IsAfter d e) a (b ∷ []) (λ core line. omega arith) after_b in
-    IsOrdered-push (a ∷ b ∷ []) e (IsOrdered-push (a ∷ []) b (IsOrdered-push [] a IsOrdered-nil (All-nil _) (omega arith)) after_a (omega arith)) after (omega arith)
+    let c = asked_at 0 4 2 2 in
+    let before_b : All (λ d. IsAfter d b) (a ∷ []) = All-cons (λ d. IsAfter d b) a [] (λ core line. absurd (differ 0 1 (omega arith) (ap (λ n. n.0) core))) (All-nil _) in
+    let b_before : All (λ d. IsAfter d c) (b ∷ []) = All-cons (λ d. IsAfter d c) b [] (λ core line. absurd (differ 0 1 (omega arith) (sym (ap (λ n. n.0) core)))) (All-nil _) in
+    let before_c : All (λ d. IsAfter d c) (a ∷ b ∷ []) = All-cons (λ d. IsAfter d c) a (b ∷ []) (λ core line. omega arith) b_before in
+    IsOrdered-push (a ∷ b ∷ []) c (IsOrdered-push (a ∷ []) b (IsOrdered-push [] a IsOrdered-nil (All-nil _) (omega arith)) before_b (omega arith)) before_c (omega arith)
 
 -- Two loads of one core on one line, the later asked first.
 unordered-overtaken : IsOrdered (asked_at 0 3 1 0 ∷ asked_at 0 4 0 0 ∷ []) → ⊥

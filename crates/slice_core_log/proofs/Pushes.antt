@@ -29,16 +29,20 @@ IsLegal-push initial log e legal fits = record {
 }
 
 -- a log that is read from its front stays legal with its next entry
-pub IsLegal-more : (initial : ℕ → ℕ) (log : List Entry) (i v : ℕ) (d : Entry) → i < length log → IsLegal initial (take i log)
-    → v ≡ value (initial (get_or log i d).word.0) (take i log) (get_or log i d).word.0
+pub IsLegal-more : (initial : ℕ → ℕ) (log : List Entry) (i first v : ℕ) (d : Entry) → i < length log → IsLegal initial (take i log)
+    → first ≡ initial (get_or log i d).word.0 → v ≡ value first (take i log) (get_or log i d).word.0
     → (get_or log i d).reply ≡ reply_of (get_or log i d).op v → IsLegal initial (take (i + 1) log)
-IsLegal-more initial log i v d within so_far found fits =
+IsLegal-more initial log i first v d within so_far begins found fits =
     let e = get_or log i d in
-    rw (take_more log i d within) (IsLegal-push initial (take i log) e so_far (fits ∙ ap (reply_of e.op) found))
+    let now = found ∙ ap (λ n. value n (take i log) e.word.0) begins in
+    rw (take_more log i d within) (IsLegal-push initial (take i log) e so_far (fits ∙ ap (reply_of e.op) now))
 
 -- what holds of each element holds of the one at a place
 All-slice_get : {X : Type 0} (P : X → Type 0) (xs : List X) (k : ℕ) (x : X) → All P xs → slice_get xs k ≡ Some x → P x
 All-slice_get P xs k x all at = subst P (get_or_from_slice_get xs k x x at) (all k x (slice_get_within xs k x at))
+
+pub IsOrdered-nil : IsOrdered []
+IsOrdered-nil = record { core_order = λ j k d e before at_j at_k. cc; since = λ k e at. cc }
 
 pub IsOrdered-push : (log : List Entry) (e : Entry) → IsOrdered log → All (λ d. IsAfter d e) log → e.since ≤ length log
     → IsOrdered (log ++ e ∷ [])

@@ -1,5 +1,7 @@
 -- The value of a word after a list of performed accesses, and what makes a log of them legal and ordered.
 use Rattle.std.specs.Prelude.{◌≡◌, ℕ, ◌+◌, ◌/◌, ◌%◌, ◌^◌, ◌<◌, ◌≤◌, ◌==◌, Bool, not, if◌then◌else◌, List, reverse, take, sum_by, find, take_while, slice_get, Option, Some, None, is_some, unwrap_or, option_and_then}
+use Rattle.address_map.specs.Words.{initial_value}
+use Rattle.address_map.specs.declared.address.WordAddr.{WordAddr}
 use Rattle.address_map.specs.declared.request.Op.{Op}
 use Rattle.address_map.specs.declared.request.Op.TheVariants as ops
 use Rattle.slice_core_log.specs.declared.entry.Entry.{Entry}
@@ -43,6 +45,10 @@ value initial log w =
 abbrev pub value_past : Option ℕ → ℕ → ℕ → ℕ
 value_past None v more = (v + more) % 2 ^ 64
 value_past (Some new) v more = new % 2 ^ 64
+
+-- the value that each word begins with, where these words have values of their own
+abbrev pub initially : List (WordAddr × ℕ) → ℕ → ℕ
+initially init w = initial_value init (record { 0 = w })
 
 -- A log is legal: each entry's reply is the one that the value of its word before it gives.
 pub record IsLegal (initial : ℕ → ℕ) (log : List Entry) : Type 0 where

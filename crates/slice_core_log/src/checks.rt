@@ -1,21 +1,35 @@
 ghost use Rattle.std.specs.Prelude.{◌≡◌, ℕ, ◌↔◌, ◌/◌, ◌<◌, All, IsTrue};
-ghost use Rattle.slice_core_log.specs.Log.{IsLegal, IsOrdered, IsAfter};
+ghost use Rattle.address_map.specs.Words.{initial_value};
+ghost use Rattle.slice_core_log.specs.Log.{initially, IsLegal, IsOrdered, IsAfter};
 
 use super::entry::Entry;
 use super::history::value_after;
 use super::perform::reply_to;
+use address_map::WordAddr;
 
-/// Whether each entry's reply is the one that the value of its word gives, where memory begins as zeros.
-pub fn is_legal(log: &[Entry]) -> bool
-    ensures { IsTrue result ↔ IsLegal (λ _. 0) log.now }
+/// Whether each entry's reply is the one that the value of its word gives. A word begins with the value that is
+/// paired with it first, and a word that isn't named begins as 0.
+pub fn is_legal(init: &[(WordAddr, u64)], log: &[Entry]) -> bool
+    ensures { IsTrue result ↔ IsLegal (initially init.now) log.now }
 {
     for (number, entry) in log.iter().enumerate() {
-        let value = value_after(0, &log[..number], entry.word);
+        let initial = initial_of(init, entry.word);
+        let value = value_after(initial, &log[..number], entry.word);
         if entry.reply != reply_to(entry.op, value) {
             return false;
         }
     }
     true
+}
+
+// The value that the word begins with.
+fn initial_of(init: &[(WordAddr, u64)], word: WordAddr) -> u64
+    ensures { result ≡ initial_value init.now word }
+{
+    match init.iter().find(|pair| pair.0.0 == word.0) {
+        Some(pair) => pair.1,
+        None => 0,
+    }
 }
 
 /// Whether the log is in each core's order, and no entry was performed before it was asked for.

@@ -14,3 +14,5 @@ mod checks;
 mod entry;
 mod history;
 mod perform;
+#[cfg(test)]
+mod tests;

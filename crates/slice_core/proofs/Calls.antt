@@ -12,6 +12,8 @@ use Rattle.cache_table.specs.CopyState.{is_readable, is_waiting, is_writer}
 use Rattle.address_map.specs.declared.block.Block.{Block}
 use Rattle.cache_table.specs.declared.state.CopyState.{CopyState}
 use Rattle.cache_table.specs.declared.state.CopyState.TheVariants as states
+use Rattle.slice_core_line.specs.Directory.{holder_of}
+use Rattle.slice_core_parts.specs.Decision.{waits_for}
 use Rattle.slice_core_line.specs.Line.{LineView, new_line, no_channels, channels_of}
 use Rattle.slice_core_line.specs.declared.directory.Directory.{Directory}
 use Rattle.slice_core_line.specs.declared.directory.Directory.TheVariants as directories
@@ -39,14 +41,14 @@ use Rattle.slice_core_log.proofs.Values.{value-nil}
 use Rattle.slice_core_parts.specs.Initial.{IsInitialBlock, AreInitialLines, is_of_slice}
 use Rattle.std.specs.Option.{option_map_or}
 use Rattle.slice_core_parts.specs.Parts.{PartsView, IsNew, IsUnchanged, AfterIssue, AfterDecision, AfterDelivery, AfterDeciding, AfterHand}
-use Rattle.slice_core_parts.specs.Side.{SideView, no_copy, new_side, tag_at, targets_of, word_at, after_hand}
+use Rattle.slice_core_parts.specs.Side.{SideView, no_copy, new_side, tag_at, targets_of, word_at, after_hand, copy_at}
 use Rattle.slice_core_parts.specs.View.{View, side_at, line_at, after_hit, after_miss, after_handing, IsCore, IsQuiet, has_line, newest_block, word_now}
 use Rattle.slice_queues_message.specs.declared.channel.Pick.{Pick}
-use Rattle.slice_core.specs.Facts.{IsStanding, initial_of}
-use Rattle.slice_core.specs.Sound.{HoldsLine, IsAccount, IsLink, IsSound, owner_of}
-use Rattle.slice_core.proofs.Accounts.{account-hand}
+use Rattle.slice_core.specs.Facts.{IsStanding, IsCoherent, HasNewest, HasOneRegister, is_home_newest, initial_of}
+use Rattle.slice_core.specs.Sound.{HoldsLine, IsAccount, IsLink, IsRegister, IsSound, owner_of}
+use Rattle.slice_core.proofs.Accounts.{account-hand, at_register}
 use Rattle.slice_core.proofs.Decided.{proper-of-decision, hits-of-access, misses-of-access, local_of, offset_of}
-use Rattle.slice_core.proofs.Deliveries.{grants-of-delivery, fills-of-delivery}
+use Rattle.slice_core.proofs.Deliveries.{grants-of-delivery, fills-of-delivery, register-of-wait}
 use Rattle.slice_core.proofs.Lift.{side-after, base_of}
 use Rattle.slice_core.proofs.Places.{word-at-place, slice-of-word}
 use Rattle.slice_core.proofs.Steps.{sound-hit, sound-miss, sound-grant, sound-fill}
@@ -58,6 +60,46 @@ standing-of-sound initial p h = record {
   once = λ core seq there. (h.accounts core there).once seq;
   replies = λ core tag number there named. (h.accounts core there).replies tag number named;
 }
+
+-- what is newest for the invariant is so for callers
+newest-of-holds : (v : View) (local : ℕ) (block : Block) → HoldsLine (initial_of v) v.log (base_of v local) block → HasNewest v local block
+newest-of-holds v local block h = record { size = h.size; words = h.words }
+
+pub coherent-of-sound : (p : PartsView) → IsSound (initial_of p.view) p → IsCoherent p.view
+coherent-of-sound p h = record {
+  one_writer = λ c d local c_there d_there line_there writes reads.
+      let writer = holder-of-owner (line_at p.view local).directory c ((h.links c local c_there line_there).writer writes) in
+      let reader = (h.links d local d_there line_there).reader reads in
+      same_holder (sym writer ∙ reader);
+  readable = λ core local core_there line_there reads.
+      newest-of-holds p.view local _ ((h.links core local core_there line_there).held reads);
+  home = λ local there newest. newest-of-holds p.view local _ (h.home local there (not_owned (line_at p.view local).directory newest));
+}
+  where
+    holder-of-owner : (directory : Directory) (core : ℕ) → owner_of directory ≡ Some core → holder_of directory ≡ Some core
+    holder-of-owner directories.I core e = cc
+    holder-of-owner (directories.S sharer) core e = cc
+    holder-of-owner (directories.M owner) core e = e
+
+    same_holder : {a b : ℕ} → Some a ≡ Some b → a ≡ b
+    same_holder e = cc
+
+    not_owned : (directory : Directory) → IsTrue (is_home_newest directory) → owner_of directory ≡ None
+    not_owned directories.I newest = refl
+    not_owned (directories.S sharer) newest = refl
+    not_owned (directories.M owner) newest = absurd (false≢true newest)
+
+pub one_register-of-sound : (initial : ℕ → ℕ) (p : PartsView) → IsSound initial p → HasOneRegister p.view
+one_register-of-sound initial p h = record {
+  waits = λ core local core_there line_there. ((h.accounts core core_there).waits local, waiting core local core_there);
+}
+  where
+    waiting : (core local : ℕ) → core < length p.view.sides → IsTrue (waits_for (side_at p.view core).register local)
+        → IsTrue (is_waiting (copy_at (side_at p.view core) local).state)
+    waiting core local there waits =
+        let r = register-of-wait (side_at p.view core).register local waits in
+        let registered = at_register (IsRegister (side_at p.view core)) (side_at p.view core).register r.0 r.1 (h.accounts core there).register in
+        ap (λ l. is_waiting (copy_at (side_at p.view core) l).state) (sym r.2) ∙ registered.waiting
 
 -- ---- issue
 

@@ -2,7 +2,7 @@ ghost use Rattle.std.specs.Prelude.{◌≡◌, ℕ, ◌/◌, ◌<◌, ◌↔◌,
 ghost use Rattle.slice_core_log.specs.Log.{value, IsLegal};
 ghost use Rattle.slice_core_parts.specs.Parts.{PartsView, IsNew, AfterIssue, AfterDelivery, AfterHand};
 ghost use Rattle.slice_core_parts.specs.View.{View, has_line, IsQuiet};
-ghost use Rattle.slice_core.specs.Facts.{IsStanding, initial_of};
+ghost use Rattle.slice_core.specs.Facts.{IsStanding, IsCoherent, HasOneRegister, initial_of};
 
 use address_map::{Checked, CoreId, Request, SliceId, WordAddr};
 use slice_core_log::{Entry, Numbered};
@@ -49,6 +49,8 @@ impl SliceState {
         ensures step { AfterIssue self.old core request result self.new }
         ensures legal { IsLegal (initial_of self.new.view) self.new.view.log }
         ensures standing { IsStanding self.new.view }
+        ensures coherent { IsCoherent self.new.view }
+        ensures registers { HasOneRegister self.new.view }
     {
         self.parts.issue(core, request)
     }
@@ -58,6 +60,8 @@ impl SliceState {
         ensures step { AfterDelivery self.old pick result self.new }
         ensures legal { IsLegal (initial_of self.new.view) self.new.view.log }
         ensures standing { IsStanding self.new.view }
+        ensures coherent { IsCoherent self.new.view }
+        ensures registers { HasOneRegister self.new.view }
     {
         self.parts.deliver(pick)
     }
@@ -68,6 +72,8 @@ impl SliceState {
         ensures step { AfterHand self.old core.0 result self.new }
         ensures legal { IsLegal (initial_of self.new.view) self.new.view.log }
         ensures standing { IsStanding self.new.view }
+        ensures coherent { IsCoherent self.new.view }
+        ensures registers { HasOneRegister self.new.view }
     {
         self.parts.hand(core)
     }

@@ -1,6 +1,6 @@
 use Rattle.slice_core.specs.Facts.{initial_of}
 use Rattle.slice_core.specs.Sound.{IsSound}
-use Rattle.slice_core.proofs.Calls.{sound-deliver, init-of-delivery, sound-init, standing-of-sound}
+use Rattle.slice_core.proofs.Calls.{sound-deliver, init-of-delivery, sound-init, standing-of-sound, coherent-of-sound, one_register-of-sound}
 use Rattle.slice_core.proofs.state.SliceState.deliver.Goals as goal
 
 sound : (c : goal.After-deliver) → IsSound (initial_of c.deliver.new.self.view) c.deliver.new.self
@@ -16,3 +16,9 @@ returns-clause-legal c = (sound c).legal
 
 pub returns-clause-standing : goal.returns-clause-standing
 returns-clause-standing c = standing-of-sound _ c.deliver.new.self (sound c)
+
+pub returns-clause-coherent : goal.returns-clause-coherent
+returns-clause-coherent c = coherent-of-sound c.deliver.new.self (sound c)
+
+pub returns-clause-registers : goal.returns-clause-registers
+returns-clause-registers c = one_register-of-sound _ c.deliver.new.self (sound c)

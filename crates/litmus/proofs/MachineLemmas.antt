@@ -7,7 +7,6 @@ use Rattle.std.proofs.Math.Nat.{mul-le-mul_left}
 use Rattle.std.proofs.lemmas.Bool.{cases_eq, cases_lt}
 use Rattle.std.proofs.lemmas.Bool.Decides.{nat_tests}
 use Rattle.std.specs.Prelude.{IsTrue}
-use Rattle.slice_core_line.specs.Line.{new_line}
 use Rattle.slice_core_parts.specs.Side.{new_side}
 use Rattle.address_map.specs.Config.{IsAllowed, slice_lines}
 use Rattle.address_map.specs.declared.address.CoreId.{CoreId}
@@ -140,12 +139,12 @@ has_line_in_turn config line i p allowed is turn below =
     grind (arith, nat_tests)
 
 -- a state that was built is a slice's
-pub of_new : (config : Config) (i : ℕ) (p : PartsView) → IsNew config.cores (slice_lines config) config.slices i p → IsSliceOf config i p
+pub of_new : (config : Config) (i : ℕ) (p : PartsView) → IsNew config i p → IsSliceOf config i p
 of_new config i p new = record {
-  cores = ap (λ (v : View). length v.sides) new.view ∙ length-replicate config.cores (new_side (slice_lines config));
-  lines = ap (λ (v : View). length v.lines) new.view ∙ length-replicate (slice_lines config) (new_line config.cores);
-  slices = ap (λ (v : View). v.slices) new.view;
-  slice = ap (λ (v : View). v.slice) new.view;
+  cores = ap length new.sides ∙ length-replicate config.cores (new_side (slice_lines config));
+  lines = new.lines.count_is;
+  slices = new.slices;
+  slice = new.slice_is;
 }
 
 -- one more state, of the next slice

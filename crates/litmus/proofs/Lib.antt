@@ -1,1 +1,2 @@
 pub mod MachineLemmas
+pub mod AskedLemmas

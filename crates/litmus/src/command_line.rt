@@ -1,3 +1,8 @@
+ghost use Rattle.std.specs.Prelude.{◌≡◌, map, IfOk, IfSome, string_bytes, false};
+ghost use Rattle.clap.specs.declared.builder.command.Command.TheViews.{out-Command as fields_of};
+ghost use Rattle.litmus.specs.CommandLine.{IsAsked, lockup_app, script_app};
+ghost use Rattle.clap.specs.Words.{app_of, subcommand_of, subcommand_rows_of};
+
 use clap::error::ErrorKind;
 use clap::{Arg, ArgMatches, Command, Error};
 use std::alloc::{AllocError, Global};
@@ -11,7 +16,9 @@ pub enum CommandLine<'a> {
 
 /// Reads the program's words, of which the first is its own name. What is refused, and help, is an error that
 /// says what to show, where and with which status.
-pub fn read_line<'a>(alloc: Global, words: &'a [String]) -> Result<CommandLine<'a>, Error> {
+pub fn read_line<'a>(alloc: Global, words: &'a [String]) -> Result<CommandLine<'a>, Error>
+    ensures { IfOk result (IsAsked (subcommand_of lockup_app (map string_bytes words.entry.now))) }
+{
     let matches = lockup(alloc)?.try_get_matches_from(words)?;
     match asked(&matches) {
         Some(line) => Ok(line),
@@ -20,7 +27,9 @@ pub fn read_line<'a>(alloc: Global, words: &'a [String]) -> Result<CommandLine<'
     }
 }
 
-fn asked<'a>(matches: &ArgMatches<'a>) -> Option<CommandLine<'a>> {
+fn asked<'a>(matches: &ArgMatches<'a>) -> Option<CommandLine<'a>>
+    ensures { IfSome result (IsAsked (subcommand_rows_of matches.now)) }
+{
     let (name, given) = matches.subcommand()?;
     let file = given.get_str("FILE")?;
     match name {
@@ -29,14 +38,20 @@ fn asked<'a>(matches: &ArgMatches<'a>) -> Option<CommandLine<'a>> {
     }
 }
 
-fn lockup<'a>(alloc: Global) -> Result<Command<'a>, AllocError> {
+fn lockup<'a>(alloc: Global) -> Result<Command<'a>, AllocError>
+    ensures { IfOk result (λ c. app_of c ≡ lockup_app) }
+{
+    let script = script(alloc)?;
     Command::new(alloc, "lockup")
         .about("Runs a verified model of lockup-free caches under a directory protocol")
         .subcommand_required(true)
-        .subcommand(script(alloc)?)
+        .subcommand(script)
 }
 
-fn script<'a>(alloc: Global) -> Result<Command<'a>, AllocError> {
+fn script<'a>(alloc: Global) -> Result<Command<'a>, AllocError>
+    ensures reads { IfOk result (λ c. app_of c ≡ script_app) }
+    ensures plain { IfOk result (λ c. (fields_of c).has_globals ≡ false) }
+{
     Command::new(alloc, "script")
         .about("Runs a script on the state of each slice, without threads, and prints its answers")
         .after_help("Example: lockup script examples/first_add.txt")

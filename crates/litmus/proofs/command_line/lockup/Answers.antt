@@ -1,0 +1,10 @@
+use Rattle.std.proofs.Common.{rules, ap, ap₂, ◌≡◌, ◌∙◌}
+use Rattle.std.proofs.lemmas.Result.{IfOk-weaker}
+use Rattle.clap.specs.Words.{App, app_of, with_subcommand}
+use Rattle.litmus.specs.CommandLine.{top_app}
+use Rattle.litmus.proofs.command_line.lockup.Goals as goal
+
+pub returns : goal.returns
+returns c =
+    let top_is : app_of c.subcommand_required.result ≡ top_app = search rules in
+    IfOk-weaker c.subcommand.result _ _ (λ made adds. adds.shape (search rules) ∙ ap₂ with_subcommand top_is (ap (λ (a : App). a.top) c.in_ok-script.ensures.reads)) c.subcommand.ensures

@@ -6,8 +6,8 @@ use std::alloc::Global;
 use std::marker::Model;
 use thiserror::Error;
 
-/// How many cores a machine may have. Until the protocol's tables know of a second core it is 1, and then 64.
-pub const MOST_CORES: u64 = 1;
+/// The most cores that a machine may have: as many as a set of them in 64 bits can hold.
+pub const MOST_CORES: u64 = 64;
 
 /// The field of a configuration that was refused: the first one at fault, in this order.
 #[derive(Clone, Copy, Debug, PartialEq, Eq, Error)]

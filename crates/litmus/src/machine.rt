@@ -46,11 +46,7 @@ impl Machine {
             Command::Deliver(pick) => self.deliver(pick, out),
             Command::Hand { core, slice } => self.hand(core, slice, out),
             Command::Word(word) => self.word(word, out),
-            Command::Log(slice) => write_trace(
-                &self.config,
-                self.slices[slice.0 as usize].log(),
-                out,
-            ),
+            Command::Log(slice) => self.log(slice, out),
         };
         written.map_err(|_| TextFault::CannotWrite)
     }
@@ -116,6 +112,13 @@ impl Machine {
         }
         let value = state.word_now(word);
         writeln!(out, "{value}")
+    }
+
+    fn log<W: Write>(&self, slice: SliceId, out: &mut W) -> io::Result<()>
+        requires { slice.0 < self.now.config.slices }
+    {
+        let state = &self.slices[slice.0 as usize];
+        write_trace(&self.config, state.init(), state.log(), out)
     }
 
     /// The slice of a line. Lines go to the slices in turn.

@@ -61,10 +61,7 @@ fn is_config(words: &[&[u8]]) -> bool {
 
 fn configure(config: &mut Config, statement: &Statement<'_>) -> Result<(), TextFault> {
     match ConfigLine::parse(statement.words.as_slice()) {
-        Ok(line) => {
-            line.set(config);
-            Ok(())
-        }
+        Ok(line) => line.set(config).map_err(|_| TextFault::NoMemory),
         Err(fault) => Err(fault.at(statement.number)),
     }
 }

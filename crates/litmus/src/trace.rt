@@ -1,4 +1,4 @@
-use address_map::{Checked, Op};
+use address_map::{Checked, Op, WordAddr};
 use slice_core::Entry;
 use std::io;
 use std::io::Write;
@@ -6,9 +6,14 @@ use std::io::Write;
 /// The most cores that a trace of version 1 can name.
 const VERSION_1_CORES: usize = 16;
 
-/// Writes a slice's log as a trace. Version 2 is written where version 1 has no words for the log: with more
+/// Writes a slice's initial values and its log as a trace. Version 2 is written where version 1 has no words for the log: with more
 /// cores than it can name, or with a compare-exchange.
-pub fn write_trace<W: Write>(config: &Checked, log: &[Entry], out: &mut W) -> io::Result<()> {
+pub fn write_trace<W: Write>(
+    config: &Checked,
+    init: &[(WordAddr, u64)],
+    log: &[Entry],
+    out: &mut W,
+) -> io::Result<()> {
     let has_cas = log.iter().any(|entry| matches!(entry.op, Op::Cas { .. }));
     let version = if has_cas || config.cores() > VERSION_1_CORES {
         2
@@ -16,6 +21,10 @@ pub fn write_trace<W: Write>(config: &Checked, log: &[Entry], out: &mut W) -> io
         1
     };
     writeln!(out, "lockup-trace {version}")?;
+    for (word, value) in init {
+        let word = word.0;
+        writeln!(out, "init {word} {value}")?;
+    }
     for entry in log {
         write_entry(entry, out)?;
     }

@@ -5,3 +5,4 @@ pub mod Form
 pub mod Command
 pub mod ConfigLine
 pub mod Statement
+pub mod Field

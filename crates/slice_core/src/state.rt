@@ -78,6 +78,13 @@ impl SliceState {
         self.parts.hand(core)
     }
 
+    /// How many cores the slice knows.
+    pub fn cores(&self) -> usize
+        ensures { result ≡ length self.now.view.sides }
+    {
+        self.parts.sides().len()
+    }
+
     /// What was performed, in order.
     pub fn log(&self) -> &[Entry]
         ensures log { result.now ≡ self.now.view.log }
@@ -109,3 +116,6 @@ impl SliceState {
         self.parts.word_now(word)
     }
 }
+
+#[cfg(test)]
+mod tests;

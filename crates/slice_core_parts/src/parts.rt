@@ -50,6 +50,20 @@ impl Parts {
         &self.log
     }
 
+    /// The slice's lines, by local line.
+    pub fn lines(&self) -> &[Line]
+        ensures { result.now ≡ self.now.view.lines }
+    {
+        &self.lines
+    }
+
+    /// Each core's side.
+    pub fn sides(&self) -> &[Side]
+        ensures { result.now ≡ self.now.view.sides }
+    {
+        &self.sides
+    }
+
     /// The configured initial values of the slice's words.
     pub fn init(&self) -> &[(WordAddr, u64)]
         ensures { result.now ≡ self.now.view.init }

@@ -78,6 +78,13 @@ impl Side {
         &self.copies[local.0]
     }
 
+    /// The copies, by local line.
+    pub fn copies(&self) -> &[CacheCopy]
+        ensures { result.now ≡ self.now.copies }
+    {
+        &self.copies
+    }
+
     pub fn tag(&self, tag: u8) -> TagState
         requires { tag < 64 }
         ensures { result ≡ tag_at self.now tag }

@@ -51,7 +51,7 @@ pub record HasNewest (v : View) (local : ℕ) (block : Block) : Type 0 where
   pub size : length block.words ≡ 8
   pub words : (offset : ℕ) → offset < 8 → slice_index block.words offset ≡ value (initial_of v (word_of v local offset)) v.log (word_of v local offset)
 
--- A slice is coherent: at each line one core may write and no other may read, or nobody may write; and every copy that
+-- A slice is coherent: where a core may write a line no other core may read or write it; and every copy that
 -- may be read holds the line's last performed values, and so does the home copy where the directory is in I or S.
 -- (The Primer's single-writer-multiple-reader and data-value invariants.)
 pub record IsCoherent (v : View) : Type 0 where

@@ -67,7 +67,7 @@ pub enum Issue {
     Stall(Stall),
 }
 
-/// Why a message can't be taken: what no run of the protocol brings about.
+/// Why a message can't be taken. For now a request of a second core for a line finds no entry.
 #[derive(Clone, Copy, Debug, PartialEq, Eq)]
 pub enum Cell {
     /// The table has no entry.

@@ -3,3 +3,4 @@ pub mod LineLaws
 pub mod SliceLaws
 pub mod MembersLaws
 pub mod OnceLaws
+pub mod PickLaws

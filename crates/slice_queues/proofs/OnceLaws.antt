@@ -13,18 +13,18 @@ use Rattle.address_map.specs.declared.block.Block.{Block}
 use Rattle.slice_queues.specs.Acks.{has_ack}
 use Rattle.slice_queues.specs.Members.{members}
 use Rattle.slice_queues.specs.Line.{CoreChannels, LineChannels, no_messages, core_at, request_messages, data_messages, home_messages, ack_messages}
-use Rattle.slice_queues.specs.Waiting.{only_if, core_waiting, cores_waiting, line_waiting, is_same_channel, HasEachOnce}
+use Rattle.slice_queues.specs.Waiting.{only_if, core_waiting, cores_waiting, line_waiting, is_same_channel, is_waiting, HasEachOnce}
 use Rattle.slice_queues.proofs.AckLaws.{has_ack-zero}
 
 -- how often a channel stands in a list
-abbrev times : Channel → List Channel → ℕ
+abbrev pub times : Channel → List Channel → ℕ
 times channel names = count_by (is_same_channel channel) names
 
 -- a name that passes the test counts one, and another none
-count-yes : {A : Type 0} (p : A → Bool) (x : A) (xs : List A) → p x ≡ true → count_by p (x ∷ xs) ≡ 1 + count_by p xs
+pub count-yes : {A : Type 0} (p : A → Bool) (x : A) (xs : List A) → p x ≡ true → count_by p (x ∷ xs) ≡ 1 + count_by p xs
 count-yes p x xs e = sum_by-append (λ y. cond (p y) 1 0) (x ∷ []) xs ∙ rw e refl
 
-count-no : {A : Type 0} (p : A → Bool) (x : A) (xs : List A) → p x ≡ false → count_by p (x ∷ xs) ≡ count_by p xs
+pub count-no : {A : Type 0} (p : A → Bool) (x : A) (xs : List A) → p x ≡ false → count_by p (x ∷ xs) ≡ count_by p xs
 count-no p x xs e = sum_by-append (λ y. cond (p y) 1 0) (x ∷ []) xs ∙ rw e (zero-add _)
 
 -- a list of numbers without this one
@@ -338,10 +338,11 @@ times-line channel line a b x e f sum =
     total : (p q a b x : ℕ) → p ≡ a → q ≡ b → a + b ≡ x → p + q ≡ x
     total p q a b x e f g = omega arith
 
--- each channel of a line stands once among its waiting channels where a message waits in it, and else not at all
-pub line_waiting-once : (line : LineChannels) →
-    ((to from : ℕ) → has_ack (core_at line to).acks from ≡ true → from < 64) → HasEachOnce line (line_waiting line)
-line_waiting-once line bound (channels.Req d) =
+-- a channel stands once among a line's waiting channels where a message waits in it, and else not at all
+pub times-line_waiting : (line : LineChannels) (channel : Channel) →
+    ((to from : CoreId) → channel ≡ channels.Ack to from → (i : ℕ) → has_ack (core_at line i).acks from.0 ≡ true → from.0 < 64) →
+    times channel (line_waiting line) ≡ (if is_waiting line channel then 1 else 0)
+times-line_waiting line (channels.Req d) bound =
     let g : CoreChannels → ℕ = λ queues. if is_some queues.request then 1 else 0 in
     times-line
     (channels.Req d)
@@ -352,7 +353,7 @@ line_waiting-once line bound (channels.Req d) =
     (times-cores (channels.Req d) d.0 g line.cores 0 d.0 (sym (zero-add d.0)) refl (λ i core. times-core_request d (record { 0 = core }) (core_at line i)))
     (other_kind (channels.Req d) channels.Home (is_some line.home) refl)
     (add-zero _ ∙ ap (λ waits. if waits then 1 else 0) (waits-request (core_at line d.0).request))
-line_waiting-once line bound (channels.Fwd d) =
+times-line_waiting line (channels.Fwd d) bound =
     let g : CoreChannels → ℕ = λ queues. if nat_lt 0 (length queues.forwarded) then 1 else 0 in
     times-line
     (channels.Fwd d)
@@ -363,7 +364,7 @@ line_waiting-once line bound (channels.Fwd d) =
     (times-cores (channels.Fwd d) d.0 g line.cores 0 d.0 (sym (zero-add d.0)) refl (λ i core. times-core_forwarded d (record { 0 = core }) (core_at line i)))
     (other_kind (channels.Fwd d) channels.Home (is_some line.home) refl)
     (add-zero _ ∙ ap (λ n. if nat_lt 0 n then 1 else 0) (sym (length-map (core_at line d.0).forwarded _)))
-line_waiting-once line bound (channels.Data d) =
+times-line_waiting line (channels.Data d) bound =
     let g : CoreChannels → ℕ = λ queues. if is_some queues.data then 1 else 0 in
     times-line
     (channels.Data d)
@@ -374,7 +375,7 @@ line_waiting-once line bound (channels.Data d) =
     (times-cores (channels.Data d) d.0 g line.cores 0 d.0 (sym (zero-add d.0)) refl (λ i core. times-core_data d (record { 0 = core }) (core_at line i)))
     (other_kind (channels.Data d) channels.Home (is_some line.home) refl)
     (add-zero _ ∙ ap (λ waits. if waits then 1 else 0) (waits-data (core_at line d.0).data))
-line_waiting-once line bound (channels.Ack to from) =
+times-line_waiting line (channels.Ack to from) bound =
     let g : CoreChannels → ℕ = λ queues. if has_ack queues.acks from.0 then 1 else 0 in
     times-line
     (channels.Ack to from)
@@ -391,10 +392,10 @@ line_waiting-once line bound (channels.Ack to from) =
     to.0
     (sym (zero-add to.0))
     (ap (λ waits. if waits then 1 else 0) (has_ack-zero from.0))
-    (λ i core. times-core_ack to from (record { 0 = core }) (core_at line i) (bound i from.0)))
+    (λ i core. times-core_ack to from (record { 0 = core }) (core_at line i) (bound to from refl i)))
     (other_kind (channels.Ack to from) channels.Home (is_some line.home) refl)
     (add-zero _ ∙ ap (λ waits. if waits then 1 else 0) (waits-ack (has_ack (core_at line to.0).acks from.0)))
-line_waiting-once line bound channels.Home =
+times-line_waiting line channels.Home bound =
     let g : CoreChannels → ℕ = λ queues. 0 in
     times-line
     channels.Home
@@ -405,3 +406,7 @@ line_waiting-once line bound channels.Home =
     (times-cores channels.Home 0 g line.cores 0 0 refl refl (λ i core. times-core_home (record { 0 = core }) (core_at line i) ∙ sym (none_of_two (0 == core))))
     (same_kind channels.Home channels.Home (is_some line.home) true refl)
     (zero-add _ ∙ ap (λ waits. if waits then 1 else 0) (waits-home line.home))
+
+pub line_waiting-once : (line : LineChannels) →
+    ((to from : ℕ) → has_ack (core_at line to).acks from ≡ true → from < 64) → HasEachOnce line (line_waiting line)
+line_waiting-once line bound channel = times-line_waiting line channel (λ to from e i. bound i from.0)

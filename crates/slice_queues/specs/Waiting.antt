@@ -5,10 +5,10 @@ use Rattle.address_map.specs.declared.address.LineAddr.{LineAddr}
 use Rattle.slice_queues_message.specs.declared.channel.Channel.{Channel}
 use Rattle.slice_queues_message.specs.declared.channel.Channel.TheVariants as channels
 use Rattle.slice_queues_message.specs.declared.channel.Pick.{Pick}
-use Rattle.slice_queues_message.specs.Pick.{pick_at}
+use Rattle.slice_queues_message.specs.Pick.{line_of, channel_of, pick_at}
 use Rattle.slice_queues.specs.Line.{CoreChannels, LineChannels, messages_at}
 use Rattle.slice_queues.specs.Members.{members}
-use Rattle.slice_queues.specs.Slice.{SliceChannels}
+use Rattle.slice_queues.specs.Slice.{SliceChannels, messages_in}
 
 -- the channel, where a message waits in it
 abbrev pub only_if : Bool → Channel → List Channel
@@ -94,3 +94,25 @@ picks_waiting queues start =
     (start.0 / queues.slices)
     (drop (start.0 / queues.slices) queues.lines)
     ++ lines_waiting queues.slice queues.slices 0 (take (start.0 / queues.slices) queues.lines)
+
+-- the two are the same pick
+abbrev pub is_same_pick : Pick → Pick → Bool
+is_same_pick pick other =
+    ((line_of pick).0 == (line_of other).0) && is_same_channel (channel_of pick) (channel_of other)
+
+-- a message waits at the pick
+abbrev pub is_waiting_in : SliceChannels → Pick → Bool
+is_waiting_in queues pick = nat_lt 0 (length (messages_in queues pick))
+
+-- where the channel names a sender, it is one of the 64 cores that there can be
+abbrev pub IsFromCore : Channel → Type 0
+IsFromCore (channels.Ack to from) = from.0 < 64
+IsFromCore channel = Unit {0}
+
+-- of all picks but those that name a sender that can't be, each at which a message waits stands in the list once, and
+-- no other does
+abbrev pub HasEachPickOnce : SliceChannels → List Pick → Type 0
+HasEachPickOnce queues picks =
+    (pick : Pick) →
+    IsFromCore (channel_of pick) →
+    count_by (is_same_pick pick) picks ≡ (if is_waiting_in queues pick then 1 else 0)

@@ -11,7 +11,8 @@
 //!   [`LineQueues::front_request`], give references and copy no block.
 //! - [`LineQueues::waiting`] goes through the channels in which a message waits, each once and no other (`HasEachOnce`).
 //! - [`Queues`] says the same of a slice (specs/Slice.antt), where a pick names a line of the whole memory.
-//!   [`Queues::picks_from`] goes through its lines, the start line first, round and round (specs/Waiting.antt).
+//!   [`Queues::picks_from`] goes through its lines, the start line first, round and round (specs/Waiting.antt), and
+//!   gives each pick with a message once and no other (`HasEachPickOnce`).
 //!
 //! All memory is taken by [`Queues::build`], the only call that can fail: 184 bytes for each core of a line, and 96
 //! for the line. The largest slice, 65536 lines of 64 cores, takes 780 MB, and its building 0.6 to 0.8 s, nearly all of

@@ -34,7 +34,7 @@ impl Queues {
     ghost use Rattle.slice_queues.specs.Line.{Carries};
     ghost use Rattle.slice_queues.specs.Slice.{HasLine, line_at, messages_in, HasPick, HasRoomIn, after_send_in, after_take_in, SendsOnlyIn, TakesOnlyIn, IsEmptySlice, empty_slice};
     ghost use Rattle.slice_queues.specs.Lending.{LendsLine};
-    ghost use Rattle.slice_queues.specs.Waiting.{picks_waiting};
+    ghost use Rattle.slice_queues.specs.Waiting.{picks_waiting, HasEachPickOnce};
 
     /// Takes all the memory that the slice will ever need, for `lines` lines of `cores` cores each.
     pub fn build(
@@ -133,7 +133,8 @@ impl Queues {
     /// memory.
     pub fn picks_from(&self, start: LineAddr) -> Picks<'_>
         requires { HasLine self.now start }
-        ensures { result ≡ picks_waiting self.now start }
+        ensures order { result ≡ picks_waiting self.now start }
+        ensures once { HasEachPickOnce self.now result }
     {
         let place = (start.0 / self.slices as u64) as usize;
         let (before, from) = self.lines.split_at(place);

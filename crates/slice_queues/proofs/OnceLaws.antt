@@ -1,7 +1,7 @@
 -- A line's waiting channels: each stands in the list once, and no other does.
-use Rattle.std.proofs.Common.{◌≡◌, ◌≢◌, ℕ, ◌+◌, ◌<◌, ◌≤◌, ◌==◌, Bool, true, false, cond, if◌then◌else◌, List, [], ◌∷◌, ◌++◌, length, map, filter, sum_by, count_by, zero, suc, refl, ap, sym, ◌∙◌, arith, inl, inr, get_or, is_some, nat_lt, eq-eqb, Option, Some, None, add-zero, zero-add}
+use Rattle.std.proofs.Common.{◌≡◌, ◌≢◌, ℕ, ◌+◌, ◌<◌, ◌≤◌, ◌==◌, Bool, true, false, cond, if◌then◌else◌, List, [], ◌∷◌, ◌++◌, length, map, filter, sum_by, count_by, zero, suc, refl, ap, sym, ◌∙◌, arith, inl, inr, get_or, is_some, nat_lt, ◌&&◌, lt-ltb, le-ltb, eq-eqb, Option, Some, None, add-zero, zero-add}
 use Rattle.std.specs.List.{range_with_len}
-use Rattle.std.proofs.lemmas.Bool.{cases_eq, cases_lt, ne_eqb, false_from_ne_true}
+use Rattle.std.proofs.lemmas.Bool.{cases_eq, cases_lt, ne_eqb}
 use Rattle.std.proofs.lemmas.List.{length-map}
 use Rattle.std.proofs.lemmas.List.Sums.{sum_by-append}
 use Rattle.address_map.specs.declared.address.CoreId.{CoreId}
@@ -13,7 +13,7 @@ use Rattle.address_map.specs.declared.block.Block.{Block}
 use Rattle.slice_queues.specs.Acks.{has_ack}
 use Rattle.slice_queues.specs.Members.{members}
 use Rattle.slice_queues.specs.Line.{CoreChannels, LineChannels, no_messages, core_at, request_messages, data_messages, home_messages, ack_messages}
-use Rattle.slice_queues.specs.Waiting.{only_if, core_waiting, cores_waiting, line_waiting, is_same_channel, is_waiting, HasEachOnce}
+use Rattle.slice_queues.specs.Waiting.{only_if, core_waiting, cores_waiting, line_waiting, is_same_channel, is_waiting, is_from_core, HasEachOnce}
 use Rattle.slice_queues.proofs.AckLaws.{has_ack-zero}
 
 -- how often a channel stands in a list
@@ -70,16 +70,16 @@ present p f (suc n) a from within =
     passed false rest e h = h
     passed true rest e h = count-no _ a rest e ∙ h
 
-count-members : (acks f : ℕ) → (has_ack acks f ≡ true → f < 64) →
-    count_by (λ k. f == k) (members acks) ≡ (if has_ack acks f then 1 else 0)
+pub and-false : (b : Bool) → (b && false) ≡ false
+and-false true = refl
+and-false false = refl
+
+count-members : (acks f : ℕ) → count_by (λ k. f == k) (members acks) ≡ (if nat_lt f 64 && has_ack acks f then 1 else 0)
 unfolding members
-count-members acks f bound =
+count-members acks f =
     elim (cases_lt f 64) [
-      | inl within ↦ present (has_ack acks) f 64 0 (omega arith) (omega arith)
-      | inr past ↦
-          let clear : has_ack acks f ≡ false =
-          false_from_ne_true _ (λ there. let below : f < 64 = bound there in absurd (omega arith)) in
-          rw clear (absent (has_ack acks) f 64 0 (λ i from within e. absurd (omega arith)))
+      | inl within ↦ rw (lt-ltb f 64 within) (present (has_ack acks) f 64 0 (omega arith) (omega arith))
+      | inr past ↦ rw (le-ltb f 64 past) (absent (has_ack acks) f 64 0 (λ i from within e. absurd (omega arith)))
     ]
 
 -- channels of another kind
@@ -115,16 +115,16 @@ times-senders to from core here (k ∷ ks) = by_name (from.0 == k) refl (times-s
         ∙ rest
         ∙ sym (count-no (λ j. from.0 == j) k ks f)
 
-times-acks : (to from : CoreId) (acks : ℕ) → (has_ack acks from.0 ≡ true → from.0 < 64) → (core : CoreId) →
+times-acks : (to from : CoreId) (acks : ℕ) (core : CoreId) →
     times (channels.Ack to from) (map (λ k. channels.Ack core (record { 0 = k })) (members acks))
-    ≡ (if to.0 == core.0 then (if has_ack acks from.0 then 1 else 0) else 0)
-times-acks to from acks bound core = by_core (to.0 == core.0) refl
+    ≡ (if to.0 == core.0 then (if nat_lt from.0 64 && has_ack acks from.0 then 1 else 0) else 0)
+times-acks to from acks core = by_core (to.0 == core.0) refl
   where
     by_core : (here : Bool) → (to.0 == core.0) ≡ here →
         times (channels.Ack to from) (map (λ k. channels.Ack core (record { 0 = k })) (members acks))
-        ≡ (if here then (if has_ack acks from.0 then 1 else 0) else 0)
+        ≡ (if here then (if nat_lt from.0 64 && has_ack acks from.0 then 1 else 0) else 0)
     by_core false e = times-none (channels.Ack to from) _ (λ k. rw e refl) (members acks)
-    by_core true e = times-senders to from core e (members acks) ∙ count-members acks from.0 bound
+    by_core true e = times-senders to from core e (members acks) ∙ count-members acks from.0
 
 -- a core's part of the list, kind by kind
 times-core : (channel : Channel) (core : CoreId) (queues : CoreChannels) →
@@ -232,10 +232,10 @@ times-core_data d core queues =
     (same_kind (channels.Data d) (channels.Data core) (is_some queues.data) (d.0 == core.0) refl)
     (times-none (channels.Data d) _ (λ k. refl) (members queues.acks))
 
-times-core_ack : (to from core : CoreId) (queues : CoreChannels) → (has_ack queues.acks from.0 ≡ true → from.0 < 64) →
+times-core_ack : (to from core : CoreId) (queues : CoreChannels) →
     times (channels.Ack to from) (core_waiting core queues)
-    ≡ (if to.0 == core.0 then (if has_ack queues.acks from.0 then 1 else 0) else 0)
-times-core_ack to from core queues bound =
+    ≡ (if to.0 == core.0 then (if nat_lt from.0 64 && has_ack queues.acks from.0 then 1 else 0) else 0)
+times-core_ack to from core queues =
     times-core (channels.Ack to from) core queues
     ∙ fourth_of_four
     _
@@ -246,7 +246,7 @@ times-core_ack to from core queues bound =
     (other_kind (channels.Ack to from) (channels.Req core) (is_some queues.request) refl)
     (other_kind (channels.Ack to from) (channels.Fwd core) (nat_lt 0 (length queues.forwarded)) refl)
     (other_kind (channels.Ack to from) (channels.Data core) (is_some queues.data) refl)
-    (times-acks to from queues.acks bound core)
+    (times-acks to from queues.acks core)
 
 times-core_home : (core : CoreId) (queues : CoreChannels) → times channels.Home (core_waiting core queues) ≡ 0
 times-core_home core queues =
@@ -340,9 +340,8 @@ times-line channel line a b x e f sum =
 
 -- a channel stands once among a line's waiting channels where a message waits in it, and else not at all
 pub times-line_waiting : (line : LineChannels) (channel : Channel) →
-    ((to from : CoreId) → channel ≡ channels.Ack to from → (i : ℕ) → has_ack (core_at line i).acks from.0 ≡ true → from.0 < 64) →
-    times channel (line_waiting line) ≡ (if is_waiting line channel then 1 else 0)
-times-line_waiting line (channels.Req d) bound =
+    times channel (line_waiting line) ≡ (if is_from_core channel && is_waiting line channel then 1 else 0)
+times-line_waiting line (channels.Req d) =
     let g : CoreChannels → ℕ = λ queues. if is_some queues.request then 1 else 0 in
     times-line
     (channels.Req d)
@@ -353,7 +352,7 @@ times-line_waiting line (channels.Req d) bound =
     (times-cores (channels.Req d) d.0 g line.cores 0 d.0 (sym (zero-add d.0)) refl (λ i core. times-core_request d (record { 0 = core }) (core_at line i)))
     (other_kind (channels.Req d) channels.Home (is_some line.home) refl)
     (add-zero _ ∙ ap (λ waits. if waits then 1 else 0) (waits-request (core_at line d.0).request))
-times-line_waiting line (channels.Fwd d) bound =
+times-line_waiting line (channels.Fwd d) =
     let g : CoreChannels → ℕ = λ queues. if nat_lt 0 (length queues.forwarded) then 1 else 0 in
     times-line
     (channels.Fwd d)
@@ -364,7 +363,7 @@ times-line_waiting line (channels.Fwd d) bound =
     (times-cores (channels.Fwd d) d.0 g line.cores 0 d.0 (sym (zero-add d.0)) refl (λ i core. times-core_forwarded d (record { 0 = core }) (core_at line i)))
     (other_kind (channels.Fwd d) channels.Home (is_some line.home) refl)
     (add-zero _ ∙ ap (λ n. if nat_lt 0 n then 1 else 0) (sym (length-map (core_at line d.0).forwarded _)))
-times-line_waiting line (channels.Data d) bound =
+times-line_waiting line (channels.Data d) =
     let g : CoreChannels → ℕ = λ queues. if is_some queues.data then 1 else 0 in
     times-line
     (channels.Data d)
@@ -375,8 +374,8 @@ times-line_waiting line (channels.Data d) bound =
     (times-cores (channels.Data d) d.0 g line.cores 0 d.0 (sym (zero-add d.0)) refl (λ i core. times-core_data d (record { 0 = core }) (core_at line i)))
     (other_kind (channels.Data d) channels.Home (is_some line.home) refl)
     (add-zero _ ∙ ap (λ waits. if waits then 1 else 0) (waits-data (core_at line d.0).data))
-times-line_waiting line (channels.Ack to from) bound =
-    let g : CoreChannels → ℕ = λ queues. if has_ack queues.acks from.0 then 1 else 0 in
+times-line_waiting line (channels.Ack to from) =
+    let g : CoreChannels → ℕ = λ queues. if nat_lt from.0 64 && has_ack queues.acks from.0 then 1 else 0 in
     times-line
     (channels.Ack to from)
     line
@@ -391,11 +390,11 @@ times-line_waiting line (channels.Ack to from) bound =
     0
     to.0
     (sym (zero-add to.0))
-    (ap (λ waits. if waits then 1 else 0) (has_ack-zero from.0))
-    (λ i core. times-core_ack to from (record { 0 = core }) (core_at line i) (bound to from refl i)))
+    (rw (has_ack-zero from.0, and-false (nat_lt from.0 64)) refl)
+    (λ i core. times-core_ack to from (record { 0 = core }) (core_at line i)))
     (other_kind (channels.Ack to from) channels.Home (is_some line.home) refl)
-    (add-zero _ ∙ ap (λ waits. if waits then 1 else 0) (waits-ack (has_ack (core_at line to.0).acks from.0)))
-times-line_waiting line channels.Home bound =
+    (add-zero _ ∙ ap (λ waits. if nat_lt from.0 64 && waits then 1 else 0) (waits-ack (has_ack (core_at line to.0).acks from.0)))
+times-line_waiting line channels.Home =
     let g : CoreChannels → ℕ = λ queues. 0 in
     times-line
     channels.Home
@@ -407,6 +406,18 @@ times-line_waiting line channels.Home bound =
     (same_kind channels.Home channels.Home (is_some line.home) true refl)
     (zero-add _ ∙ ap (λ waits. if waits then 1 else 0) (waits-home line.home))
 
+-- where all senders are cores, each channel of a line is found that has a message
 pub line_waiting-once : (line : LineChannels) →
     ((to from : ℕ) → has_ack (core_at line to).acks from ≡ true → from < 64) → HasEachOnce line (line_waiting line)
-line_waiting-once line bound channel = times-line_waiting line channel (λ to from e i. bound i from.0)
+line_waiting-once line bound (channels.Req d) = times-line_waiting line (channels.Req d)
+line_waiting-once line bound (channels.Fwd d) = times-line_waiting line (channels.Fwd d)
+line_waiting-once line bound (channels.Data d) = times-line_waiting line (channels.Data d)
+line_waiting-once line bound (channels.Ack to from) =
+    times-line_waiting line (channels.Ack to from)
+    ∙ ap (λ waits. if waits then 1 else 0) (of_core (has_ack (core_at line to.0).acks from.0) (bound to.0 from.0))
+  where
+    of_core : (waits : Bool) → (waits ≡ true → from.0 < 64) →
+        (nat_lt from.0 64 && nat_lt 0 (length (ack_messages waits))) ≡ nat_lt 0 (length (ack_messages waits))
+    of_core true known = rw (lt-ltb from.0 64 (known refl)) refl
+    of_core false known = and-false (nat_lt from.0 64)
+line_waiting-once line bound channels.Home = times-line_waiting line channels.Home

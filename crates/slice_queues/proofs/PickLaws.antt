@@ -1,5 +1,5 @@
 -- A slice's waiting picks: each stands in the list once, and no other does.
-use Rattle.std.proofs.Common.{◌≡◌, ◌≢◌, ℕ, ◌+◌, ◌*◌, ◌/◌, ◌%◌, ◌<◌, ◌≤◌, ◌==◌, ◌&&◌, Bool, true, false, cond, if◌then◌else◌, List, [], ◌∷◌, ◌++◌, map, take, drop, sum_by, count_by, zero, suc, refl, ap, sym, ◌∙◌, subst, arith, inl, inr, get_or, eq-eqb, append_assoc, add-zero, zero-add}
+use Rattle.std.proofs.Common.{◌≡◌, ◌≢◌, ℕ, ◌+◌, ◌*◌, ◌/◌, ◌%◌, ◌<◌, ◌≤◌, ◌==◌, ◌&&◌, Bool, true, false, cond, if◌then◌else◌, List, [], ◌∷◌, ◌++◌, map, take, drop, sum_by, count_by, zero, suc, refl, ap, sym, ◌∙◌, arith, inl, inr, get_or, eq-eqb, append_assoc, add-zero, zero-add}
 use native.Mathlib.Nat.{div-add-mod'}
 use Rattle.std.proofs.lemmas.Nat.{mod-mul-add, div-mul-add}
 use Rattle.std.proofs.lemmas.Bool.{cases_eq, ne_eqb}
@@ -10,8 +10,8 @@ use Rattle.slice_queues_message.specs.declared.channel.Pick.{Pick}
 use Rattle.slice_queues_message.specs.Pick.{line_of, channel_of, pick_at}
 use Rattle.slice_queues.specs.Line.{LineChannels, empty_line}
 use Rattle.slice_queues.specs.Slice.{SliceChannels}
-use Rattle.slice_queues.specs.Waiting.{line_waiting, is_same_channel, is_waiting, line_number, lines_waiting, picks_waiting, is_same_pick, IsFromCore, HasEachPickOnce}
-use Rattle.slice_queues.proofs.OnceLaws.{times, count-yes, count-no, times-line_waiting}
+use Rattle.slice_queues.specs.Waiting.{line_waiting, is_same_channel, is_waiting, line_number, lines_waiting, picks_waiting, is_same_pick, is_from_core, HasEachPickOnce}
+use Rattle.slice_queues.proofs.OnceLaws.{times, count-yes, count-no, and-false, times-line_waiting}
 use Rattle.slice_queues.proofs.SliceLaws.{line_of-pick_at, channel_of-pick_at}
 
 -- a count over mapped elements, by what the test says of each
@@ -46,16 +46,9 @@ times-elsewhere pick line names apart =
     count-map (is_same_pick pick) (λ channel. false) (pick_at line) (same-pick_at pick line false apart) names
     ∙ count-never names
 
--- one where a message waits in the channel
+-- how often a channel stands among a line's waiting channels
 abbrev once_if : LineChannels → Channel → ℕ
-once_if line channel = if is_waiting line channel then 1 else 0
-
-once-line : (line : LineChannels) (channel : Channel) → IsFromCore channel →
-    times channel (line_waiting line) ≡ once_if line channel
-once-line line channel named = times-line_waiting line channel (λ to from e i there. subst IsFromCore e named)
-
-once-no_line : (channel : Channel) → IsFromCore channel → 0 ≡ once_if (empty_line 0) channel
-once-no_line channel named = once-line (empty_line 0) channel named
+once_if line channel = if is_from_core channel && is_waiting line channel then 1 else 0
 
 -- the first line of a run, and the others
 count-lines : (pick : Pick) (slice slices place : ℕ) (line : LineChannels) (rest : List LineChannels) (a b x : ℕ) →
@@ -93,13 +86,13 @@ count-none pick slice slices (line ∷ rest) place none =
     refl
 
 -- a pick of the line that stands `behind` places further on
-count-one : (pick : Pick) → IsFromCore (channel_of pick) → (slice slices at : ℕ) →
+count-one : (pick : Pick) (slice slices at : ℕ) →
     (line_of pick).0 ≡ at * slices + slice → ((i : ℕ) → (line_of pick).0 ≡ i * slices + slice → i ≡ at) →
     (lines : List LineChannels) (place behind : ℕ) → at ≡ place + behind →
     count_by (is_same_pick pick) (lines_waiting slice slices place lines)
     ≡ once_if (get_or lines behind (empty_line 0)) (channel_of pick)
-count-one pick named slice slices at number only [] place behind here = once-no_line (channel_of pick) named
-count-one pick named slice slices at number only (line ∷ rest) place zero here =
+count-one pick slice slices at number only [] place behind here = times-line_waiting (empty_line 0) (channel_of pick)
+count-one pick slice slices at number only (line ∷ rest) place zero here =
     let first : place ≡ at = omega arith in
     let same : (line_of pick).0 ≡ place * slices + slice = number ∙ ap (λ p. p * slices + slice) (sym first) in
     count-lines
@@ -112,10 +105,10 @@ count-one pick named slice slices at number only (line ∷ rest) place zero here
     (once_if line (channel_of pick))
     0
     (once_if line (channel_of pick))
-    (times-here pick (line_number slice slices place) (line_waiting line) (eq-eqb _ _ same) ∙ once-line line (channel_of pick) named)
+    (times-here pick (line_number slice slices place) (line_waiting line) (eq-eqb _ _ same) ∙ times-line_waiting line (channel_of pick))
     (count-none pick slice slices rest (place + 1) (λ i from e. let now : i ≡ at = only i e in absurd (omega arith)))
     (add-zero _)
-count-one pick named slice slices at number only (line ∷ rest) place (suc behind) here =
+count-one pick slice slices at number only (line ∷ rest) place (suc behind) here =
     count-lines
     pick
     slice
@@ -131,7 +124,7 @@ count-one pick named slice slices at number only (line ∷ rest) place (suc behi
     (line_number slice slices place)
     (line_waiting line)
     (ne_eqb _ _ (λ e. let now : place ≡ at = only place e in absurd (omega arith))))
-    (count-one pick named slice slices at number only rest (place + 1) behind (omega arith))
+    (count-one pick slice slices at number only rest (place + 1) behind (omega arith))
     (zero-add _)
 
 -- a run of lines is its first lines and those behind them
@@ -171,13 +164,12 @@ count-round pick queues start =
 -- each pick at which a message waits stands once among the waiting picks of a slice, and no other does
 pub picks_waiting-once : (queues : SliceChannels) (start : LineAddr) → queues.slice < queues.slices →
     HasEachPickOnce queues (picks_waiting queues start)
-picks_waiting-once queues start one pick named =
+picks_waiting-once queues start one pick =
     count-round pick queues start ∙ elim (cases_eq rest queues.slice) [
       | inl here ↦
           rw (eq-eqb rest queues.slice here)
           (count-one
           pick
-          named
           queues.slice
           queues.slices
           at
@@ -188,7 +180,7 @@ picks_waiting-once queues start one pick named =
           at
           (sym (zero-add at)))
       | inr apart ↦
-          rw (ne_eqb rest queues.slice apart)
+          rw (ne_eqb rest queues.slice apart, and-false (is_from_core (channel_of pick)))
           (count-none
           pick
           queues.slice

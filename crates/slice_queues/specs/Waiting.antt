@@ -104,15 +104,14 @@ is_same_pick pick other =
 abbrev pub is_waiting_in : SliceChannels → Pick → Bool
 is_waiting_in queues pick = nat_lt 0 (length (messages_in queues pick))
 
--- where the channel names a sender, it is one of the 64 cores that there can be
-abbrev pub IsFromCore : Channel → Type 0
-IsFromCore (channels.Ack to from) = from.0 < 64
-IsFromCore channel = Unit {0}
+-- where the channel names a sender, it is one of the 64 cores that there can be: a channel from any other stays empty
+abbrev pub is_from_core : Channel → Bool
+is_from_core (channels.Ack to from) = nat_lt from.0 64
+is_from_core channel = true
 
--- of all picks but those that name a sender that can't be, each at which a message waits stands in the list once, and
--- no other does
+-- each pick at which a message waits stands in the list once, and no other does
 abbrev pub HasEachPickOnce : SliceChannels → List Pick → Type 0
 HasEachPickOnce queues picks =
     (pick : Pick) →
-    IsFromCore (channel_of pick) →
-    count_by (is_same_pick pick) picks ≡ (if is_waiting_in queues pick then 1 else 0)
+    count_by (is_same_pick pick) picks
+    ≡ (if is_from_core (channel_of pick) && is_waiting_in queues pick then 1 else 0)

@@ -1,0 +1,4 @@
+mod Lists
+mod Table
+mod Steps
+mod Calls

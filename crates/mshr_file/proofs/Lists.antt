@@ -1,0 +1,117 @@
+-- Lists under a filter, where what it drops would add nothing.
+use Rattle.std.proofs.Common.{◌≡◌, ℕ, ◌+◌, ◌<◌, Bool, true, false, not, length, if◌then◌else◌, List, [], ◌∷◌, ◌++◌, filter, get_or, Some, None, refl, sym, ap, ⊎_elim, arith, ◌∙◌}
+use Rattle.std.specs.Prelude.{sum_by, ◌&&◌, All, IsTrue, IsSome, nat_lt}
+use Rattle.std.specs.List.{flat_map, count_by, list_any, position, position_or_len}
+use Rattle.std.proofs.lemmas.Bool.{cases_Bool, lt-ltb, ltb-true}
+use Rattle.std.proofs.lemmas.List.Elements.{All-cons, All-nil}
+use Rattle.std.proofs.lemmas.List.Sums.{sum_by-cons, passes_at_first}
+
+pub one-if : (b c : Bool) → b ≡ c → ◌≡◌ {A = ℕ} (if b then 1 else 0) (if c then 1 else 0)
+one-if b c same = rw same refl
+
+module _ {X : Type 0} where
+  pub flat_map-filter : {Y : Type 0} (f : X → List Y) (p : X → Bool) → ((x : X) → p x ≡ false → f x ≡ []) →
+      (xs : List X) → flat_map f (filter p xs) ≡ flat_map f xs
+  flat_map-filter f p nothing [] = refl
+  flat_map-filter f p nothing (x ∷ xs) =
+      ⊎_elim
+      (λ kept. rw kept (ap (λ ys. f x ++ ys) (flat_map-filter f p nothing xs)))
+      (λ dropped. rw dropped (rw (nothing x dropped) (flat_map-filter f p nothing xs)))
+      (cases_Bool (p x))
+
+  pub sum_by-filter : (f : X → ℕ) (p : X → Bool) → ((x : X) → p x ≡ false → f x ≡ 0) →
+      (xs : List X) → sum_by f (filter p xs) ≡ sum_by f xs
+  sum_by-filter f p nothing [] = refl
+  sum_by-filter f p nothing (x ∷ xs) =
+      let later = sum_by-filter f p nothing xs in
+      let all = sum_by-cons f x xs in
+      ⊎_elim
+      (λ kept. rw kept (let first = sum_by-cons f x (filter p xs) in omega (arith, later, all, first)))
+      (λ dropped. rw dropped (let none = nothing x dropped in omega (arith, later, all, none)))
+      (cases_Bool (p x))
+
+  pub All-filter : (p : X → Bool) (xs : List X) → All (λ x. IsTrue (p x)) (filter p xs)
+  All-filter p [] = All-nil _
+  All-filter p (x ∷ xs) =
+      ⊎_elim
+      (λ kept. rw kept (All-cons (λ y. IsTrue (p y)) x (filter p xs) kept (All-filter p xs)))
+      (λ dropped. rw dropped (All-filter p xs))
+      (cases_Bool (p x))
+
+  pub count_by-yes : (p : X → Bool) (x : X) (xs : List X) → p x ≡ true → count_by p (x ∷ xs) ≡ 1 + count_by p xs
+  count_by-yes p x xs passes =
+      let all = sum_by-cons (λ y. if p y then 1 else 0) x xs in
+      let one = one-if (p x) true passes in
+      omega (arith, all, one)
+
+  pub count_by-no : (p : X → Bool) (x : X) (xs : List X) → p x ≡ false → count_by p (x ∷ xs) ≡ count_by p xs
+  count_by-no p x xs fails =
+      let all = sum_by-cons (λ y. if p y then 1 else 0) x xs in
+      let none = one-if (p x) false fails in
+      omega (arith, all, none)
+
+  pub count_by-filter : (p q : X → Bool) (xs : List X) → count_by p (filter q xs) ≡ count_by (λ x. q x && p x) xs
+  count_by-filter p q [] = refl
+  count_by-filter p q (x ∷ xs) =
+      let later = count_by-filter p q xs in
+      ⊎_elim
+      (λ kept.
+      let same : filter q (x ∷ xs) ≡ x ∷ filter q xs = rw kept refl in
+      let both : (q x && p x) ≡ p x = rw kept refl in
+      ap (count_by p) same ∙ counted (filter q xs) later both)
+      (λ dropped.
+      let same : filter q (x ∷ xs) ≡ filter q xs = rw dropped refl in
+      let none : (q x && p x) ≡ false = rw dropped refl in
+      ap (count_by p) same ∙ later ∙ sym (count_by-no (λ y. q y && p y) x xs none))
+      (cases_Bool (q x))
+    where
+      counted : (ys : List X) → count_by p ys ≡ count_by (λ y. q y && p y) xs → (q x && p x) ≡ p x
+          → count_by p (x ∷ ys) ≡ count_by (λ y. q y && p y) (x ∷ xs)
+      counted ys later both =
+          ⊎_elim
+          (λ passes.
+          let here = count_by-yes p x ys passes in
+          let there = count_by-yes (λ y. q y && p y) x xs (both ∙ passes) in
+          omega (arith, here, there, later))
+          (λ fails.
+          let here = count_by-no p x ys fails in
+          let there = count_by-no (λ y. q y && p y) x xs (both ∙ fails) in
+          omega (arith, here, there, later))
+          (cases_Bool (p x))
+
+  -- What a list has is found, and stands where it is found.
+  pub first-inside : (p : X → Bool) (xs : List X) → list_any p xs ≡ true → position_or_len p xs < length xs
+  first-inside p [] there = absurd cc
+  first-inside p (x ∷ xs) there =
+      ⊎_elim
+      (λ passes. let none : position_or_len p (x ∷ xs) ≡ 0 = rw passes refl in omega (arith, none))
+      (λ fails.
+      let later = first-inside p xs (rw fails at there) in
+      let next : position_or_len p (x ∷ xs) ≡ 1 + position_or_len p xs = rw fails refl in
+      omega (arith, later, next))
+      (cases_Bool (p x))
+
+  pub position_found : (p : X → Bool) (xs : List X) → list_any p xs ≡ true → IsSome (position p xs)
+  position_found p xs there = let inside : nat_lt (position_or_len p xs) (length xs) ≡ true = lt-ltb _ _ (first-inside p xs there) in rw inside refl
+
+  -- Where fewer than all pass, one fails.
+  pub one_fails : (p : X → Bool) (xs : List X) → count_by p xs < length xs → list_any (λ x. not (p x)) xs ≡ true
+  one_fails p [] fewer = absurd (omega arith)
+  one_fails p (x ∷ xs) fewer =
+      ⊎_elim
+      (λ passes.
+      let all = count_by-yes p x xs passes in
+      let later : count_by p xs < length xs = omega (arith, all, fewer) in
+      rw passes (one_fails p xs later))
+      (λ fails. rw fails refl)
+      (cases_Bool (p x))
+
+  pub passes_where_found : (p : X → Bool) (xs : List X) (i : ℕ) (d : X) → position p xs ≡ Some i → p (get_or xs i d) ≡ true
+  passes_where_found p xs i d found =
+      ⊎_elim
+      (λ inside.
+      let place : Some (position_or_len p xs) ≡ Some i = rw inside at found in
+      let here : position_or_len p xs ≡ i = cc in
+      rw (sym here) (passes_at_first p xs d (ltb-true _ _ inside)))
+      (λ outside. let none : None ≡ Some i = rw outside at found in absurd cc)
+      (cases_Bool (nat_lt (position_or_len p xs) (length xs)))

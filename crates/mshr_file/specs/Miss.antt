@@ -1,0 +1,83 @@
+-- Misses, as the miss registers of one cache hold them.
+use Rattle.std.specs.Prelude.{◌≡◌, ◌≢◌, ◌≤◌, ◌<◌, ◌==◌, ℕ, ◌+◌, Bool, true, false, if◌then◌else◌, nat_lt, List, [], ◌∷◌, ◌++◌, length, sum_by, All, IsTrue}
+use Rattle.std.specs.List.{flat_map, count_by}
+use Rattle.address_map.specs.declared.config.Config.{Config}
+use Rattle.address_map.specs.Words.{IsAscendingBy}
+use Rattle.mshr_file.specs.declared.registers.Register.{Register}
+use Rattle.target_list.specs.declared.target.Target.{Target}
+
+abbrev pub is_for : ℕ → Register → Bool
+is_for line register = register.line.0 == line
+
+-- what waits in a register for this line
+abbrev pub targets_in : ℕ → Register → List Target
+targets_in line register = if is_for line register then register.targets else []
+
+-- the accesses that wait for a line, the oldest first
+abbrev pub targets_of : List Register → ℕ → List Target
+targets_of misses line = flat_map (targets_in line) misses
+
+abbrev pub is_waited : List Target → Bool
+is_waited [] = false
+is_waited _ = true
+
+-- there is a register for the line: somebody waits for it
+abbrev pub has_miss : List Register → ℕ → Bool
+has_miss misses line = is_waited (targets_of misses line)
+
+-- how many of all targets pass a test
+abbrev pub count_of : (Target → Bool) → List Register → ℕ
+count_of test misses = sum_by (λ register. count_by test register.targets) misses
+
+abbrev pub has_tag : ℕ → Target → Bool
+has_tag tag target = target.tag == tag
+
+-- No line has two registers, and each register has a target.
+pub record IsMissFile (misses : List Register) : Type 0 where
+  pub single : (line : ℕ) → count_by (is_for line) misses ≤ 1
+  pub waited : All (λ register. IsTrue (is_waited register.targets)) misses
+
+-- One target has joined those of a line, as the last of them, and all else is as it was. So of any kind of target there
+-- are as many as before, and this one.
+pub record AddsTarget (old new : List Register) (line : ℕ) (target : Target) : Type 0 where
+  pub here : targets_of new line ≡ targets_of old line ++ target ∷ []
+  pub others : (other : ℕ) → other ≢ line → targets_of new other ≡ targets_of old other
+  pub counts : (test : Target → Bool) → count_of test new ≡ count_of test old + count_by test (target ∷ [])
+
+-- The first targets of a line were taken, and all else is as it was.
+pub record TakesTargets (old new : List Register) (line : ℕ) (taken : List Target) : Type 0 where
+  pub here : targets_of old line ≡ taken ++ targets_of new line
+  pub others : (other : ℕ) → other ≢ line → targets_of new other ≡ targets_of old other
+  pub counts : (test : Target → Bool) → count_of test old ≡ count_of test new + count_by test taken
+
+-- The targets of each line stand in the order of their numbers.
+abbrev pub IsInOrder : List Register → Type 0
+IsInOrder misses = (line : ℕ) → IsAscendingBy (λ target. target.seq) (targets_of misses line)
+
+-- No two targets have one tag.
+abbrev pub HasEachTagOnce : List Register → Type 0
+HasEachTagOnce misses = (tag : ℕ) → count_of (has_tag tag) misses ≤ 1
+
+-- What bounds a file: so many registers of so many target fields (Farkas and Jouppi's explicitly addressed registers), or
+-- one entry for each tag (their inverted organisation).
+pub data Bound : Type 0 where
+  registers : ℕ → ℕ → Bound
+  tags : Bound
+
+-- no target has the tag
+abbrev pub is_free : List Register → ℕ → Bool
+is_free misses tag = count_of (has_tag tag) misses == 0
+
+-- a register can be opened for a request with this tag
+abbrev pub can_open : Bound → List Register → ℕ → Bool
+can_open (registers most fields) misses tag = nat_lt (length misses) most
+can_open tags misses tag = is_free misses tag
+
+-- a request with this tag can join the register of the line
+abbrev pub can_join : Bound → List Register → ℕ → ℕ → Bool
+can_join (registers most fields) misses line tag = nat_lt (length (targets_of misses line)) fields
+can_join tags misses line tag = is_free misses tag
+
+-- what a configuration bounds a file of registers by
+abbrev pub registers_of : Config → Bound
+registers_of config = registers config.mshrs config.targets

@@ -1,6 +1,6 @@
 -- What one call on a table of registers leaves. The register that it changes was read by an index, whose default doesn't matter.
 use Rattle.std.proofs.Common.{◌≡◌, ℕ, ◌+◌, ◌<◌, Bool, true, false, if◌then◌else◌, List, [], ◌∷◌, ◌++◌, length, get_or, set, refl, sym, ap, arith, ◌∙◌}
-use Rattle.std.proofs.lemmas.List.{get_or_default, get_or-set_same}
+use Rattle.std.proofs.lemmas.List.{get_or_default}
 use Rattle.target_list.specs.declared.target.Target.{Target}
 use Rattle.address_map.specs.declared.address.Local.{Local}
 use Rattle.mshr_file.specs.declared.registers.Register.{Register}

@@ -1,5 +1,5 @@
 -- Lists under a filter, where what it drops would add nothing.
-use Rattle.std.proofs.Common.{◌≡◌, ℕ, ◌+◌, ◌<◌, Bool, true, false, not, length, if◌then◌else◌, List, [], ◌∷◌, ◌++◌, filter, get_or, Some, None, refl, sym, ap, ⊎_elim, arith, ◌∙◌}
+use Rattle.std.proofs.Common.{◌≡◌, ℕ, ◌+◌, ◌<◌, ◌≤◌, Bool, true, false, not, length, if◌then◌else◌, List, [], ◌∷◌, ◌++◌, filter, get_or, Some, None, refl, sym, ap, ⊎_elim, arith, ◌∙◌}
 use Rattle.std.specs.Prelude.{sum_by, ◌&&◌, All, IsTrue, IsSome, nat_lt}
 use Rattle.std.specs.List.{flat_map, count_by, list_any, position, position_or_len}
 use Rattle.std.proofs.lemmas.Bool.{cases_Bool, lt-ltb, ltb-true}
@@ -113,5 +113,28 @@ module _ {X : Type 0} where
       let place : Some (position_or_len p xs) ≡ Some i = rw inside at found in
       let here : position_or_len p xs ≡ i = cc in
       rw (sym here) (passes_at_first p xs d (ltb-true _ _ inside)))
+      (λ outside. let none : None ≡ Some i = rw outside at found in absurd cc)
+      (cases_Bool (nat_lt (position_or_len p xs) (length xs)))
+
+  -- A test that passes less counts no more.
+  pub count_by-fewer : (p q : X → Bool) → ((x : X) → p x ≡ true → q x ≡ true) → (xs : List X) → count_by p xs ≤ count_by q xs
+  count_by-fewer p q more [] = omega arith
+  count_by-fewer p q more (x ∷ xs) =
+      let later = count_by-fewer p q more xs in
+      ⊎_elim
+      (λ passes.
+      let one = count_by-yes p x xs passes in
+      let also = count_by-yes q x xs (more x passes) in
+      omega (arith, later, one, also))
+      (λ fails.
+      let none = count_by-no p x xs fails in
+      let any = sum_by-cons (λ y. if q y then 1 else 0) x xs in
+      omega (arith, later, none, any))
+      (cases_Bool (p x))
+
+  pub place_is : (p : X → Bool) (xs : List X) (i : ℕ) → position p xs ≡ Some i → i ≡ position_or_len p xs
+  place_is p xs i found =
+      ⊎_elim
+      (λ inside. let place : Some (position_or_len p xs) ≡ Some i = rw inside at found in cc)
       (λ outside. let none : None ≡ Some i = rw outside at found in absurd cc)
       (cases_Bool (nat_lt (position_or_len p xs) (length xs)))

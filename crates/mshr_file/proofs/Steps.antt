@@ -1,14 +1,14 @@
 -- What the misses of a table are after one register has changed.
-use Rattle.std.proofs.Common.{◌≡◌, ◌≢◌, ℕ, ◌+◌, ◌<◌, ◌≤◌, zero, suc, replicate, Bool, true, false, if◌then◌else◌, List, [], ◌∷◌, ◌++◌, length, get_or, set, filter, refl, sym, ap, ⊎_elim, arith, ◌∙◌}
-use Rattle.std.specs.Prelude.{sum_by}
+use Rattle.std.proofs.Common.{◌≡◌, ◌≢◌, ℕ, ◌+◌, ◌<◌, ◌≤◌, zero, suc, replicate, Bool, true, false, if◌then◌else◌, List, [], ◌∷◌, ◌++◌, length, get_or, set, refl, sym, ap, ⊎_elim, arith, ◌∙◌}
 use Rattle.std.specs.List.{count_by, list_any}
-use Rattle.std.proofs.lemmas.Bool.{cases_Bool, cases_eq, eqb-true}
+use Rattle.std.proofs.lemmas.Bool.{cases_eq, eqb-true}
 use Rattle.std.proofs.lemmas.List.{get_or-set_same}
 use Rattle.std.proofs.lemmas.List.Sums.{sum_by-set, sum_by-append, length-filter}
 use Rattle.target_list.specs.declared.target.Target.{Target}
 use Rattle.mshr_file.specs.Miss.{is_for, targets_of, is_waited, has_miss, count_of, IsMissFile, AddsTarget, TakesTargets}
 use Rattle.mshr_file.specs.declared.registers.Register.{Register}
 use Rattle.mshr_file.specs.Register.{misses_of, serves, no_register, HasEachLineOnce}
+use Rattle.mshr_file.proofs.Laws.{order_added, order_taken, once_added, once_taken}
 use Rattle.mshr_file.proofs.Lists.{count_by-filter, All-filter, one-if}
 use Rattle.mshr_file.proofs.Table.{IsRegisterOf, waits_in, changed, waits_elsewhere, targets_of-misses, count_of-misses, found, nothing_waits, in_free, served_in, served_for, for_another, counts_one, counts_none, free_serves}
 
@@ -37,38 +37,60 @@ pub adds : (registers : List Register) (i line : ℕ) (register : Register) (tar
     register.line.0 ≡ line → register.targets ≡ (get_or registers i no_register).targets ++ target ∷ [] →
     AddsTarget (misses_of registers) (misses_of (set registers i register)) line target
 adds registers i line register target home for pushed = record {
-  here =
-      left registers i line register home for
-      ∙ pushed
-      ∙ ap (λ targets. targets ++ target ∷ []) (sym (targets_of-misses registers line ∙ waits_in registers i line home));
-  others = λ other differs.
-      targets_of-misses (set registers i register) other
-      ∙ waits_elsewhere registers i line register home for other differs
-      ∙ sym (targets_of-misses registers other);
-  counts = λ test.
-      let change = counts-change test registers i register home.inside in
-      let more = ap (count_by test) pushed ∙ count_by-append test (get_or registers i no_register).targets (target ∷ []) in
-      omega (arith, change, more);
+  here = here;
+  others = others;
+  counts = counts;
+  ordered = order_added (misses_of registers) (misses_of (set registers i register)) line target here others;
+  once = once_added (misses_of registers) (misses_of (set registers i register)) target counts;
 }
+  where
+    here : targets_of (misses_of (set registers i register)) line ≡ targets_of (misses_of registers) line ++ target ∷ []
+    here =
+        left registers i line register home for
+        ∙ pushed
+        ∙ ap (λ targets. targets ++ target ∷ []) (sym (targets_of-misses registers line ∙ waits_in registers i line home))
+
+    others : (other : ℕ) → other ≢ line → targets_of (misses_of (set registers i register)) other ≡ targets_of (misses_of registers) other
+    others other differs =
+        targets_of-misses (set registers i register) other
+        ∙ waits_elsewhere registers i line register home for other differs
+        ∙ sym (targets_of-misses registers other)
+
+    counts : (test : Target → Bool) → count_of test (misses_of (set registers i register)) ≡ count_of test (misses_of registers) + count_by test (target ∷ [])
+    counts test =
+        let change = counts-change test registers i register home.inside in
+        let more = ap (count_by test) pushed ∙ count_by-append test (get_or registers i no_register).targets (target ∷ []) in
+        omega (arith, change, more)
 
 pub takes : (registers : List Register) (i line : ℕ) (register : Register) (taken : List Target) → IsRegisterOf registers i line →
     register.line.0 ≡ line → (get_or registers i no_register).targets ≡ taken ++ register.targets →
     TakesTargets (misses_of registers) (misses_of (set registers i register)) line taken
 takes registers i line register taken home for whole = record {
-  here =
-      targets_of-misses registers line
-      ∙ waits_in registers i line home
-      ∙ whole
-      ∙ ap (λ targets. taken ++ targets) (sym (left registers i line register home for));
-  others = λ other differs.
-      targets_of-misses (set registers i register) other
-      ∙ waits_elsewhere registers i line register home for other differs
-      ∙ sym (targets_of-misses registers other);
-  counts = λ test.
-      let change = counts-change test registers i register home.inside in
-      let fewer = ap (count_by test) whole ∙ count_by-append test taken register.targets in
-      omega (arith, change, fewer);
+  here = here;
+  others = others;
+  counts = counts;
+  ordered = order_taken (misses_of registers) (misses_of (set registers i register)) line taken here others;
+  once = once_taken (misses_of registers) (misses_of (set registers i register)) taken counts;
 }
+  where
+    here : targets_of (misses_of registers) line ≡ taken ++ targets_of (misses_of (set registers i register)) line
+    here =
+        targets_of-misses registers line
+        ∙ waits_in registers i line home
+        ∙ whole
+        ∙ ap (λ targets. taken ++ targets) (sym (left registers i line register home for))
+
+    others : (other : ℕ) → other ≢ line → targets_of (misses_of (set registers i register)) other ≡ targets_of (misses_of registers) other
+    others other differs =
+        targets_of-misses (set registers i register) other
+        ∙ waits_elsewhere registers i line register home for other differs
+        ∙ sym (targets_of-misses registers other)
+
+    counts : (test : Target → Bool) → count_of test (misses_of registers) ≡ count_of test (misses_of (set registers i register)) + count_by test taken
+    counts test =
+        let change = counts-change test registers i register home.inside in
+        let fewer = ap (count_by test) whole ∙ count_by-append test taken register.targets in
+        omega (arith, change, fewer)
 
 -- No line has two registers afterwards.
 pub single_after : (registers : List Register) (i line : ℕ) (register : Register) → IsRegisterOf registers i line →

@@ -1,15 +1,15 @@
 -- A table of registers: what waits for a line in it, before and after one register changes.
-use Rattle.std.proofs.Common.{◌≡◌, ◌≢◌, ℕ, ◌+◌, ◌<◌, ◌≤◌, ◌==◌, zero, suc, Bool, true, false, not, if◌then◌else◌, List, [], ◌∷◌, ◌++◌, length, get_or, set, filter, refl, sym, ap, ⊎_elim, arith, ◌∙◌}
-use Rattle.std.specs.Prelude.{sum_by, ◌&&◌}
-use Rattle.std.specs.List.{flat_map, count_by, list_any}
+use Rattle.std.proofs.Common.{◌≡◌, ◌≢◌, ℕ, ◌<◌, ◌≤◌, zero, suc, Bool, true, false, not, if◌then◌else◌, List, [], ◌∷◌, ◌++◌, length, get_or, set, refl, sym, ap, ⊎_elim, arith, ◌∙◌}
+use Rattle.std.specs.Prelude.{◌&&◌}
+use Rattle.std.specs.List.{count_by, list_any}
 use Rattle.std.proofs.lemmas.Bool.{cases_Bool, ne_eqb, eq-eqb}
 use Rattle.std.proofs.lemmas.List.{length-set, get_or-set_same}
-use Rattle.std.proofs.lemmas.List.Sums.{sum_by-set, get_or-le-sum_by, length-filter}
+use Rattle.std.proofs.lemmas.List.Sums.{sum_by-set, get_or-le-sum_by}
 use Rattle.target_list.specs.declared.target.Target.{Target}
-use Rattle.mshr_file.specs.Miss.{is_for, targets_in, targets_of, is_waited, has_miss, count_of}
+use Rattle.mshr_file.specs.Miss.{is_for, targets_in, targets_of, is_waited, count_of}
 use Rattle.mshr_file.specs.declared.registers.Register.{Register}
 use Rattle.mshr_file.specs.Register.{is_free, misses_of, serves, no_register}
-use Rattle.mshr_file.proofs.Lists.{flat_map-filter, sum_by-filter, count_by-filter, one-if, count_by-yes, count_by-no}
+use Rattle.mshr_file.proofs.Lists.{flat_map-filter, sum_by-filter, one-if, count_by-yes, count_by-no}
 
 pub nothing_waits : (targets : List Target) → is_waited targets ≡ false → targets ≡ []
 nothing_waits [] none = refl

@@ -1,2 +1,3 @@
 pub mod Miss
 pub mod Register
+pub mod Waiting

@@ -37,19 +37,6 @@ pub record IsMissFile (misses : List Register) : Type 0 where
   pub single : (line : ℕ) → count_by (is_for line) misses ≤ 1
   pub waited : All (λ register. IsTrue (is_waited register.targets)) misses
 
--- One target has joined those of a line, as the last of them, and all else is as it was. So of any kind of target there
--- are as many as before, and this one.
-pub record AddsTarget (old new : List Register) (line : ℕ) (target : Target) : Type 0 where
-  pub here : targets_of new line ≡ targets_of old line ++ target ∷ []
-  pub others : (other : ℕ) → other ≢ line → targets_of new other ≡ targets_of old other
-  pub counts : (test : Target → Bool) → count_of test new ≡ count_of test old + count_by test (target ∷ [])
-
--- The first targets of a line were taken, and all else is as it was.
-pub record TakesTargets (old new : List Register) (line : ℕ) (taken : List Target) : Type 0 where
-  pub here : targets_of old line ≡ taken ++ targets_of new line
-  pub others : (other : ℕ) → other ≢ line → targets_of new other ≡ targets_of old other
-  pub counts : (test : Target → Bool) → count_of test old ≡ count_of test new + count_by test taken
-
 -- The targets of each line stand in the order of their numbers.
 abbrev pub IsInOrder : List Register → Type 0
 IsInOrder misses = (line : ℕ) → IsAscendingBy (λ target. target.seq) (targets_of misses line)
@@ -58,15 +45,33 @@ IsInOrder misses = (line : ℕ) → IsAscendingBy (λ target. target.seq) (targe
 abbrev pub HasEachTagOnce : List Register → Type 0
 HasEachTagOnce misses = (tag : ℕ) → count_of (has_tag tag) misses ≤ 1
 
+-- no target has the tag
+abbrev pub is_free : List Register → ℕ → Bool
+is_free misses tag = count_of (has_tag tag) misses == 0
+
+-- One target has joined those of a line, as the last of them, and all else is as it was. So of any kind of target there
+-- are as many as before, and this one. Targets stay in order where its number is above those of its line, and no tag
+-- stands twice where its own was free.
+pub record AddsTarget (old new : List Register) (line : ℕ) (target : Target) : Type 0 where
+  pub here : targets_of new line ≡ targets_of old line ++ target ∷ []
+  pub others : (other : ℕ) → other ≢ line → targets_of new other ≡ targets_of old other
+  pub counts : (test : Target → Bool) → count_of test new ≡ count_of test old + count_by test (target ∷ [])
+  pub ordered : IsInOrder old → All (λ earlier. earlier.seq < target.seq) (targets_of old line) → IsInOrder new
+  pub once : HasEachTagOnce old → is_free old target.tag ≡ true → HasEachTagOnce new
+
+-- The first targets of a line were taken, and all else is as it was.
+pub record TakesTargets (old new : List Register) (line : ℕ) (taken : List Target) : Type 0 where
+  pub here : targets_of old line ≡ taken ++ targets_of new line
+  pub others : (other : ℕ) → other ≢ line → targets_of new other ≡ targets_of old other
+  pub counts : (test : Target → Bool) → count_of test old ≡ count_of test new + count_by test taken
+  pub ordered : IsInOrder old → IsInOrder new
+  pub once : HasEachTagOnce old → HasEachTagOnce new
+
 -- What bounds a file: so many registers of so many target fields (Farkas and Jouppi's explicitly addressed registers), or
 -- one entry for each tag (their inverted organisation).
 pub data Bound : Type 0 where
   registers : ℕ → ℕ → Bound
   tags : Bound
-
--- no target has the tag
-abbrev pub is_free : List Register → ℕ → Bool
-is_free misses tag = count_of (has_tag tag) misses == 0
 
 -- a register can be opened for a request with this tag
 abbrev pub can_open : Bound → List Register → ℕ → Bool

@@ -18,9 +18,13 @@
 #![tactic(auto)]
 
 pub use explicit::ExplicitFile;
+pub use inverted::InvertedFile;
 pub use miss_file::MissFile;
 pub use target_list::Target;
+pub use waiting::Waiting;
 
 mod explicit;
+mod inverted;
 mod miss_file;
 mod registers;
+mod waiting;

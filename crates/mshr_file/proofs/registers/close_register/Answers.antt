@@ -1,7 +1,4 @@
-use Rattle.std.proofs.Common.{◌≡◌, ◌<◌, ◌+◌, length, sym, ap, arith, ◌∙◌, slice_index_or, slice_set, ◌++◌, if◌then◌else◌}
-use Rattle.mshr_file.specs.declared.registers.Register.{Register}
-use Rattle.mshr_file.specs.Miss.{targets_of, has_miss, is_waited}
-use Rattle.mshr_file.specs.Register.{misses_of}
+use Rattle.std.proofs.Common.{sym, ap, arith, ◌∙◌, slice_index_or, slice_set, ◌++◌}
 use Rattle.mshr_file.proofs.Calls.{IsTaken, took, append_nil, nothing_left}
 use Rattle.mshr_file.proofs.registers.close_register.Goals as goal
 

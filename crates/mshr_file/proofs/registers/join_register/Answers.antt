@@ -1,7 +1,4 @@
-use Rattle.std.proofs.Common.{◌≡◌, ◌<◌, ◌+◌, length, sym, ap, arith, ◌∙◌, slice_index_or, slice_set}
-use Rattle.mshr_file.specs.declared.registers.Register.{Register}
-use Rattle.mshr_file.specs.Miss.{targets_of, has_miss, is_waited}
-use Rattle.mshr_file.specs.Register.{misses_of}
+use Rattle.std.proofs.Common.{length, sym, ap, arith, ◌∙◌, slice_index_or, slice_set}
 use Rattle.mshr_file.specs.Register.{no_register}
 use Rattle.std.proofs.lemmas.List.{get_or_default}
 use Rattle.mshr_file.proofs.Steps.{waits_for, register_serving}

@@ -1,7 +1,4 @@
-use Rattle.std.proofs.Common.{◌≡◌, ◌<◌, ◌+◌, length, sym, ap, arith, ◌∙◌, slice_index_or, slice_set}
-use Rattle.mshr_file.specs.declared.registers.Register.{Register}
-use Rattle.mshr_file.specs.Miss.{targets_of, has_miss, is_waited}
-use Rattle.mshr_file.specs.Register.{misses_of}
+use Rattle.std.proofs.Common.{slice_set}
 use Rattle.mshr_file.proofs.Calls.{IsAdded, opened}
 use Rattle.mshr_file.proofs.registers.open_register.Goals as goal
 

@@ -1,8 +1,6 @@
-use Rattle.std.proofs.Common.{◌≡◌, ◌<◌, ◌+◌, ℕ, length, sym, ap, arith, ◌∙◌, slice_index_or, slice_set, if◌then◌else◌}
+use Rattle.std.proofs.Common.{ℕ, sym, ap, arith, ◌∙◌, slice_index_or, slice_set, if◌then◌else◌}
 use Rattle.target_list.specs.Target.{front_loads}
-use Rattle.mshr_file.specs.declared.registers.Register.{Register}
-use Rattle.mshr_file.specs.Miss.{targets_of, has_miss, is_waited}
-use Rattle.mshr_file.specs.Register.{misses_of}
+use Rattle.mshr_file.specs.Miss.{is_waited}
 use Rattle.mshr_file.proofs.Calls.{IsTaken, took}
 use Rattle.mshr_file.proofs.registers.take_register_loads.Goals as goal
 

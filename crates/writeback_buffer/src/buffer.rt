@@ -1,0 +1,118 @@
+ghost use Rattle.std.specs.Prelude.{◌≡◌, ℕ, ◌+◌, ◌<◌, ◌↔◌, [], length, position, IsTrue, IsSome, Some, None};
+ghost use Rattle.std.specs.Option.{option_copied, option_map};
+ghost use Rattle.writeback_buffer.specs.Buffer.{is_of};
+
+use super::entry::{Entry, Leaving};
+use address_map::{Checked, Local};
+use arrayvec::ArrayVec;
+use cache_table::CopyState;
+use std::marker::Model;
+
+/// The most entries that a buffer may be configured with.
+pub const MOST_ENTRIES: usize = 16;
+
+/// The lines that a core has evicted from one slice and that wait for the directory's acknowledgement.
+#[derive(Debug, Drop)]
+pub struct WritebackBuffer {
+    entries: ArrayVec<Entry, MOST_ENTRIES>,
+    capacity: usize,
+}
+
+impl Model for WritebackBuffer {
+    ghost use Rattle.writeback_buffer.specs.Buffer.{Buffer, IsBuffer};
+
+    ghost Value = { Buffer };
+
+    ghost view = { λ buffer. record { entries = buffer.entries.items; capacity = buffer.capacity } };
+
+    ghost invariant = { λ buffer. IsBuffer (record { entries = buffer.entries.items; capacity = buffer.capacity }) };
+}
+
+impl WritebackBuffer {
+    ghost use Rattle.writeback_buffer.specs.Buffer.{IsBuffer, ChangesOnly, empty_buffer, held_at, in_state, with_line, with_state, without_line};
+
+    /// An empty buffer, with room for as many entries as the configuration has.
+    pub fn make(config: &Checked) -> Self
+        ensures { result ≡ empty_buffer config.now.writebacks }
+    {
+        WritebackBuffer {
+            entries: ArrayVec::new(),
+            capacity: config.writebacks(),
+        }
+    }
+
+    /// What is held of a line. A line has one entry at most.
+    pub fn get(&self, line: Local) -> Option<&Leaving>
+        ensures held { option_copied result ≡ held_at self.now.entries line.0 }
+        ensures sound { IsBuffer self.now }
+    {
+        let Some(place) = self.place_of(line) else {
+            return None;
+        };
+        Some(&self.entries[place].leaving)
+    }
+
+    /// Whether another line may be put.
+    pub fn has_room(&self) -> bool
+        ensures { IsTrue result ↔ (length self.now.entries < self.now.capacity) }
+    {
+        self.entries.len() < self.capacity
+    }
+
+    /// Whether no line waits.
+    pub fn is_empty(&self) -> bool
+        ensures empty { IsTrue result ↔ (self.now.entries ≡ []) }
+        ensures nothing_held { IsTrue result ↔ ((line : ℕ) → held_at self.now.entries line ≡ None) }
+    {
+        self.entries.is_empty()
+    }
+
+    /// Takes in a line that the cache has just evicted.
+    pub fn put(&mut self, line: Local, leaving: Leaving)
+        requires room { length self.old.entries < self.old.capacity }
+        requires absent { held_at self.old.entries line.0 ≡ None }
+
+        ensures put { self.new ≡ with_line self.old line.0 leaving }
+        ensures held { ChangesOnly self.old self.new line.0 (Some leaving) }
+        ensures one_more { length self.new.entries ≡ length self.old.entries + 1 }
+    {
+        self.entries.push(Entry { leaving, line });
+    }
+
+    /// Moves a line that is held to this state. Its block stays.
+    pub fn advance(&mut self, line: Local, state: CopyState)
+        requires held { IsSome (held_at self.old.entries line.0) }
+
+        ensures advanced { self.new ≡ with_state self.old line.0 state }
+        ensures kept { ChangesOnly self.old self.new line.0
+            (option_map (in_state state) (held_at self.old.entries line.0)) }
+        ensures as_many { length self.new.entries ≡ length self.old.entries }
+    {
+        let Some(place) = self.place_of(line) else {
+            unreachable!();
+        };
+        self.entries[place].leaving.state = state;
+    }
+
+    /// Gives a line up, once it is acknowledged.
+    pub fn remove(&mut self, line: Local) -> Option<Leaving>
+        ensures taken { result ≡ held_at self.old.entries line.0 }
+        ensures removed { self.new ≡ without_line self.old line.0 }
+        ensures absent { ChangesOnly self.old self.new line.0 None }
+        ensures one_less { IsSome result → length self.new.entries + 1 ≡ length self.old.entries }
+        ensures unchanged { result ≡ None → self.new ≡ self.old }
+    {
+        let Some(place) = self.place_of(line) else {
+            return None;
+        };
+        Some(self.entries.remove(place).leaving)
+    }
+
+    // Where the line stands.
+    fn place_of(&self, line: Local) -> Option<usize>
+        ensures place { result ≡ position (is_of line.0) self.now.entries }
+        ensures sound { IsBuffer self.now }
+    {
+        self.entries.iter().position(|entry| entry.line == line)
+    }
+}

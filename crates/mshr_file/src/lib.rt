@@ -27,4 +27,6 @@ mod explicit;
 mod inverted;
 mod miss_file;
 mod registers;
+#[cfg(test)]
+mod tests;
 mod waiting;

@@ -1,5 +1,5 @@
 -- The loads in front of the first write are loads, and a write stands behind them.
-use Rattle.std.proofs.Common.{◌≡◌, ℕ, Bool, true, false, List, [], ◌∷◌, ◌++◌, take, drop, refl, sym, ⊎_elim, arith, suc, ◌+◌, take-append-drop}
+use Rattle.std.proofs.Common.{◌≡◌, List, [], ◌∷◌, sym, ⊎_elim, arith, suc, ◌+◌, take-append-drop}
 use Rattle.std.specs.Prelude.{All, IsTrue}
 use Rattle.std.specs.List.{prefix_len}
 use Rattle.std.proofs.lemmas.Bool.{cases_Bool}
@@ -22,8 +22,8 @@ behind-writes [] = tt
 behind-writes (first ∷ rest) =
     ⊎_elim
     (λ load.
-        let one_more : 1 + prefix_len is_load rest ≡ suc (prefix_len is_load rest) = omega arith in
-        rw load (rw one_more (behind-writes rest)))
+    let one_more : 1 + prefix_len is_load rest ≡ suc (prefix_len is_load rest) = omega arith in
+    rw load (rw one_more (behind-writes rest)))
     (λ write. rw write write)
     (cases_Bool (is_load first))
 

@@ -1,5 +1,5 @@
 -- Targets of a miss register, and the loads at their front.
-use Rattle.std.specs.Prelude.{◌≡◌, ℕ, Bool, true, false, List, [], ◌∷◌, ◌++◌, drop, All, IsTrue}
+use Rattle.std.specs.Prelude.{◌≡◌, Bool, true, false, List, [], ◌∷◌, ◌++◌, drop, All, IsTrue}
 use Rattle.std.specs.List.{take_while, prefix_len}
 use Rattle.address_map.specs.declared.request.Op.{Op}
 use Rattle.address_map.specs.declared.request.Op.TheVariants as ops

@@ -91,10 +91,7 @@ fn count_front_loads(targets: &[Target]) -> usize
     ensures count { result ≡ prefix_len is_load targets.now }
     ensures within { result ≤ length targets.now }
 {
-    targets
-        .iter()
-        .take_while(|target| target.is_load())
-        .count()
+    targets.iter().take_while(|target| target.is_load()).count()
 }
 
 fn copied(targets: &[Target]) -> ArrayVec<Target, 64>

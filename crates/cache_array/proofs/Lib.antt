@@ -1,0 +1,7 @@
+mod Choices
+mod Places
+mod Orders
+mod Ages
+mod Slots
+mod Sets
+mod Victims

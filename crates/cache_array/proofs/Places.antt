@@ -1,0 +1,124 @@
+-- The first element of a list that passes a test: where it stands, and the list without it or with it at the end.
+use Rattle.std.proofs.Common.{◌≡◌, ℕ, ◌+◌, ◌<◌, ◌≤◌, Bool, true, false, cond, not, List, [], ◌∷◌, ◌++◌, length, map, get_or, suc, refl, ap, sym, ◌∙◌, arith, Some, None, option_to_list, find, position, remove, append-nil, drop}
+use Rattle.std.specs.List.{position_or_len, refill}
+use Rattle.std.specs.Set.{remove_key}
+use Rattle.std.proofs.lemmas.Bool.{ltb-true, ltb-false}
+use Rattle.std.proofs.lemmas.List.{map-append, take_at}
+use Rattle.std.proofs.lemmas.List.Folds.{find_at}
+use Rattle.std.proofs.lemmas.Option.{slice_get-get_or, slice_get_past}
+use Rattle.cache_array.specs.History.{moved_to_end}
+
+-- to remove the element at the first place that passes is to remove the first that passes
+remove-first : {X : Type 0} (p : X → Bool) (xs : List X) → position_or_len p xs < length xs →
+    remove xs (position_or_len p xs) ≡ remove_key p xs
+remove-first p [] within = refl
+remove-first p (x ∷ xs) within = by (p x) (position_or_len p xs) within (remove-first p xs)
+  where
+    by : (b : Bool) (n : ℕ) → cond (not b) (1 + n) 0 < length (x ∷ xs) →
+        (n < length xs → remove xs n ≡ remove_key p xs) →
+        remove (x ∷ xs) (cond (not b) (1 + n) 0) ≡ cond b xs (x ∷ remove_key p xs)
+    by true n lt rest = refl
+    by false n lt rest = let next : 1 + n ≡ suc n = omega arith in rw next (ap (λ ys. x ∷ ys) (rest (omega arith)))
+
+-- where nothing passes, nothing goes
+remove_key-none : {X : Type 0} (p : X → Bool) (xs : List X) → length xs ≤ position_or_len p xs → remove_key p xs ≡ xs
+remove_key-none p [] past = refl
+remove_key-none p (x ∷ xs) past = by (p x) (position_or_len p xs) past (remove_key-none p xs)
+  where
+    by : (b : Bool) (n : ℕ) → length (x ∷ xs) ≤ cond (not b) (1 + n) 0 →
+        (length xs ≤ n → remove_key p xs ≡ xs) →
+        cond b xs (x ∷ remove_key p xs) ≡ x ∷ xs
+    by true n le rest = absurd (omega arith)
+    by false n le rest = ap (λ ys. x ∷ ys) (rest (omega arith))
+
+-- the answer of `position`, told by its test
+place_is : (b : Bool) (n i : ℕ) → cond b (Some n) None ≡ Some i → (b ≡ true) × (n ≡ i)
+place_is true n i e = (refl, cc)
+place_is false n i e = cc
+
+no_place : (b : Bool) (n : ℕ) → cond b (Some n) None ≡ None → b ≡ false
+no_place true n e = cc
+no_place false n e = refl
+
+-- at the place that `position` found, the element goes, and `find` finds it
+pub removed_at : {X : Type 0} (p : X → Bool) (xs : List X) (i : ℕ) → position p xs ≡ Some i →
+    remove xs i ≡ remove_key p xs
+removed_at p xs i e =
+    let at = place_is _ _ _ e in
+    rw (← at.1) (remove-first p xs (ltb-true _ _ at.0))
+
+pub found_at : {X : Type 0} (p : X → Bool) (xs : List X) (i : ℕ) (d : X) → position p xs ≡ Some i →
+    find p xs ≡ Some (get_or xs i d)
+found_at p xs i d e =
+    let at = place_is _ _ _ e in
+    rw (← at.1) (find_at p xs ∙ slice_get-get_or xs _ d (ltb-true _ _ at.0))
+
+-- where `position` found none, nothing goes, and `find` finds nothing
+pub removed_none : {X : Type 0} (p : X → Bool) (xs : List X) → position p xs ≡ None → remove_key p xs ≡ xs
+removed_none p xs e = remove_key-none p xs (ltb-false _ _ (no_place _ _ e))
+
+pub found_none : {X : Type 0} (p : X → Bool) (xs : List X) → position p xs ≡ None → find p xs ≡ None
+found_none p xs e = find_at p xs ∙ slice_get_past xs _ (ltb-false _ _ (no_place _ _ e))
+
+-- the place that `position` found is in the list
+pub place_within : {X : Type 0} (p : X → Bool) (xs : List X) (i : ℕ) → position p xs ≡ Some i → i < length xs
+place_within p xs i e =
+    let at = place_is _ _ _ e in
+    rw (← at.1) (ltb-true _ _ at.0)
+
+-- a list of other things, in the same order
+pub remove_key-map : {X Y : Type 0} (f : X → Y) (p : Y → Bool) (xs : List X) →
+    map f (remove_key (λ x. p (f x)) xs) ≡ remove_key p (map f xs)
+remove_key-map f p [] = refl
+remove_key-map f p (x ∷ xs) = by (p (f x)) (remove_key-map f p xs)
+  where
+    by : (b : Bool) → map f (remove_key (λ x. p (f x)) xs) ≡ remove_key p (map f xs) →
+        map f (cond b xs (x ∷ remove_key (λ x. p (f x)) xs)) ≡ cond b (map f xs) (f x ∷ remove_key p (map f xs))
+    by true rest = refl
+    by false rest = ap (λ ys. f x ∷ ys) rest
+
+found-map : {X Y : Type 0} (f : X → Y) (p : Y → Bool) (xs : List X) →
+    map f (option_to_list (find (λ x. p (f x)) xs)) ≡ option_to_list (find p (map f xs))
+found-map f p [] = refl
+found-map f p (x ∷ xs) = by (p (f x)) (found-map f p xs)
+  where
+    by : (b : Bool) → map f (option_to_list (find (λ x. p (f x)) xs)) ≡ option_to_list (find p (map f xs)) →
+        map f (option_to_list (cond b (Some x) (find (λ x. p (f x)) xs))) ≡ option_to_list (cond b (Some (f x)) (find p (map f xs)))
+    by true rest = refl
+    by false rest = rest
+
+pub moved_to_end-map : {X Y : Type 0} (f : X → Y) (p : Y → Bool) (xs : List X) →
+    map f (moved_to_end (λ x. p (f x)) xs) ≡ moved_to_end p (map f xs)
+moved_to_end-map f p xs =
+    map-append f (remove_key (λ x. p (f x)) xs) (option_to_list (find (λ x. p (f x)) xs))
+    ∙ rw (remove_key-map f p xs, found-map f p xs) refl
+
+-- those on what `position` found, for tactics
+pub ruleset removals = (removed_at, found_at, removed_none, found_none, place_within)
+
+-- where `position` found nothing, nothing moves to the end
+pub moved_none : {X : Type 0} (p : X → Bool) (xs : List X) → position p xs ≡ None → moved_to_end p xs ≡ xs
+moved_none p xs e = rw (removed_none p xs e, found_none p xs e, append-nil) refl
+
+-- and else the element at the place that it found
+pub moved_at : {X : Type 0} (p : X → Bool) (xs ys : List X) (i : ℕ) → position p xs ≡ Some i →
+    ((d : X) → ys ≡ remove xs i ++ get_or xs i d ∷ []) → moved_to_end p xs ≡ ys
+moved_at p [] ys i e moved = cc
+moved_at p (x ∷ xs) ys i e moved =
+    rw (← removed_at p (x ∷ xs) i e, found_at p (x ∷ xs) i x e) (sym (moved x))
+
+-- the same of a list that is written back through a slice of it
+pub moved_within : {X : Type 0} (p : X → Bool) (now items searched old new : List X) (i : ℕ) → items ≡ now →
+    searched ≡ items → old ≡ items → length new ≡ length old → position p searched ≡ Some i →
+    ((d : X) → new ≡ remove old i ++ get_or old i d ∷ []) → refill (length items) items new ≡ moved_to_end p now
+moved_within p now items searched old new i e f g long at moved =
+    let same : old ≡ searched = cc in
+    let all : length new ≡ length items = long ∙ ap length g in
+    let end : moved_to_end p searched ≡ new = moved_at p searched new i at (λ d. moved d ∙ ap (λ xs. remove xs i ++ get_or xs i d ∷ []) same) in
+    take_at new (drop (length new) items) (length items) all ∙ sym end ∙ ap (moved_to_end p) (f ∙ e)
+
+pub unmoved_within : {X : Type 0} (p : X → Bool) (now items searched : List X) → items ≡ now → searched ≡ items →
+    position p searched ≡ None → now ≡ moved_to_end p now
+unmoved_within p now items searched e f at =
+    let same : searched ≡ now = f ∙ e in
+    sym same ∙ sym (moved_none p searched at) ∙ ap (moved_to_end p) same

@@ -1,0 +1,5 @@
+pub mod History
+pub mod Policy
+pub mod Set
+pub mod Array
+pub mod Victim

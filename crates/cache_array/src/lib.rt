@@ -1,0 +1,31 @@
+//! The array of a private cache: sets of slots, each with a line and its value, and a policy that says which slot a full
+//! set gives up.
+//!
+//! Lines are named by their place in their slice. Line l has the set l % `sets`, and a set has room for `ways` lines. A
+//! set keeps its slots in a list: a line comes in last, and where one leaves, those behind it close up. Under LRU a use
+//! takes the slot to the end of the list; under FIFO and Random nothing moves.
+//!
+//! - A set is seen as its list of slots (specs/Set.antt), and the array as its sets and policy (specs/Array.antt). Each
+//!   line is in its own set alone, no line stands twice, and no set has more lines than ways (`IsArray`).
+//! - [`CacheArray::insert`], [`CacheArray::write`], [`CacheArray::touch`] and [`CacheArray::remove`] each say what list
+//!   they leave (`after`), that no other line's value changes (`held`), and the order of the set's lines as one more
+//!   event of their history leaves it (`order`, specs/History.antt).
+//! - [`CacheArray::victim`] gives a line of the set that the caller allows to go, and none exactly where none may
+//!   (specs/Victim.antt). Under LRU no other line that may go was used longer ago, whatever happened before; under FIFO
+//!   none came in earlier (`prefers_of` of specs/Policy.antt).
+//! - [`Policy`] is what a policy has to say for this. `PolicyKind` of a configuration is one: [`Policy::choose`] takes
+//!   the first slot that may go, or under Random the one that the word picks, and some word picks each.
+//!
+//! All memory is taken by [`CacheArray::make`], the only call that can fail: for each set, `ways` slots, which are 8
+//! bytes larger than a value. A call looks for its line among those of one set. A use under LRU and a removal move the
+//! slots behind the line's by one place, and a use of the last slot moves nothing.
+#![tactic(auto)]
+
+pub use array::CacheArray;
+pub use policy::Policy;
+
+mod array;
+mod policy;
+mod set;
+#[cfg(test)]
+mod tests;

@@ -1,0 +1,158 @@
+ghost use Rattle.std.specs.Prelude.{◌≡◌, ◌<◌, ◌≤◌, ◌↔◌, Bool, true, List, [], ◌∷◌, ◌++◌, length, remove, position, option_copied, slice_index_or, IsTrue, IsSome, IfSome, IfOk};
+ghost use Rattle.std.specs.List.{AllZip};
+ghost use Rattle.std.specs.Fn.{FnReturnsAt};
+ghost use Rattle.cache_array.specs.Policy.{IsAllowed, IsPreferred};
+ghost use Rattle.cache_array.specs.Set.{holds};
+
+use crate::policy::Policy;
+use address_map::Local;
+use arrayvec::ArrayVec;
+use std::alloc::{AllocError, Global};
+use std::marker::Model;
+
+/// The most ways that a set may have.
+pub const MOST_WAYS: usize = 16;
+
+/// A line with its value.
+#[derive(Clone, Copy, Debug)]
+pub struct Slot<V> {
+    pub line: Local,
+    pub value: V,
+}
+
+/// One set: an insertion goes last, a removal closes up. The memory for its ways is taken when it is made.
+#[derive(Drop)]
+pub struct Set<V> {
+    slots: Vec<Slot<V>>,
+    ways: usize,
+}
+
+impl<V> Model for Set<V> {
+    ghost use Rattle.std.specs.Prelude.{◌≤◌, vec_capacity};
+    ghost use Rattle.cache_array.specs.declared.set.TheConstants.{MOST_WAYS};
+    ghost use Rattle.cache_array.specs.Set.{SetView};
+
+    ghost Value = { SetView V };
+
+    ghost view = { λ set. record { slots = set.slots.items; ways = set.ways } };
+
+    ghost invariant = { λ set. (set.ways ≤ MOST_WAYS) × (set.ways ≤ vec_capacity set.slots) };
+}
+
+impl<V: Copy> Set<V> {
+    ghost use Rattle.cache_array.specs.Set.{empty_set, value_in, after_insert, after_write, after_use, after_remove};
+    ghost use Rattle.cache_array.specs.Victim.{line_in};
+
+    /// Takes the memory for a set of so many ways. No other call takes any.
+    pub fn make(alloc: Global, ways: usize) -> Result<Self, AllocError>
+        requires { ways ≤ MOST_WAYS }
+        ensures { IfOk result (λ set. set ≡ empty_set ways) }
+    {
+        let slots = Vec::with_capacity(alloc, ways)?;
+        Ok(Set { slots, ways })
+    }
+
+    /// Whether there is room for one more line.
+    pub fn has_way(&self) -> bool
+        ensures { IsTrue result ↔ (length self.now.slots < self.now.ways) }
+    {
+        self.slots.len() < self.ways
+    }
+
+    /// The value of the line, if the set holds it.
+    pub fn get(&self, line: Local) -> Option<&V>
+        ensures { option_copied result ≡ value_in self.now.slots line }
+    {
+        let slot = self.slots.iter().find(|slot| slot.line == line);
+        slot.map(|slot| &slot.value)
+    }
+
+    /// Puts another value in the slot of the line.
+    pub fn write(&mut self, line: Local, value: V)
+        requires { IsSome (value_in self.old.slots line) }
+        ensures { self.new ≡ record self.old { slots = after_write self.old.slots line value } }
+    {
+        if let Some(place) = place_of(&self.slots, line) {
+            self.slots[place] = Slot { line, value };
+        }
+    }
+
+    /// Puts the line in a slot behind the others.
+    pub fn insert(&mut self, line: Local, value: V)
+        requires { length self.old.slots < self.old.ways }
+        ensures { self.new ≡ record self.old { slots = after_insert self.old.slots line value } }
+    {
+        self.slots.push_reserved(Slot { line, value });
+    }
+
+    /// Takes the line out; the slots behind it close up.
+    #[tactic(auto, using(crate::proofs::Places::removals))]
+    pub fn remove(&mut self, line: Local) -> Option<V>
+        ensures value { result ≡ value_in self.old.slots line }
+        ensures rest { self.new ≡ record self.old { slots = after_remove self.old.slots line } }
+    {
+        let Some(place) = place_of(&self.slots, line) else {
+            return None;
+        };
+        Some(self.slots.remove(place).value)
+    }
+
+    /// Moves the slot of the line behind the others.
+    pub fn move_to_end(&mut self, line: Local)
+        ensures { self.new ≡ record self.old { slots = after_use true self.old.slots line } }
+    {
+        if let Some(place) = place_of(&self.slots, line) {
+            move_to_end(&mut self.slots, place);
+        }
+    }
+
+    /// The line in the slot that the policy gives up, of those whose value passes `allowed`.
+    pub fn victim<P: Policy, F: Fn(&V) -> bool>(
+        &self,
+        policy: &P,
+        allowed: F,
+        word: u64,
+    ) -> Option<Local>
+        requires callable { F.IsAlwaysCallable allowed }
+        requires few { length self.now.slots ≤ self.now.ways }
+        ensures { (flags : List Bool)
+            × AllZip (λ slot flag. FnReturnsAt F.Fn allowed slot.value flag) self.now.slots flags
+            × IsAllowed flags (P.choice policy.now flags word)
+            × IfSome (P.choice policy.now flags word) (IsPreferred (P.moves policy.now) (P.prefers policy.now) flags)
+            × (result ≡ line_in self.now.slots (P.choice policy.now flags word)) }
+    {
+        let flags = flags_of(&self.slots, allowed);
+        let Some(place) = policy.choose(&flags, word) else {
+            return None;
+        };
+        Some(self.slots[place].line)
+    }
+}
+
+// For each slot, whether its value may go.
+fn flags_of<V, F: Fn(&V) -> bool>(slots: &[Slot<V>], allowed: F) -> ArrayVec<bool, MOST_WAYS>
+    requires callable { F.IsAlwaysCallable allowed }
+    requires few { length slots.now ≤ MOST_WAYS }
+    ensures { AllZip (λ slot flag. FnReturnsAt F.Fn allowed slot.value flag) slots.now result.items }
+{
+    let mut flags = ArrayVec::new();
+    'slots: for i in 0..slots.len() {
+        flags.push(allowed(&slots[i].value));
+    }
+    flags
+}
+
+// The place of the line's slot.
+fn place_of<V>(slots: &[Slot<V>], line: Local) -> Option<usize>
+    ensures { result ≡ position (holds line) slots.now }
+{
+    slots.iter().position(|slot| slot.line == line)
+}
+
+// Moves the slot behind those that follow it. Nothing moves where it is the last.
+fn move_to_end<V>(slots: &mut [Slot<V>], place: usize)
+    requires { place < length slots.old }
+    ensures { (d : Slot V) → slots.new ≡ remove slots.old place ++ slice_index_or slots.old place d ∷ [] }
+{
+    slots[place..].rotate_left(1);
+}

@@ -6,7 +6,7 @@ use Rattle.address_map.specs.declared.address.Local.{Local}
 use Rattle.mshr_file.specs.declared.registers.Register.{Register}
 use Rattle.mshr_file.specs.Miss.{targets_of, is_waited, has_miss, AddsTarget, TakesTargets}
 use Rattle.mshr_file.specs.Register.{misses_of, serves, no_register, HasEachLineOnce}
-use Rattle.mshr_file.proofs.Lists.{one-if}
+use Rattle.mshr_file.proofs.Lists.{one-if, either-one}
 use Rattle.mshr_file.proofs.Table.{IsRegisterOf, served_waits, targets_of-misses}
 use Rattle.mshr_file.proofs.Steps.{adds, takes, left, single_after, open_after, register_serving, register_free, waits_for, line_of}
 
@@ -90,7 +90,7 @@ took registers i line d taken rest single inside serving whole = record {
   count =
       let total = open_after registers i register inside in
       let old = one-if _ true (served_waits line (get_or registers i no_register) serving) in
-      let other = other-if (is_waited rest) in
+      let other = either-one (is_waited rest) in
       omega (arith, total, old, other);
 }
   where
@@ -105,14 +105,6 @@ took registers i line d taken rest single inside serving whole = record {
 
     for : register.line.0 ≡ line
     for = ap (λ r. r.line.0) same ∙ line_of line (get_or registers i no_register) serving
-
-    other-if : (b : Bool) → ◌≡◌ {A = ℕ} ((if b then 0 else 1) + (if b then 1 else 0)) 1
-    other-if true = refl
-    other-if false = refl
-
-pub append_nil : (targets : List Target) → targets ++ [] ≡ targets
-append_nil [] = refl
-append_nil (target ∷ targets) = ap (λ rest. target ∷ rest) (append_nil targets)
 
 pub nothing_left : (rest : List Target) → rest ≡ [] → ◌≡◌ {A = ℕ} (if is_waited rest then 0 else 1) 1
 nothing_left rest none = rw none refl

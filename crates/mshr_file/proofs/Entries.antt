@@ -4,7 +4,7 @@ use Rattle.std.specs.Prelude.{◌||◌}
 use Rattle.std.specs.List.{count_by, list_any, position, position_or_len, prefix_len, remove}
 use Rattle.std.specs.Set.{remove_key}
 use Rattle.std.proofs.lemmas.Bool.{cases_Bool, cases_eq, eq-eqb, ne_eqb, eqb-true, lt-ltb}
-use Rattle.std.proofs.lemmas.List.{map-append, length-append, length-map}
+use Rattle.std.proofs.lemmas.List.{append-nil, append_assoc, map-append, length-append, length-map}
 use Rattle.std.proofs.lemmas.List.Elements.{filter-append}
 use Rattle.std.proofs.lemmas.List.Folds.{list_any-append}
 use Rattle.std.proofs.lemmas.List.Sums.{sum_by-append, sum_by-cons}
@@ -15,7 +15,7 @@ use Rattle.mshr_file.specs.declared.waiting.Waiting.{Waiting}
 use Rattle.mshr_file.specs.Miss.{is_for, targets_of, is_waited, has_miss, has_tag, count_of, AddsTarget, TakesTargets, HasEachTagOnce}
 use Rattle.mshr_file.specs.Waiting.{waits_for, at_line, put_first, by_line, count_at, is_past, HasEntryByTag, TakesEntries}
 use Rattle.mshr_file.proofs.Laws.{order_added, order_taken, once_added, once_taken}
-use Rattle.mshr_file.proofs.Lists.{one-if, count_by-yes, count_by-no, place_is}
+use Rattle.mshr_file.proofs.Lists.{one-if, zero-if, either-one, count_by-yes, count_by-no, place_is}
 use Rattle.mshr_file.proofs.ByLine.{waits_at, counts_at}
 
 -- how many registers there are with one more target
@@ -102,10 +102,6 @@ at_line-one line entry is = rw is refl
 
 at_line-none : (line : ℕ) (entry : Waiting) → (entry.line.0 == line) ≡ false → at_line line (entry ∷ []) ≡ []
 at_line-none line entry isnt = rw isnt refl
-
-append-nil : (targets : List Target) → targets ++ [] ≡ targets
-append-nil [] = refl
-append-nil (target ∷ targets) = ap (λ rest. target ∷ rest) (append-nil targets)
 
 count-one : (test : Target → Bool) (entry : Waiting) → count_at test (entry ∷ []) ≡ count_by test (entry.target ∷ [])
 count-one test entry = refl
@@ -224,16 +220,12 @@ head-taken line entry entries here = record {
   lines =
       let more = length_by_line entry entries in
       let same = one-if _ _ (ap (λ l. list_any (waits_for l) entries) at) in
-      let other = other-if (list_any (waits_for line) entries) in
+      let other = either-one (list_any (waits_for line) entries) in
       omega (arith, more, same, other);
 }
   where
     at : entry.line.0 ≡ line
     at = eqb-true entry.line.0 line here
-
-    other-if : (b : Bool) → ◌≡◌ {A = ℕ} ((if b then 0 else 1) + (if b then 1 else 0)) 1
-    other-if true = refl
-    other-if false = refl
 
 later-taken : (line : ℕ) (entry : Waiting) (old new : List Waiting) (taken : List Target) → waits_for line entry ≡ false →
     TakesEntries old line taken new → TakesEntries (entry ∷ old) line taken (entry ∷ new)
@@ -262,9 +254,6 @@ later-taken line entry old new taken elsewhere takes = record {
 
     differs : entry.line.0 ≢ line
     differs same = let clash : true ≡ false = sym (eq-eqb entry.line.0 line same) ∙ elsewhere in absurd cc
-
-    zero-if : (b c : Bool) → b ≡ c → ◌≡◌ {A = ℕ} (if b then 0 else 1) (if c then 0 else 1)
-    zero-if b c same = rw same refl
 
 pub takes_first : (line : ℕ) (entries : List Waiting) (d : Waiting) → list_any (waits_for line) entries ≡ true →
     TakesEntries entries line ((get_or entries (position_or_len (waits_for line) entries) d).target ∷ []) (remove_key (waits_for line) entries)
@@ -304,7 +293,7 @@ takes_none line entries there = record {
 pub takes_more : (line : ℕ) (old now new : List Waiting) (first second : List Target) → TakesEntries old line first now →
     list_any (waits_for line) now ≡ true → TakesEntries now line second new → TakesEntries old line (first ++ second) new
 takes_more line old now new first second before there after = record {
-  here = before.here ∙ ap (λ targets. first ++ targets) after.here ∙ sym (append-append first second (at_line line new));
+  here = before.here ∙ ap (λ targets. first ++ targets) after.here ∙ sym (append_assoc first second (at_line line new));
   others = λ other differs. after.others other differs ∙ before.others other differs;
   counts = λ test.
       let one = before.counts test in
@@ -313,17 +302,10 @@ takes_more line old now new first second before there after = record {
       omega (arith, one, two, both);
   lines =
       let one = before.lines in
-      let none = zero-if _ there in
+      let none = zero-if _ true there in
       let two = after.lines in
       omega (arith, one, none, two);
 }
-  where
-    append-append : (xs ys zs : List Target) → (xs ++ ys) ++ zs ≡ xs ++ (ys ++ zs)
-    append-append [] ys zs = refl
-    append-append (x ∷ xs) ys zs = ap (λ rest. x ∷ rest) (append-append xs ys zs)
-
-    zero-if : (b : Bool) → b ≡ true → ◌≡◌ {A = ℕ} (if b then 0 else 1) 0
-    zero-if b is = rw is refl
 
 -- Entries that were taken are targets that were taken.
 pub takes_targets : (line : ℕ) (old new : List Waiting) (taken : List Target) → TakesEntries old line taken new →
@@ -443,9 +425,6 @@ lines_pushed entries entry =
 pub lines_taken : (line : ℕ) (old new : List Waiting) (taken : List Target) → TakesEntries old line taken new →
     length (by_line old) ≡ length (by_line new) + (if has_miss (by_line new) line then 0 else 1)
 lines_taken line old new taken takes = let all = takes.lines in let same = zero-if _ _ (has_miss_at new line) in omega (arith, all, same)
-  where
-    zero-if : (b c : Bool) → b ≡ c → ◌≡◌ {A = ℕ} (if b then 0 else 1) (if c then 0 else 1)
-    zero-if b c same = rw same refl
 
 -- The loads at the front of a line are those of its entries.
 pub front_loads_at : (line : ℕ) (entries : List Waiting) →

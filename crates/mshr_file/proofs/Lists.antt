@@ -9,6 +9,13 @@ use Rattle.std.proofs.lemmas.List.Sums.{sum_by-cons, passes_at_first}
 pub one-if : (b c : Bool) → b ≡ c → ◌≡◌ {A = ℕ} (if b then 1 else 0) (if c then 1 else 0)
 one-if b c same = rw same refl
 
+pub zero-if : (b c : Bool) → b ≡ c → ◌≡◌ {A = ℕ} (if b then 0 else 1) (if c then 0 else 1)
+zero-if b c same = rw same refl
+
+pub either-one : (b : Bool) → ◌≡◌ {A = ℕ} ((if b then 0 else 1) + (if b then 1 else 0)) 1
+either-one true = refl
+either-one false = refl
+
 module _ {X : Type 0} where
   pub flat_map-filter : {Y : Type 0} (f : X → List Y) (p : X → Bool) → ((x : X) → p x ≡ false → f x ≡ []) →
       (xs : List X) → flat_map f (filter p xs) ≡ flat_map f xs

@@ -3,7 +3,7 @@ use Rattle.std.proofs.Common.{◌≡◌, ◌≢◌, ℕ, ◌<◌, ◌≤◌, zer
 use Rattle.std.specs.Prelude.{◌&&◌}
 use Rattle.std.specs.List.{count_by, list_any}
 use Rattle.std.proofs.lemmas.Bool.{cases_Bool, ne_eqb, eq-eqb}
-use Rattle.std.proofs.lemmas.List.{length-set, get_or-set_same}
+use Rattle.std.proofs.lemmas.List.{append-nil, length-set, get_or-set_same}
 use Rattle.std.proofs.lemmas.List.Sums.{sum_by-set, get_or-le-sum_by}
 use Rattle.target_list.specs.declared.target.Target.{Target}
 use Rattle.mshr_file.specs.Miss.{is_for, targets_in, targets_of, is_waited, count_of}
@@ -89,10 +89,6 @@ unserved (register ∷ registers) line none =
     let later : count_by (serves line) registers ≡ 0 = omega (arith, none, all) in
     rw (not-served line register not) (unserved registers line later))
     (cases_Bool (serves line register))
-
-append-nil : (targets : List Target) → targets ++ [] ≡ targets
-append-nil [] = refl
-append-nil (target ∷ targets) = ap (λ rest. target ∷ rest) (append-nil targets)
 
 pub counts_one : (registers : List Register) (i line : ℕ) → i < length registers → serves line (get_or registers i no_register) ≡ true
     → 1 ≤ count_by (serves line) registers

@@ -1,20 +1,24 @@
 //! Miss registers: which lines a cache waits for, and which accesses wait for each of them.
 //!
 //! A lockup-free cache (Kroft 1981) goes on while misses are outstanding, since each of them stands in a register. A
-//! first miss to a line opens one, and further accesses to the line join it as targets. [`MissFile`] is what a cache
-//! needs of its registers. Its contracts see a list of misses, a line with its targets in order (`Miss` of
-//! specs/Miss.antt), in which no line stands twice and each has a target (`IsMissFile`). What [`MissFile::open`] and
-//! [`MissFile::join`] add is `AddsTarget`, what [`MissFile::take_loads`] and [`MissFile::close`] take is
-//! `TakesTargets`: one line changes at one end, and nothing is lost or doubled.
+//! first miss to a line opens one, and further accesses to the line join it as targets.
 //!
-//! There are two files, which differ in when they have room (`can_open`, `can_join`), and in nothing else:
+//! - [`MissFile`] is what a cache needs of its registers. Its contracts see a list of them, each a line with its targets
+//!   in order, in which no line stands twice and each has a target (`IsMissFile` of specs/Miss.antt).
+//! - [`MissFile::open`] and [`MissFile::join`] add a target to one line at the end (`AddsTarget`),
+//!   [`MissFile::take_loads`] and [`MissFile::close`] take the first ones of a line (`TakesTargets`). Nothing else
+//!   changes, and no target is lost or doubled.
+//!
+//! There are two files. They differ in when they have room (`can_open`, `can_join`), and in nothing else that a caller
+//! sees:
 //!
 //! - [`ExplicitFile`] has a number of registers with a number of target fields each: the explicitly addressed registers
 //!   of Farkas and Jouppi (1994).
 //! - [`InvertedFile`] has an entry for each tag of the core, their inverted organisation, and so it has room whenever
 //!   the tag is free.
 //!
-//! Only [`MissFile::make`] takes memory. A call looks at the registers or entries of its own file, at most 32 or 64.
+//! Only [`MissFile::make`] takes memory. A call looks at each register of its file, at most 32, or at each entry that is
+//! in use, at most 64. To count the lines of an inverted file, it compares these with one another.
 #![tactic(auto)]
 
 pub use explicit::ExplicitFile;

@@ -1,5 +1,6 @@
 use Rattle.std.proofs.Common.{sym, ap, arith, ◌∙◌, slice_index_or, slice_set, ◌++◌}
-use Rattle.mshr_file.proofs.Calls.{IsTaken, took, append_nil, nothing_left}
+use Rattle.std.proofs.lemmas.List.{append-nil}
+use Rattle.mshr_file.proofs.Calls.{IsTaken, took, nothing_left}
 use Rattle.mshr_file.proofs.registers.close_register.Goals as goal
 
 taken : (c : goal.After-take_all) → IsTaken c.args.registers.now (slice_set c.args.registers.now c.place_of-place.result (record { targets = c.take_all.new.self; line = (slice_index_or c.args.registers.now c.place_of-place.result c.index-registers-place.result).line })) c.args.line.0 (slice_index_or c.args.registers.now c.place_of-place.result c.index-registers-place.result) c.take_all.result.items c.take_all.new.self
@@ -14,7 +15,7 @@ taken c =
     c.requires.single
     c.place_of-place.ensures.inside
     c.place_of-place.ensures.serves
-    (sym c.take_all.ensures.taken ∙ sym (ap (λ rest. c.take_all.result.items ++ rest) c.take_all.ensures.left ∙ append_nil c.take_all.result.items))
+    (sym c.take_all.ensures.taken ∙ sym (ap (λ rest. c.take_all.result.items ++ rest) c.take_all.ensures.left ∙ append-nil c.take_all.result.items))
 
 pub returns-clause-single : goal.returns-clause-single
 returns-clause-single c = let step = taken c in step.single

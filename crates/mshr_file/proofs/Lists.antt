@@ -1,4 +1,4 @@
--- Lists under a filter, where what it drops would add nothing.
+-- Lists: what a filter drops and a count passes over, and the first place that passes a test.
 use Rattle.std.proofs.Common.{◌≡◌, ℕ, ◌+◌, ◌<◌, ◌≤◌, Bool, true, false, not, length, if◌then◌else◌, List, [], ◌∷◌, ◌++◌, filter, get_or, Some, None, refl, sym, ap, ⊎_elim, arith, ◌∙◌}
 use Rattle.std.specs.Prelude.{sum_by, ◌&&◌, All, IsTrue, IsSome, nat_lt}
 use Rattle.std.specs.List.{flat_map, count_by, list_any, position, position_or_len}

@@ -40,6 +40,7 @@ impl Register {
     }
 }
 
+/// Takes the memory for a table of free registers.
 pub fn free_registers(alloc: Global, count: usize) -> Result<Vec<Register>, AllocError>
     ensures { IfOk result (λ registers. registers.items ≡ replicate count no_register) }
 {

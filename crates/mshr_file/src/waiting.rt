@@ -16,6 +16,7 @@ pub struct Waiting {
     pub line: Local,
 }
 
+/// What the unused places of a row hold.
 impl Default for Waiting {
     fn default() -> Self {
         Waiting {

@@ -3,6 +3,7 @@ use Rattle.std.proofs.Common.{◌≡◌, ◌≢◌, ℕ, suc, ◌+◌, ◌<◌, 
 use Rattle.std.specs.Prelude.{◌||◌}
 use Rattle.std.specs.List.{count_by, list_any, position, position_or_len, prefix_len, remove}
 use Rattle.std.specs.Set.{remove_key}
+use Rattle.std.proofs.Math.Seq.{take-append_seam}
 use Rattle.std.proofs.lemmas.Bool.{cases_Bool, cases_eq, eq-eqb, ne_eqb, eqb-true, lt-ltb}
 use Rattle.std.proofs.lemmas.List.{append-nil, append_assoc, map-append, length-append, length-map}
 use Rattle.std.proofs.lemmas.List.Elements.{filter-append}
@@ -443,11 +444,7 @@ length_at line entries =
 pub first_of : (line : ℕ) (old new : List Waiting) (taken : List Target) (count : ℕ) → TakesEntries old line taken new → length taken ≡ count →
     taken ≡ take count (targets_of (by_line old) line)
 first_of line old new taken count takes counted =
-    sym (ap (λ targets. take count targets) (waits_at old line ∙ takes.here) ∙ ap (λ n. take n (taken ++ at_line line new)) (sym counted) ∙ front taken (at_line line new))
-  where
-    front : (xs ys : List Target) → take (length xs) (xs ++ ys) ≡ xs
-    front [] ys = refl
-    front (x ∷ xs) ys = ap (λ rest. x ∷ rest) (front xs ys)
+    sym (ap (λ targets. take count targets) (waits_at old line ∙ takes.here) ∙ ap (λ n. take n (taken ++ at_line line new)) (sym counted) ∙ take-append_seam taken (at_line line new))
 
 -- Where all were taken, none is left.
 pub all_taken : (line : ℕ) (old new : List Register) (taken : List Target) → TakesTargets old new line taken →

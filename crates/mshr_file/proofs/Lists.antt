@@ -4,7 +4,7 @@ use Rattle.std.specs.Prelude.{sum_by, ◌&&◌, All, IsTrue, IsSome, nat_lt}
 use Rattle.std.specs.List.{flat_map, count_by, list_any, position, position_or_len}
 use Rattle.std.proofs.lemmas.Bool.{cases_Bool, lt-ltb, ltb-true}
 use Rattle.std.proofs.lemmas.List.Elements.{All-cons, All-nil}
-use Rattle.std.proofs.lemmas.List.Sums.{sum_by-cons, passes_at_first}
+use Rattle.std.proofs.lemmas.List.Sums.{sum_by-cons}
 
 pub one-if : (b c : Bool) → b ≡ c → ◌≡◌ {A = ℕ} (if b then 1 else 0) (if c then 1 else 0)
 one-if b c same = rw same refl
@@ -37,12 +37,12 @@ module _ {X : Type 0} where
       (λ dropped. rw dropped (let none = nothing x dropped in omega (arith, later, all, none)))
       (cases_Bool (p x))
 
-  pub All-filter : (p : X → Bool) (xs : List X) → All (λ x. IsTrue (p x)) (filter p xs)
-  All-filter p [] = All-nil _
-  All-filter p (x ∷ xs) =
+  pub filter_passes : (p : X → Bool) (xs : List X) → All (λ x. IsTrue (p x)) (filter p xs)
+  filter_passes p [] = All-nil _
+  filter_passes p (x ∷ xs) =
       ⊎_elim
-      (λ kept. rw kept (All-cons (λ y. IsTrue (p y)) x (filter p xs) kept (All-filter p xs)))
-      (λ dropped. rw dropped (All-filter p xs))
+      (λ kept. rw kept (All-cons (λ y. IsTrue (p y)) x (filter p xs) kept (filter_passes p xs)))
+      (λ dropped. rw dropped (filter_passes p xs))
       (cases_Bool (p x))
 
   pub count_by-yes : (p : X → Bool) (x : X) (xs : List X) → p x ≡ true → count_by p (x ∷ xs) ≡ 1 + count_by p xs
@@ -112,16 +112,6 @@ module _ {X : Type 0} where
       rw passes (one_fails p xs later))
       (λ fails. rw fails refl)
       (cases_Bool (p x))
-
-  pub passes_where_found : (p : X → Bool) (xs : List X) (i : ℕ) (d : X) → position p xs ≡ Some i → p (get_or xs i d) ≡ true
-  passes_where_found p xs i d found =
-      ⊎_elim
-      (λ inside.
-      let place : Some (position_or_len p xs) ≡ Some i = rw inside at found in
-      let here : position_or_len p xs ≡ i = cc in
-      rw (sym here) (passes_at_first p xs d (ltb-true _ _ inside)))
-      (λ outside. let none : None ≡ Some i = rw outside at found in absurd cc)
-      (cases_Bool (nat_lt (position_or_len p xs) (length xs)))
 
   -- A test that passes less counts no more.
   pub count_by-fewer : (p q : X → Bool) → ((x : X) → p x ≡ true → q x ≡ true) → (xs : List X) → count_by p xs ≤ count_by q xs

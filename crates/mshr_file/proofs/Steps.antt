@@ -9,7 +9,7 @@ use Rattle.mshr_file.specs.Miss.{is_for, targets_of, is_waited, has_miss, count_
 use Rattle.mshr_file.specs.declared.registers.Register.{Register}
 use Rattle.mshr_file.specs.Register.{misses_of, serves, no_register, HasEachLineOnce}
 use Rattle.mshr_file.proofs.Laws.{order_added, order_taken, once_added, once_taken}
-use Rattle.mshr_file.proofs.Lists.{count_by-filter, All-filter, one-if}
+use Rattle.mshr_file.proofs.Lists.{count_by-filter, filter_passes, one-if}
 use Rattle.mshr_file.proofs.Table.{IsRegisterOf, waits_in, changed, waits_elsewhere, targets_of-misses, count_of-misses, found, nothing_waits, in_free, served_in, served_for, for_another, counts_one, counts_none, free_serves}
 
 count_by-append : (test : Target → Bool) (front back : List Target) → count_by test (front ++ back) ≡ count_by test front + count_by test back
@@ -127,7 +127,7 @@ sound registers single = record {
       let same = count_by-filter (is_for line) (λ register. is_waited register.targets) registers in
       let few = single.once line in
       omega (arith, same, few);
-  waited = All-filter (λ register. is_waited register.targets) registers;
+  waited = filter_passes (λ register. is_waited register.targets) registers;
 }
 
 -- how many registers are open, after one has changed

@@ -1,10 +1,11 @@
 use Rattle.std.proofs.Common.{◌∙◌, ◌<◌, length, sym, arith, get_or}
 use Rattle.std.specs.List.{count_by}
 use Rattle.std.proofs.lemmas.List.Sums.{length-filter}
+use Rattle.std.proofs.lemmas.List.Quantifiers.{position-Some}
 use Rattle.mshr_file.specs.Miss.{is_waited}
 use Rattle.mshr_file.specs.declared.registers.Register.{Register}
 use Rattle.mshr_file.specs.Register.{is_free, no_register}
-use Rattle.mshr_file.proofs.Lists.{position_found, passes_where_found, one_fails}
+use Rattle.mshr_file.proofs.Lists.{position_found, one_fails}
 use Rattle.mshr_file.proofs.Table.{free_is}
 use Rattle.mshr_file.proofs.registers.free_place.Goals as goal
 
@@ -18,11 +19,11 @@ unwrap-requires c =
 
 pub returns-clause-free : goal.returns-clause-free
 returns-clause-free c =
-    free_is
-    (get_or c.args.registers.now c.unwrap.result no_register)
-    (passes_where_found {X = Register}
+    let found =
+    position-Some {X = Register}
     is_free
     c.args.registers.now
     c.unwrap.result
     no_register
-    (sym c.first_free.ensures ∙ c.unwrap.ensures))
+    (sym c.first_free.ensures ∙ c.unwrap.ensures) in
+    free_is (get_or c.args.registers.now c.unwrap.result no_register) found.1

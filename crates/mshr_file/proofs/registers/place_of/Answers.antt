@@ -1,7 +1,8 @@
 use Rattle.std.proofs.Common.{◌∙◌, sym}
+use Rattle.std.proofs.lemmas.List.Quantifiers.{position-Some}
 use Rattle.mshr_file.specs.declared.registers.Register.{Register}
 use Rattle.mshr_file.specs.Register.{serves, no_register}
-use Rattle.mshr_file.proofs.Lists.{position_found, passes_where_found}
+use Rattle.mshr_file.proofs.Lists.{position_found}
 use Rattle.mshr_file.proofs.Steps.{served_by}
 use Rattle.mshr_file.proofs.registers.place_of.Goals as goal
 
@@ -11,9 +12,11 @@ unwrap-requires c =
 
 pub returns-clause-serves : goal.returns-clause-serves
 returns-clause-serves c =
-    passes_where_found {X = Register}
+    let found =
+    position-Some {X = Register}
     (serves c.args.line.0)
     c.args.registers.now
     c.unwrap.result
     no_register
-    (sym c.first_serving.ensures ∙ c.unwrap.ensures)
+    (sym c.first_serving.ensures ∙ c.unwrap.ensures) in
+    found.1

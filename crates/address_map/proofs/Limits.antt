@@ -1,5 +1,5 @@
 -- A configuration without a fault is within all limits.
-use Rattle.std.proofs.Common.{◌≡◌, ℕ, ◌<◌, ◌≤◌, Bool, true, List, length, get_or, None, ◌%◌, arith, lit<, lit≤}
+use Rattle.std.proofs.Common.{◌≡◌, ℕ, ◌<◌, ◌≤◌, Bool, true, List, length, get_or, None, ◌%◌, ◌⊎◌, arith, lit<}
 use Rattle.std.specs.Prelude.{All, nat_lt, not, ◌==◌, ◌||◌, nat_le}
 use Rattle.std.specs.Int.{is_power_of_two}
 use Rattle.std.proofs.lemmas.Bool.{and_parts, leb-true, ltb-true, eqb-true, not-false}
@@ -7,7 +7,6 @@ use Rattle.std.proofs.lemmas.Bool.Decides.{nat_tests}
 use Rattle.std.proofs.lemmas.List.Elements.{All-weaker}
 use Rattle.std.proofs.lemmas.List.Sums.{AllPass-from_list_all}
 use Rattle.std.specs.List.{list_all}
-use Rattle.address_map.specs.declared.config.TheConstants.{MOST_CORES}
 use Rattle.address_map.specs.declared.config.Config.{Config}
 use Rattle.address_map.specs.declared.config.ConfigError.{ConfigError}
 use Rattle.address_map.specs.declared.config.ConfigError.TheVariants as errors
@@ -40,8 +39,11 @@ is_within-true least most n within =
     let parts = and_parts (nat_le least n) (nat_le n most) within in
     (leb-true least n parts.0, leb-true n most parts.1)
 
-slices-true : (n : ℕ) → (n == 1 || n == 2 || n == 4) ≡ true → (1 ≤ n) × (n ≤ 4)
-slices-true n few = (grind (arith, nat_tests), grind (arith, nat_tests))
+slices-true : (n : ℕ) → (n == 1 || n == 2 || n == 4) ≡ true → (n ≡ 1) ⊎ (n ≡ 2) ⊎ (n ≡ 4)
+slices-true n few = grind (arith, nat_tests)
+
+slices-some : (n : ℕ) → (n ≡ 1) ⊎ (n ≡ 2) ⊎ (n ≡ 4) → (1 ≤ n) × (n ≤ 4)
+slices-some n few = (omega (arith, few), omega (arith, few))
 
 words-true : {X : Type 0} (word : X → ℕ) (limit : ℕ) (xs : List X)
     → are_words_below word limit xs ≡ true → IsAscendingBy word xs × All (λ x. word x < limit) xs
@@ -54,9 +56,9 @@ words-true {X} word limit xs both =
 
 pub IsAllowed-from_no_fault : (c : Config) → first_fault c ≡ None → IsAllowed c
 IsAllowed-from_no_fault c none =
-    let cores = is_within-true 1 MOST_CORES c.cores (passes c none errors.Cores) in
-    let most_cores : MOST_CORES ≤ 64 = lit≤ tt in
-    let slices = slices-true c.slices (passes c none errors.Slices) in
+    let cores = is_within-true 1 64 c.cores (passes c none errors.Cores) in
+    let slice_counts = slices-true c.slices (passes c none errors.Slices) in
+    let slices = slices-some c.slices slice_counts in
     let lines = and_parts (is_within 1 65536 c.lines) (c.lines % c.slices == 0) (passes c none errors.Lines) in
     let line_count = is_within-true 1 65536 c.lines lines.0 in
     let sets = and_parts (is_power_of_two c.sets) (is_within 1 256 c.sets) (passes c none errors.Sets) in
@@ -71,9 +73,10 @@ IsAllowed-from_no_fault c none =
     let counter_words = words-true (λ word. word.0) (word_count c) c.counters counters.1 in
     record {
       some_core = cores.0;
-      few_cores = omega arith;
+      few_cores = cores.1;
       some_slice = slices.0;
       few_slices = slices.1;
+      slice_counts = slice_counts;
       some_line = line_count.0;
       few_lines = line_count.1;
       even = eqb-true (c.lines % c.slices) 0 lines.1;

@@ -1,12 +1,11 @@
 -- Which configurations a machine can be built from.
-use Rattle.std.specs.Prelude.{◌≡◌, ℕ, ◌<◌, ◌*◌, Bool, ◌==◌, ◌||◌, ◌&&◌, not, nat_le, ◌≤◌, ◌/◌, ◌%◌, List, [], ◌∷◌, length, Option, Result, Ok, Err, find, All, IsTrue}
+use Rattle.std.specs.Prelude.{◌≡◌, ◌⊎◌, ℕ, ◌<◌, ◌*◌, Bool, ◌==◌, ◌||◌, ◌&&◌, not, nat_le, ◌≤◌, ◌/◌, ◌%◌, List, [], ◌∷◌, length, Option, Result, Ok, Err, find, All, IsTrue}
 use Rattle.std.specs.Int.{is_power_of_two}
 use Rattle.std.specs.Option.{option_map_or}
 use Rattle.address_map.specs.declared.config.Config.{Config}
 use Rattle.address_map.specs.declared.config.ConfigError.{ConfigError}
 use Rattle.address_map.specs.declared.config.ConfigError.TheVariants as errors
 use Rattle.address_map.specs.declared.config.PolicyKind.TheVariants as policies
-use Rattle.address_map.specs.declared.config.TheConstants.{MOST_CORES}
 use Rattle.address_map.specs.Words.{IsAscendingBy, are_words_below}
 
 -- the machine of a text that configures nothing
@@ -39,7 +38,7 @@ is_within least most n = nat_le least n && nat_le n most
 
 -- whether the field that an error names is allowed
 abbrev pub allows : Config → ConfigError → Bool
-allows c errors.Cores = is_within 1 MOST_CORES c.cores
+allows c errors.Cores = is_within 1 64 c.cores
 allows c errors.Slices = c.slices == 1 || c.slices == 2 || c.slices == 4
 -- as many lines in each slice
 allows c errors.Lines = is_within 1 65536 c.lines && (c.lines % c.slices == 0)
@@ -71,6 +70,7 @@ pub record IsAllowed (c : Config) : Type 0 where
   pub few_cores : c.cores ≤ 64
   pub some_slice : 1 ≤ c.slices
   pub few_slices : c.slices ≤ 4
+  pub slice_counts : (c.slices ≡ 1) ⊎ (c.slices ≡ 2) ⊎ (c.slices ≡ 4)
   pub some_line : 1 ≤ c.lines
   pub few_lines : c.lines ≤ 65536
   pub even : c.lines % c.slices ≡ 0

@@ -1,3 +1,5 @@
 pub mod Words
 pub mod Config
 pub mod Place
+pub mod Locator
+pub mod CoreSet

@@ -9,6 +9,8 @@
 pub use address::{CoreId, LineAddr, Local, Offset, SliceId, WordAddr};
 pub use block::Block;
 pub use config::{Checked, Config, ConfigError, MOST_CORES, PolicyKind, is_counter};
+pub use core_set::CoreSet;
+pub use locator::Locator;
 pub use place::{Place, join, split};
 pub use request::{Op, Request};
 pub use words::{CounterWords, InitialValues};
@@ -16,6 +18,8 @@ pub use words::{CounterWords, InitialValues};
 mod address;
 mod block;
 mod config;
+mod core_set;
+mod locator;
 mod place;
 mod request;
 #[cfg(test)]

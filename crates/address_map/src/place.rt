@@ -18,7 +18,7 @@ pub fn split(config: &Checked, word: WordAddr) -> Option<Place>
     ensures in_range { IfSome result (IsInRange config.now) }
     ensures joined { IfSome result (λ place. word_at config.now place ≡ word) }
 {
-    let line = word.0 / 8;
+    let line = word.line().0;
     if line >= config.lines() as u64 {
         return None;
     }
@@ -26,7 +26,7 @@ pub fn split(config: &Checked, word: WordAddr) -> Option<Place>
     Some(Place {
         local: Local((line / slices) as usize),
         slice: SliceId((line % slices) as u8),
-        offset: Offset((word.0 % 8) as u8),
+        offset: word.offset(),
     })
 }
 

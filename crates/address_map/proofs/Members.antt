@@ -1,13 +1,17 @@
 -- The cores of a set in ascending order, as its lowest core is taken out again and again, and how many they are.
 use Rattle.std.proofs.Common.{◌≡◌, ℕ, ◌+◌, ◌/◌, ◌%◌, ◌^◌, ◌<◌, ◌≤◌, ◌==◌, Bool, true, false, if◌then◌else◌, List, [], ◌∷◌, length, count_ones, zero, suc, add-one, refl, ap, sym, ◌∙◌, arith, inl, inr, filter}
+use Rattle.std.specs.Prelude.{All}
 use Rattle.std.specs.List.{range_with_len}
 use Rattle.std.specs.Int.{bit_at, trailing_zeros, w64}
 use Rattle.std.specs.Int.Count.{ones-le, ones_step}
 use Rattle.std.proofs.Math.Nat.{pow-suc}
-use Rattle.std.proofs.lemmas.Bool.{cases_eq}
+use Rattle.std.proofs.lemmas.Bool.{cases_eq, cases_Bool}
+use Rattle.std.proofs.lemmas.List.Elements.{All-nil, All-cons}
+use Rattle.std.proofs.lemmas.List.FromFn.{length-range_with_len}
+use Rattle.std.proofs.lemmas.List.Sums.{length-filter, count_by-le-length}
 use Rattle.std.proofs.lemmas.Nat.Bits.{bit_at-trailing_zeros, bit_at_lowest, bit_at-suc, bit_at-lt}
-use Rattle.address_map.specs.CoreSet.{has, without, members, count_of}
-use Rattle.address_map.proofs.CoreSets.{has-without_same, has-without_other, has-zero}
+use Rattle.address_map.specs.CoreSet.{has, with, without, members, count_of}
+use Rattle.address_map.proofs.CoreSets.{has-without_same, has-without_other, has-with_same, has-zero, without-with}
 
 branch : (b c : Bool) (a : ℕ) (xs ys : List ℕ) → b ≡ c → xs ≡ ys → (if b then a ∷ xs else xs) ≡ (if c then a ∷ ys else ys)
 branch b c a xs ys e f = cc
@@ -71,6 +75,10 @@ members-lowest set some fits =
     (ap (λ b. b == 1) bits.1)
     (λ i below. ap (λ b. b == 1) (bits.2 i below))
 
+pub lowest-there : (set : ℕ) → 0 < set → set < 18446744073709551616 → has set (trailing_zeros w64 set) ≡ true
+unfolding has
+lowest-there set some fits = ap (λ b. b == 1) (bit_at-trailing_zeros w64 set some fits).1
+
 -- the same as a set of lemmas, for tactics
 pub ruleset members_none = members-zero
 
@@ -114,3 +122,61 @@ ones-from (suc n) set small =
 pub ones-count : (set : ℕ) → set < 18446744073709551616 → count_ones set ≡ count_of set
 unfolding count_of members
 ones-count set fits = ones-from 64 set fits
+
+pub count_of-zero : count_of 0 ≡ 0
+unfolding count_of
+count_of-zero = rw members-zero refl
+
+-- A core that is taken out is one of those that were counted.
+filter-taken : (n a set core : ℕ) → a ≤ core → core < a + n → has set core ≡ true
+    → length (filter (has set) (range_with_len a n)) ≡ length (filter (has (without set core)) (range_with_len a n)) + 1
+filter-taken zero a set core from within there = absurd (omega arith)
+filter-taken (suc n) a set core from within there =
+    elim (cases_eq a core) [
+      | inl here ↦
+          let first : has set a ≡ true = rw here there in
+          let gone : has (without set core) a ≡ false = rw here (has-without_same set core) in
+          let later : filter (has set) (range_with_len (a + 1) n) ≡ filter (has (without set core)) (range_with_len (a + 1) n) =
+          filter-same n (a + 1) set (without set core) (λ i behind. sym (has-without_other set core i (omega arith))) in
+          rw (first, gone, later) (sym (add-one _))
+      | inr apart ↦
+          let same : has set a ≡ has (without set core) a = sym (has-without_other set core a apart) in
+          one_more _ _ a _ _ same (filter-taken n (a + 1) set core (omega arith) (omega arith) there)
+    ]
+  where
+    one_more : (b c : Bool) (a : ℕ) (xs ys : List ℕ) → b ≡ c → length xs ≡ length ys + 1
+        → length (if b then a ∷ xs else xs) ≡ length (if c then a ∷ ys else ys) + 1
+    one_more true true a xs ys e f = omega (arith, f)
+    one_more false false a xs ys e f = f
+    one_more true false a xs ys e f = absurd (cc e)
+    one_more false true a xs ys e f = absurd (cc e)
+
+pub count_of-without : (set core : ℕ) → core < 64 → has set core ≡ true → count_of set ≡ count_of (without set core) + 1
+unfolding count_of members
+count_of-without set core below there = filter-taken 64 0 set core (omega arith) (omega arith) there
+
+-- A core that is put in is one more.
+pub count_of-with : (set core : ℕ) → core < 64 → has set core ≡ false → count_of (with set core) ≡ count_of set + 1
+unfolding count_of members
+count_of-with set core below missing =
+    count_of-without (with set core) core below (has-with_same set core below) ∙ ap (λ cores. count_of cores + 1) (without-with set core below missing)
+
+-- No set has more than 64 cores.
+pub count_of-most : (set : ℕ) → count_of set ≤ 64
+unfolding count_of members
+count_of-most set =
+    let all = length-range_with_len 0 64 in
+    omega (arith, length-filter (has set) (range_with_len 0 64), count_by-le-length (has set) (range_with_len 0 64))
+
+-- The cores that are listed are those that the set has.
+All-filter_passes : (p : ℕ → Bool) (cores : List ℕ) → All (λ core. p core ≡ true) (filter p cores)
+All-filter_passes p [] = All-nil (λ core. p core ≡ true)
+All-filter_passes p (x ∷ cores) =
+    elim (cases_Bool (p x)) [
+      | inl passes ↦ rw passes (All-cons (λ core. p core ≡ true) x (filter p cores) passes (All-filter_passes p cores))
+      | inr fails ↦ rw fails (All-filter_passes p cores)
+    ]
+
+pub All-members : (set : ℕ) → All (λ core. has set core ≡ true) (members set)
+unfolding members
+All-members set = All-filter_passes (has set) (range_with_len 0 64)

@@ -1,5 +1,5 @@
 -- Which configurations a machine can be built from.
-use Rattle.std.specs.Prelude.{◌≡◌, ◌⊎◌, ℕ, ◌<◌, ◌*◌, Bool, ◌==◌, ◌||◌, ◌&&◌, not, nat_le, ◌≤◌, ◌/◌, ◌%◌, List, [], ◌∷◌, length, Option, Result, Ok, Err, find, All, IsTrue}
+use Rattle.std.specs.Prelude.{◌≡◌, ◌⊎◌, ℕ, ◌<◌, ◌*◌, Bool, false, ◌==◌, ◌||◌, ◌&&◌, not, nat_le, ◌≤◌, ◌/◌, ◌%◌, List, [], ◌∷◌, length, Option, Result, Ok, Err, find, All, IsTrue, codes}
 use Rattle.std.specs.Int.{is_power_of_two}
 use Rattle.std.specs.Option.{option_map_or}
 use Rattle.address_map.specs.declared.config.Config.{Config}
@@ -20,6 +20,7 @@ default_config = record {
   targets = 4;
   writebacks = 2;
   policy = policies.Lru;
+  exclusive = false;
   init = [];
   counters = [];
 }
@@ -55,6 +56,19 @@ abbrev pub fields : List ConfigError
 fields =
     errors.Cores ∷ errors.Slices ∷ errors.Lines ∷ errors.Sets ∷ errors.Ways ∷ errors.Mshrs ∷ errors.Targets
     ∷ errors.Writebacks ∷ errors.Init ∷ errors.Counters ∷ []
+
+-- what an error prints: its number in that order, and the field
+abbrev pub text_of_error : ConfigError → List ℕ
+text_of_error errors.Cores = codes "1 Cores"
+text_of_error errors.Slices = codes "2 Slices"
+text_of_error errors.Lines = codes "3 Lines"
+text_of_error errors.Sets = codes "4 Sets"
+text_of_error errors.Ways = codes "5 Ways"
+text_of_error errors.Mshrs = codes "6 Mshrs"
+text_of_error errors.Targets = codes "7 Targets"
+text_of_error errors.Writebacks = codes "8 Writebacks"
+text_of_error errors.Init = codes "9 Init"
+text_of_error errors.Counters = codes "10 Counters"
 
 -- the first field at fault
 abbrev pub first_fault : Config → Option ConfigError

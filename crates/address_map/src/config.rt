@@ -3,36 +3,51 @@ ghost use Rattle.std.specs.Prelude.{◌≡◌, ◌<◌, ◌↔◌, IsTrue, OnOk,
 use super::address::WordAddr;
 use super::words::{CounterWords, InitialValues};
 use std::alloc::Global;
+use std::error::Error;
+use std::fmt;
 use std::marker::Model;
-use thiserror::Error;
 
 /// The most cores that a machine may have: as many as a set of them in 64 bits can hold.
 pub const MOST_CORES: u64 = 64;
 
 /// The field of a configuration that was refused: the first one at fault, in this order.
-#[derive(Clone, Copy, Debug, PartialEq, Eq, Error)]
+#[derive(Clone, Copy, Debug, PartialEq, Eq)]
 pub enum ConfigError {
-    #[error("1 Cores")]
     Cores,
-    #[error("2 Slices")]
     Slices,
-    #[error("3 Lines")]
     Lines,
-    #[error("4 Sets")]
     Sets,
-    #[error("5 Ways")]
     Ways,
-    #[error("6 Mshrs")]
     Mshrs,
-    #[error("7 Targets")]
     Targets,
-    #[error("8 Writebacks")]
     Writebacks,
-    #[error("9 Init")]
     Init,
-    #[error("10 Counters")]
     Counters,
 }
+
+impl fmt::Display for ConfigError {
+    ghost use Rattle.std.specs.Prelude.{Some};
+    ghost use Rattle.address_map.specs.Config.{text_of_error};
+
+    ghost output = { λ error. Some (text_of_error error) };
+
+    fn fmt<W: fmt::Write>(&self, f: &mut fmt::Formatter<W>) -> fmt::Result {
+        f.write_str(match self {
+            ConfigError::Cores => "1 Cores",
+            ConfigError::Slices => "2 Slices",
+            ConfigError::Lines => "3 Lines",
+            ConfigError::Sets => "4 Sets",
+            ConfigError::Ways => "5 Ways",
+            ConfigError::Mshrs => "6 Mshrs",
+            ConfigError::Targets => "7 Targets",
+            ConfigError::Writebacks => "8 Writebacks",
+            ConfigError::Init => "9 Init",
+            ConfigError::Counters => "10 Counters",
+        })
+    }
+}
+
+impl Error for ConfigError {}
 
 /// Which line of a full set a miss replaces.
 #[derive(Clone, Copy, Debug, PartialEq, Eq)]
@@ -66,6 +81,8 @@ pub struct Config {
     pub writebacks: u64,
     /// The replacement policy of all arrays.
     pub policy: PolicyKind,
+    /// Whether a core that asks to read a line that nobody has is given the only copy (state E). It can't be at fault.
+    pub exclusive: bool,
     /// What memory begins with: words of it, strictly ascending.
     pub init: InitialValues,
     /// The counters: at most 8 words of the memory, strictly ascending.
@@ -94,7 +111,7 @@ impl Config {
     ghost use Rattle.address_map.specs.Config.{default_config, first_fault, checked_of, IsAllowed};
 
     /// The machine that a text has where it says nothing else: 2 cores, 1 slice of 16 lines, 4 sets of 2 ways,
-    /// 4 miss registers of 4 targets, 2 write-back entries, LRU, and no initial value and no counter.
+    /// 4 miss registers of 4 targets, 2 write-back entries, LRU, no exclusive state, no initial value and no counter.
     pub fn new(alloc: Global) -> Self
         ensures { result ≡ default_config }
     {
@@ -108,6 +125,7 @@ impl Config {
             targets: 4,
             writebacks: 2,
             policy: PolicyKind::Lru,
+            exclusive: false,
             init: InitialValues::new(alloc),
             counters: CounterWords::new(alloc),
         }
@@ -244,6 +262,14 @@ impl Checked {
         ensures allowed { IsAllowed self.now }
     {
         self.config.policy
+    }
+
+    /// Whether there is the exclusive state.
+    pub fn exclusive(&self) -> bool
+        ensures exclusive { result ≡ self.now.exclusive }
+        ensures allowed { IsAllowed self.now }
+    {
+        self.config.exclusive
     }
 
     /// The words that begin with a value of their own, ascending.

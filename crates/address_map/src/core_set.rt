@@ -108,6 +108,7 @@ impl CoreSet {
     pub fn pop_first(&mut self) -> Option<CoreId>
         ensures none { result ≡ None → (members self.old ≡ []) × (members self.new ≡ []) }
         ensures first { IfSome result (λ core. members self.old ≡ core.0 ∷ members self.new) }
+        ensures there { IfSome result (λ core. IsTrue (has self.old core.0)) }
         ensures removed { IfSome result (λ core. self.new ≡ without self.old core.0) }
     {
         if self.bits == 0 {

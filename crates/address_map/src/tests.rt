@@ -1,6 +1,6 @@
 use super::{
-    Checked, Config, ConfigError, CounterWords, InitialValues, Local, MOST_CORES, Offset, Place,
-    PolicyKind, SliceId, WordAddr, is_counter, join, split,
+    Checked, Config, ConfigError, CoreId, CoreSet, CounterWords, InitialValues, LineAddr, Local,
+    Locator, MOST_CORES, Offset, Place, PolicyKind, SliceId, WordAddr, is_counter, join, split,
 };
 use std::alloc::{AllocError, Global};
 use std::test::Fail;
@@ -18,6 +18,7 @@ fn shaped(alloc: Global, shape: [u64; 8]) -> Config {
         targets,
         writebacks,
         policy: PolicyKind::Fifo,
+        exclusive: false,
         init: InitialValues::new(alloc),
         counters: CounterWords::new(alloc),
     }
@@ -172,21 +173,40 @@ fn knows_its_words(rt: HostRuntime) -> Result<(), Fail> {
 }
 
 #[test]
-fn errors_print_their_number_and_field(rt: HostRuntime) -> Result<(), Fail> {
-    for (error, want) in [
-        (ConfigError::Cores, "1 Cores"),
-        (ConfigError::Slices, "2 Slices"),
-        (ConfigError::Lines, "3 Lines"),
-        (ConfigError::Sets, "4 Sets"),
-        (ConfigError::Ways, "5 Ways"),
-        (ConfigError::Mshrs, "6 Mshrs"),
-        (ConfigError::Targets, "7 Targets"),
-        (ConfigError::Writebacks, "8 Writebacks"),
-        (ConfigError::Init, "9 Init"),
-        (ConfigError::Counters, "10 Counters"),
-    ] {
-        let text = format!(in rt.alloc(); "{error}")?;
-        assert_eq!(rt; text.as_str(), want);
+fn locates_the_lines_of_a_slice(rt: HostRuntime) -> Result<(), Fail> {
+    let config = worded(rt.alloc(), &[], &[])?.check()?;
+    let odd = Locator::of(&config, SliceId(1));
+    assert_eq!(rt;
+        (odd.lines(), odd.slices(), odd.slice()),
+        (8, 2, SliceId(1))
+    );
+    for (line, want) in [(1, Some(0)), (15, Some(7)), (2, None), (17, None)] {
+        assert_eq!(rt; odd.local_of(LineAddr(line)), want.map(Local), "at {line}");
     }
+    assert_eq!(rt; odd.line_at(Local(7)), LineAddr(15));
+    let word = odd.word_at(Local(7), Offset(3));
+    assert_eq!(rt;
+        (word, word.line(), word.offset()),
+        (WordAddr(123), LineAddr(15), Offset(3))
+    );
+    assert!(rt; !odd.is_past(WordAddr(127)) && odd.is_past(WordAddr(128)));
     Ok(())
+}
+
+#[test]
+fn sets_of_cores(rt: HostRuntime) {
+    let mut cores = CoreSet::none();
+    assert!(rt; cores.is_empty() && cores.pop_first().is_none());
+    for core in [63, 5, 64, 0] {
+        cores.insert(CoreId(core));
+    }
+    assert_eq!(rt; (cores.count(), cores.bits()), (3, 1 << 63 | 33));
+    assert!(rt; cores.has(CoreId(63)) && !cores.has(CoreId(64)) && !cores.has(CoreId(1)));
+    assert_eq!(rt; cores.pop_first(), Some(CoreId(0)));
+    cores.remove(CoreId(63));
+    assert_eq!(rt; cores, CoreSet::only(CoreId(5)));
+    assert_eq!(rt;
+        cores.with(CoreId(2)).without(CoreId(5)),
+        CoreSet::from_bits(4)
+    );
 }

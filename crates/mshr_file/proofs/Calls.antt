@@ -1,6 +1,5 @@
--- What one call on a table of registers leaves. The register that it changes was read by an index, whose default doesn't matter.
-use Rattle.std.proofs.Common.{◌≡◌, ℕ, ◌+◌, ◌<◌, Bool, true, false, if◌then◌else◌, List, [], ◌∷◌, ◌++◌, length, get_or, set, refl, sym, ap, arith, ◌∙◌}
-use Rattle.std.proofs.lemmas.List.{get_or_default}
+-- What one call on a table of registers leaves. The register that it changes was read there.
+use Rattle.std.proofs.Common.{◌≡◌, ℕ, ◌+◌, ◌<◌, true, false, if◌then◌else◌, List, [], ◌∷◌, ◌++◌, length, get_or, set, refl, sym, ap, arith, ◌∙◌}
 use Rattle.target_list.specs.declared.target.Target.{Target}
 use Rattle.address_map.specs.declared.address.Local.{Local}
 use Rattle.mshr_file.specs.declared.registers.Register.{Register}
@@ -20,44 +19,41 @@ pushed_waits [] target = refl
 pushed_waits (first ∷ rest) target = refl
 
 -- a target behind those of a register that serves the line
-pub joined : (registers : List Register) (i : ℕ) (line : ℕ) (d : Register) (target : Target) (pushed : List Target) →
-    HasEachLineOnce registers → i < length registers → serves line (get_or registers i no_register) ≡ true →
-    pushed ≡ (get_or registers i d).targets ++ target ∷ [] →
-    IsAdded registers (set registers i (record { targets = pushed; line = (get_or registers i d).line })) line target 0
-joined registers i line d target pushed single inside serving push = record {
+pub joined : (registers : List Register) (i : ℕ) (line : ℕ) (read : Register) (target : Target) (pushed : List Target) →
+    HasEachLineOnce registers → i < length registers → read ≡ get_or registers i no_register → serves line (get_or registers i no_register) ≡ true →
+    pushed ≡ read.targets ++ target ∷ [] →
+    IsAdded registers (set registers i (record { targets = pushed; line = read.line })) line target 0
+joined registers i line read target pushed single inside same serving push = record {
   single = single_after registers i line register home for single;
   added = adds registers i line register target home for (push ∙ ap (λ r. r.targets ++ target ∷ []) same);
   count =
       let total = open_after registers i register inside in
       let old = one-if _ true (served_waits line (get_or registers i no_register) serving) in
-      let new = one-if _ true (ap is_waited push ∙ pushed_waits (get_or registers i d).targets target) in
+      let new = one-if _ true (ap is_waited push ∙ pushed_waits read.targets target) in
       omega (arith, total, old, new);
 }
   where
     register : Register
-    register = record { targets = pushed; line = (get_or registers i d).line }
+    register = record { targets = pushed; line = read.line }
 
     home : IsRegisterOf registers i line
     home = register_serving registers i line single inside serving
-
-    same : get_or registers i d ≡ get_or registers i no_register
-    same = get_or_default registers i d no_register inside
 
     for : register.line.0 ≡ line
     for = ap (λ r. r.line.0) same ∙ line_of line (get_or registers i no_register) serving
 
 -- a target in a free register, which is the line's from then on
-pub opened : (registers : List Register) (i : ℕ) (line : Local) (d : Register) (target : Target) (pushed : List Target) →
-    HasEachLineOnce registers → i < length registers → is_waited (get_or registers i no_register).targets ≡ false →
-    has_miss (misses_of registers) line.0 ≡ false → pushed ≡ (get_or registers i d).targets ++ target ∷ [] →
+pub opened : (registers : List Register) (i : ℕ) (line : Local) (read : Register) (target : Target) (pushed : List Target) →
+    HasEachLineOnce registers → i < length registers → read ≡ get_or registers i no_register → is_waited (get_or registers i no_register).targets ≡ false →
+    has_miss (misses_of registers) line.0 ≡ false → pushed ≡ read.targets ++ target ∷ [] →
     IsAdded registers (set registers i (record { targets = pushed; line = line })) line.0 target 1
-opened registers i line d target pushed single inside free nobody push = record {
+opened registers i line read target pushed single inside same free nobody push = record {
   single = single_after registers i line.0 register home refl single;
   added = adds registers i line.0 register target home refl (push ∙ ap (λ r. r.targets ++ target ∷ []) same);
   count =
       let total = open_after registers i register inside in
       let old = one-if _ false free in
-      let new = one-if _ true (ap is_waited push ∙ pushed_waits (get_or registers i d).targets target) in
+      let new = one-if _ true (ap is_waited push ∙ pushed_waits read.targets target) in
       omega (arith, total, old, new);
 }
   where
@@ -67,9 +63,6 @@ opened registers i line d target pushed single inside free nobody push = record 
     home : IsRegisterOf registers i line.0
     home = register_free registers i line.0 inside free (ap is_waited (sym (targets_of-misses registers line.0)) ∙ nobody)
 
-    same : get_or registers i d ≡ get_or registers i no_register
-    same = get_or_default registers i d no_register inside
-
 -- what was taken of a register and what is left, where it served the line
 pub record IsTaken (old new : List Register) (line : ℕ) (register : Register) (taken rest : List Target) : Type 0 where
   pub single : HasEachLineOnce new
@@ -78,11 +71,11 @@ pub record IsTaken (old new : List Register) (line : ℕ) (register : Register) 
   pub takes : TakesTargets (misses_of old) (misses_of new) line taken
   pub count : length (misses_of old) ≡ length (misses_of new) + (if is_waited rest then 0 else 1)
 
-pub took : (registers : List Register) (i : ℕ) (line : ℕ) (d : Register) (taken rest : List Target) →
-    HasEachLineOnce registers → i < length registers → serves line (get_or registers i no_register) ≡ true →
-    (get_or registers i d).targets ≡ taken ++ rest →
-    IsTaken registers (set registers i (record { targets = rest; line = (get_or registers i d).line })) line (get_or registers i d) taken rest
-took registers i line d taken rest single inside serving whole = record {
+pub took : (registers : List Register) (i : ℕ) (line : ℕ) (read : Register) (taken rest : List Target) →
+    HasEachLineOnce registers → i < length registers → read ≡ get_or registers i no_register → serves line (get_or registers i no_register) ≡ true →
+    read.targets ≡ taken ++ rest →
+    IsTaken registers (set registers i (record { targets = rest; line = read.line })) line read taken rest
+took registers i line read taken rest single inside same serving whole = record {
   single = single_after registers i line register home for single;
   before = waits_for registers i line home ∙ ap (λ r. r.targets) (sym same);
   after = left registers i line register home for;
@@ -95,13 +88,10 @@ took registers i line d taken rest single inside serving whole = record {
 }
   where
     register : Register
-    register = record { targets = rest; line = (get_or registers i d).line }
+    register = record { targets = rest; line = read.line }
 
     home : IsRegisterOf registers i line
     home = register_serving registers i line single inside serving
-
-    same : get_or registers i d ≡ get_or registers i no_register
-    same = get_or_default registers i d no_register inside
 
     for : register.line.0 ≡ line
     for = ap (λ r. r.line.0) same ∙ line_of line (get_or registers i no_register) serving

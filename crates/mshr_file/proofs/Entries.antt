@@ -5,12 +5,12 @@ use Rattle.std.specs.List.{count_by, list_any, position, position_or_len, prefix
 use Rattle.std.specs.Set.{remove_key}
 use Rattle.std.proofs.Math.Seq.{take-append_seam}
 use Rattle.std.proofs.lemmas.Bool.{cases_Bool, cases_eq, eq-eqb, ne_eqb, eqb-true, lt-ltb}
-use Rattle.std.proofs.lemmas.List.{append-nil, append_assoc, map-append, length-append, length-map}
+use Rattle.std.proofs.lemmas.List.{append-nil, append_assoc, map-append, length-append, length-map, length-take-le}
 use Rattle.std.proofs.lemmas.List.Elements.{filter-append}
 use Rattle.std.proofs.lemmas.List.Folds.{list_any-append}
-use Rattle.std.proofs.lemmas.List.Sums.{sum_by-append, sum_by-cons}
+use Rattle.std.proofs.lemmas.List.Sums.{sum_by-append, sum_by-cons, prefix_len-le-length}
 use Rattle.target_list.specs.declared.target.Target.{Target}
-use Rattle.target_list.specs.Target.{is_load}
+use Rattle.target_list.specs.Target.{is_load, front_loads}
 use Rattle.mshr_file.specs.declared.registers.Register.{Register}
 use Rattle.mshr_file.specs.declared.waiting.Waiting.{Waiting}
 use Rattle.mshr_file.specs.Miss.{is_for, targets_of, is_waited, has_miss, has_tag, count_of, AddsTarget, TakesTargets, HasEachTagOnce}
@@ -435,6 +435,12 @@ front_loads_at line entries = mapped (filter (waits_for line) entries) ∙ ap (p
     mapped : (entries : List Waiting) → prefix_len (λ entry. is_load entry.target) entries ≡ prefix_len is_load (map (λ entry. entry.target) entries)
     mapped [] = refl
     mapped (entry ∷ entries) = ap (λ n. if is_load entry.target then 1 + n else 0) (mapped entries)
+
+-- There are as many loads in front as the prefix is long.
+pub front_count : (targets : List Target) → length (front_loads targets) ≡ prefix_len is_load targets
+front_count targets =
+    let most = prefix_len-le-length is_load targets in
+    length-take-le (prefix_len is_load targets) targets most
 
 pub length_at : (line : ℕ) (entries : List Waiting) → length (filter (waits_for line) entries) ≡ length (targets_of (by_line entries) line)
 length_at line entries =

@@ -3,6 +3,8 @@ mod Laws
 mod Table
 mod Steps
 mod Calls
+mod Rows
+pub mod Changes
 mod ByLine
 mod Entries
 mod Tags

@@ -1,8 +1,8 @@
 -- Lists: what a filter drops and a count passes over, and the first place that passes a test.
-use Rattle.std.proofs.Common.{◌≡◌, ℕ, ◌+◌, ◌<◌, ◌≤◌, Bool, true, false, not, length, if◌then◌else◌, List, [], ◌∷◌, ◌++◌, filter, get_or, Some, None, refl, sym, ap, ⊎_elim, arith, ◌∙◌}
+use Rattle.std.proofs.Common.{◌≡◌, ℕ, ◌+◌, ◌<◌, ◌≤◌, Bool, true, false, not, length, if◌then◌else◌, List, [], ◌∷◌, ◌++◌, filter, Some, None, refl, sym, ap, ⊎_elim, arith, ◌∙◌}
 use Rattle.std.specs.Prelude.{sum_by, ◌&&◌, All, IsTrue, IsSome, nat_lt}
 use Rattle.std.specs.List.{flat_map, count_by, list_any, position, position_or_len}
-use Rattle.std.proofs.lemmas.Bool.{cases_Bool, lt-ltb, ltb-true}
+use Rattle.std.proofs.lemmas.Bool.{cases_Bool, lt-ltb}
 use Rattle.std.proofs.lemmas.List.Elements.{All-cons, All-nil}
 use Rattle.std.proofs.lemmas.List.Sums.{sum_by-cons}
 

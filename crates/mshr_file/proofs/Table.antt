@@ -8,19 +8,12 @@ use Rattle.std.proofs.lemmas.List.Sums.{sum_by-set, get_or-le-sum_by}
 use Rattle.target_list.specs.declared.target.Target.{Target}
 use Rattle.mshr_file.specs.Miss.{is_for, targets_in, targets_of, is_waited, count_of}
 use Rattle.mshr_file.specs.declared.registers.Register.{Register}
-use Rattle.mshr_file.specs.Register.{is_free, misses_of, serves, no_register}
+use Rattle.mshr_file.specs.Register.{misses_of, serves, no_register}
 use Rattle.mshr_file.proofs.Lists.{flat_map-filter, sum_by-filter, one-if, count_by-yes, count_by-no}
 
 pub nothing_waits : (targets : List Target) → is_waited targets ≡ false → targets ≡ []
 nothing_waits [] none = refl
 nothing_waits (first ∷ rest) none = absurd cc
-
-pub free_is : (register : Register) → is_free register ≡ true → is_waited register.targets ≡ false
-free_is register free = by_not _ free
-  where
-    by_not : (b : Bool) → not b ≡ true → b ≡ false
-    by_not true e = absurd cc
-    by_not false e = refl
 
 pub in_free : (line : ℕ) (register : Register) → is_waited register.targets ≡ false → targets_in line register ≡ []
 in_free line register free =

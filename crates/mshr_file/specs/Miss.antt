@@ -4,6 +4,8 @@ use Rattle.std.specs.Prelude.{◌≡◌, ◌≢◌, ◌≤◌, ◌<◌, ◌==◌
 use Rattle.std.specs.List.{flat_map, count_by}
 use Rattle.address_map.specs.declared.config.Config.{Config}
 use Rattle.address_map.specs.Words.{IsAscendingBy}
+use Rattle.mshr_file.specs.declared.admission.Admission.{Admission}
+use Rattle.mshr_file.specs.declared.admission.Admission.TheVariants as admissions
 use Rattle.mshr_file.specs.declared.registers.Register.{Register}
 use Rattle.target_list.specs.declared.target.Target.{Target}
 
@@ -83,6 +85,13 @@ can_open tags misses tag = is_free misses tag
 abbrev pub can_join : Bound → List Register → ℕ → ℕ → Bool
 can_join (registers most fields) misses line tag = nat_lt (length (targets_of misses line)) fields
 can_join tags misses line tag = is_free misses tag
+
+-- what a request with this tag for a line is to do: join the line's register, else open one, else wait for room
+abbrev pub admission_of : Bound → List Register → ℕ → ℕ → Admission
+admission_of bound misses line tag =
+    if has_miss misses line
+    then (if can_join bound misses line tag then admissions.Join else admissions.NoTarget)
+    else (if can_open bound misses tag then admissions.Open else admissions.NoRegister)
 
 -- what a configuration bounds a file of registers by
 abbrev pub registers_of : Config → Bound

@@ -1,7 +1,9 @@
 -- A table of miss registers, of which those with a target are open.
-use Rattle.std.specs.Prelude.{ℕ, ◌≤◌, Bool, not, ◌&&◌, List, [], length, filter}
+use Rattle.std.specs.Prelude.{◌≡◌, ℕ, ◌≤◌, ◌==◌, Bool, not, ◌&&◌, List, [], length, filter, map, All}
 use Rattle.std.specs.List.{count_by}
 use Rattle.mshr_file.specs.declared.registers.Register.{Register}
+use Rattle.mshr_file.specs.declared.registers.RegisterTable.{RegisterTable}
+use Rattle.mshr_file.specs.declared.registers.Row.{Row}
 use Rattle.mshr_file.specs.Miss.{is_for, is_waited}
 
 pub record Table : Type 0 where
@@ -12,10 +14,6 @@ pub record Table : Type 0 where
 
 abbrev pub no_register : Register
 no_register = record { targets = []; line = record { 0 = 0 } }
-
--- no target stands in the register
-abbrev pub is_free : Register → Bool
-is_free register = not (is_waited register.targets)
 
 -- the registers that are open
 abbrev pub misses_of : List Register → List Register
@@ -29,8 +27,29 @@ serves line register = is_waited register.targets && is_for line register
 pub record HasEachLineOnce (registers : List Register) : Type 0 where
   pub once : (line : ℕ) → count_by (serves line) registers ≤ 1
 
--- What a file of registers keeps: their bounds are those that a configuration may have.
+-- what a search reads of a register
+abbrev pub row_of : Register → Row
+row_of register = record { line = register.line; waiting = length register.targets }
+
+-- the row of a free register
+abbrev pub no_row : Row
+no_row = record { line = record { 0 = 0 }; waiting = 0 }
+
+-- the register of the row is free
+abbrev pub is_free_row : Row → Bool
+is_free_row row = row.waiting == 0
+
+-- the register of the row is open, and for this line
+abbrev pub row_serves : ℕ → Row → Bool
+row_serves line row = not (is_free_row row) && (row.line.0 == line)
+
+-- Each register has its row and at most 64 targets, and no line has two open registers.
+pub record IsKept (table : RegisterTable) : Type 0 where
+  pub few : All (λ row. row.waiting ≤ 64) table.rows.items
+  pub rows : table.rows.items ≡ map row_of table.registers.items
+  pub single : HasEachLineOnce table.registers.items
+
+-- The bounds of a file of registers are those that a configuration may have.
 pub record IsTable (table : Table) : Type 0 where
   pub few : length table.registers ≤ 32
   pub short : table.fields ≤ 32
-  pub single : HasEachLineOnce table.registers

@@ -1,11 +1,9 @@
 ghost use Rattle.std.specs.Prelude.{length};
 ghost use Rattle.mshr_file.specs.Register.{misses_of};
 
+use super::admission::Admission;
 use super::miss_file::MissFile;
-use super::registers::{
-    Register, close_register, count_open, fields_used, free_registers, is_served, join_register,
-    open_register, take_register_loads,
-};
+use super::registers::RegisterTable;
 use address_map::{Checked, Local};
 use arrayvec::ArrayVec;
 use std::alloc::{AllocError, Global};
@@ -15,18 +13,18 @@ use target_list::Target;
 /// Miss registers with explicitly addressed targets: `mshrs` of them, with `targets` fields each.
 #[derive(Drop)]
 pub struct ExplicitFile {
-    registers: Vec<Register>,
+    table: RegisterTable,
     fields: usize,
 }
 
 impl Model for ExplicitFile {
-    ghost use Rattle.mshr_file.specs.Register.{Table, IsTable};
+    ghost use Rattle.mshr_file.specs.Register.{Table, IsTable, IsKept};
 
     ghost Value = { Table };
 
-    ghost view = { λ file. record { registers = file.registers.items; fields = file.fields } };
+    ghost view = { λ file. record { registers = file.table.registers.items; fields = file.fields } };
 
-    ghost invariant = { λ file. IsTable (record { registers = file.registers.items; fields = file.fields }) };
+    ghost invariant = { λ file. IsTable (record { registers = file.table.registers.items; fields = file.fields }) × IsKept file.table };
 }
 
 impl MissFile for ExplicitFile {
@@ -40,39 +38,66 @@ impl MissFile for ExplicitFile {
 
     fn make(alloc: Global, config: &Checked) -> Result<Self, AllocError> {
         let fields = config.targets();
-        let registers = free_registers(alloc, config.mshrs())?;
-        Ok(ExplicitFile { registers, fields })
+        let table = RegisterTable::make(alloc, config.mshrs())?;
+        Ok(ExplicitFile { table, fields })
     }
 
     fn find(&self, line: Local) -> bool {
-        is_served(&self.registers, line)
+        self.table.find(line)
     }
 
     fn room_open(&self, _tag: u8) -> bool {
-        self.registers() < self.registers.len()
+        self.table.count_open() < self.table.len()
     }
 
     fn room_join(&self, line: Local, _tag: u8) -> bool {
-        fields_used(&self.registers, line) < self.fields
+        self.table.waiting(line) < self.fields
+    }
+
+    fn waiting(&self, line: Local) -> usize {
+        self.table.waiting(line)
+    }
+
+    fn front_loads(&self, line: Local) -> usize {
+        self.table.front_loads(line)
+    }
+
+    fn admit(&self, line: Local, tag: u8) -> Admission {
+        let used = self.table.waiting(line);
+        if used > 0 {
+            if used < self.fields {
+                Admission::Join
+            } else {
+                Admission::NoTarget
+            }
+        } else if self.room_open(tag) {
+            Admission::Open
+        } else {
+            Admission::NoRegister
+        }
     }
 
     fn open(&mut self, line: Local, target: Target) {
-        open_register(&mut self.registers, line, target);
+        self.table.open(line, target);
     }
 
     fn join(&mut self, line: Local, target: Target) {
-        join_register(&mut self.registers, line, target);
+        self.table.join(line, target);
+    }
+
+    fn take_first(&mut self, line: Local) -> Target {
+        self.table.take_first(line)
     }
 
     fn take_loads(&mut self, line: Local) -> ArrayVec<Target, 64> {
-        take_register_loads(&mut self.registers, line)
+        self.table.take_loads(line)
     }
 
     fn close(&mut self, line: Local) -> ArrayVec<Target, 64> {
-        close_register(&mut self.registers, line)
+        self.table.close(line)
     }
 
     fn registers(&self) -> usize {
-        count_open(&self.registers)
+        self.table.count_open()
     }
 }

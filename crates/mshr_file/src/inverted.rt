@@ -1,7 +1,8 @@
+use super::admission::Admission;
 use super::miss_file::MissFile;
 use super::waiting::{
     Waiting, count_at_line, count_front_loads, count_lines, entry_of, has_free, push_entry,
-    take_entries, waits,
+    take_entries, take_oldest, waits,
 };
 use address_map::{Checked, Local};
 use arrayvec::ArrayVec;
@@ -71,12 +72,34 @@ impl MissFile for InvertedFile {
         has_free(self.entries.as_slice(), tag)
     }
 
+    fn waiting(&self, line: Local) -> usize {
+        count_at_line(self.entries.as_slice(), line)
+    }
+
+    fn front_loads(&self, line: Local) -> usize {
+        count_front_loads(self.entries.as_slice(), line)
+    }
+
+    fn admit(&self, line: Local, tag: u8) -> Admission {
+        let free = self.room_open(tag);
+        match (self.find(line), free) {
+            (true, true) => Admission::Join,
+            (true, false) => Admission::NoTarget,
+            (false, true) => Admission::Open,
+            (false, false) => Admission::NoRegister,
+        }
+    }
+
     fn open(&mut self, line: Local, target: Target) {
         push_entry(&mut self.entries, line, target);
     }
 
     fn join(&mut self, line: Local, target: Target) {
         push_entry(&mut self.entries, line, target);
+    }
+
+    fn take_first(&mut self, line: Local) -> Target {
+        take_oldest(&mut self.entries, line)
     }
 
     fn take_loads(&mut self, line: Local) -> ArrayVec<Target, 64> {

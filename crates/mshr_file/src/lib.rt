@@ -21,12 +21,14 @@
 //! in use, at most 64. To count the lines of an inverted file, it compares these with one another.
 #![tactic(auto)]
 
+pub use admission::Admission;
 pub use explicit::ExplicitFile;
 pub use inverted::InvertedFile;
 pub use miss_file::MissFile;
 pub use target_list::Target;
 pub use waiting::Waiting;
 
+mod admission;
 mod explicit;
 mod inverted;
 mod miss_file;

@@ -1,9 +1,10 @@
-ghost use Rattle.std.specs.Prelude.{◌≡◌, ◌<◌, ◌+◌, ◌++◌, if◌then◌else◌, List, [], ◌∷◌, true, false, ℕ, length, IfOk, All};
+ghost use Rattle.std.specs.Prelude.{◌≡◌, ◌<◌, ◌≤◌, ◌+◌, ◌++◌, if◌then◌else◌, List, [], ◌∷◌, true, false, ℕ, length, IfOk, All};
 ghost use Rattle.address_map.specs.declared.config.Config.{Config};
 ghost use Rattle.target_list.specs.Target.{front_loads, behind_loads};
 ghost use Rattle.mshr_file.specs.declared.registers.Register.{Register};
-ghost use Rattle.mshr_file.specs.Miss.{Bound, IsMissFile, AddsTarget, TakesTargets, IsInOrder, HasEachTagOnce, targets_of, has_miss, is_free, can_open, can_join};
+ghost use Rattle.mshr_file.specs.Miss.{Bound, IsMissFile, AddsTarget, TakesTargets, IsInOrder, HasEachTagOnce, targets_of, has_miss, is_free, can_open, can_join, admission_of};
 
+use super::admission::Admission;
 use address_map::{Checked, Local};
 use arrayvec::ArrayVec;
 use std::alloc::{AllocError, Global};
@@ -38,6 +39,21 @@ pub trait MissFile: Sized + Drop {
         requires tag { tag < 64 }
         ensures { result ≡ can_join (bound self.now) (misses self.now) line.0 tag };
 
+    /// How many targets wait for the line: 0 where it has no register.
+    fn waiting(&self, line: Local) -> usize
+        ensures count { result ≡ length (targets_of (misses self.now) line.0) }
+        ensures few { result ≤ 64 };
+
+    /// How many of the line's targets are loads in front of the first that writes.
+    fn front_loads(&self, line: Local) -> usize
+        ensures count { result ≡ length (front_loads (targets_of (misses self.now) line.0)) }
+        ensures within { result ≤ length (targets_of (misses self.now) line.0) };
+
+    /// What a request with this tag for the line is to do.
+    fn admit(&self, line: Local, tag: u8) -> Admission
+        requires tag { tag < 64 }
+        ensures { result ≡ admission_of (bound self.now) (misses self.now) line.0 tag };
+
     /// Opens a register for the line, with one target.
     fn open(&mut self, line: Local, target: Target)
         requires free { has_miss (misses self.old) line.0 ≡ false }
@@ -45,6 +61,7 @@ pub trait MissFile: Sized + Drop {
         requires room { can_open (bound self.old) (misses self.old) target.tag ≡ true }
         ensures added { AddsTarget (misses self.old) (misses self.new) line.0 target }
         ensures registers { length (misses self.new) ≡ length (misses self.old) + 1 }
+        ensures sound { IsMissFile (misses self.new) }
         ensures bound { bound self.new ≡ bound self.old };
 
     /// Adds a target to the line's register, behind the others.
@@ -54,6 +71,15 @@ pub trait MissFile: Sized + Drop {
         requires room { can_join (bound self.old) (misses self.old) line.0 target.tag ≡ true }
         ensures added { AddsTarget (misses self.old) (misses self.new) line.0 target }
         ensures registers { length (misses self.new) ≡ length (misses self.old) }
+        ensures sound { IsMissFile (misses self.new) }
+        ensures bound { bound self.new ≡ bound self.old };
+
+    /// Takes the oldest target of the line. Where no target is left the register is free.
+    fn take_first(&mut self, line: Local) -> Target
+        requires found { has_miss (misses self.old) line.0 ≡ true }
+        ensures taken { TakesTargets (misses self.old) (misses self.new) line.0 (result ∷ []) }
+        ensures registers { length (misses self.old) ≡ length (misses self.new) + (if has_miss (misses self.new) line.0 then 0 else 1) }
+        ensures sound { IsMissFile (misses self.new) }
         ensures bound { bound self.new ≡ bound self.old };
 
     /// Takes the loads in front of the first target that writes. Where no target is left the register is free.
@@ -62,6 +88,7 @@ pub trait MissFile: Sized + Drop {
         ensures loads { result.items ≡ front_loads (targets_of (misses self.old) line.0) }
         ensures taken { TakesTargets (misses self.old) (misses self.new) line.0 result.items }
         ensures registers { length (misses self.old) ≡ length (misses self.new) + (if has_miss (misses self.new) line.0 then 0 else 1) }
+        ensures sound { IsMissFile (misses self.new) }
         ensures bound { bound self.new ≡ bound self.old };
 
     /// Takes all targets of the line, and its register is free.
@@ -70,6 +97,7 @@ pub trait MissFile: Sized + Drop {
         ensures all { result.items ≡ targets_of (misses self.old) line.0 }
         ensures taken { TakesTargets (misses self.old) (misses self.new) line.0 result.items }
         ensures registers { length (misses self.old) ≡ length (misses self.new) + 1 }
+        ensures sound { IsMissFile (misses self.new) }
         ensures bound { bound self.new ≡ bound self.old };
 
     /// How many registers are open.

@@ -1,8 +1,8 @@
-ghost use Rattle.std.specs.Prelude.{◌≡◌, ◌<◌, ◌≤◌, ◌+◌, true, false, if◌then◌else◌, length, IfOk, replicate, slice_index_or};
+ghost use Rattle.std.specs.Prelude.{◌≡◌, ◌<◌, ◌≤◌, ◌+◌, ◌==◌, [], ◌∷◌, true, false, not, if◌then◌else◌, length, filter, IfOk, replicate, slice_index_or};
 ghost use Rattle.std.specs.List.{list_any, position};
 ghost use Rattle.target_list.specs.Target.{front_loads};
 ghost use Rattle.mshr_file.specs.Miss.{is_waited, targets_of, has_miss, AddsTarget, TakesTargets, IsMissFile};
-ghost use Rattle.mshr_file.specs.Register.{HasEachLineOnce, is_free, misses_of, serves, no_register};
+ghost use Rattle.mshr_file.specs.Register.{IsKept, misses_of, serves, no_register, row_of, no_row, row_serves, is_free_row};
 
 use address_map::Local;
 use arrayvec::ArrayVec;
@@ -26,22 +26,232 @@ impl Register {
         }
     }
 
-    pub fn is_free(&self) -> bool
-        ensures { result ≡ is_free self.now }
+    /// What its row says.
+    pub fn row(&self) -> Row
+        ensures value { result ≡ row_of self.now }
+        ensures few { result.waiting ≤ 64 }
     {
-        self.targets.is_empty()
+        Row {
+            line: self.line,
+            waiting: self.targets.len(),
+        }
+    }
+}
+
+/// What a search reads of a register: its line, and how many targets it has.
+#[derive(Clone, Copy, Debug)]
+pub struct Row {
+    pub line: Local,
+    pub waiting: usize,
+}
+
+impl Row {
+    pub fn free() -> Self
+        ensures { result ≡ no_row }
+    {
+        Row {
+            line: Local(0),
+            waiting: 0,
+        }
     }
 
-    /// Whether it is open and for this line.
+    pub fn is_free(&self) -> bool
+        ensures { result ≡ is_free_row self.now }
+    {
+        self.waiting == 0
+    }
+
+    /// Whether its register is open and for this line.
     pub fn serves(&self, line: Local) -> bool
-        ensures { result ≡ serves line.0 self.now }
+        ensures { result ≡ row_serves line.0 self.now }
     {
         !self.is_free() && self.line == line
     }
 }
 
-/// Takes the memory for a table of free registers.
-pub fn free_registers(alloc: Global, count: usize) -> Result<Vec<Register>, AllocError>
+/// Registers, and a row for each of them. Registers are large, and lie far apart: a search looks at the rows alone.
+#[derive(Drop)]
+pub struct RegisterTable {
+    pub rows: Vec<Row>,
+    pub registers: Vec<Register>,
+}
+
+impl RegisterTable {
+    /// Takes the memory for a table of free registers.
+    pub fn make(alloc: Global, count: usize) -> Result<Self, AllocError>
+        ensures kept { IfOk result IsKept }
+        ensures free { IfOk result (λ table. table.registers.items ≡ replicate count no_register) }
+    {
+        let rows = free_rows(alloc, count)?;
+        let registers = free_registers(alloc, count)?;
+        Ok(RegisterTable { rows, registers })
+    }
+
+    /// How many registers there are.
+    pub fn len(&self) -> usize
+        ensures { result ≡ length self.now.registers.items }
+    {
+        self.registers.len()
+    }
+
+    /// Whether there is a register for the line.
+    pub fn find(&self, line: Local) -> bool
+        requires { IsKept self.now }
+        ensures served { result ≡ has_miss (misses_of self.now.registers.items) line.0 }
+        ensures sound { IsMissFile (misses_of self.now.registers.items) }
+    {
+        any_serves(&self.rows, line)
+    }
+
+    /// How many targets wait for the line.
+    pub fn waiting(&self, line: Local) -> usize
+        requires { IsKept self.now }
+        ensures count { result ≡ length (targets_of (misses_of self.now.registers.items) line.0) }
+        ensures few { result ≤ 64 }
+    {
+        match first_serving(&self.rows, line) {
+            Some(place) => self.rows[place].waiting,
+            None => 0,
+        }
+    }
+
+    /// How many loads the targets of the line begin with.
+    pub fn front_loads(&self, line: Local) -> usize
+        requires { IsKept self.now }
+        ensures count { result ≡ length (front_loads (targets_of (misses_of self.now.registers.items) line.0)) }
+        ensures within { result ≤ length (targets_of (misses_of self.now.registers.items) line.0) }
+    {
+        match first_serving(&self.rows, line) {
+            Some(place) => self.registers[place].targets.front_loads(),
+            None => 0,
+        }
+    }
+
+    /// How many registers are open.
+    pub fn count_open(&self) -> usize
+        requires { IsKept self.now }
+        ensures { result ≡ length (misses_of self.now.registers.items) }
+    {
+        count_rows(&self.rows)
+    }
+
+    /// Opens a free register for the line.
+    pub fn open(&mut self, line: Local, target: Target)
+        requires kept { IsKept self.old }
+        requires unserved { has_miss (misses_of self.old.registers.items) line.0 ≡ false }
+        requires room { length (misses_of self.old.registers.items) < length self.old.registers.items }
+        ensures kept { IsKept self.new }
+        ensures added { AddsTarget (misses_of self.old.registers.items) (misses_of self.new.registers.items) line.0 target }
+        ensures count { length (misses_of self.new.registers.items) ≡ length (misses_of self.old.registers.items) + 1 }
+        ensures sound { IsMissFile (misses_of self.new.registers.items) }
+        ensures size { length self.new.registers.items ≡ length self.old.registers.items }
+    {
+        let place = self.free_place();
+        let register = &mut self.registers[place];
+        register.line = line;
+        register.targets.push(target);
+        let row = register.row();
+        self.rows[place] = row;
+    }
+
+    /// Adds a target to the line's register.
+    pub fn join(&mut self, line: Local, target: Target)
+        requires kept { IsKept self.old }
+        requires served { has_miss (misses_of self.old.registers.items) line.0 ≡ true }
+        requires room { length (targets_of (misses_of self.old.registers.items) line.0) < 64 }
+        ensures kept { IsKept self.new }
+        ensures added { AddsTarget (misses_of self.old.registers.items) (misses_of self.new.registers.items) line.0 target }
+        ensures count { length (misses_of self.new.registers.items) ≡ length (misses_of self.old.registers.items) }
+        ensures sound { IsMissFile (misses_of self.new.registers.items) }
+        ensures size { length self.new.registers.items ≡ length self.old.registers.items }
+    {
+        let place = self.place_of(line);
+        let register = &mut self.registers[place];
+        register.targets.push(target);
+        let row = register.row();
+        self.rows[place] = row;
+    }
+
+    /// Takes the first target of the line's register.
+    pub fn take_first(&mut self, line: Local) -> Target
+        requires kept { IsKept self.old }
+        requires served { has_miss (misses_of self.old.registers.items) line.0 ≡ true }
+        ensures kept { IsKept self.new }
+        ensures taken { TakesTargets (misses_of self.old.registers.items) (misses_of self.new.registers.items) line.0 (result ∷ []) }
+        ensures count { length (misses_of self.old.registers.items) ≡ length (misses_of self.new.registers.items) + (if has_miss (misses_of self.new.registers.items) line.0 then 0 else 1) }
+        ensures sound { IsMissFile (misses_of self.new.registers.items) }
+        ensures size { length self.new.registers.items ≡ length self.old.registers.items }
+    {
+        let place = self.place_of(line);
+        let register = &mut self.registers[place];
+        let first = register.targets.take_first();
+        let row = register.row();
+        self.rows[place] = row;
+        first
+    }
+
+    /// Takes the loads at the front of the line's register.
+    pub fn take_loads(&mut self, line: Local) -> ArrayVec<Target, 64>
+        requires kept { IsKept self.old }
+        requires served { has_miss (misses_of self.old.registers.items) line.0 ≡ true }
+        ensures kept { IsKept self.new }
+        ensures loads { result.items ≡ front_loads (targets_of (misses_of self.old.registers.items) line.0) }
+        ensures taken { TakesTargets (misses_of self.old.registers.items) (misses_of self.new.registers.items) line.0 result.items }
+        ensures count { length (misses_of self.old.registers.items) ≡ length (misses_of self.new.registers.items) + (if has_miss (misses_of self.new.registers.items) line.0 then 0 else 1) }
+        ensures sound { IsMissFile (misses_of self.new.registers.items) }
+        ensures size { length self.new.registers.items ≡ length self.old.registers.items }
+    {
+        let place = self.place_of(line);
+        let register = &mut self.registers[place];
+        let loads = register.targets.take_loads();
+        let row = register.row();
+        self.rows[place] = row;
+        loads
+    }
+
+    /// Takes all targets of the line's register.
+    pub fn close(&mut self, line: Local) -> ArrayVec<Target, 64>
+        requires kept { IsKept self.old }
+        requires served { has_miss (misses_of self.old.registers.items) line.0 ≡ true }
+        ensures kept { IsKept self.new }
+        ensures all { result.items ≡ targets_of (misses_of self.old.registers.items) line.0 }
+        ensures taken { TakesTargets (misses_of self.old.registers.items) (misses_of self.new.registers.items) line.0 result.items }
+        ensures count { length (misses_of self.old.registers.items) ≡ length (misses_of self.new.registers.items) + 1 }
+        ensures sound { IsMissFile (misses_of self.new.registers.items) }
+        ensures size { length self.new.registers.items ≡ length self.old.registers.items }
+    {
+        let place = self.place_of(line);
+        let register = &mut self.registers[place];
+        let all = register.targets.take_all();
+        let row = register.row();
+        self.rows[place] = row;
+        all
+    }
+
+    /// The place of the register for the line.
+    fn place_of(&self, line: Local) -> usize
+        requires kept { IsKept self.now }
+        requires served { has_miss (misses_of self.now.registers.items) line.0 ≡ true }
+        ensures row { result < length self.now.rows.items }
+        ensures inside { result < length self.now.registers.items }
+        ensures serves { serves line.0 (slice_index_or self.now.registers.items result no_register) ≡ true }
+    {
+        first_serving(&self.rows, line).unwrap()
+    }
+
+    /// The place of the first register that is free.
+    fn free_place(&self) -> usize
+        requires kept { IsKept self.now }
+        requires room { length (misses_of self.now.registers.items) < length self.now.registers.items }
+        ensures row { result < length self.now.rows.items }
+        ensures inside { result < length self.now.registers.items }
+        ensures free { is_waited (slice_index_or self.now.registers.items result no_register).targets ≡ false }
+    {
+        first_free(&self.rows).unwrap()
+    }
+}
+
+fn free_registers(alloc: Global, count: usize) -> Result<Vec<Register>, AllocError>
     ensures { IfOk result (λ registers. registers.items ≡ replicate count no_register) }
 {
     let mut registers = Vec::with_capacity(alloc, count)?;
@@ -51,128 +261,36 @@ pub fn free_registers(alloc: Global, count: usize) -> Result<Vec<Register>, Allo
     Ok(registers)
 }
 
-/// Whether there is a register for the line.
-pub fn is_served(registers: &[Register], line: Local) -> bool
-    requires { HasEachLineOnce registers.now }
-    ensures served { result ≡ has_miss (misses_of registers.now) line.0 }
-    ensures sound { IsMissFile (misses_of registers.now) }
+fn free_rows(alloc: Global, count: usize) -> Result<Vec<Row>, AllocError>
+    ensures { IfOk result (λ rows. rows.items ≡ replicate count no_row) }
 {
-    any_serves(registers, line)
+    let mut rows = Vec::with_capacity(alloc, count)?;
+    for _ in 0..count {
+        rows.push(Row::free())?;
+    }
+    Ok(rows)
 }
 
-fn any_serves(registers: &[Register], line: Local) -> bool
-    ensures { result ≡ list_any (serves line.0) registers.now }
+fn any_serves(rows: &[Row], line: Local) -> bool
+    ensures { result ≡ list_any (row_serves line.0) rows.now }
 {
-    registers.iter().any(|register| register.serves(line))
+    rows.iter().any(|row| row.serves(line))
 }
 
-/// How many targets wait for the line.
-pub fn fields_used(registers: &[Register], line: Local) -> usize
-    requires single { HasEachLineOnce registers.now }
-    requires served { has_miss (misses_of registers.now) line.0 ≡ true }
-    ensures { result ≡ length (targets_of (misses_of registers.now) line.0) }
+fn first_serving(rows: &[Row], line: Local) -> Option<usize>
+    ensures { result ≡ position (row_serves line.0) rows.now }
 {
-    let register = &registers[place_of(registers, line)];
-    register.targets.len()
+    rows.iter().position(|row| row.serves(line))
 }
 
-/// Opens a free register for the line.
-pub fn open_register(registers: &mut [Register], line: Local, target: Target)
-    requires single { HasEachLineOnce registers.old }
-    requires unserved { has_miss (misses_of registers.old) line.0 ≡ false }
-    requires room { length (misses_of registers.old) < length registers.old }
-    ensures single { HasEachLineOnce registers.new }
-    ensures added { AddsTarget (misses_of registers.old) (misses_of registers.new) line.0 target }
-    ensures count { length (misses_of registers.new) ≡ length (misses_of registers.old) + 1 }
-    ensures size { length registers.new ≡ length registers.old }
+fn first_free(rows: &[Row]) -> Option<usize>
+    ensures { result ≡ position is_free_row rows.now }
 {
-    let place = free_place(registers);
-    let register = &mut registers[place];
-    register.line = line;
-    register.targets.push(target);
+    rows.iter().position(|row| row.is_free())
 }
 
-/// Adds a target to the line's register.
-pub fn join_register(registers: &mut [Register], line: Local, target: Target)
-    requires single { HasEachLineOnce registers.old }
-    requires served { has_miss (misses_of registers.old) line.0 ≡ true }
-    requires room { length (targets_of (misses_of registers.old) line.0) < 64 }
-    ensures single { HasEachLineOnce registers.new }
-    ensures added { AddsTarget (misses_of registers.old) (misses_of registers.new) line.0 target }
-    ensures count { length (misses_of registers.new) ≡ length (misses_of registers.old) }
-    ensures size { length registers.new ≡ length registers.old }
+fn count_rows(rows: &[Row]) -> usize
+    ensures { result ≡ length (filter (λ row. not (is_free_row row)) rows.now) }
 {
-    let place = place_of(registers, line);
-    let register = &mut registers[place];
-    register.targets.push(target);
-}
-
-/// Takes the loads at the front of the line's register.
-pub fn take_register_loads(registers: &mut [Register], line: Local) -> ArrayVec<Target, 64>
-    requires single { HasEachLineOnce registers.old }
-    requires served { has_miss (misses_of registers.old) line.0 ≡ true }
-    ensures single { HasEachLineOnce registers.new }
-    ensures loads { result.items ≡ front_loads (targets_of (misses_of registers.old) line.0) }
-    ensures taken { TakesTargets (misses_of registers.old) (misses_of registers.new) line.0 result.items }
-    ensures count { length (misses_of registers.old) ≡ length (misses_of registers.new) + (if has_miss (misses_of registers.new) line.0 then 0 else 1) }
-    ensures size { length registers.new ≡ length registers.old }
-{
-    let place = place_of(registers, line);
-    let register = &mut registers[place];
-    register.targets.take_loads()
-}
-
-/// Takes all targets of the line's register.
-pub fn close_register(registers: &mut [Register], line: Local) -> ArrayVec<Target, 64>
-    requires single { HasEachLineOnce registers.old }
-    requires served { has_miss (misses_of registers.old) line.0 ≡ true }
-    ensures single { HasEachLineOnce registers.new }
-    ensures all { result.items ≡ targets_of (misses_of registers.old) line.0 }
-    ensures taken { TakesTargets (misses_of registers.old) (misses_of registers.new) line.0 result.items }
-    ensures count { length (misses_of registers.old) ≡ length (misses_of registers.new) + 1 }
-    ensures size { length registers.new ≡ length registers.old }
-{
-    let place = place_of(registers, line);
-    let register = &mut registers[place];
-    register.targets.take_all()
-}
-
-/// The place of the register for the line.
-fn place_of(registers: &[Register], line: Local) -> usize
-    requires { has_miss (misses_of registers.now) line.0 ≡ true }
-    ensures inside { result < length registers.now }
-    ensures serves { serves line.0 (slice_index_or registers.now result no_register) ≡ true }
-{
-    first_serving(registers, line).unwrap()
-}
-
-fn first_serving(registers: &[Register], line: Local) -> Option<usize>
-    ensures { result ≡ position (serves line.0) registers.now }
-{
-    registers.iter().position(|register| register.serves(line))
-}
-
-/// The place of the first register that is free.
-fn free_place(registers: &[Register]) -> usize
-    requires { length (misses_of registers.now) < length registers.now }
-    ensures inside { result < length registers.now }
-    ensures free { is_waited (slice_index_or registers.now result no_register).targets ≡ false }
-{
-    first_free(registers).unwrap()
-}
-
-fn first_free(registers: &[Register]) -> Option<usize>
-    ensures { result ≡ position is_free registers.now }
-{
-    registers.iter().position(|register| register.is_free())
-}
-
-/// How many registers are open.
-pub fn count_open(registers: &[Register]) -> usize
-    ensures { result ≡ length (misses_of registers.now) }
-{
-    registers
-        .iter()
-        .filter(|register| !register.is_free())
-        .count()
+    rows.iter().filter(|row| !row.is_free()).count()
 }

@@ -1,4 +1,4 @@
-use super::{ExplicitFile, InvertedFile, MissFile, Target};
+use super::{Admission, ExplicitFile, InvertedFile, MissFile, Target};
 use address_map::{Checked, Config, ConfigError, Local, Offset, Op};
 use arrayvec::ArrayVec;
 use std::alloc::Global;
@@ -81,6 +81,45 @@ fn gives_in_order<F: MissFile>(file: &mut F) -> bool {
     }
     let last = file.take_loads(Local(5));
     has_seqs(&last, &[2]) && !file.find(Local(5)) && file.registers() == 0
+}
+
+/// The targets of line 0 one by one, the oldest first, while line 5 waits.
+fn gives_one_by_one<F: MissFile>(file: &mut F) -> bool {
+    if !fills(file) || file.waiting(Local(0)) != 4 || file.front_loads(Local(0)) != 2 {
+        return false;
+    }
+    for seq in [0, 1, 3, 4] {
+        if !file.find(Local(0)) || file.take_first(Local(0)).seq != seq {
+            return false;
+        }
+    }
+    file.waiting(Local(0)) == 0 && file.waiting(Local(5)) == 1 && file.registers() == 1
+}
+
+#[test]
+fn both_files_give_targets_one_by_one(rt: HostRuntime) -> Result<(), Fail> {
+    let config = configured(rt.alloc(), 2, 4)?;
+    assert!(rt; gives_one_by_one(&mut ExplicitFile::make(rt.alloc(), &config)?));
+    assert!(rt; gives_one_by_one(&mut InvertedFile::make(rt.alloc(), &config)?));
+    Ok(())
+}
+
+#[test]
+fn requests_are_admitted_while_there_is_room(rt: HostRuntime) -> Result<(), Fail> {
+    let config = configured(rt.alloc(), 2, 4)?;
+    let mut explicit = ExplicitFile::make(rt.alloc(), &config)?;
+    assert_eq!(rt; explicit.admit(Local(0), 9), Admission::Open);
+    assert!(rt; fills(&mut explicit));
+    assert_eq!(rt; explicit.admit(Local(0), 4), Admission::NoTarget);
+    assert_eq!(rt; explicit.admit(Local(5), 4), Admission::Join);
+    assert_eq!(rt; explicit.admit(Local(7), 4), Admission::NoRegister);
+    let mut inverted = InvertedFile::make(rt.alloc(), &config)?;
+    assert!(rt; fills(&mut inverted));
+    assert_eq!(rt; inverted.admit(Local(0), 4), Admission::Join);
+    assert_eq!(rt; inverted.admit(Local(0), 9), Admission::NoTarget);
+    assert_eq!(rt; inverted.admit(Local(7), 4), Admission::Open);
+    assert_eq!(rt; inverted.admit(Local(7), 9), Admission::NoRegister);
+    Ok(())
 }
 
 #[test]

@@ -1,8 +1,8 @@
 ghost use Rattle.std.specs.Prelude.{◌≡◌, ◌+◌, ◌<◌, ◌≤◌, true, if◌then◌else◌, [], ◌∷◌, filter, find, length, take};
 ghost use Rattle.std.specs.List.{list_any, prefix_len, position};
 ghost use Rattle.std.specs.Option.{option_copied};
-ghost use Rattle.target_list.specs.Target.{is_load};
-ghost use Rattle.mshr_file.specs.Miss.{targets_of, has_miss, has_tag, is_free, AddsTarget, TakesTargets};
+ghost use Rattle.target_list.specs.Target.{is_load, front_loads};
+ghost use Rattle.mshr_file.specs.Miss.{targets_of, has_miss, has_tag, is_free, AddsTarget, TakesTargets, IsMissFile};
 ghost use Rattle.mshr_file.specs.Waiting.{at_line, by_line, waits_for, HasEntryByTag, TakesEntries};
 
 use address_map::Local;
@@ -61,20 +61,24 @@ fn any_named(entries: &[Waiting], tag: u8) -> bool
 
 /// How many entries are for the line.
 pub fn count_at_line(entries: &[Waiting], line: Local) -> usize
-    ensures { result ≡ length (targets_of (by_line entries.now) line.0) }
+    requires few { length entries.now ≤ 64 }
+    ensures count { result ≡ length (targets_of (by_line entries.now) line.0) }
+    ensures few { result ≤ 64 }
 {
     count_entries(entries, line)
 }
 
 fn count_entries(entries: &[Waiting], line: Local) -> usize
-    ensures { result ≡ length (filter (waits_for line.0) entries.now) }
+    ensures count { result ≡ length (filter (waits_for line.0) entries.now) }
+    ensures within { result ≤ length entries.now }
 {
     entries.iter().filter(|entry| entry.line == line).count()
 }
 
 /// How many loads the entries for the line begin with.
 pub fn count_front_loads(entries: &[Waiting], line: Local) -> usize
-    ensures loads { result ≡ prefix_len is_load (targets_of (by_line entries.now) line.0) }
+    ensures count { result ≡ length (front_loads (targets_of (by_line entries.now) line.0)) }
+    ensures prefix { result ≡ prefix_len is_load (targets_of (by_line entries.now) line.0) }
     ensures within { result ≤ length (targets_of (by_line entries.now) line.0) }
 {
     count_loads(entries, line)
@@ -97,6 +101,7 @@ pub fn push_entry(entries: &mut ArrayVec<Waiting, 64>, line: Local, target: Targ
     requires free { is_free (by_line entries.old.items) target.tag ≡ true }
     ensures by_tag { HasEntryByTag entries.new.items }
     ensures added { AddsTarget (by_line entries.old.items) (by_line entries.new.items) line.0 target }
+    ensures sound { IsMissFile (by_line entries.new.items) }
     ensures lines { length (by_line entries.new.items) + (if has_miss (by_line entries.old.items) line.0 then 1 else 0) ≡ length (by_line entries.old.items) + 1 }
 {
     entries.push(Waiting { target, line });
@@ -118,6 +123,18 @@ pub fn count_lines(entries: &[Waiting]) -> usize
     }
 }
 
+/// Takes out the first entry for the line.
+pub fn take_oldest(entries: &mut ArrayVec<Waiting, 64>, line: Local) -> Target
+    requires by_tag { HasEntryByTag entries.old.items }
+    requires some { has_miss (by_line entries.old.items) line.0 ≡ true }
+    ensures by_tag { HasEntryByTag entries.new.items }
+    ensures taken { TakesTargets (by_line entries.old.items) (by_line entries.new.items) line.0 (result ∷ []) }
+    ensures sound { IsMissFile (by_line entries.new.items) }
+    ensures lines { length (by_line entries.old.items) ≡ length (by_line entries.new.items) + (if has_miss (by_line entries.new.items) line.0 then 0 else 1) }
+{
+    take_first(entries, line)
+}
+
 /// Takes out the first entries for the line, as many as `count`.
 pub fn take_entries(
     entries: &mut ArrayVec<Waiting, 64>,
@@ -130,6 +147,7 @@ pub fn take_entries(
     ensures by_tag { HasEntryByTag entries.new.items }
     ensures first { result.items ≡ take count (targets_of (by_line entries.old.items) line.0) }
     ensures taken { TakesTargets (by_line entries.old.items) (by_line entries.new.items) line.0 result.items }
+    ensures sound { IsMissFile (by_line entries.new.items) }
     ensures lines { length (by_line entries.old.items) ≡ length (by_line entries.new.items) + (if has_miss (by_line entries.new.items) line.0 then 0 else 1) }
 {
     take_in_turn(entries, line, count)
@@ -153,7 +171,6 @@ fn take_in_turn(
     taken
 }
 
-/// Takes out the first entry for the line.
 fn take_first(entries: &mut ArrayVec<Waiting, 64>, line: Local) -> Target
     requires { list_any (waits_for line.0) entries.old.items ≡ true }
     ensures { TakesEntries entries.old.items line.0 (result ∷ []) entries.new.items }

@@ -1,4 +1,4 @@
-ghost use Rattle.std.specs.Prelude.{◌≡◌, ◌<◌, ◌≤◌, ◌++◌, ◌↔◌, [], ◌∷◌, length, IsTrue};
+ghost use Rattle.std.specs.Prelude.{◌≡◌, ◌<◌, ◌≤◌, ◌++◌, ◌↔◌, [], ◌∷◌, length, drop, IsTrue};
 ghost use Rattle.std.specs.List.{prefix_len};
 ghost use Rattle.target_list.specs.declared.list.TheConstants.{MOST_TARGETS};
 ghost use Rattle.target_list.specs.Target.{is_load};
@@ -14,15 +14,19 @@ pub const MOST_TARGETS: usize = 64;
 #[derive(Drop)]
 pub struct TargetList {
     targets: ArrayVec<Target, 64>,
+    /// How many of them, from the front, were taken already.
+    taken: usize,
 }
 
 impl Model for TargetList {
-    ghost use Rattle.std.specs.Prelude.{List};
+    ghost use Rattle.std.specs.Prelude.{◌≤◌, List, length, drop};
     ghost use Rattle.target_list.specs.declared.target.Target.{Target};
 
     ghost Value = { List Target };
 
-    ghost view = { λ list. list.targets.items };
+    ghost view = { λ list. drop list.taken list.targets.items };
+
+    ghost invariant = { λ list. list.taken ≤ length list.targets.items };
 }
 
 impl TargetList {
@@ -33,6 +37,7 @@ impl TargetList {
     {
         TargetList {
             targets: ArrayVec::new(),
+            taken: 0,
         }
     }
 
@@ -40,20 +45,29 @@ impl TargetList {
         ensures value { result ≡ length self.now }
         ensures fits { result ≤ MOST_TARGETS }
     {
-        self.targets.len()
+        self.targets.len() - self.taken
     }
 
     pub fn is_empty(&self) -> bool
         ensures { IsTrue result ↔ (self.now ≡ []) }
     {
-        self.targets.is_empty()
+        self.len() == 0
     }
 
     /// The targets, the oldest first.
     pub fn as_slice(&self) -> &[Target]
-        ensures { result.now ≡ self.now }
+        ensures value { result.now ≡ self.now }
+        ensures few { length result.now ≤ MOST_TARGETS }
     {
-        self.targets.as_slice()
+        &self.targets.as_slice()[self.taken..]
+    }
+
+    /// How many loads there are in front of the first target that writes.
+    pub fn front_loads(&self) -> usize
+        ensures count { result ≡ length (front_loads self.now) }
+        ensures within { result ≤ length self.now }
+    {
+        count_front_loads(self.as_slice())
     }
 
     /// Adds a target behind the others.
@@ -61,7 +75,21 @@ impl TargetList {
         requires { length self.old < MOST_TARGETS }
         ensures { self.new ≡ self.old ++ target ∷ [] }
     {
+        if self.targets.is_full() {
+            self.targets.drain(..self.taken);
+            self.taken = 0;
+        }
         self.targets.push(target);
+    }
+
+    /// Takes the oldest target.
+    pub fn take_first(&mut self) -> Target
+        requires { 0 < length self.old }
+        ensures { self.old ≡ result ∷ self.new }
+    {
+        let first = self.as_slice()[0];
+        self.pass(1);
+        first
     }
 
     /// Takes the loads in front of the first target that writes.
@@ -70,9 +98,9 @@ impl TargetList {
         ensures left { self.new ≡ behind_loads self.old }
         ensures loads { TakesLoads self.old result.items self.new }
     {
-        let loads = count_front_loads(self.targets.as_slice());
-        let taken = copied(&self.targets.as_slice()[..loads]);
-        self.targets.drain(..loads);
+        let loads = count_front_loads(self.as_slice());
+        let taken = copied(&self.as_slice()[..loads]);
+        self.pass(loads);
         taken
     }
 
@@ -81,9 +109,22 @@ impl TargetList {
         ensures taken { result.items ≡ self.old }
         ensures left { self.new ≡ [] }
     {
-        let taken = copied(self.targets.as_slice());
-        self.targets.clear();
+        let taken = copied(self.as_slice());
+        self.pass(self.len());
         taken
+    }
+
+    /// Goes past the first targets, and begins anew where none is left.
+    fn pass(&mut self, count: usize)
+        requires { count ≤ length self.old }
+        ensures { self.new ≡ drop count self.old }
+    {
+        let end = self.targets.len();
+        self.taken += count;
+        if self.taken == end {
+            self.targets.clear();
+            self.taken = 0;
+        }
     }
 }
 

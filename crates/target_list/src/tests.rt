@@ -49,6 +49,23 @@ fn takes_the_loads_at_the_front(rt: HostRuntime) {
     }
 }
 
+// Targets come and go for longer than there are fields.
+#[test]
+fn takes_targets_one_by_one(rt: HostRuntime) {
+    let mut list = listed(&[Op::Load, Op::Load, Op::Store(7)]);
+    assert_eq!(rt; list.front_loads(), 2);
+    for seq in 3..200 {
+        if list.is_empty() || list.len() >= MOST_TARGETS {
+            break;
+        }
+        let mut target = list.take_first();
+        assert_eq!(rt; target.seq, seq - 3);
+        target.seq = seq;
+        list.push(target);
+    }
+    assert!(rt; has_seqs(list.as_slice(), &[197, 198, 199]));
+}
+
 // One target for each tag of a core.
 #[test]
 fn holds_a_target_for_each_tag(rt: HostRuntime) {

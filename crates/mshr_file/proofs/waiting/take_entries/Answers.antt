@@ -1,5 +1,5 @@
 use Rattle.std.proofs.Common.{length, ap, sym, ◌∙◌, arith}
-use Rattle.mshr_file.proofs.ByLine.{waits_at}
+use Rattle.mshr_file.proofs.ByLine.{waits_at, by_line_sound}
 use Rattle.mshr_file.proofs.Entries.{has_miss_at, tags_after, takes_targets, lines_taken, first_of}
 use Rattle.mshr_file.proofs.Tags.{few_at}
 use Rattle.mshr_file.proofs.waiting.take_entries.Goals as goal
@@ -31,3 +31,6 @@ returns-clause-taken c = takes_targets _ _ _ _ c.take_in_turn.ensures.taken
 
 pub returns-clause-lines : goal.returns-clause-lines
 returns-clause-lines c = lines_taken _ _ _ _ c.take_in_turn.ensures.taken
+
+pub returns-clause-sound : goal.returns-clause-sound
+returns-clause-sound c = by_line_sound c.take_in_turn.new.entries.items

@@ -4,4 +4,4 @@ use Rattle.mshr_file.proofs.Steps.{none_open}
 use Rattle.mshr_file.proofs.explicit.ExplicitFileMissFile.make.Goals as goal
 
 pub returns-clause-empty : goal.returns-clause-empty
-returns-clause-empty c = ap misses_of c.in_ok-registers.ensures ∙ none_open c.mshrs.result
+returns-clause-empty c = ap misses_of c.in_ok-table.ensures.free ∙ none_open c.mshrs.result

@@ -1,0 +1,196 @@
+-- What a search of the rows says of their registers, and how rows and registers change together.
+use Rattle.std.proofs.Common.{◌≡◌, ℕ, zero, suc, ◌<◌, ◌≤◌, ◌==◌, Bool, true, false, not, nat_lt, if◌then◌else◌, List, [], ◌∷◌, length, filter, map, replicate, get_or, set, Some, None, refl, sym, ap, ⊎_elim, arith, ◌∙◌}
+use Rattle.std.specs.Prelude.{◌&&◌, All, IsSome}
+use Rattle.std.specs.List.{list_any, position, position_or_len}
+use Rattle.std.proofs.lemmas.Bool.{cases_Bool, lt-ltb, ne_eqb}
+use Rattle.std.proofs.lemmas.Option.{none-some}
+use Rattle.std.proofs.lemmas.List.{get_or-map, length-map, map-set}
+use Rattle.std.proofs.lemmas.List.Elements.{All-set, All-cons, All-nil}
+use Rattle.std.proofs.lemmas.List.Folds.{sum_by-replicate}
+use Rattle.std.proofs.lemmas.List.Quantifiers.{position-Some}
+use Rattle.target_list.specs.declared.target.Target.{Target}
+use Rattle.mshr_file.specs.declared.registers.Register.{Register}
+use Rattle.mshr_file.specs.declared.registers.RegisterTable.{RegisterTable}
+use Rattle.mshr_file.specs.declared.registers.Row.{Row}
+use Rattle.mshr_file.specs.Miss.{is_for, is_waited, targets_of, has_miss}
+use Rattle.mshr_file.specs.Register.{misses_of, serves, no_register, row_of, no_row, row_serves, is_free_row, IsKept, HasEachLineOnce}
+use Rattle.mshr_file.proofs.Lists.{position_found, first-inside}
+use Rattle.mshr_file.proofs.Steps.{has_miss_is, register_serving, waits_for}
+use Rattle.mshr_file.proofs.Table.{nothing_waits}
+
+module _ {X Y : Type 0} (f : X → Y) (p : Y → Bool) (q : X → Bool) (same : (x : X) → p (f x) ≡ q x) where
+  any-map : (xs : List X) → list_any p (map f xs) ≡ list_any q xs
+  any-map [] = refl
+  any-map (x ∷ xs) = rw (same x) (rw (any-map xs) refl)
+
+  kept-map : (xs : List X) → length (filter p (map f xs)) ≡ length (filter q xs)
+  kept-map [] = refl
+  kept-map (x ∷ xs) =
+      ⊎_elim
+      (λ yes. let also : p (f x) ≡ true = same x ∙ yes in rw also (rw yes (let later = kept-map xs in omega (arith, later))))
+      (λ no. let also : p (f x) ≡ false = same x ∙ no in rw also (rw no (kept-map xs)))
+      (cases_Bool (q x))
+
+-- A row is free where no target waits in its register.
+free_row : (register : Register) → is_free_row (row_of register) ≡ not (is_waited register.targets)
+free_row register = none register.targets
+  where
+    none : (targets : List Target) → (length targets == 0) ≡ not (is_waited targets)
+    none [] = refl
+    none (target ∷ targets) = ne_eqb _ _ (λ zero. omega (arith, zero))
+
+used_row : (register : Register) → not (is_free_row (row_of register)) ≡ is_waited register.targets
+used_row register = ap not (free_row register) ∙ twice (is_waited register.targets)
+  where
+    twice : (b : Bool) → not (not b) ≡ b
+    twice true = refl
+    twice false = refl
+
+serving_row : (line : ℕ) (register : Register) → row_serves line (row_of register) ≡ serves line register
+serving_row line register = ap (λ used. used && is_for line register) (used_row register)
+
+-- Whether there is a miss for a line is whether a row serves it.
+pub row_for : (table : RegisterTable) (line : ℕ) → IsKept table →
+    list_any (row_serves line) table.rows.items ≡ has_miss (misses_of table.registers.items) line
+row_for table line kept =
+    ap (list_any (row_serves line)) kept.rows
+    ∙ any-map row_of (row_serves line) (serves line) (serving_row line) table.registers.items
+    ∙ has_miss_is table.registers.items line
+
+-- As many rows are in use as registers are open.
+pub open_rows : (table : RegisterTable) → IsKept table →
+    length (filter (λ row. not (is_free_row row)) table.rows.items) ≡ length (misses_of table.registers.items)
+open_rows table kept =
+    ap (λ rows. length (filter (λ row. not (is_free_row row)) rows)) kept.rows
+    ∙ kept-map row_of (λ row. not (is_free_row row)) (λ register. is_waited register.targets) used_row table.registers.items
+
+pub as_many : (table : RegisterTable) → IsKept table → length table.rows.items ≡ length table.registers.items
+as_many table kept = ap length kept.rows ∙ length-map table.registers.items row_of
+
+-- the row at a place is that of the register there
+pub row_at : (table : RegisterTable) (place : ℕ) (d : Row) → IsKept table → place < length table.registers.items →
+    get_or table.rows.items place d ≡ row_of (get_or table.registers.items place no_register)
+row_at table place d kept inside =
+    ap (λ rows. get_or rows place d) kept.rows ∙ get_or-map row_of table.registers.items place no_register d inside
+
+pub record IsServedAt (table : RegisterTable) (line place : ℕ) : Type 0 where
+  pub row : place < length table.rows.items
+  pub inside : place < length table.registers.items
+  pub serving : serves line (get_or table.registers.items place no_register) ≡ true
+  pub waits : targets_of (misses_of table.registers.items) line ≡ (get_or table.registers.items place no_register).targets
+
+-- Where a search finds a row for a line, the line waits in its register.
+pub served_at : (table : RegisterTable) (line place : ℕ) → IsKept table → position (row_serves line) table.rows.items ≡ Some place →
+    IsServedAt table line place
+served_at table line place kept found = record {
+  row = row;
+  inside = inside;
+  serving = serving;
+  waits = waits_for table.registers.items place line (register_serving table.registers.items place line kept.single inside serving);
+}
+  where
+    row : place < length table.rows.items
+    row = (position-Some (row_serves line) table.rows.items place no_row found).0
+
+    inside : place < length table.registers.items
+    inside = let same = as_many table kept in omega (arith, row, same)
+
+    serving : serves line (get_or table.registers.items place no_register) ≡ true
+    serving =
+        sym (serving_row line (get_or table.registers.items place no_register))
+        ∙ ap (row_serves line) (sym (row_at table place no_row kept inside))
+        ∙ (position-Some (row_serves line) table.rows.items place no_row found).1
+
+-- Where a search finds none, nothing waits for the line.
+pub unserved : (table : RegisterTable) (line : ℕ) → IsKept table → position (row_serves line) table.rows.items ≡ None →
+    targets_of (misses_of table.registers.items) line ≡ []
+unserved table line kept missing =
+    ⊎_elim
+    (λ there. absurd (none_missing (row_serves line) table.rows.items there missing))
+    (λ nobody. nothing_waits _ (sym (row_for table line kept) ∙ nobody))
+    (cases_Bool (list_any (row_serves line) table.rows.items))
+  where
+    none_missing : (p : Row → Bool) (rows : List Row) → list_any p rows ≡ true → position p rows ≡ None → ⊥
+    none_missing p rows there missing =
+        let inside : nat_lt (position_or_len p rows) (length rows) ≡ true = lt-ltb _ _ (first-inside p rows there) in
+        let some : Some (position_or_len p rows) ≡ None = rw inside at missing in
+        none-some _ (sym some)
+
+-- A miss is found.
+pub row_found : (table : RegisterTable) (line : ℕ) → IsKept table → has_miss (misses_of table.registers.items) line ≡ true →
+    IsSome (position (row_serves line) table.rows.items)
+row_found table line kept there = position_found (row_serves line) table.rows.items (row_for table line kept ∙ there)
+
+-- Where not all registers are open, a free row is found.
+pub free_found : (table : RegisterTable) → IsKept table → length (misses_of table.registers.items) < length table.registers.items →
+    IsSome (position is_free_row table.rows.items)
+free_found table kept fewer =
+    position_found is_free_row table.rows.items (free_somewhere table.rows.items few)
+  where
+    few : length (filter (λ row. not (is_free_row row)) table.rows.items) < length table.rows.items
+    few = let used = open_rows table kept in let same = as_many table kept in omega (arith, fewer, used, same)
+
+    free_somewhere : (rows : List Row) → length (filter (λ row. not (is_free_row row)) rows) < length rows → list_any is_free_row rows ≡ true
+    free_somewhere [] none = absurd (omega (arith, none))
+    free_somewhere (row ∷ rows) less =
+        ⊎_elim
+        (λ free. rw free refl)
+        (λ used. rw used (free_somewhere rows (let shorter = rw used at less in omega (arith, shorter))))
+        (cases_Bool (is_free_row row))
+
+pub record IsFreeAt (table : RegisterTable) (place : ℕ) : Type 0 where
+  pub row : place < length table.rows.items
+  pub inside : place < length table.registers.items
+  pub free : is_waited (get_or table.registers.items place no_register).targets ≡ false
+
+pub free_at : (table : RegisterTable) (place : ℕ) → IsKept table → position is_free_row table.rows.items ≡ Some place → IsFreeAt table place
+free_at table place kept found = record {
+  row = row;
+  inside = inside;
+  free =
+      by_not _
+      (sym (free_row (get_or table.registers.items place no_register)) ∙ ap is_free_row (sym (row_at table place no_row kept inside)) ∙ (position-Some is_free_row table.rows.items place no_row found).1);
+}
+  where
+    row : place < length table.rows.items
+    row = (position-Some is_free_row table.rows.items place no_row found).0
+
+    inside : place < length table.registers.items
+    inside = let same = as_many table kept in omega (arith, row, same)
+
+    by_not : (b : Bool) → not b ≡ true → b ≡ false
+    by_not true e = absurd cc
+    by_not false e = refl
+
+-- A table of free registers and free rows is kept.
+pub free_kept : (count : ℕ) (table : RegisterTable) → table.rows.items ≡ replicate count no_row →
+    table.registers.items ≡ replicate count no_register → IsKept table
+free_kept count table rows registers = record {
+  few = rw rows (all_free count);
+  rows = rows ∙ free_rows count ∙ ap (map row_of) (sym registers);
+  single = rw registers (record { once = λ line. let none = sum_by-replicate (λ r. if serves line r then 1 else 0) count no_register in omega (arith, none) });
+}
+  where
+    free_rows : (count : ℕ) → replicate count no_row ≡ map row_of (replicate count no_register)
+    free_rows zero = refl
+    free_rows (suc count) = ap (λ rows. no_row ∷ rows) (free_rows count)
+
+    all_free : (count : ℕ) → All (λ row. row.waiting ≤ 64) (replicate count no_row)
+    all_free zero = All-nil _
+    all_free (suc count) = All-cons (λ row. row.waiting ≤ 64) no_row (replicate count no_row) (omega arith) (all_free count)
+
+-- A table is kept where a register and its row change together.
+pub kept_after : (table after : RegisterTable) (place : ℕ) (register : Register) (row : Row) → IsKept table →
+    HasEachLineOnce (set table.registers.items place register) →
+    after.registers.items ≡ set table.registers.items place register → after.rows.items ≡ set table.rows.items place row →
+    row ≡ row_of register → row.waiting ≤ 64 → IsKept after
+kept_after table after place register row kept single registers rows for few = record {
+  few = rw rows (All-set (λ row. row.waiting ≤ 64) table.rows.items place row few kept.few);
+  rows =
+      rows
+      ∙ ap (λ r. set table.rows.items place r) for
+      ∙ ap (λ all. set all place (row_of register)) kept.rows
+      ∙ sym (map-set row_of table.registers.items place register)
+      ∙ ap (map row_of) (sym registers);
+  single = rw registers single;
+}

@@ -1,0 +1,12 @@
+use Rattle.std.proofs.Common.{ap, ◌∙◌}
+use Rattle.std.specs.List.{list_any}
+use Rattle.mshr_file.specs.Register.{row_serves}
+use Rattle.mshr_file.proofs.Rows.{row_for}
+use Rattle.mshr_file.proofs.Steps.{sound}
+use Rattle.mshr_file.proofs.registers.RegisterTable.find.Goals as goal
+
+pub returns-clause-served : goal.returns-clause-served
+returns-clause-served c = c.any_serves.ensures ∙ ap (list_any (row_serves c.args.line.0)) c.deref.ensures.value ∙ row_for c.args.self.now c.args.line.0 c.requires
+
+pub returns-clause-sound : goal.returns-clause-sound
+returns-clause-sound c = sound c.args.self.now.registers.items c.requires.single

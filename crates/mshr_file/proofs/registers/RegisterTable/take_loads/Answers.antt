@@ -1,0 +1,62 @@
+use Rattle.std.proofs.Common.{ℕ, refl, sym, ap, arith, ◌∙◌, ◌≡◌, slice_index_or, slice_set, if◌then◌else◌}
+use Rattle.std.proofs.lemmas.List.{get_or_default}
+use Rattle.target_list.specs.Target.{front_loads}
+use Rattle.mshr_file.specs.Miss.{is_waited}
+use Rattle.mshr_file.specs.Register.{no_register}
+use Rattle.mshr_file.proofs.Calls.{IsTaken, took}
+use Rattle.mshr_file.proofs.Rows.{kept_after}
+use Rattle.mshr_file.proofs.Steps.{sound}
+use Rattle.mshr_file.proofs.registers.RegisterTable.take_loads.Goals as goal
+
+same : (c : goal.After-self-2-1) → c.index_mut-register.result.now ≡ slice_index_or c.args.self.now.registers.items c.place_of-place.result no_register
+same c =
+    c.index_mut-register.ensures.value
+    ∙ get_or_default c.args.self.now.registers.items c.place_of-place.result c.index_mut-register.result.now no_register c.place_of-place.ensures.inside
+
+step : (c : goal.After-self-2-1) →
+    IsTaken c.args.self.now.registers.items
+    (slice_set c.args.self.now.registers.items c.place_of-place.result (record { targets = c.take_loads-loads.new.self; line = c.index_mut-register.result.now.line }))
+    c.args.line.0 c.index_mut-register.result.now (c.take_loads-loads.result.items) c.take_loads-loads.new.self
+step c =
+    took
+    c.args.self.now.registers.items
+    c.place_of-place.result
+    c.args.line.0
+    c.index_mut-register.result.now
+    (c.take_loads-loads.result.items)
+    c.take_loads-loads.new.self
+    c.requires.kept.single
+    c.place_of-place.ensures.inside
+    (same c)
+    c.place_of-place.ensures.serves
+    c.take_loads-loads.ensures.loads.whole
+
+pub returns-clause-kept : goal.returns-clause-kept
+returns-clause-kept c =
+    kept_after
+    c.args.self.now
+    _
+    c.place_of-place.result
+    (record { targets = c.take_loads-loads.new.self; line = c.index_mut-register.result.now.line })
+    c.row-row.result
+    c.requires.kept
+    (step c).single
+    refl
+    refl
+    c.row-row.ensures.value
+    c.row-row.ensures.few
+
+pub returns-clause-sound : goal.returns-clause-sound
+returns-clause-sound c = sound _ (step c).single
+
+pub returns-clause-taken : goal.returns-clause-taken
+returns-clause-taken c = (step c).takes
+
+pub returns-clause-loads : goal.returns-clause-loads
+returns-clause-loads c = c.take_loads-loads.ensures.taken ∙ ap front_loads (sym (step c).before)
+
+pub returns-clause-count : goal.returns-clause-count
+returns-clause-count c =
+    let count = (step c).count in
+    let same = ap {B = ℕ} (λ targets. if is_waited targets then 0 else 1) (step c).after in
+    omega (arith, count, same)

@@ -1,5 +1,5 @@
 -- A line's place among those of its slice, and back, by a shift and a mask.
-use Rattle.std.proofs.Common.{◌≡◌, ℕ, ◌^◌, ◌<◌, ◌≤◌, ◌⊎◌, inl, inr, refl, lit≤}
+use Rattle.std.proofs.Common.{◌≡◌, ℕ, ◌^◌, ◌≤◌, ◌⊎◌, inl, inr, refl, lit≤}
 use Rattle.std.specs.Int.Count.{count_trailing_zeros}
 
 -- 1, 2 and 4 are powers of 2.

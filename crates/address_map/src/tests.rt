@@ -175,6 +175,7 @@ fn knows_its_words(rt: HostRuntime) -> Result<(), Fail> {
 #[test]
 fn locates_the_lines_of_a_slice(rt: HostRuntime) -> Result<(), Fail> {
     let config = worded(rt.alloc(), &[], &[])?.check()?;
+    assert!(rt; config.slices() == 2 && config.slice_lines() == 8);
     let odd = Locator::of(&config, SliceId(1));
     assert_eq!(rt;
         (odd.lines(), odd.slices(), odd.slice()),

@@ -1,9 +1,9 @@
 -- The first element of a list that passes a test: where it stands, and the list without it or with it at the end.
-use Rattle.std.proofs.Common.{◌≡◌, ℕ, ◌+◌, ◌<◌, ◌≤◌, Bool, true, false, cond, not, List, [], ◌∷◌, ◌++◌, length, map, get_or, suc, refl, ap, sym, ◌∙◌, arith, Some, None, option_to_list, find, position, remove, append-nil, drop}
+use Rattle.std.proofs.Common.{◌≡◌, ℕ, ◌+◌, ◌<◌, ◌≤◌, Bool, true, false, cond, not, List, [], ◌∷◌, ◌++◌, length, map, get_or, set, suc, refl, ap, sym, ◌∙◌, arith, Some, None, option_to_list, find, position, remove, drop, nat_lt}
 use Rattle.std.specs.List.{position_or_len, refill}
 use Rattle.std.specs.Set.{remove_key}
 use Rattle.std.proofs.lemmas.Bool.{ltb-true, ltb-false}
-use Rattle.std.proofs.lemmas.List.{map-append, take_at}
+use Rattle.std.proofs.lemmas.List.{map-append, take_at, length-set}
 use Rattle.std.proofs.lemmas.List.Folds.{find_at}
 use Rattle.std.proofs.lemmas.Option.{slice_get-get_or, slice_get_past}
 use Rattle.cache_array.specs.History.{moved_to_end}
@@ -53,6 +53,27 @@ found_at p xs i d e =
     let at = place_is _ _ _ e in
     rw (← at.1) (find_at p xs ∙ slice_get-get_or xs _ d (ltb-true _ _ at.0))
 
+pub first_at : {X : Type 0} (p : X → Bool) (xs : List X) (i : ℕ) → position p xs ≡ Some i → position_or_len p xs ≡ i
+first_at p xs i e = (place_is _ _ _ e).1
+
+-- another element that passes, put there, is found there
+position-set_first : {X : Type 0} (p : X → Bool) (xs : List X) (y : X) → p y ≡ true →
+    position_or_len p (set xs (position_or_len p xs) y) ≡ position_or_len p xs
+position-set_first p [] y passes = refl
+position-set_first p (x ∷ xs) y passes = by (p x) (position_or_len p xs) refl (position-set_first p xs y passes)
+  where
+    by : (b : Bool) (n : ℕ) → p x ≡ b → position_or_len p (set xs n y) ≡ n →
+        position_or_len p (set (x ∷ xs) (cond (not b) (1 + n) 0) y) ≡ cond (not b) (1 + n) 0
+    by true n is rest = rw passes refl
+    by false n is rest = let next : 1 + n ≡ suc n = omega arith in rw (next, is, rest) next
+
+pub position-written : {X : Type 0} (p : X → Bool) (xs : List X) (y : X) → p y ≡ true →
+    position p (set xs (position_or_len p xs) y) ≡ position p xs
+position-written p xs y passes =
+    let at = position_or_len p xs in
+    ap (λ n. cond (nat_lt n (length (set xs at y))) (Some n) None) (position-set_first p xs y passes)
+    ∙ ap (λ n. cond (nat_lt at n) (Some at) None) (length-set xs at y)
+
 -- where `position` found none, nothing goes, and `find` finds nothing
 pub removed_none : {X : Type 0} (p : X → Bool) (xs : List X) → position p xs ≡ None → remove_key p xs ≡ xs
 removed_none p xs e = remove_key-none p xs (ltb-false _ _ (no_place _ _ e))
@@ -96,11 +117,7 @@ moved_to_end-map f p xs =
 -- those on what `position` found, for tactics
 pub ruleset removals = (removed_at, found_at, removed_none, found_none, place_within)
 
--- where `position` found nothing, nothing moves to the end
-pub moved_none : {X : Type 0} (p : X → Bool) (xs : List X) → position p xs ≡ None → moved_to_end p xs ≡ xs
-moved_none p xs e = rw (removed_none p xs e, found_none p xs e, append-nil) refl
-
--- and else the element at the place that it found
+-- the element at the place that `position` found goes to the end
 pub moved_at : {X : Type 0} (p : X → Bool) (xs ys : List X) (i : ℕ) → position p xs ≡ Some i →
     ((d : X) → ys ≡ remove xs i ++ get_or xs i d ∷ []) → moved_to_end p xs ≡ ys
 moved_at p [] ys i e moved = cc
@@ -108,17 +125,11 @@ moved_at p (x ∷ xs) ys i e moved =
     rw (← removed_at p (x ∷ xs) i e, found_at p (x ∷ xs) i x e) (sym (moved x))
 
 -- the same of a list that is written back through a slice of it
-pub moved_within : {X : Type 0} (p : X → Bool) (now items searched old new : List X) (i : ℕ) → items ≡ now →
-    searched ≡ items → old ≡ items → length new ≡ length old → position p searched ≡ Some i →
-    ((d : X) → new ≡ remove old i ++ get_or old i d ∷ []) → refill (length items) items new ≡ moved_to_end p now
-moved_within p now items searched old new i e f g long at moved =
-    let same : old ≡ searched = cc in
-    let all : length new ≡ length items = long ∙ ap length g in
-    let end : moved_to_end p searched ≡ new = moved_at p searched new i at (λ d. moved d ∙ ap (λ xs. remove xs i ++ get_or xs i d ∷ []) same) in
-    take_at new (drop (length new) items) (length items) all ∙ sym end ∙ ap (moved_to_end p) (f ∙ e)
-
-pub unmoved_within : {X : Type 0} (p : X → Bool) (now items searched : List X) → items ≡ now → searched ≡ items →
-    position p searched ≡ None → now ≡ moved_to_end p now
-unmoved_within p now items searched e f at =
-    let same : searched ≡ now = f ∙ e in
-    sym same ∙ sym (moved_none p searched at) ∙ ap (moved_to_end p) same
+pub moved_within : {X : Type 0} (p : X → Bool) (now items old new : List X) (i : ℕ) → items ≡ now → old ≡ items →
+    length new ≡ length old → position p now ≡ Some i → ((d : X) → new ≡ remove old i ++ get_or old i d ∷ []) →
+    refill (length items) items new ≡ moved_to_end p now
+moved_within p now items old new i e f long at moved =
+    let same : old ≡ now = f ∙ e in
+    let all : length new ≡ length items = long ∙ ap length f in
+    take_at new (drop (length new) items) (length items) all
+    ∙ sym (moved_at p now new i at (λ d. moved d ∙ ap (λ xs. remove xs i ++ get_or xs i d ∷ []) same))

@@ -1,36 +1,74 @@
 -- The array: what each call leaves of its values and its sets.
-use Rattle.std.proofs.Common.{◌≡◌, ◌≢◌, ℕ, ◌%◌, ◌<◌, Bool, true, List, [], ◌∷◌, ◌++◌, length, get_or, set, refl, ap, sym, ◌∙◌, subst, arith, inl, inr, Option, Some, None, IsSome, is_some, if◌then◌else◌}
+use Rattle.std.proofs.Common.{◌≡◌, ◌≢◌, ℕ, ◌-◌, ◌%◌, ◌<◌, Bool, true, List, [], ◌∷◌, ◌++◌, length, replicate, get_or, set, refl, ap, sym, ◌∙◌, subst, arith, inl, inr, Option, Some, None, IsTrue, IsSome, is_some, if◌then◌else◌, bit_and}
+use Rattle.std.specs.Int.{is_power_of_two, IsPowerOfTwo}
 use Rattle.std.specs.Set.{remove_key}
 use Rattle.std.proofs.Math.Nat.{mod-lt}
 use Rattle.std.proofs.lemmas.Bool.{cases_eq}
-use Rattle.std.proofs.lemmas.List.{length-set, get_or_default, get_or-set_same, get_or-set_other}
+use Rattle.std.proofs.lemmas.List.{length-set, length-replicate, get_or-replicate, get_or_default, get_or-set_same, get_or-set_other}
+use Rattle.std.proofs.lemmas.List.Elements.{All-nil}
 use Rattle.std.proofs.lemmas.Map.Views.{All-remove_key}
 use Rattle.address_map.specs.declared.address.Local.{Local}
 use Rattle.cache_array.specs.declared.set.Slot.{Slot}
 use Rattle.cache_array.specs.History.{is_line, moved_to_end}
 use Rattle.cache_array.specs.Set.{SetView, empty_set, lines_of, value_in, after_insert, after_write, after_use, after_remove}
-use Rattle.cache_array.specs.Array.{ArrayView, set_index, set_of, slots_at, with_slots, lines_at, held_at, HasWay, IsSet, IsArray, SetsOnly}
+use Rattle.cache_array.specs.Array.{ArrayView, set_index, set_of, slots_at, with_slots, lines_at, held_at, HasWay, empty_array, IsSet, IsArray, SetsOnly}
 use Rattle.cache_array.proofs.Orders.{apart-removed, apart-pushed, apart-moved, all-pushed, all-moved}
+use Rattle.cache_array.proofs.Powers.{power_some, power_from_ones, masked}
 use Rattle.cache_array.proofs.Slots as one
 
 -- a line's set is there
 pub index_within : {V P : Type 0} (array : ArrayView V P) (line : Local) → IsArray array →
     set_index array line < length array.sets
-index_within array line sound = mod-lt line.0 sound.some_set
+index_within array line sound = mod-lt line.0 (power_some (length array.sets) sound.power)
+
+-- the mask picks the line's set
+pub set_masked : {V P : Type 0} (inside now : ArrayView V P) (line : Local) (sets : ℕ) → inside ≡ now → IsArray inside →
+    sets ≡ length inside.sets → bit_and line.0 (sets - 1) ≡ set_index now line
+set_masked {V = V} {P = P} inside now line sets e sound long =
+    ap (λ n. bit_and line.0 (n - 1)) long
+    ∙ masked line.0 (length inside.sets) sound.power
+    ∙ ap (λ (a : ArrayView V P). set_index a line) e
+
+-- an array in which no line is, of a power of two of sets
+empty_array_sound : {V P : Type 0} (sets ways : ℕ) (policy : P) → IsPowerOfTwo sets → IsArray {V = V} {P = P} (empty_array sets ways policy)
+empty_array_sound {V = V} sets ways policy power =
+    let empty : SetView V = empty_set ways in
+    let long = length-replicate sets empty in record {
+      power = subst IsPowerOfTwo (sym long) power;
+      each =
+          λ k lt.
+          subst (IsSet (length (replicate sets empty)) k) (sym (get_or-replicate sets k empty (empty_set 0) (omega (arith, long)))) (record {
+            its_own = All-nil (λ line. line.0 % length (replicate sets empty) ≡ k);
+            distinct = λ i j d lt within. absurd (omega arith);
+            few = omega arith;
+          });
+    }
+
+pub made_sound : {V P : Type 0} (all : List (SetView V)) (made sets ways : ℕ) (policy : P) →
+    all ≡ replicate made (empty_set ways) → made ≡ sets → IsTrue (is_power_of_two sets) →
+    IsArray {V = V} {P = P} (record { sets = all; policy = policy })
+made_sound {V = V} {P = P} all made sets ways policy e f power =
+    let array : ArrayView V P = empty_array made ways policy in
+    subst (λ (s : List (SetView V)). IsArray (record array { sets = s })) (sym e)
+    (empty_array_sound made ways policy (power_from_ones made (ap is_power_of_two f ∙ power)))
 
 -- the set that was written, and another
-slots-same : {V P : Type 0} (array : ArrayView V P) (line : Local) (slots : List (Slot V)) (other : Local) →
+pub set-same : {V P : Type 0} (array : ArrayView V P) (line : Local) (slots : List (Slot V)) (other : Local) →
+    set_index array line < length array.sets → set_index array other ≡ set_index array line →
+    set_of (with_slots array line slots) other ≡ record (set_of array line) { slots = slots }
+set-same {V = V} array line slots other within same =
+    let new : SetView V = record (set_of array line) { slots = slots } in
+    ap (λ n. get_or (set array.sets (set_index array line) new) (other.0 % n) (empty_set 0)) (length-set array.sets (set_index array line) new)
+    ∙ ap (λ i. get_or (set array.sets (set_index array line) new) i (empty_set 0)) same
+    ∙ get_or-set_same array.sets (set_index array line) new (empty_set 0) within
+
+pub slots-same : {V P : Type 0} (array : ArrayView V P) (line : Local) (slots : List (Slot V)) (other : Local) →
     set_index array line < length array.sets → set_index array other ≡ set_index array line →
     slots_at (with_slots array line slots) other ≡ slots
 slots-same {V = V} array line slots other within same =
-    let new : SetView V = record (set_of array line) { slots = slots } in
-    let found : get_or (set array.sets (set_index array line) new) (set_index array line) (empty_set 0) ≡ new =
-    get_or-set_same array.sets (set_index array line) new (empty_set 0) within in
-    ap (λ n. (get_or (set array.sets (set_index array line) new) (other.0 % n) (empty_set 0)).slots) (length-set array.sets (set_index array line) new)
-    ∙ ap (λ i. (get_or (set array.sets (set_index array line) new) i (empty_set 0)).slots) same
-    ∙ ap (λ (s : SetView V). s.slots) found
+    ap (λ (s : SetView V). s.slots) (set-same array line slots other within same)
 
-slots-other : {V P : Type 0} (array : ArrayView V P) (line : Local) (slots : List (Slot V)) (other : Local) →
+pub slots-other : {V P : Type 0} (array : ArrayView V P) (line : Local) (slots : List (Slot V)) (other : Local) →
     set_index array other ≢ set_index array line →
     slots_at (with_slots array line slots) other ≡ slots_at array other
 slots-other {V = V} array line slots other apart =
@@ -39,7 +77,7 @@ slots-other {V = V} array line slots other apart =
     ∙ ap (λ (s : SetView V). s.slots) (get_or-set_other array.sets (set_index array line) (set_index array other) new (empty_set 0) apart)
 
 -- the values, from those of the line's set
-sets_only : {V P : Type 0} (array : ArrayView V P) (line : Local) (slots : List (Slot V)) (value : Option V) → IsArray array →
+pub sets_only : {V P : Type 0} (array : ArrayView V P) (line : Local) (slots : List (Slot V)) (value : Option V) → IsArray array →
     value_in slots line ≡ value →
     ((other : Local) → other.0 ≢ line.0 → value_in slots other ≡ value_in (slots_at array line) other) →
     SetsOnly array (with_slots array line slots) line value
@@ -63,14 +101,14 @@ lines_there {V = V} array line slots sound =
     ap (λ (s : List (Slot V)). lines_of s) (slots-same array line slots line (index_within array line sound) refl)
 
 -- every set is in order again if the line's is
-is_array : {V P : Type 0} (array : ArrayView V P) (line : Local) (slots : List (Slot V)) → IsArray array →
+pub is_array : {V P : Type 0} (array : ArrayView V P) (line : Local) (slots : List (Slot V)) → IsArray array →
     IsSet (length array.sets) (set_index array line) (record (set_of array line) { slots = slots }) →
     IsArray (with_slots array line slots)
 is_array {V = V} array line slots sound here =
     let new : SetView V = record (set_of array line) { slots = slots } in
     let index = set_index array line in
     let long = length-set array.sets index new in record {
-      some_set = omega (arith, sound.some_set);
+      power = subst IsPowerOfTwo (sym long) sound.power;
       each =
           λ k lt.
           let within : k < length array.sets = omega arith in

@@ -15,7 +15,7 @@ use Rattle.cache_array.specs.Policy.{IsAllowed}
 use Rattle.cache_array.specs.Victim.{line_in}
 use Rattle.cache_array.specs.Set.{SetView, holds, lines_of, value_in, after_insert, after_write, after_use, after_remove}
 use Rattle.cache_array.proofs.Orders.{found_passes, same_line, gone, AreApart}
-use Rattle.cache_array.proofs.Places.{remove_key-map, moved_to_end-map, moved_within, unmoved_within}
+use Rattle.cache_array.proofs.Places.{remove_key-map, moved_to_end-map, moved_within}
 
 -- a test that fails wherever the other passes sees no removal
 find-removed : {X : Type 0} (p q : X → Bool) → ((x : X) → p x ≡ true → q x ≡ false) → (xs : List X) →
@@ -167,6 +167,17 @@ length-removed p (x ∷ xs) = by (p x) (length-removed p xs)
 pub length-after_remove : {V : Type 0} (slots : List (Slot V)) (line : Local) → length (after_remove slots line) ≤ length slots
 length-after_remove slots line = length-removed (holds line) slots
 
+pub length-held_removed : {V : Type 0} (slots : List (Slot V)) (line : Local) → is_some (value_in slots line) ≡ true →
+    length (after_remove slots line) < length slots
+length-held_removed [] line held = cc
+length-held_removed {V = V} (slot ∷ slots) line held = by (holds line slot) held (length-held_removed slots line)
+  where
+    by : (b : Bool) → is_some (option_map (λ (s : Slot V). s.value) (cond b (Some slot) (find (holds line) slots))) ≡ true →
+        (is_some (value_in slots line) ≡ true → length (after_remove slots line) < length slots) →
+        length (cond b slots (slot ∷ after_remove slots line)) < length (slot ∷ slots)
+    by true here rest = omega arith
+    by false here rest = let less = rest here in omega (arith, less)
+
 -- a line gets another value
 pub lines-write : {V : Type 0} (slots : List (Slot V)) (line : Local) (value : V) →
     lines_of (after_write slots line value) ≡ lines_of slots
@@ -234,22 +245,16 @@ set_is {V = V} view slots ways e f =
     ap with_slots e ∙ ap with_ways f
 
 -- a use of a line that the set holds, and of one that it doesn't
-pub moved_set : {V : Type 0} (line : Local) (inside now : SetView V) (searched old new : List (Slot V)) (long place : ℕ) →
-    long ≡ length inside.slots → inside ≡ now → searched ≡ inside.slots → old ≡ inside.slots → length new ≡ length old →
-    position (holds line) searched ≡ Some place →
+pub moved_set : {V : Type 0} (line : Local) (inside now : SetView V) (old new : List (Slot V)) (long place : ℕ) →
+    long ≡ length inside.slots → inside ≡ now → old ≡ inside.slots → length new ≡ length old →
+    position (holds line) now.slots ≡ Some place →
     ((d : Slot V) → new ≡ remove old place ++ get_or old place d ∷ []) →
     ◌≡◌ {A = SetView V} (record { slots = refill long inside.slots new; ways = inside.ways }) (record now { slots = after_use true now.slots line })
-moved_set {V = V} line inside now searched old new long place l e f g kept at moved =
+moved_set {V = V} line inside now old new long place l e f kept at moved =
     set_is (record now { slots = after_use true now.slots line }) (refill long inside.slots new) inside.ways
     (ap (λ n. refill n inside.slots new) l
-    ∙ moved_within (holds line) now.slots inside.slots searched old new place (ap (λ (s : SetView V). s.slots) e) f g kept at moved)
+    ∙ moved_within (holds line) now.slots inside.slots old new place (ap (λ (s : SetView V). s.slots) e) f kept at moved)
     (ap (λ (s : SetView V). s.ways) e)
-
-pub unmoved_set : {V : Type 0} (line : Local) (inside now : SetView V) (searched : List (Slot V)) →
-    inside ≡ now → searched ≡ inside.slots → position (holds line) searched ≡ None →
-    now ≡ record now { slots = after_use true now.slots line }
-unmoved_set {V = V} line inside now searched e f at =
-    sym (set_is now (after_use true now.slots line) now.ways (sym (unmoved_within (holds line) now.slots inside.slots searched (ap (λ (s : SetView V). s.slots) e) f at)) refl)
 
 -- one more slot has its answer
 pub asked_more : {A B : Type 0} (R : A → B → Type 0) (xs : List A) (ys : List B) (x : A) (y : B) →

@@ -1,5 +1,6 @@
 -- A private cache's array: its sets, seen as lists of slots, and above them the values that it holds by line.
 use Rattle.std.specs.Prelude.{◌≡◌, ◌≢◌, ℕ, ◌%◌, ◌<◌, ◌≤◌, List, length, replicate, slice_set, slice_index_or, Option, All, AllPairs, EachIndex}
+use Rattle.std.specs.Int.{IsPowerOfTwo}
 use Rattle.address_map.specs.declared.address.Local.{Local}
 use Rattle.cache_array.specs.declared.set.Slot.{Slot}
 use Rattle.cache_array.specs.Set.{SetView, empty_set, lines_of, value_in}
@@ -50,7 +51,7 @@ pub record IsSet {V : Type 0} (sets index : ℕ) (set : SetView V) : Type 0 wher
 
 -- what holds of every array
 pub record IsArray {V P : Type 0} (array : ArrayView V P) : Type 0 where
-  pub some_set : 0 < length array.sets
+  pub power : IsPowerOfTwo (length array.sets)
   pub each : EachIndex array.sets (λ index. IsSet (length array.sets) index (slice_index_or array.sets index (empty_set 0)))
 
 -- the line has this value now, or none, and each other line what it had

@@ -3,3 +3,4 @@ pub mod Policy
 pub mod Set
 pub mod Array
 pub mod Victim
+pub mod Lending

@@ -1,5 +1,6 @@
 -- The line that a set gives up, of those that the caller allows to go.
 use Rattle.std.specs.Prelude.{◌≡◌, ◌≢◌, ℕ, Bool, true, false, List, map, slice_get, Option, option_map, option_and_then, IfSome, IsSomeAnd}
+use Rattle.std.specs.List.{list_any}
 use Rattle.address_map.specs.declared.address.Local.{Local}
 use Rattle.cache_array.specs.declared.set.Slot.{Slot}
 use Rattle.cache_array.specs.History.{Event, order_after}
@@ -12,6 +13,10 @@ Answers {V} says test = (value : V) (answer : Bool) → says value answer → an
 -- for each slot, whether its value may go
 abbrev pub flags_of : {V : Type 0} → (V → Bool) → List (Slot V) → List Bool
 flags_of test slots = map (λ slot. test slot.value) slots
+
+-- whether the value of some slot may go
+abbrev pub some_may_go : {V : Type 0} → (V → Bool) → List (Slot V) → Bool
+some_may_go test slots = list_any (λ slot. test slot.value) slots
 
 -- the line in the slot that was chosen, if one was
 abbrev pub line_in : {V : Type 0} → List (Slot V) → Option ℕ → Option Local

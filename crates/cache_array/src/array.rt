@@ -1,9 +1,10 @@
-ghost use Rattle.std.specs.Prelude.{◌≡◌, ◌<◌, ◌↔◌, ◌%◌, Bool, List, length, None, Some, IsTrue, IsSome, IfSome, IfOk, MatchOption, option_copied};
+ghost use Rattle.std.specs.Prelude.{◌≡◌, ◌<◌, ◌↔◌, ◌%◌, Bool, false, List, length, position, None, Some, is_some, IsTrue, IsSome, IfSome, IfOk, MatchOption, option_copied};
 ghost use Rattle.std.specs.List.{AllZip};
+ghost use Rattle.std.specs.Borrow.{sem};
 ghost use Rattle.std.specs.Fn.{FnReturnsAt};
 ghost use Rattle.cache_array.specs.History.{after_event};
 ghost use Rattle.cache_array.specs.History.Event.{Inserted, Used, Removed};
-ghost use Rattle.cache_array.specs.Set.{after_insert, after_write, after_use, after_remove};
+ghost use Rattle.cache_array.specs.Set.{holds, after_insert, after_write, after_use, after_remove};
 
 use crate::policy::Policy;
 use crate::set::Set;
@@ -30,7 +31,8 @@ impl<V, P> Model for CacheArray<V, P> {
 
 impl<V: Copy, P: Policy + Drop> CacheArray<V, P> {
     ghost use Rattle.cache_array.specs.Array.{set_index, slots_at, with_slots, lines_at, held_at, HasWay, empty_array, IsArray, SetsOnly};
-    ghost use Rattle.cache_array.specs.Victim.{Answers, flags_of, line_in, NoneMayGo, IsVictim};
+    ghost use Rattle.cache_array.specs.Lending.{LendsValue};
+    ghost use Rattle.cache_array.specs.Victim.{Answers, flags_of, line_in, some_may_go, NoneMayGo, IsVictim};
 
     /// Takes the memory for all sets. No other call takes any.
     pub fn make(alloc: Global, config: &Checked, policy: P) -> Result<Self, AllocError>
@@ -49,7 +51,7 @@ impl<V: Copy, P: Policy + Drop> CacheArray<V, P> {
         ensures index { result ≡ set_index self.now line }
         ensures within { result < length self.now.sets }
     {
-        line.0 % self.sets.len()
+        line.0 & (self.sets.len() - 1)
     }
 
     /// The value of the line, if the array holds it. It is no use of the line.
@@ -58,6 +60,46 @@ impl<V: Copy, P: Policy + Drop> CacheArray<V, P> {
         ensures arranged { IsArray self.now }
     {
         self.sets[self.set_index(line)].get(line)
+    }
+
+    /// Where the line stands in its set, if the array holds it.
+    pub fn find(&self, line: Local) -> Option<usize>
+        ensures place { result ≡ position (holds line) (slots_at self.now line) }
+        ensures held { IsSome result ↔ IsSome (held_at self.now line) }
+        ensures arranged { IsArray self.now }
+    {
+        self.sets[self.set_index(line)].find(line)
+    }
+
+    /// The value of a line that stands there in its set. It is no use of the line.
+    pub fn value(&self, line: Local, place: usize) -> &V
+        requires { position (holds line) (slots_at self.now line) ≡ Some place }
+        ensures { held_at self.now line ≡ Some result.now }
+    {
+        self.sets[self.set_index(line)].value(line, place)
+    }
+
+    /// The value of a line that stands there in its set, to be changed in its slot. It is no use of the line.
+    pub fn value_mut(&mut self, line: Local, place: usize) -> &mut V
+        requires { position (holds line) (slots_at self.old line) ≡ Some place }
+        ensures* lends { sem 𝓛 (LendsValue V.row P.row self.entry line result) }
+        ensures value { held_at self.old line ≡ Some result.now }
+    {
+        let index = self.set_index(line);
+        let set = &mut self.sets[index];
+        set.value_mut(line, place)
+    }
+
+    /// The value of a line that the array holds, to be changed in its slot. It is no use of the line.
+    pub fn get_mut(&mut self, line: Local) -> &mut V
+        requires { IsSome (held_at self.old line) }
+        ensures* lends { sem 𝓛 (LendsValue V.row P.row self.entry line result) }
+        ensures value { held_at self.old line ≡ Some result.now }
+    {
+        let Some(place) = self.find(line) else {
+            unreachable!();
+        };
+        self.value_mut(line, place)
     }
 
     /// Whether the line's set has room for one more line.
@@ -87,10 +129,23 @@ impl<V: Copy, P: Policy + Drop> CacheArray<V, P> {
         ensures held { SetsOnly self.old self.new line (held_at self.old line) }
         ensures order { lines_at self.new line ≡ after_event (P.moves self.old.policy) (Used line) (lines_at self.old line) }
     {
+        let Some(place) = self.find(line) else {
+            unreachable!();
+        };
+        self.touch_at(line, place);
+    }
+
+    /// Uses a line that stands there in its set.
+    pub fn touch_at(&mut self, line: Local, place: usize)
+        requires { position (holds line) (slots_at self.old line) ≡ Some place }
+        ensures after { self.new ≡ with_slots self.old line (after_use (P.moves self.old.policy) (slots_at self.old line) line) }
+        ensures held { SetsOnly self.old self.new line (held_at self.old line) }
+        ensures order { lines_at self.new line ≡ after_event (P.moves self.old.policy) (Used line) (lines_at self.old line) }
+    {
         if self.policy.moves_on_use() {
             let index = self.set_index(line);
             let set = &mut self.sets[index];
-            set.move_to_end(line);
+            set.move_to_end(line, place);
         }
     }
 
@@ -119,6 +174,19 @@ impl<V: Copy, P: Policy + Drop> CacheArray<V, P> {
         set.remove(line)
     }
 
+    /// Whether some line of the line's set has a value that passes `allowed`. Where it has, `victim` of the same test
+    /// gives one, whatever the word.
+    pub fn has_victim<F: Fn(&V) -> bool>(&self, line: Local, allowed: F) -> bool
+        requires { F.IsAlwaysCallable allowed }
+        ensures some { (test : V → Bool) → Answers (FnReturnsAt F.Fn allowed) test
+            → result ≡ some_may_go test (slots_at self.now line) }
+        ensures none { (test : V → Bool) → Answers (FnReturnsAt F.Fn allowed) test
+            → (result ≡ false) ↔ NoneMayGo test self.now line }
+        ensures arranged { IsArray self.now }
+    {
+        self.sets[self.set_index(line)].has_victim(allowed)
+    }
+
     /// The line that the line's set gives up, of those whose value passes `allowed`; `None` where none does. A policy
     /// that needs chance takes it from `word`.
     pub fn victim<F: Fn(&V) -> bool>(&self, line: Local, allowed: F, word: u64) -> Option<Local>
@@ -131,6 +199,8 @@ impl<V: Copy, P: Policy + Drop> CacheArray<V, P> {
         ensures victim { (test : V → Bool) → Answers (FnReturnsAt F.Fn allowed) test
             → MatchOption result (NoneMayGo test self.now line)
             (IsVictim test (P.moves self.now.policy) (P.prefers self.now.policy) self.now line) }
+        ensures some { (test : V → Bool) → Answers (FnReturnsAt F.Fn allowed) test
+            → is_some result ≡ some_may_go test (slots_at self.now line) }
         ensures arranged { IsArray self.now }
     {
         self.sets[self.set_index(line)].victim(&self.policy, allowed, word)

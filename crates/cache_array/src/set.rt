@@ -1,8 +1,10 @@
-ghost use Rattle.std.specs.Prelude.{◌≡◌, ◌<◌, ◌≤◌, ◌↔◌, Bool, true, List, [], ◌∷◌, ◌++◌, length, remove, position, option_copied, slice_index_or, IsTrue, IsSome, IfSome, IfOk};
+ghost use Rattle.std.specs.Prelude.{◌≡◌, ◌<◌, ◌≤◌, ◌↔◌, Bool, true, List, [], ◌∷◌, ◌++◌, length, remove, position, option_copied, slice_index_or, Some, IsTrue, IsSome, IfSome, IfOk};
+ghost use Rattle.std.specs.Borrow.{sem};
 ghost use Rattle.std.specs.List.{AllZip};
 ghost use Rattle.std.specs.Fn.{FnReturnsAt};
 ghost use Rattle.cache_array.specs.Policy.{IsAllowed, IsPreferred};
 ghost use Rattle.cache_array.specs.Set.{holds};
+ghost use Rattle.cache_array.specs.Victim.{Answers, line_in, some_may_go};
 
 use crate::policy::Policy;
 use address_map::Local;
@@ -41,7 +43,7 @@ impl<V> Model for Set<V> {
 
 impl<V: Copy> Set<V> {
     ghost use Rattle.cache_array.specs.Set.{empty_set, value_in, after_insert, after_write, after_use, after_remove};
-    ghost use Rattle.cache_array.specs.Victim.{line_in};
+    ghost use Rattle.cache_array.specs.Lending.{LendsIn};
 
     /// Takes the memory for a set of so many ways. No other call takes any.
     pub fn make(alloc: Global, ways: usize) -> Result<Self, AllocError>
@@ -65,6 +67,31 @@ impl<V: Copy> Set<V> {
     {
         let slot = self.slots.iter().find(|slot| slot.line == line);
         slot.map(|slot| &slot.value)
+    }
+
+    /// Where the line's slot stands.
+    pub fn find(&self, line: Local) -> Option<usize>
+        ensures { result ≡ position (holds line) self.now.slots }
+    {
+        place_of(&self.slots, line)
+    }
+
+    /// The value of the line, whose slot stands there.
+    pub fn value(&self, line: Local, place: usize) -> &V
+        requires { position (holds line) self.now.slots ≡ Some place }
+        ensures { value_in self.now.slots line ≡ Some result.now }
+    {
+        &self.slots[place].value
+    }
+
+    /// The value of the line, to be changed in its slot, which stands there.
+    pub fn value_mut(&mut self, line: Local, place: usize) -> &mut V
+        requires { position (holds line) self.old.slots ≡ Some place }
+        ensures* lends { sem 𝓛 (LendsIn V.row self.entry line result) }
+        ensures value { value_in self.old.slots line ≡ Some result.now }
+    {
+        let slot = &mut self.slots[place];
+        &mut slot.value
     }
 
     /// Puts another value in the slot of the line.
@@ -97,13 +124,20 @@ impl<V: Copy> Set<V> {
         Some(self.slots.remove(place).value)
     }
 
-    /// Moves the slot of the line behind the others.
-    pub fn move_to_end(&mut self, line: Local)
+    /// Moves the slot of the line, which stands there, behind the others.
+    pub fn move_to_end(&mut self, line: Local, place: usize)
+        requires { position (holds line) self.old.slots ≡ Some place }
         ensures { self.new ≡ record self.old { slots = after_use true self.old.slots line } }
     {
-        if let Some(place) = place_of(&self.slots, line) {
-            move_to_end(&mut self.slots, place);
-        }
+        move_to_end(&mut self.slots, place);
+    }
+
+    /// Whether some line's value passes `allowed`.
+    pub fn has_victim<F: Fn(&V) -> bool>(&self, allowed: F) -> bool
+        requires { F.IsAlwaysCallable allowed }
+        ensures { (test : V → Bool) → Answers (FnReturnsAt F.Fn allowed) test → result ≡ some_may_go test self.now.slots }
+    {
+        some_allowed(&self.slots, allowed)
     }
 
     /// The line in the slot that the policy gives up, of those whose value passes `allowed`.
@@ -140,6 +174,19 @@ fn flags_of<V, F: Fn(&V) -> bool>(slots: &[Slot<V>], allowed: F) -> ArrayVec<boo
         flags.push(allowed(&slots[i].value));
     }
     flags
+}
+
+// Whether the value of some slot may go.
+fn some_allowed<V, F: Fn(&V) -> bool>(slots: &[Slot<V>], allowed: F) -> bool
+    requires { F.IsAlwaysCallable allowed }
+    ensures { (test : V → Bool) → Answers (FnReturnsAt F.Fn allowed) test → result ≡ some_may_go test slots.now }
+{
+    for slot in slots {
+        if allowed(&slot.value) {
+            return true;
+        }
+    }
+    false
 }
 
 // The place of the line's slot.

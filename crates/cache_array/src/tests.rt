@@ -63,6 +63,33 @@ fn the_oldest_line_that_may_go_is_given_up(rt: HostRuntime) -> Result<(), Fail> 
     Ok(())
 }
 
+// Lines 3 and 5 have one set. Line 3 is changed and used where it stands, and then is the newer.
+#[test]
+fn a_line_is_changed_where_it_stands(rt: HostRuntime) -> Result<(), Fail> {
+    let mut array = array_of(rt.alloc(), 2, 2, PolicyKind::Lru)?;
+    for line in [3, 5] {
+        insert(&rt, &mut array, Local(line), 10 * line as u64);
+    }
+    assert_eq!(rt; array.find(Local(2)), None);
+    assert_eq!(rt; array.find(Local(5)), Some(1));
+    if let Some(place) = array.find(Local(3)) {
+        assert_eq!(rt; *array.value(Local(3), place), 30);
+        *array.value_mut(Local(3), place) = 31;
+    }
+    if let Some(place) = array.find(Local(3)) {
+        array.touch_at(Local(3), place);
+    }
+    assert_eq!(rt; array.find(Local(3)), Some(1));
+    assert_eq!(rt; array.get(Local(3)).copied(), Some(31));
+    assert!(rt; array.get(Local(5)).is_some());
+    *array.get_mut(Local(5)) = 51;
+    assert_eq!(rt; array.get(Local(5)).copied(), Some(51));
+    assert!(rt; array.has_victim(Local(1), |value| *value == 31));
+    assert!(rt; !array.has_victim(Local(1), |value| *value == 30));
+    assert!(rt; !array.has_victim(Local(0), |_| true));
+    Ok(())
+}
+
 // Of the lines 10 to 14 the even ones may go.
 #[test]
 fn a_random_victim_is_one_of_those_that_may_go(rt: HostRuntime) -> Result<(), Fail> {

@@ -1,3 +1,4 @@
 pub mod Places
 pub mod HeldLaws
 pub mod BufferLaws
+pub mod Held

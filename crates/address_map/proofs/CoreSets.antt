@@ -3,7 +3,7 @@ use Rattle.std.proofs.Common.{◌≡◌, ◌≢◌, ℕ, ◌*◌, ◌/◌, ◌%�
 use Rattle.std.specs.Int.{bit_at}
 use Rattle.std.specs.Int.Bits.{or_zero_r}
 use Rattle.std.proofs.Math.Bool.{or-true, or-false, and-true, and-false}
-use Rattle.std.proofs.lemmas.Bool.{eqb-false, lt-ltb, le-ltb, cases_lt, cases_eq, cases_Bool}
+use Rattle.std.proofs.lemmas.Bool.{eq-eqb, eqb-false, ne_eqb, lt-ltb, le-ltb, cases_lt, cases_eq, cases_Bool}
 use Rattle.std.proofs.Math.Pow.{pow-lt}
 use Rattle.std.proofs.lemmas.Bool.Decides.{eqb_tells}
 use Rattle.std.proofs.lemmas.Nat.{one_shl, or_lt, xor_lt}
@@ -94,6 +94,21 @@ has-with set core other below =
       | inr apart ↦ rw (apart.0, has-with_other set core other apart.1) (sym (or-false _))
     ]
 
+-- the same for any core that is put in, of the cores that a set can have
+pub has-with_below : (set core other : ℕ) → other < 64 → has (with set core) other ≡ (has set other || other == core)
+has-with_below set core other below =
+    elim (eqb_tells other core) [
+      | inl same ↦ rw (same.0, same.1, has-with_same set core (rw same.1 at below)) (sym (or-true _))
+      | inr apart ↦ rw (apart.0, has-with_other set core other apart.1) (sym (or-false _))
+    ]
+
+pub has-only_below : (core other : ℕ) → other < 64 → has (only core) other ≡ (other == core)
+has-only_below core other below =
+    elim (cases_lt core 64) [
+      | inl within ↦ has-only core other within
+      | inr past ↦ rw (only-past core past, has-zero other) (sym (ne_eqb other core (λ same. omega (arith, same))))
+    ]
+
 -- the core that was taken out is gone
 pub has-without_same : (set core : ℕ) → has (without set core) core ≡ false
 unfolding has without
@@ -160,6 +175,38 @@ without-fits set core fits =
       | inl there ↦ rw there (xor_lt 64 set (2 ^ core) fits (pow-lt (has-below set core fits there)))
       | inr missing ↦ rw missing fits
     ]
+
+-- a set with a core isn't 0
+pub some-from_has : (set core : ℕ) → has set core ≡ true → set ≢ 0
+some-from_has set core there empty =
+    let none : has set core ≡ false = rw empty (has-zero core) in
+    let clash : true ≡ false = sym there ∙ none in
+    cc clash
+
+pub only-some : (core : ℕ) → core < 64 → only core ≢ 0
+only-some core below = some-from_has (only core) core (has-only core core below ∙ eq-eqb core core refl)
+
+pub with-some : (set core : ℕ) → set ≢ 0 → with set core ≢ 0
+with-some set core some empty = some (zero-from_none set none)
+  where
+    none : (other : ℕ) → has set other ≡ false
+    none other =
+        elim (cases_Bool (has set other)) [
+          | inl there ↦
+              elim (cases_eq other core) [
+                | inl here ↦ absurd (some-from_has (with set core) other (kept here there) empty)
+                | inr apart ↦
+                    absurd (some-from_has (with set core) other (has-with_other set core other apart ∙ there) empty)
+              ]
+          | inr missing ↦ missing
+        ]
+      where
+        kept : other ≡ core → has set other ≡ true → has (with set core) other ≡ true
+        kept here there =
+            elim (cases_lt core 64) [
+              | inl below ↦ rw here (has-with_same set core below)
+              | inr past ↦ rw (with-past set core past) there
+            ]
 
 -- the test and the sets as a machine of 64 bits computes them
 pub has-shifted : (set core : ℕ) → has set core ≡ (bit_and (set / 2 ^ core) 1 == 1)

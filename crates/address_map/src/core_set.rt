@@ -21,21 +21,21 @@ impl Model for CoreSet {
 }
 
 impl CoreSet {
-    pub fn none() -> Self
+    pub const fn none() -> Self
         ensures { result ≡ 0 }
     {
         CoreSet { bits: 0 }
     }
 
     /// The set in which core c is where bit c is 1.
-    pub fn from_bits(bits: u64) -> Self
+    pub const fn from_bits(bits: u64) -> Self
         ensures { result ≡ bits }
     {
         CoreSet { bits }
     }
 
     /// The core alone.
-    pub fn only(core: CoreId) -> Self
+    pub const fn only(core: CoreId) -> Self
         ensures { result ≡ only core.0 }
     {
         if core.0 < 64 {
@@ -45,33 +45,33 @@ impl CoreSet {
         }
     }
 
-    pub fn bits(self) -> u64
+    pub const fn bits(self) -> u64
         ensures { result ≡ self }
     {
         self.bits
     }
 
-    pub fn is_empty(self) -> bool
+    pub const fn is_empty(self) -> bool
         ensures { IsTrue result ↔ (self ≡ 0) }
     {
         self.bits == 0
     }
 
-    pub fn has(self, core: CoreId) -> bool
+    pub const fn has(self, core: CoreId) -> bool
         ensures { result ≡ has self core.0 }
     {
         core.0 < 64 && self.bits >> core.0 & 1 == 1
     }
 
     /// How many cores the set has.
-    pub fn count(self) -> u8
+    pub const fn count(self) -> u8
         ensures { result ≡ count_of self }
     {
         self.bits.count_ones() as u8
     }
 
     /// The set and the core.
-    pub fn with(self, core: CoreId) -> Self
+    pub const fn with(self, core: CoreId) -> Self
         ensures { result ≡ with self core.0 }
     {
         CoreSet {
@@ -80,7 +80,7 @@ impl CoreSet {
     }
 
     /// The set but for the core.
-    pub fn without(self, core: CoreId) -> Self
+    pub const fn without(self, core: CoreId) -> Self
         ensures { result ≡ without self core.0 }
     {
         if self.has(core) {

@@ -39,7 +39,7 @@ impl Locator {
     }
 
     /// How many lines the slice has.
-    pub fn lines(self) -> usize
+    pub const fn lines(self) -> usize
         ensures lines { result ≡ self.lines }
         ensures machine { IsOfMachine self }
     {
@@ -47,14 +47,14 @@ impl Locator {
     }
 
     /// How many slices there are.
-    pub fn slices(self) -> usize
+    pub const fn slices(self) -> usize
         ensures slices { result ≡ self.slices }
         ensures machine { IsOfMachine self }
     {
         self.slices as usize
     }
 
-    pub fn slice(self) -> SliceId
+    pub const fn slice(self) -> SliceId
         ensures slice { result.0 ≡ self.slice }
         ensures machine { IsOfMachine self }
     {
@@ -62,7 +62,7 @@ impl Locator {
     }
 
     /// The place of a line among the slice's own. A line of another slice, or past the last, has none.
-    pub fn local_of(self, line: LineAddr) -> Option<Local>
+    pub const fn local_of(self, line: LineAddr) -> Option<Local>
         ensures local { result ≡ local_at self line.0 }
         ensures in_range { IfSome result (λ local. local.0 < self.lines) }
         ensures line { IfSome result (λ local. line_at self local ≡ line) }
@@ -76,13 +76,13 @@ impl Locator {
     }
 
     /// Whether the word lies past the whole memory.
-    pub fn is_past(self, word: WordAddr) -> bool
+    pub const fn is_past(self, word: WordAddr) -> bool
         ensures { result ≡ is_past self word }
     {
         word.line().0 >= (self.lines as u64) << self.shift()
     }
 
-    pub fn line_at(self, local: Local) -> LineAddr
+    pub const fn line_at(self, local: Local) -> LineAddr
         requires { local.0 < self.lines }
         ensures line { result ≡ line_at self local }
         ensures local { local_at self result.0 ≡ Some local }
@@ -90,7 +90,7 @@ impl Locator {
         LineAddr(((local.0 as u64) << self.shift()) + self.slice)
     }
 
-    pub fn word_at(self, local: Local, offset: Offset) -> WordAddr
+    pub const fn word_at(self, local: Local, offset: Offset) -> WordAddr
         requires local { local.0 < self.lines }
         requires offset { offset.0 < 8 }
         ensures word { result ≡ word_at self local offset }

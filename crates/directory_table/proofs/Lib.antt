@@ -1,2 +1,1 @@
-pub mod CoreSets
 pub mod RowLaws

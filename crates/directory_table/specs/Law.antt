@@ -1,8 +1,8 @@
 -- Laws of the table, in words that are not its cells: who owns and who shares a line, from whom its data come, and what
 -- each core is sent.
-use Rattle.std.specs.Prelude.{◌≡◌, ◌⊎◌, ℕ, ◌+◌, ◌==◌, ◌<◌, ◌≤◌, ◌&&◌, ◌||◌, Bool, true, false, not, if◌then◌else◌, Option, Some, None, is_some, IfSome, IsTrue, IsFalse}
+use Rattle.std.specs.Prelude.{◌≡◌, ◌≢◌, ◌⊎◌, ℕ, ◌+◌, ◌==◌, ◌<◌, ◌≤◌, ◌&&◌, ◌||◌, Bool, true, false, not, if◌then◌else◌, Option, Some, None, is_some, IfSome, IsTrue, IsFalse}
 use Rattle.address_map.specs.declared.address.CoreId.{CoreId}
-use Rattle.directory_table.specs.Cores.{count_of, is_among}
+use Rattle.address_map.specs.CoreSet.{count_of, has}
 use Rattle.directory_table.specs.declared.state.DirState.{DirState}
 use Rattle.directory_table.specs.declared.state.DirState.TheVariants as states
 use Rattle.directory_table.specs.declared.row.DirEvent.{DirEvent}
@@ -23,7 +23,7 @@ abbrev pub IfBlocked : DirRow → Type 0 → Type 0
 IfBlocked rows.Blocked P = P
 IfBlocked _ P = Unit {0}
 
--- ---- states and owners
+-- ---- states, owners and sharers
 
 -- nobody has the line
 abbrev pub is_idle : DirState → Bool
@@ -45,6 +45,7 @@ abbrev pub is_awaited : DirState → Bool
 is_awaited states.S_D = true
 is_awaited _ = false
 
+-- the core of the entry, if it has one, or that of the event, is this one
 abbrev pub is_named : Option CoreId → ℕ → Bool
 is_named (Some named) core = core == named.0
 is_named None core = false
@@ -70,6 +71,15 @@ requester (events.PutS core) = Some core
 requester (events.PutM core) = Some core
 requester event = getter event
 
+abbrev pub is_put : DirEvent → Bool
+is_put (events.PutS core) = true
+is_put (events.PutM core) = true
+is_put _ = false
+
+-- a set can have the core that asks
+abbrev pub IsOfSet : DirEvent → Type 0
+IsOfSet event = IfSome (requester event) (λ core. core.0 < 64)
+
 abbrev pub is_data_home : DirEvent → Bool
 is_data_home events.DataHome = true
 is_data_home _ = false
@@ -92,19 +102,29 @@ abbrev pub sends_only_copy : DirSends → Bool
 sends_only_copy sends.DataE = true
 sends_only_copy _ = false
 
+abbrev pub acknowledges_put : DirSends → Bool
+acknowledges_put sends.PutAck = true
+acknowledges_put _ = false
+
 -- the requester is sent a message
 abbrev pub answers : DirSends → Bool
-answers sends.PutAck = true
-answers sent = sends_data sent
+answers sent = sends_data sent || acknowledges_put sent
 
--- the core to which the request is forwarded
+-- the core to which the request is forwarded, as a GetS or as a GetM
+abbrev pub forwarded_get_s : DirSends → Option CoreId
+forwarded_get_s (sends.FwdGetS owner) = Some owner
+forwarded_get_s _ = None
+
+abbrev pub forwarded_get_m : DirSends → Option CoreId
+forwarded_get_m (sends.FwdGetM owner) = Some owner
+forwarded_get_m _ = None
+
 abbrev pub forwarded_to : DirSends → Option CoreId
 forwarded_to (sends.FwdGetS owner) = Some owner
-forwarded_to (sends.FwdGetM owner) = Some owner
-forwarded_to _ = None
+forwarded_to sent = forwarded_get_m sent
 
 abbrev pub is_sent_inv : DirSends → ℕ → Bool
-is_sent_inv (sends.DataAndInv acks invalidated) core = is_among invalidated core
+is_sent_inv (sends.DataAndInv acks invalidated) core = has invalidated core
 is_sent_inv _ core = false
 
 abbrev pub messages_to : DirEvent → DirSends → ℕ → ℕ
@@ -128,9 +148,18 @@ pub record Serves (state : DirState) (owner : Option CoreId) (event : DirEvent) 
   pub current : IsTrue (sends_data sent) → IsTrue (is_idle state || is_shared state)
   pub forwarded : IfSome (forwarded_to sent) (λ to. (owner ≡ Some to) × IsFalse (is_named (requester event) to.0))
 
--- Who is given the line then stands in the entry.
+-- A Get that goes on has data sent to the requester, or is forwarded as the Get that it is. A Put is acknowledged, and
+-- nothing else is.
+pub record Replies (event : DirEvent) (sent : DirSends) : Type 0 where
+  pub get : (sends_data sent || is_some (forwarded_to sent)) ≡ is_some (getter event)
+  pub get_s : IsTrue (is_some (forwarded_get_s sent)) → IsTrue (is_some (reader event))
+  pub get_m : IsTrue (is_some (forwarded_get_m sent)) → IsTrue (is_some (writer event))
+  pub put : acknowledges_put sent ≡ is_put event
+
+-- Who is given the line then stands in the entry, if a set can have it.
 abbrev pub KnowsRequester : DirEvent → Option CoreId → ℕ → Type 0
-KnowsRequester event owner sharers = IfSome (getter event) (λ core. IsTrue (is_among sharers core.0 || is_named owner core.0))
+KnowsRequester event owner sharers =
+    IfSome (getter event) (λ core. core.0 < 64 → IsTrue (has sharers core.0 || is_named owner core.0))
 
 -- A GetM makes its requester the owner. Nothing else makes a new owner but, under the setting, a GetS of a line that nobody has.
 pub record GrantsWriting (exclusive : Bool) (state : DirState) (owner : Option CoreId) (event : DirEvent) (next : Option CoreId) : Type 0 where
@@ -140,13 +169,22 @@ pub record GrantsWriting (exclusive : Bool) (state : DirState) (owner : Option C
 -- A GetM of a shared line has each sharer invalidated but the requester. Nothing else invalidates.
 abbrev pub Invalidates : DirState → ℕ → DirEvent → DirSends → Type 0
 Invalidates state sharers event sent = (core : ℕ) → core < 64
-    → is_sent_inv sent core ≡ (is_shared state && is_some (writer event) && is_among sharers core && not (is_named (writer event) core))
+    → is_sent_inv sent core ≡ (is_shared state && is_some (writer event) && has sharers core && not (is_named (writer event) core))
 
 -- The requester is told to await as many acknowledgements as cores are sent an invalidation.
 abbrev pub AwaitsInvalidated : DirSends → Type 0
 AwaitsInvalidated (sends.Data acks) = acks ≡ 0
 AwaitsInvalidated (sends.DataAndInv acks invalidated) = acks ≡ count_of invalidated
 AwaitsInvalidated _ = Unit {0}
+
+-- The set has exactly the cores that pass the test.
+abbrev pub HasExactly : ℕ → (ℕ → Bool) → Type 0
+HasExactly cores test = (core : ℕ) → core < 64 → has cores core ≡ test core
+
+-- A line in S has a sharer; one in I or M has none.
+pub record HasSharersInS (state : DirState) (sharers : ℕ) : Type 0 where
+  pub some : IsTrue (is_shared state) → sharers ≢ 0
+  pub none : IsTrue (is_idle state || is_modified state) → sharers ≡ 0
 
 -- whether a core is a sharer afterwards, by whether it was one
 abbrev pub stays_sharer : Bool → DirState → Option CoreId → DirEvent → Bool → ℕ → Bool
@@ -162,7 +200,7 @@ stays_sharer _ _ _ _ was _ = was
 
 abbrev pub is_sharer_after : Bool → DirState → Option CoreId → ℕ → DirEvent → ℕ → Bool
 is_sharer_after exclusive state owner sharers event core =
-    stays_sharer exclusive state owner event (is_among sharers core) core
+    stays_sharer exclusive state owner event (has sharers core) core
 
 -- Each core is sent one message at most, invalidations included.
 abbrev pub SendsOneToEach : DirEvent → DirSends → Type 0

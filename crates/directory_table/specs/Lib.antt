@@ -1,3 +1,2 @@
-pub mod Cores
 pub mod Law
 pub mod Row

@@ -1,8 +1,8 @@
 -- The table of a directory, cell by cell: states down, events across. What is not listed has no entry.
 -- It is this project's own profile, in the manner of the Primer's directory protocols (Sorin, Hill and Wood).
-use Rattle.std.specs.Prelude.{ℕ, ◌==◌, ◌<◌, Bool, true, false, if◌then◌else◌, Option, Some, None}
+use Rattle.std.specs.Prelude.{ℕ, ◌==◌, Bool, true, false, if◌then◌else◌, Option, Some, None}
 use Rattle.address_map.specs.declared.address.CoreId.{CoreId}
-use Rattle.directory_table.specs.Cores.{count_of_others, only, with, without}
+use Rattle.address_map.specs.CoreSet.{count_of, only, with, without}
 use Rattle.directory_table.specs.declared.state.DirEntry.{DirEntry}
 use Rattle.directory_table.specs.declared.state.DirState.{DirState}
 use Rattle.directory_table.specs.declared.state.DirState.TheVariants as states
@@ -12,14 +12,6 @@ use Rattle.directory_table.specs.declared.row.DirSends.{DirSends}
 use Rattle.directory_table.specs.declared.row.DirSends.TheVariants as sends
 use Rattle.directory_table.specs.declared.row.DirRow.{DirRow}
 use Rattle.directory_table.specs.declared.row.DirRow.TheVariants as rows
-
--- the core that asks is one of the 64
-abbrev pub IsOfCore : DirEvent → Type 0
-IsOfCore (events.GetS core) = core.0 < 64
-IsOfCore (events.GetM core) = core.0 < 64
-IsOfCore (events.PutS core) = core.0 < 64
-IsOfCore (events.PutM core) = core.0 < 64
-IsOfCore events.DataHome = Unit {0}
 
 -- the row that leaves the home copy as it is, and the row that writes it
 abbrev pub goes : DirState → Option CoreId → ℕ → DirSends → DirRow
@@ -43,7 +35,7 @@ cell exclusive states.I owner sharers (events.PutM core) = goes states.I owner s
 -- S: its sharers read the line. A writer awaits an acknowledgement of each other sharer.
 cell exclusive states.S owner sharers (events.GetS core) = goes states.S owner (with sharers core.0) (sends.Data 0)
 cell exclusive states.S owner sharers (events.GetM core) =
-    goes states.M (Some core) 0 (sends.DataAndInv (count_of_others sharers core.0) (without sharers core.0))
+    goes states.M (Some core) 0 (sends.DataAndInv (count_of (without sharers core.0)) (without sharers core.0))
 cell exclusive states.S owner sharers (events.PutS core) =
     goes (shared_by (without sharers core.0)) owner (without sharers core.0) sends.PutAck
 cell exclusive states.S owner sharers (events.PutM core) =

@@ -4,14 +4,12 @@
 //! has the line, in S its sharers may read it, in M its owner has the only copy, and in S_D the directory waits for the
 //! block that the last owner sends home. [`dir_row`] is the table, for both settings of the exclusive state. Its contract
 //! says so cell by cell, and above that gives the laws on which the coherence of a line rests: who owns and who shares
-//! it, from where its data come, and what each core is sent. `state` has the entry, `cores` sets of cores as bits, `row`
-//! the events, the sends and the table, and `docs/PROTOCOL.md` shows it.
+//! it, from where its data come, and what each core is sent. `state` has the entry, `row` the events, the sends and the
+//! table, and `docs/PROTOCOL.md` shows it. A call looks at one entry, and takes no memory.
 #![tactic(auto)]
 
-pub use cores::is_among;
 pub use row::{DirEvent, DirRow, DirSends, dir_row};
 pub use state::{DirEntry, DirState};
 
-mod cores;
 mod row;
 mod state;

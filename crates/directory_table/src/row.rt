@@ -1,12 +1,10 @@
-ghost use Rattle.std.specs.Option.{ForSome};
-ghost use Rattle.std.specs.Prelude.{◌≡◌, ◌<◌};
-ghost use Rattle.directory_table.specs.Cores.{HasExactly, count_of_others, without};
-ghost use Rattle.directory_table.specs.Law.{AwaitsHome, AwaitsInvalidated, ForgetsNobody, GivesOnlyCopy, GrantsWriting, HasOwnerInM, IfBlocked, IfGo, Invalidates, KnowsRequester, SendsOneToEach, Serves, WaitsForHome, brings_home, is_sharer_after};
-ghost use Rattle.directory_table.specs.Row.{IsOfCore, cell, goes, goes_home, row_of, shared_by};
+ghost use Rattle.std.specs.Prelude.{◌≡◌};
+ghost use Rattle.address_map.specs.CoreSet.{count_of, without};
+ghost use Rattle.directory_table.specs.Law.{AwaitsHome, AwaitsInvalidated, ForgetsNobody, GivesOnlyCopy, GrantsWriting, HasOwnerInM, IfBlocked, IfGo, HasExactly, HasSharersInS, Invalidates, IsOfSet, KnowsRequester, Replies, SendsOneToEach, Serves, WaitsForHome, brings_home, is_sharer_after};
+ghost use Rattle.directory_table.specs.Row.{cell, goes, goes_home, row_of, shared_by};
 
-use super::cores::{count, only, with, without};
 use super::state::{DirEntry, DirState};
-use address_map::CoreId;
+use address_map::{CoreId, CoreSet};
 
 /// What comes to the directory: a request of a core, or the block that the last owner sends home.
 #[derive(Clone, Copy, Debug, PartialEq, Eq)]
@@ -27,7 +25,7 @@ pub enum DirSends {
     /// Data to the requester, as the only copy.
     DataE,
     /// Data to the requester, and to each of these cores an invalidation that names the requester.
-    DataAndInv { acks: u8, invalidated: u64 },
+    DataAndInv { acks: u8, invalidated: CoreSet },
     /// The request to the owner, in the requester's name.
     FwdGetS { owner: CoreId },
     FwdGetM { owner: CoreId },
@@ -43,7 +41,7 @@ pub enum DirRow {
     Go {
         state: DirState,
         owner: Option<CoreId>,
-        sharers: u64,
+        sharers: CoreSet,
         sends: DirSends,
         writes_home: bool,
     },
@@ -56,20 +54,21 @@ pub enum DirRow {
 /// The cell of the table at an entry and an event. `exclusive` is the setting by which a request to read a line that
 /// nobody has is given the only copy.
 pub fn dir_row(exclusive: bool, entry: &DirEntry, event: DirEvent) -> DirRow
-    requires requester { IsOfCore event }
-    requires owner { ForSome entry.now.owner (λ owner. owner.0 < 64) }
     ensures table { result ≡ row_of exclusive entry.now event }
 
     // What the coherence of a line rests on, whatever the cells are.
     ensures owner { HasOwnerInM entry.now.state entry.now.owner → IfGo result (λ state owner _ _ _. HasOwnerInM state owner) }
     ensures home { IfGo result (λ _ _ _ _ writes. writes ≡ brings_home entry.now.state entry.now.owner event) }
     ensures served { IfGo result (λ _ _ _ sent _. Serves entry.now.state entry.now.owner event sent) }
+    ensures replied { IfGo result (λ _ _ _ sent _. Replies event sent) }
     ensures known { IfGo result (λ _ owner sharers _ _. KnowsRequester event owner sharers) }
     ensures granted { IfGo result (λ _ owner _ _ _. GrantsWriting exclusive entry.now.state entry.now.owner event owner) }
     ensures invalidated { IfGo result (λ _ _ _ sent _. Invalidates entry.now.state entry.now.sharers event sent) }
     ensures acknowledgements { IfGo result (λ _ _ _ sent _. AwaitsInvalidated sent) }
     ensures sharers { let after = is_sharer_after exclusive entry.now.state entry.now.owner entry.now.sharers event
         in IfGo result (λ _ _ sharers _ _. HasExactly sharers after) }
+    ensures sharers_in_s { IsOfSet event → HasSharersInS entry.now.state entry.now.sharers
+        → IfGo result (λ state _ sharers _ _. HasSharersInS state sharers) }
     ensures messages { IfGo result (λ _ _ _ sent _. SendsOneToEach event sent) }
     ensures idle { IfGo result (λ state _ sharers _ _. ForgetsNobody entry.now.state state sharers) }
     ensures awaited { IfGo result (λ state _ _ _ _. AwaitsHome entry.now.state event state) }
@@ -81,9 +80,7 @@ pub fn dir_row(exclusive: bool, entry: &DirEntry, event: DirEvent) -> DirRow
 
 // The table itself, one cell one line.
 #[rattlefmt::skip]
-fn cell(exclusive: bool, state: DirState, owner: Option<CoreId>, sharers: u64, event: DirEvent) -> DirRow
-    requires requester { IsOfCore event }
-    requires owner { ForSome owner (λ owner. owner.0 < 64) }
+fn cell(exclusive: bool, state: DirState, owner: Option<CoreId>, sharers: CoreSet, event: DirEvent) -> DirRow
     ensures { result ≡ cell exclusive state owner sharers event }
 {
     use DirEvent::*;
@@ -92,25 +89,25 @@ fn cell(exclusive: bool, state: DirState, owner: Option<CoreId>, sharers: u64, e
     use DirState::*;
     match (state, owner, event) {
         (I, _, GetS(core)) if exclusive => go(M, Some(core), sharers, DataE),
-        (I, _, GetS(core)) => go(S, owner, only(core), Data { acks: 0 }),
+        (I, _, GetS(core)) => go(S, owner, CoreSet::only(core), Data { acks: 0 }),
         (I, _, GetM(core)) => go(M, Some(core), sharers, Data { acks: 0 }),
-        (S, _, GetS(core)) => go(S, owner, with(sharers, core), Data { acks: 0 }),
-        (S, _, GetM(core)) => go(M, Some(core), 0, invalidate_others(sharers, core)),
-        (M, Some(from), GetS(core)) if from != core => go(S_D, None, with(only(from), core), FwdGetS { owner: from }),
+        (S, _, GetS(core)) => go(S, owner, sharers.with(core), Data { acks: 0 }),
+        (S, _, GetM(core)) => go(M, Some(core), CoreSet::none(), invalidate_others(sharers, core)),
+        (M, Some(from), GetS(core)) if from != core => go(S_D, None, CoreSet::only(from).with(core), FwdGetS { owner: from }),
         (M, Some(from), GetM(core)) if from != core => go(M, Some(core), sharers, FwdGetM { owner: from }),
         (M, Some(from), PutM(core)) if from == core => go_home(I, None, sharers, PutAck),
         (S_D, _, GetS(_) | GetM(_)) => Blocked,
         (S_D, _, DataHome) => go_home(shared_by(sharers), owner, sharers, Nothing),
         (I, _, PutS(_) | PutM(_)) => go(I, owner, sharers, PutAck),
         (M, Some(from), PutS(core) | PutM(core)) if from != core => go(M, owner, sharers, PutAck),
-        (S, _, PutS(core) | PutM(core)) => go(shared_by(without(sharers, core)), owner, without(sharers, core), PutAck),
-        (S_D, _, PutS(core) | PutM(core)) => go(S_D, owner, without(sharers, core), PutAck),
+        (S, _, PutS(core) | PutM(core)) => go(shared_by(sharers.without(core)), owner, sharers.without(core), PutAck),
+        (S_D, _, PutS(core) | PutM(core)) => go(S_D, owner, sharers.without(core), PutAck),
         _ => NoEntry,
     }
 }
 
 /// The row that leaves the home copy as it is.
-const fn go(state: DirState, owner: Option<CoreId>, sharers: u64, sends: DirSends) -> DirRow
+const fn go(state: DirState, owner: Option<CoreId>, sharers: CoreSet, sends: DirSends) -> DirRow
     ensures { result ≡ goes state owner sharers sends }
 {
     DirRow::Go {
@@ -123,7 +120,12 @@ const fn go(state: DirState, owner: Option<CoreId>, sharers: u64, sends: DirSend
 }
 
 /// The row that copies the message's block home.
-const fn go_home(state: DirState, owner: Option<CoreId>, sharers: u64, sends: DirSends) -> DirRow
+const fn go_home(
+    state: DirState,
+    owner: Option<CoreId>,
+    sharers: CoreSet,
+    sends: DirSends,
+) -> DirRow
     ensures { result ≡ goes_home state owner sharers sends }
 {
     DirRow::Go {
@@ -136,10 +138,10 @@ const fn go_home(state: DirState, owner: Option<CoreId>, sharers: u64, sends: Di
 }
 
 /// S, or I where no sharer is left.
-const fn shared_by(sharers: u64) -> DirState
+const fn shared_by(sharers: CoreSet) -> DirState
     ensures { result ≡ shared_by sharers }
 {
-    if sharers == 0 {
+    if sharers.is_empty() {
         DirState::I
     } else {
         DirState::S
@@ -147,13 +149,12 @@ const fn shared_by(sharers: u64) -> DirState
 }
 
 /// Data to the requester, and an invalidation to each other sharer, whose acknowledgement the data name.
-const fn invalidate_others(sharers: u64, requester: CoreId) -> DirSends
-    requires { requester.0 < 64 }
-    ensures { result ≡ DirSends.DataAndInv (count_of_others sharers requester.0) (without sharers requester.0) }
+const fn invalidate_others(sharers: CoreSet, requester: CoreId) -> DirSends
+    ensures { result ≡ DirSends.DataAndInv (count_of (without sharers requester.0)) (without sharers requester.0) }
 {
-    let invalidated = without(sharers, requester);
+    let invalidated = sharers.without(requester);
     DirSends::DataAndInv {
-        acks: count(invalidated),
+        acks: invalidated.count(),
         invalidated,
     }
 }

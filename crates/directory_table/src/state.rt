@@ -1,4 +1,4 @@
-use address_map::{Block, CoreId};
+use address_map::{Block, CoreId, CoreSet};
 use std::fmt;
 
 /// The directory's state of a line, under the Primer's names.
@@ -30,8 +30,7 @@ impl fmt::Display for DirState {
 #[derive(Clone, Copy, Debug, PartialEq, Eq)]
 pub struct DirEntry {
     pub home: Block,
-    /// Bit c is core c.
-    pub sharers: u64,
+    pub sharers: CoreSet,
     pub owner: Option<CoreId>,
     pub state: DirState,
 }

@@ -20,14 +20,18 @@ module _ {V P : Type 0} (array : ArrayView V P) (line : Local) (sound : IsArray 
   pub written_other : (value : V) (other : Local) → other.0 ≢ line.0 →
       held_at (with_slots array line (after_write (slots_at array line) line value)) other ≡ held_at array other
   written_other value other ne =
-      (sets_only array line (after_write (slots_at array line) line value) _ sound refl (others-write (slots_at array line) line value)).others other ne
+      let slots = slots_at array line in
+      (sets_only array line (after_write slots line value) _ sound refl (others-write slots line value)).others other ne
 
   pub written_place : (value : V) →
       position (holds line) (slots_at (with_slots array line (after_write (slots_at array line) line value)) line)
       ≡ position (holds line) (slots_at array line)
   written_place value =
-      ap (position (holds line)) (slots-same array line (after_write (slots_at array line) line value) line (index_within array line sound) refl)
-      ∙ position-written (holds line) (slots_at array line) (record { line = line; value = value }) (eq-eqb line.0 line.0 refl)
+      let slots = slots_at array line in
+      let slot : Slot V = record { line = line; value = value } in
+      ap (position (holds line))
+      (slots-same array line (after_write slots line value) line (index_within array line sound) refl)
+      ∙ position-written (holds line) slots slot (eq-eqb line.0 line.0 refl)
 
   pub written_sound : (value : V) → IsSome (held_at array line) →
       IsArray (with_slots array line (after_write (slots_at array line) line value))
@@ -40,7 +44,8 @@ module _ {V P : Type 0} (array : ArrayView V P) (line : Local) (sound : IsArray 
       elim (cases_eq other.0 line.0) [
         | inl same ↦
             let named : ℕ → Local = λ n. record { 0 = n } in
-            subst (λ l. held_at (with_slots array line (after_use true (slots_at array line) line)) l ≡ held_at array l) (sym (ap named same)) (leaves-use array line sound).held.there
+            let used = with_slots array line (after_use true (slots_at array line) line) in
+            subst (λ l. held_at used l ≡ held_at array l) (sym (ap named same)) (leaves-use array line sound).held.there
         | inr apart ↦ (leaves-use array line sound).held.others other apart
       ]
   used_held false other =
@@ -60,12 +65,15 @@ module _ {V P : Type 0} (array : ArrayView V P) (line : Local) (sound : IsArray 
   pub inserted_held : (value : V) → held_at array line ≡ None →
       held_at (with_slots array line (after_insert (slots_at array line) line value)) line ≡ Some value
   inserted_held value absent =
-      (sets_only array line (after_insert (slots_at array line) line value) (Some value) sound (value-insert (slots_at array line) line value absent) (others-insert (slots_at array line) line value)).there
+      let slots = slots_at array line in
+      (sets_only array line (after_insert slots line value) (Some value) sound (value-insert slots line value absent)
+      (others-insert slots line value)).there
 
   pub inserted_other : (value : V) (other : Local) → other.0 ≢ line.0 →
       held_at (with_slots array line (after_insert (slots_at array line) line value)) other ≡ held_at array other
   inserted_other value other ne =
-      (sets_only array line (after_insert (slots_at array line) line value) _ sound refl (others-insert (slots_at array line) line value)).others other ne
+      let slots = slots_at array line in
+      (sets_only array line (after_insert slots line value) _ sound refl (others-insert slots line value)).others other ne
 
   pub inserted_sound : (value : V) → held_at array line ≡ None → HasWay array line →
       IsArray (with_slots array line (after_insert (slots_at array line) line value))

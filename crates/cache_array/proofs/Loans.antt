@@ -39,21 +39,24 @@ value_there {V = V} inside now line place slot e at is =
     (its_slot now.slots line place slot at (is ∙ ap (λ (s : SetView V). get_or s.slots place slot) e))
 
 -- another value left in that slot is written there
-pub left_there : {V : Type 0} (inside now : SetView V) (line : Local) (place : ℕ) (slot : Slot V) (value : V) → inside ≡ now →
-    position (holds line) now.slots ≡ Some place → slot ≡ get_or inside.slots place slot →
-    ◌≡◌ {A = SetView V} (record { slots = set inside.slots place (record { line = slot.line; value = value }); ways = inside.ways })
+pub left_there : {V : Type 0} (inside now : SetView V) (line : Local) (place : ℕ) (slot : Slot V) (value : V) →
+    inside ≡ now → position (holds line) now.slots ≡ Some place →
+    slot ≡ get_or inside.slots place slot →
+    ◌≡◌ {A = SetView V}
+    (record { slots = set inside.slots place (record { line = slot.line; value = value }); ways = inside.ways })
     (record now { slots = after_write now.slots line value })
 left_there {V = V} inside now line place slot value e at is =
     let found = its_slot now.slots line place slot at (is ∙ ap (λ (s : SetView V). get_or s.slots place slot) e) in
     let same : slot.line ≡ line = same_line line slot.line (found_passes (holds line) now.slots slot found) in
-    let with : SetView V → ℕ → Local → SetView V = λ s i l. record s { slots = set s.slots i (record { line = l; value = value }) } in
+    let with : SetView V → ℕ → Local → SetView V =
+    λ s i l. record s { slots = set s.slots i (record { line = l; value = value }) } in
     ap (λ s. with s place slot.line) e
     ∙ ap (with now place) same
     ∙ ap (λ i. with now i line) (sym (first_at (holds line) now.slots place at))
 
 -- what a search of the line's set tells of the array
-pub found_read : {V P : Type 0} (inside now : ArrayView V P) (line : Local) (index : ℕ) (found : SetView V) (place : Option ℕ) →
-    inside ≡ now → IsArray inside → index ≡ set_index now line → found ≡ get_or inside.sets index found →
+pub found_read : {V P : Type 0} (inside now : ArrayView V P) (line : Local) (index : ℕ) (found : SetView V)
+    (place : Option ℕ) → inside ≡ now → IsArray inside → index ≡ set_index now line → found ≡ get_or inside.sets index found →
     place ≡ position (holds line) found.slots → IsSome place ↔ IsSome (held_at now line)
 found_read {V = V} inside now line index found place e sound at is f =
     let same = slots_read inside now line index found e sound at is in
@@ -67,13 +70,15 @@ pub held_there : {V P : Type 0} (array : ArrayView V P) (line : Local) (place : 
 held_there array line place at = sym (place_held (slots_at array line) line (Some place) (sym at))
 
 -- whatever is left behind a loan, the array is in order
-pub left_sound : {V P : Type 0} (inside now : ArrayView V P) (line : Local) (place : ℕ) (value : V) (index : ℕ) (found : SetView V) →
-    inside ≡ now → IsArray inside → index ≡ set_index inside line → found ≡ get_or inside.sets index found →
+pub left_sound : {V P : Type 0} (inside now : ArrayView V P) (line : Local) (place : ℕ) (value : V) (index : ℕ)
+    (found : SetView V) → inside ≡ now → IsArray inside → index ≡ set_index inside line → found ≡ get_or inside.sets index found →
     position (holds line) (slots_at now line) ≡ Some place →
     IsArray {V = V} {P = P} (record {
       sets = set inside.sets index (record found { slots = after_write found.slots line value });
       policy = inside.policy;
     })
 left_sound {V = V} {P = P} inside now line place value index found e sound here is at =
-    let found_here = subst (λ (a : ArrayView V P). position (holds line) (slots_at a line) ≡ Some place) (sym e) at in
-    (write_leaves inside inside line value index found (record found { slots = after_write found.slots line value }) refl sound here is refl (held_there inside line place found_here)).sound
+    let left : SetView V = record found { slots = after_write found.slots line value } in
+    let stands = subst (λ (a : ArrayView V P). position (holds line) (slots_at a line) ≡ Some place) (sym e) at in
+    let held = held_there inside line place stands in
+    (write_leaves inside inside line value index found left refl sound here is refl held).sound

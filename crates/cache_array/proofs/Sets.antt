@@ -30,14 +30,17 @@ set_masked {V = V} {P = P} inside now line sets e sound long =
     ∙ ap (λ (a : ArrayView V P). set_index a line) e
 
 -- an array in which no line is, of a power of two of sets
-empty_array_sound : {V P : Type 0} (sets ways : ℕ) (policy : P) → IsPowerOfTwo sets → IsArray {V = V} {P = P} (empty_array sets ways policy)
+empty_array_sound : {V P : Type 0} (sets ways : ℕ) (policy : P) → IsPowerOfTwo sets →
+    IsArray {V = V} {P = P} (empty_array sets ways policy)
 empty_array_sound {V = V} sets ways policy power =
     let empty : SetView V = empty_set ways in
     let long = length-replicate sets empty in record {
       power = subst IsPowerOfTwo (sym long) power;
       each =
           λ k lt.
-          subst (IsSet (length (replicate sets empty)) k) (sym (get_or-replicate sets k empty (empty_set 0) (omega (arith, long)))) (record {
+          subst (IsSet (length (replicate sets empty)) k)
+          (sym (get_or-replicate sets k empty (empty_set 0) (omega (arith, long))))
+          (record {
             its_own = All-nil (λ line. line.0 % length (replicate sets empty) ≡ k);
             distinct = λ i j d lt within. absurd (omega arith);
             few = omega arith;
@@ -58,7 +61,8 @@ pub set-same : {V P : Type 0} (array : ArrayView V P) (line : Local) (slots : Li
     set_of (with_slots array line slots) other ≡ record (set_of array line) { slots = slots }
 set-same {V = V} array line slots other within same =
     let new : SetView V = record (set_of array line) { slots = slots } in
-    ap (λ n. get_or (set array.sets (set_index array line) new) (other.0 % n) (empty_set 0)) (length-set array.sets (set_index array line) new)
+    ap (λ n. get_or (set array.sets (set_index array line) new) (other.0 % n) (empty_set 0))
+    (length-set array.sets (set_index array line) new)
     ∙ ap (λ i. get_or (set array.sets (set_index array line) new) i (empty_set 0)) same
     ∙ get_or-set_same array.sets (set_index array line) new (empty_set 0) within
 
@@ -77,8 +81,8 @@ slots-other {V = V} array line slots other apart =
     ∙ ap (λ (s : SetView V). s.slots) (get_or-set_other array.sets (set_index array line) (set_index array other) new (empty_set 0) apart)
 
 -- the values, from those of the line's set
-pub sets_only : {V P : Type 0} (array : ArrayView V P) (line : Local) (slots : List (Slot V)) (value : Option V) → IsArray array →
-    value_in slots line ≡ value →
+pub sets_only : {V P : Type 0} (array : ArrayView V P) (line : Local) (slots : List (Slot V)) (value : Option V) →
+    IsArray array → value_in slots line ≡ value →
     ((other : Local) → other.0 ≢ line.0 → value_in slots other ≡ value_in (slots_at array line) other) →
     SetsOnly array (with_slots array line slots) line value
 sets_only {V = V} array line slots value sound there others = record {

@@ -172,7 +172,8 @@ pub length-held_removed : {V : Type 0} (slots : List (Slot V)) (line : Local) �
 length-held_removed [] line held = cc
 length-held_removed {V = V} (slot ∷ slots) line held = by (holds line slot) held (length-held_removed slots line)
   where
-    by : (b : Bool) → is_some (option_map (λ (s : Slot V). s.value) (cond b (Some slot) (find (holds line) slots))) ≡ true →
+    by : (b : Bool) →
+        is_some (option_map (λ (s : Slot V). s.value) (cond b (Some slot) (find (holds line) slots))) ≡ true →
         (is_some (value_in slots line) ≡ true → length (after_remove slots line) < length slots) →
         length (cond b slots (slot ∷ after_remove slots line)) < length (slot ∷ slots)
     by true here rest = omega arith
@@ -253,7 +254,8 @@ pub moved_set : {V : Type 0} (line : Local) (inside now : SetView V) (old new : 
 moved_set {V = V} line inside now old new long place l e f kept at moved =
     set_is (record now { slots = after_use true now.slots line }) (refill long inside.slots new) inside.ways
     (ap (λ n. refill n inside.slots new) l
-    ∙ moved_within (holds line) now.slots inside.slots old new place (ap (λ (s : SetView V). s.slots) e) f kept at moved)
+    ∙ moved_within (holds line) now.slots inside.slots old new place (ap (λ (s : SetView V). s.slots) e) f kept at
+    moved)
     (ap (λ (s : SetView V). s.ways) e)
 
 -- one more slot has its answer

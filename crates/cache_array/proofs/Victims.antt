@@ -113,8 +113,11 @@ slot_held {V = V} array line place slot sound at =
     let named = line_place slots place slot at in
     let within = slice_get_within (lines_of slots) place slot.line named in
     let same : ShareSet array line slot.line =
-    subst (λ (l : Local). l.0 % length array.sets ≡ set_index array line) (get_or_from_slice_get (lines_of slots) place slot.line slot.line named) (its.its_own place slot.line within) in
-    (same, ap (λ s. value_in s slot.line) (shared array line slot.line same) ∙ value_place slots place slot its.distinct at)
+    subst (λ (l : Local). l.0 % length array.sets ≡ set_index array line)
+    (get_or_from_slice_get (lines_of slots) place slot.line slot.line named)
+    (its.its_own place slot.line within) in
+    let value = value_place slots place slot its.distinct at in
+    (same, ap (λ s. value_in s slot.line) (shared array line slot.line same) ∙ value)
 
 -- some slot may go where one's flag is up, and none where none is
 some_flagged : {V : Type 0} (test : V → Bool) (slots : List (Slot V)) (place : ℕ) →
@@ -222,8 +225,8 @@ victim_is {V = V} {P = P} array line test moves prefers (Some place) sound allow
         two o {a = a} {b = b} e f = let same : a ≡ b = cc in ap (λ (l : Local). l.0) same
 
 -- whether some line of an array may go, told of the set that was read
-pub some_read : {V P : Type 0} (inside now : ArrayView V P) (line : Local) (index : ℕ) (found : SetView V) (test : V → Bool) (some : Bool) →
-    inside ≡ now → IsArray inside → index ≡ set_index now line → found ≡ get_or inside.sets index found →
+pub some_read : {V P : Type 0} (inside now : ArrayView V P) (line : Local) (index : ℕ) (found : SetView V)
+    (test : V → Bool) (some : Bool) → inside ≡ now → IsArray inside → index ≡ set_index now line → found ≡ get_or inside.sets index found →
     some ≡ some_may_go test found.slots → some ≡ some_may_go test (slots_at now line)
 some_read {V = V} inside now line index found test some e sound at is f =
     f ∙ ap (λ (s : List (Slot V)). some_may_go test s) (slots_read inside now line index found e sound at is)
@@ -264,7 +267,8 @@ victim_read {V = V} {P = P} inside now line index found says test choose moves p
     (sym (choice_read inside now line index found says test choose flags victim e sound at is answers asked f))
     (victim_is now line test (moves now.policy) (prefers now.policy) (choose now.policy (flags_of test (slots_at now line))) (subst IsArray e sound) may_go best)
 
-pub victim_some : {V P : Type 0} (inside now : ArrayView V P) (line : Local) (index : ℕ) (found : SetView V) (says : V → Bool → Type 0) (test : V → Bool) (chosen : Option ℕ) (flags : List Bool) (victim : Option Local) →
+pub victim_some : {V P : Type 0} (inside now : ArrayView V P) (line : Local) (index : ℕ) (found : SetView V)
+    (says : V → Bool → Type 0) (test : V → Bool) (chosen : Option ℕ) (flags : List Bool) (victim : Option Local) →
     inside ≡ now → IsArray inside → index ≡ set_index now line → found ≡ get_or inside.sets index found →
     Answers says test → AllZip (λ slot flag. says slot.value flag) found.slots flags → IsAllowed flags chosen →
     victim ≡ line_in found.slots chosen → is_some victim ≡ some_may_go test (slots_at now line)

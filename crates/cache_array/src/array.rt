@@ -102,6 +102,13 @@ impl<V: Copy, P: Policy + Drop> CacheArray<V, P> {
         self.value_mut(line, place)
     }
 
+    /// The policy by which the array chooses victims.
+    pub fn policy(&self) -> &P
+        ensures { result.now ≡ self.now.policy }
+    {
+        &self.policy
+    }
+
     /// Whether the line's set has room for one more line.
     pub fn has_way(&self, line: Local) -> bool
         ensures room { IsTrue result ↔ HasWay self.now line }

@@ -135,7 +135,8 @@ impl<V: Copy> Set<V> {
     /// Whether some line's value passes `allowed`.
     pub fn has_victim<F: Fn(&V) -> bool>(&self, allowed: F) -> bool
         requires { F.IsAlwaysCallable allowed }
-        ensures { (test : V → Bool) → Answers (FnReturnsAt F.Fn allowed) test → result ≡ some_may_go test self.now.slots }
+        ensures { (test : V → Bool) → Answers (FnReturnsAt F.Fn allowed) test
+            → result ≡ some_may_go test self.now.slots }
     {
         some_allowed(&self.slots, allowed)
     }

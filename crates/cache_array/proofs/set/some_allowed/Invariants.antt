@@ -6,4 +6,5 @@ use Rattle.cache_array.proofs.set.some_allowed.Given as goal
 
 abbrev pub invariant-loop-slot : goal.invariant-loop-slot
 invariant-loop-slot g l =
-    (test : g.row.V.Denot → Bool) → Answers (FnReturnsAt g.F.Fn l.allowed) test → some_may_go test (take l.slot-index l.slots) ≡ false
+    (test : g.row.V.Denot → Bool) → Answers (FnReturnsAt g.F.Fn l.allowed) test →
+    some_may_go test (take l.slot-index l.slots) ≡ false

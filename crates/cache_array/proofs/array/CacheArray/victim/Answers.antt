@@ -22,4 +22,7 @@ returns-clause-some g c =
     λ test answers.
     let says = λ (slot : _) (flag : _). FnReturnsAt g.F.Fn c.args.allowed slot.value flag in
     let asked = asked_as _ says (λ slot flag e. record { shown = e.shown; shows = e.shows; says = record { met = e.says.met } }) c.index.result.now.slots c.victim.ensures.0 c.victim.ensures.1 in
-    victim_some (record { sets = c.self.inside.sets.items; policy = c.self.inside.policy }) c.args.self.now c.args.line c.set_index.result c.index.result.now (FnReturnsAt g.F.Fn c.args.allowed) test (g.P.Policy.choice c.self.inside.policy c.victim.ensures.0 c.args.word) c.victim.ensures.0 c.victim.result c.self.view_is c.self.invariant c.set_index.ensures.index c.index.ensures answers asked c.victim.ensures.2 c.victim.ensures.4
+    victim_some (record { sets = c.self.inside.sets.items; policy = c.self.inside.policy }) c.args.self.now c.args.line
+    c.set_index.result c.index.result.now (FnReturnsAt g.F.Fn c.args.allowed) test
+    (g.P.Policy.choice c.self.inside.policy c.victim.ensures.0 c.args.word) c.victim.ensures.0 c.victim.result
+    c.self.view_is c.self.invariant c.set_index.ensures.index c.index.ensures answers asked c.victim.ensures.2 c.victim.ensures.4

@@ -8,9 +8,16 @@ pub returns : goal.returns
 returns g c =
     let inside : SetView _ = record { slots = c.self.inside.slots.items; ways = c.self.inside.ways } in
     let slot = c.index_mut-slot.result.now in (
-      (refl, λ value. left_there inside c.args.self.now c.args.line c.args.place slot value c.self.view_is c.requires c.index_mut-slot.ensures.value),
+      (
+        refl,
+        λ value.
+            left_there inside c.args.self.now c.args.line c.args.place slot value c.self.view_is c.requires
+            c.index_mut-slot.ensures.value,
+      ),
       record {
         lends = record {};
-        value = value_there inside c.args.self.now c.args.line c.args.place slot c.self.view_is c.requires c.index_mut-slot.ensures.value;
+        value =
+            value_there inside c.args.self.now c.args.line c.args.place slot c.self.view_is c.requires
+            c.index_mut-slot.ensures.value;
       },
     )

@@ -8,3 +8,4 @@ pub mod Changes
 mod ByLine
 mod Entries
 mod Tags
+mod Slots

@@ -1,7 +1,8 @@
 -- Lists: what a filter drops and a count passes over, and the first place that passes a test.
-use Rattle.std.proofs.Common.{◌≡◌, ℕ, ◌+◌, ◌<◌, ◌≤◌, Bool, true, false, not, length, if◌then◌else◌, List, [], ◌∷◌, ◌++◌, filter, Some, None, refl, sym, ap, ⊎_elim, arith, ◌∙◌}
-use Rattle.std.specs.Prelude.{sum_by, ◌&&◌, All, IsTrue, IsSome, nat_lt}
-use Rattle.std.specs.List.{flat_map, count_by, list_any, position, position_or_len}
+use Rattle.std.proofs.Common.{◌≡◌, ℕ, zero, suc, ◌+◌, ◌<◌, ◌≤◌, Bool, true, false, not, length, if◌then◌else◌, List, [], ◌∷◌, ◌++◌, filter, Some, None, refl, sym, ap, ⊎_elim, arith, ◌∙◌, map, get_or}
+use Rattle.std.specs.Prelude.{sum_by, ◌&&◌, All, IsTrue, IsSome, is_some, nat_lt}
+use Rattle.std.specs.List.{flat_map, count_by, find, list_any, position, position_or_len, prefix_len, remove}
+use Rattle.std.proofs.lemmas.List.{length-map}
 use Rattle.std.proofs.lemmas.Bool.{cases_Bool, lt-ltb}
 use Rattle.std.proofs.lemmas.List.Elements.{All-cons, All-nil}
 use Rattle.std.proofs.lemmas.List.Sums.{sum_by-cons}
@@ -135,3 +136,67 @@ module _ {X : Type 0} where
       (λ inside. let place : Some (position_or_len p xs) ≡ Some i = rw inside at found in cc)
       (λ outside. let none : None ≡ Some i = rw outside at found in absurd cc)
       (cases_Bool (nat_lt (position_or_len p xs) (length xs)))
+
+-- A test of what a function gives passes where a test of what it is given passes.
+module _ {X Y : Type 0} (f : X → Y) (p : Y → Bool) (q : X → Bool) (same : (x : X) → p (f x) ≡ q x) where
+  pub any-map : (xs : List X) → list_any p (map f xs) ≡ list_any q xs
+  any-map [] = refl
+  any-map (x ∷ xs) = rw (same x) (rw (any-map xs) refl)
+
+  pub filter-map : (xs : List X) → filter p (map f xs) ≡ map f (filter q xs)
+  filter-map [] = refl
+  filter-map (x ∷ xs) =
+      ⊎_elim
+      (λ yes. let also : p (f x) ≡ true = same x ∙ yes in rw also (rw yes (ap (λ ys. f x ∷ ys) (filter-map xs))))
+      (λ no. let also : p (f x) ≡ false = same x ∙ no in rw also (rw no (filter-map xs)))
+      (cases_Bool (q x))
+
+  pub kept-map : (xs : List X) → length (filter p (map f xs)) ≡ length (filter q xs)
+  kept-map xs = ap length (filter-map xs) ∙ length-map (filter q xs) f
+
+  pub place-map : (xs : List X) → position_or_len p (map f xs) ≡ position_or_len q xs
+  place-map [] = refl
+  place-map (x ∷ xs) = rw (same x) (rw (place-map xs) refl)
+
+  pub position-map : (xs : List X) → position p (map f xs) ≡ position q xs
+  position-map xs = rw (place-map xs) (rw (length-map xs f) refl)
+
+  pub prefix-map : (xs : List X) → prefix_len p (map f xs) ≡ prefix_len q xs
+  prefix-map [] = refl
+  prefix-map (x ∷ xs) = rw (same x) (rw (prefix-map xs) refl)
+
+module _ {X : Type 0} where
+  -- What is not there is not found, and the other way round.
+  pub find_none : (p : X → Bool) (xs : List X) → list_any p xs ≡ false → find p xs ≡ None
+  find_none p [] none = refl
+  find_none p (x ∷ xs) none =
+      ⊎_elim
+      (λ yes. let clash : true ≡ false = rw yes at none in absurd cc)
+      (λ no. rw no (find_none p xs (rw no at none)))
+      (cases_Bool (p x))
+
+  pub found_or_not : (p : X → Bool) (xs : List X) → is_some (find p xs) ≡ list_any p xs
+  found_or_not p [] = refl
+  found_or_not p (x ∷ xs) = ⊎_elim (λ yes. rw yes refl) (λ no. rw no (found_or_not p xs)) (cases_Bool (p x))
+
+  pub none_counted : (p : X → Bool) (xs : List X) → count_by p xs ≡ 0 → list_any p xs ≡ false
+  none_counted p [] none = refl
+  none_counted p (x ∷ xs) none =
+      ⊎_elim
+      (λ yes. let all = count_by-yes p x xs yes in absurd (omega (arith, all, none)))
+      (λ no. let all = count_by-no p x xs no in rw no (none_counted p xs (omega (arith, all, none))))
+      (cases_Bool (p x))
+
+  -- What fails a test is not what is found by it.
+  pub find-remove : (p : X → Bool) (xs : List X) (i : ℕ) (d : X) → i < length xs → p (get_or xs i d) ≡ false →
+      find p (remove xs i) ≡ find p xs
+  find-remove p [] i d inside fails = absurd (omega (arith, inside))
+  find-remove p (x ∷ xs) zero d inside fails = let no : p x ≡ false = fails in rw no refl
+  find-remove p (x ∷ xs) (suc i) d inside fails =
+      ap (λ rest. if p x then Some x else rest) (find-remove p xs i d (omega (arith, inside)) fails)
+
+  pub map-remove : {Y : Type 0} (f : X → Y) (xs : List X) (i : ℕ) → map f (remove xs i) ≡ remove (map f xs) i
+  map-remove f [] zero = refl
+  map-remove f [] (suc i) = refl
+  map-remove f (x ∷ xs) zero = refl
+  map-remove f (x ∷ xs) (suc i) = ap (λ rest. f x ∷ rest) (map-remove f xs i)

@@ -14,22 +14,9 @@ use Rattle.mshr_file.specs.declared.registers.RegisterTable.{RegisterTable}
 use Rattle.mshr_file.specs.declared.registers.Row.{Row}
 use Rattle.mshr_file.specs.Miss.{is_for, is_waited, targets_of, has_miss}
 use Rattle.mshr_file.specs.Register.{misses_of, serves, no_register, row_of, no_row, row_serves, is_free_row, IsKept, HasEachLineOnce}
-use Rattle.mshr_file.proofs.Lists.{position_found, first-inside}
+use Rattle.mshr_file.proofs.Lists.{any-map, kept-map, position_found, first-inside}
 use Rattle.mshr_file.proofs.Steps.{has_miss_is, register_serving, waits_for}
 use Rattle.mshr_file.proofs.Table.{nothing_waits}
-
-module _ {X Y : Type 0} (f : X → Y) (p : Y → Bool) (q : X → Bool) (same : (x : X) → p (f x) ≡ q x) where
-  any-map : (xs : List X) → list_any p (map f xs) ≡ list_any q xs
-  any-map [] = refl
-  any-map (x ∷ xs) = rw (same x) (rw (any-map xs) refl)
-
-  kept-map : (xs : List X) → length (filter p (map f xs)) ≡ length (filter q xs)
-  kept-map [] = refl
-  kept-map (x ∷ xs) =
-      ⊎_elim
-      (λ yes. let also : p (f x) ≡ true = same x ∙ yes in rw also (rw yes (let later = kept-map xs in omega (arith, later))))
-      (λ no. let also : p (f x) ≡ false = same x ∙ no in rw also (rw no (kept-map xs)))
-      (cases_Bool (q x))
 
 -- A row is free where no target waits in its register.
 free_row : (register : Register) → is_free_row (row_of register) ≡ not (is_waited register.targets)

@@ -1,32 +1,32 @@
 use super::admission::Admission;
+use super::entry_table::EntryTable;
 use super::miss_file::MissFile;
-use super::waiting::{
-    Waiting, count_at_line, count_front_loads, count_lines, entry_of, has_free, push_entry,
-    take_entries, take_oldest, waits,
-};
+use super::waiting::Waiting;
 use address_map::{Checked, Local};
 use arrayvec::ArrayVec;
 use std::alloc::{AllocError, Global};
 use std::marker::Model;
 use target_list::Target;
 
-/// An entry for each tag of the core, 0 to 63, with the access that waits under it. Entries that are in use stand in the
-/// order in which they came, so that a look goes over these alone.
+/// An entry for each tag of the core, 0 to 63, with the access that waits under it. A look goes over the entries that
+/// are in use, in the order in which they came.
 #[derive(Drop)]
 pub struct InvertedFile {
-    entries: ArrayVec<Waiting, 64>,
+    table: EntryTable,
+    /// How many lines are waited for.
+    lines: usize,
 }
 
 impl Model for InvertedFile {
-    ghost use Rattle.std.specs.Prelude.{List};
+    ghost use Rattle.std.specs.Prelude.{◌≡◌, List, length};
     ghost use Rattle.mshr_file.specs.declared.waiting.Waiting.{Waiting};
-    ghost use Rattle.mshr_file.specs.Waiting.{HasEntryByTag};
+    ghost use Rattle.mshr_file.specs.Waiting.{IsEntryTable, waiting_in, by_line};
 
     ghost Value = { List Waiting };
 
-    ghost view = { λ file. file.entries.items };
+    ghost view = { λ file. waiting_in file.table };
 
-    ghost invariant = { λ file. HasEntryByTag file.entries.items };
+    ghost invariant = { λ file. IsEntryTable file.table × (file.lines ≡ length (by_line (waiting_in file.table))) };
 }
 
 impl InvertedFile {
@@ -40,7 +40,7 @@ impl InvertedFile {
         ensures held { option_copied result ≡ find (λ entry. has_tag tag entry.target) self.now }
         ensures once { HasEachTagOnce (by_line self.now) }
     {
-        entry_of(self.entries.as_slice(), tag)
+        self.table.entry(tag)
     }
 }
 
@@ -55,29 +55,28 @@ impl MissFile for InvertedFile {
     ghost bound_by = { λ _. tags };
 
     fn make(_alloc: Global, _config: &Checked) -> Result<Self, AllocError> {
-        Ok(InvertedFile {
-            entries: ArrayVec::new(),
-        })
+        let table = EntryTable::new();
+        Ok(InvertedFile { table, lines: 0 })
     }
 
     fn find(&self, line: Local) -> bool {
-        waits(self.entries.as_slice(), line)
+        self.table.waits(line)
     }
 
     fn room_open(&self, tag: u8) -> bool {
-        has_free(self.entries.as_slice(), tag)
+        self.table.has_free(tag)
     }
 
     fn room_join(&self, _line: Local, tag: u8) -> bool {
-        has_free(self.entries.as_slice(), tag)
+        self.table.has_free(tag)
     }
 
     fn waiting(&self, line: Local) -> usize {
-        count_at_line(self.entries.as_slice(), line)
+        self.table.count_at_line(line)
     }
 
     fn front_loads(&self, line: Local) -> usize {
-        count_front_loads(self.entries.as_slice(), line)
+        self.table.count_front_loads(line)
     }
 
     fn admit(&self, line: Local, tag: u8) -> Admission {
@@ -91,28 +90,39 @@ impl MissFile for InvertedFile {
     }
 
     fn open(&mut self, line: Local, target: Target) {
-        push_entry(&mut self.entries, line, target);
+        self.table.push(line, target);
+        self.lines += 1;
     }
 
     fn join(&mut self, line: Local, target: Target) {
-        push_entry(&mut self.entries, line, target);
+        self.table.push(line, target);
     }
 
     fn take_first(&mut self, line: Local) -> Target {
-        take_oldest(&mut self.entries, line)
+        let first = self.table.take_first(line);
+        if !self.table.waits(line) {
+            self.lines -= 1;
+        }
+        first
     }
 
     fn take_loads(&mut self, line: Local) -> ArrayVec<Target, 64> {
-        let count = count_front_loads(self.entries.as_slice(), line);
-        take_entries(&mut self.entries, line, count)
+        let count = self.table.count_front_loads(line);
+        let loads = self.table.take(line, count);
+        if !self.table.waits(line) {
+            self.lines -= 1;
+        }
+        loads
     }
 
     fn close(&mut self, line: Local) -> ArrayVec<Target, 64> {
-        let count = count_at_line(self.entries.as_slice(), line);
-        take_entries(&mut self.entries, line, count)
+        let count = self.table.count_at_line(line);
+        let all = self.table.take(line, count);
+        self.lines -= 1;
+        all
     }
 
     fn registers(&self) -> usize {
-        count_lines(self.entries.as_slice())
+        self.lines
     }
 }

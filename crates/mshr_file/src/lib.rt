@@ -5,9 +5,10 @@
 //!
 //! - [`MissFile`] is what a cache needs of its registers. Its contracts see a list of them, each a line with its targets
 //!   in order, in which no line stands twice and each has a target (`IsMissFile` of specs/Miss.antt).
+//! - [`MissFile::admit`] says what a request for a line is to do: join its register, open one, or wait for room.
 //! - [`MissFile::open`] and [`MissFile::join`] add a target to one line at the end (`AddsTarget`),
-//!   [`MissFile::take_loads`] and [`MissFile::close`] take the first ones of a line (`TakesTargets`). Nothing else
-//!   changes, and no target is lost or doubled.
+//!   [`MissFile::take_first`], [`MissFile::take_loads`] and [`MissFile::close`] take the first ones of a line
+//!   (`TakesTargets`). Nothing else changes, and no target is lost or doubled.
 //!
 //! There are two files. They differ in when they have room (`can_open`, `can_join`), and in nothing else that a caller
 //! sees:
@@ -17,8 +18,11 @@
 //! - [`InvertedFile`] has an entry for each tag of the core, their inverted organisation, and so it has room whenever
 //!   the tag is free.
 //!
-//! Only [`MissFile::make`] takes memory. A call looks at each register of its file, at most 32, or at each entry that is
-//! in use, at most 64. To count the lines of an inverted file, it compares these with one another.
+//! Only [`MissFile::make`] takes memory. A call searches a row of 16 bytes for each register of its file, at most 32, or
+//! for each entry that is in use, at most 64. A target is taken where it stands, and no other target moves; only
+//! [`MissFile::take_loads`] and [`MissFile::close`] hand out a list, 3 KB by value.
+//!
+//! What follows for callers from `AddsTarget` and `TakesTargets` stands in proofs/Changes.antt.
 #![tactic(auto)]
 
 pub use admission::Admission;
@@ -29,6 +33,7 @@ pub use target_list::Target;
 pub use waiting::Waiting;
 
 mod admission;
+mod entry_table;
 mod explicit;
 mod inverted;
 mod miss_file;

@@ -1,0 +1,5 @@
+pub mod Totals
+pub mod Padding
+pub mod Appending
+pub mod Whole
+pub mod Alike

@@ -1,0 +1,17 @@
+use Rattle.std.proofs.Common.{ap, sym, ◌∙◌, ◌+◌, ◌-◌, ◌^◌, min}
+use Rattle.stats_report.specs.Report.{HasCore, shown_of}
+use Rattle.stats_report.proofs.Totals.{total_more, All-at}
+use Rattle.stats_report.proofs.total.total.Goals as goal
+
+pub shown-requires : goal.shown-requires
+shown-requires c =
+    All-at (HasCore c.args.core) (λ slice. slice.now) c.args.stats.now c.loop-slice.slice-index c.slice-item.result
+    c.loop-slice-test.true c.slice-item.is c.requires
+
+pub loop-slice-preserved : goal.loop-slice-preserved
+loop-slice-preserved c =
+    let more = total_more (λ slice. slice.now) (shown_of c.args.core c.args.column) c.args.stats.now c.loop-slice.slice-index
+    c.slice-item.result c.loop-slice-test.true c.slice-item.is in
+    c.saturating_add-total.ensures ∙ ap (λ n. min (c.loop-slice.total + n) (2 ^ 64 - 1)) c.shown.ensures
+    ∙ ap (λ n. min (n + shown_of c.args.core c.args.column c.slice-item.result.now) (2 ^ 64 - 1)) c.loop-slice.invariant
+    ∙ sym more

@@ -1,0 +1,3 @@
+pub mod Column
+pub mod Report
+pub mod Text

@@ -20,7 +20,8 @@ pushed_waits (first ∷ rest) target = refl
 
 -- a target behind those of a register that serves the line
 pub joined : (registers : List Register) (i : ℕ) (line : ℕ) (read : Register) (target : Target) (pushed : List Target) →
-    HasEachLineOnce registers → i < length registers → read ≡ get_or registers i no_register → serves line (get_or registers i no_register) ≡ true →
+    HasEachLineOnce registers → i < length registers → read ≡ get_or registers i no_register →
+    serves line (get_or registers i no_register) ≡ true →
     pushed ≡ read.targets ++ target ∷ [] →
     IsAdded registers (set registers i (record { targets = pushed; line = read.line })) line target 0
 joined registers i line read target pushed single inside same serving push = record {
@@ -43,8 +44,10 @@ joined registers i line read target pushed single inside same serving push = rec
     for = ap (λ r. r.line.0) same ∙ line_of line (get_or registers i no_register) serving
 
 -- a target in a free register, which is the line's from then on
-pub opened : (registers : List Register) (i : ℕ) (line : Local) (read : Register) (target : Target) (pushed : List Target) →
-    HasEachLineOnce registers → i < length registers → read ≡ get_or registers i no_register → is_waited (get_or registers i no_register).targets ≡ false →
+pub opened : (registers : List Register) (i : ℕ) (line : Local) (read : Register) (target : Target)
+    (pushed : List Target) →
+    HasEachLineOnce registers → i < length registers → read ≡ get_or registers i no_register →
+    is_waited (get_or registers i no_register).targets ≡ false →
     has_miss (misses_of registers) line.0 ≡ false → pushed ≡ read.targets ++ target ∷ [] →
     IsAdded registers (set registers i (record { targets = pushed; line = line })) line.0 target 1
 opened registers i line read target pushed single inside same free nobody push = record {
@@ -61,7 +64,8 @@ opened registers i line read target pushed single inside same free nobody push =
     register = record { targets = pushed; line = line }
 
     home : IsRegisterOf registers i line.0
-    home = register_free registers i line.0 inside free (ap is_waited (sym (targets_of-misses registers line.0)) ∙ nobody)
+    home = register_free registers i line.0 inside free
+        (ap is_waited (sym (targets_of-misses registers line.0)) ∙ nobody)
 
 -- what was taken of a register and what is left, where it served the line
 pub record IsTaken (old new : List Register) (line : ℕ) (register : Register) (taken rest : List Target) : Type 0 where
@@ -72,7 +76,8 @@ pub record IsTaken (old new : List Register) (line : ℕ) (register : Register) 
   pub count : length (misses_of old) ≡ length (misses_of new) + (if is_waited rest then 0 else 1)
 
 pub took : (registers : List Register) (i : ℕ) (line : ℕ) (read : Register) (taken rest : List Target) →
-    HasEachLineOnce registers → i < length registers → read ≡ get_or registers i no_register → serves line (get_or registers i no_register) ≡ true →
+    HasEachLineOnce registers → i < length registers → read ≡ get_or registers i no_register →
+    serves line (get_or registers i no_register) ≡ true →
     read.targets ≡ taken ++ rest →
     IsTaken registers (set registers i (record { targets = rest; line = read.line })) line read taken rest
 took registers i line read taken rest single inside same serving whole = record {

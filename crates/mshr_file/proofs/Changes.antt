@@ -29,10 +29,12 @@ takes_nothing misses line = record {
 }
 
 -- Taking some targets of a line and then some more is taking all of these.
-pub takes_then : (old now new : List Register) (line : ℕ) (first second : List Target) → TakesTargets old now line first →
+pub takes_then : (old now new : List Register) (line : ℕ) (first second : List Target) →
+    TakesTargets old now line first →
     TakesTargets now new line second → TakesTargets old new line (first ++ second)
 takes_then old now new line first second before after = record {
-  here = before.here ∙ ap (λ targets. first ++ targets) after.here ∙ sym (append_assoc first second (targets_of new line));
+  here = before.here ∙ ap (λ targets. first ++ targets) after.here
+      ∙ sym (append_assoc first second (targets_of new line));
   others = λ other differs. after.others other differs ∙ before.others other differs;
   counts = λ test.
       let one = before.counts test in
@@ -44,7 +46,8 @@ takes_then old now new line first second before after = record {
 }
 
 -- A target that was added waits: its line has a register.
-pub has_miss-added : (old new : List Register) (line : ℕ) (target : Target) → AddsTarget old new line target → has_miss new line ≡ true
+pub has_miss-added : (old new : List Register) (line : ℕ) (target : Target) → AddsTarget old new line target →
+    has_miss new line ≡ true
 has_miss-added old new line target adds = ap is_waited adds.here ∙ waits (targets_of old line)
   where
     waits : (targets : List Target) → is_waited (targets ++ target ∷ []) ≡ true
@@ -52,11 +55,13 @@ has_miss-added old new line target adds = ap is_waited adds.here ∙ waits (targ
     waits (first ∷ rest) = refl
 
 -- Another line has a register where it had one before.
-pub has_miss-added_other : (old new : List Register) (line : ℕ) (target : Target) (other : ℕ) → AddsTarget old new line target →
+pub has_miss-added_other : (old new : List Register) (line : ℕ) (target : Target) (other : ℕ) →
+    AddsTarget old new line target →
     other ≢ line → has_miss new other ≡ has_miss old other
 has_miss-added_other old new line target other adds differs = ap is_waited (adds.others other differs)
 
-pub has_miss-taken_other : (old new : List Register) (line : ℕ) (taken : List Target) (other : ℕ) → TakesTargets old new line taken →
+pub has_miss-taken_other : (old new : List Register) (line : ℕ) (taken : List Target) (other : ℕ) →
+    TakesTargets old new line taken →
     other ≢ line → has_miss new other ≡ has_miss old other
 has_miss-taken_other old new line taken other takes differs = ap is_waited (takes.others other differs)
 
@@ -79,12 +84,14 @@ count_of-added_none test old new line target adds fails none =
     omega (arith, more, one, none)
 
 -- The targets of one line are among all targets: no test passes more of them.
-pub count_of-line : (test : Target → Bool) (misses : List Register) (line : ℕ) → count_by test (targets_of misses line) ≤ count_of test misses
+pub count_of-line : (test : Target → Bool) (misses : List Register) (line : ℕ) →
+    count_by test (targets_of misses line) ≤ count_of test misses
 count_of-line test [] line = omega arith
 count_of-line test (register ∷ misses) line =
     let later = count_of-line test misses line in
     let all = sum_by-cons {X = Register} (λ r. count_by test r.targets) register misses in
-    let parts = sum_by-append (λ target. if test target then 1 else 0) (targets_in line register) (targets_of misses line) in
+    let parts = sum_by-append (λ target. if test target then 1 else 0) (targets_in line register)
+    (targets_of misses line) in
     let here = within register in
     omega (arith, later, all, parts, here)
   where
@@ -93,13 +100,15 @@ count_of-line test (register ∷ misses) line =
         ⊎_elim (λ for. rw for (omega arith)) (λ other. rw other (omega arith)) (cases_Bool (is_for line register))
 
 -- Where no target fails a test, each target of each line passes it.
-pub all_pass : (test : Target → Bool) (misses : List Register) (line : ℕ) → count_of (λ target. not (test target)) misses ≡ 0 →
+pub all_pass : (test : Target → Bool) (misses : List Register) (line : ℕ) →
+    count_of (λ target. not (test target)) misses ≡ 0 →
     All (λ target. IsTrue (test target)) (targets_of misses line)
 all_pass test misses line none =
     let fewer = count_of-line (λ target. not (test target)) misses line in
     passing (targets_of misses line) (omega (arith, fewer, none))
   where
-    passing : (targets : List Target) → count_by (λ target. not (test target)) targets ≡ 0 → All (λ target. IsTrue (test target)) targets
+    passing : (targets : List Target) → count_by (λ target. not (test target)) targets ≡ 0 →
+        All (λ target. IsTrue (test target)) targets
     passing [] zero = All-nil _
     passing (target ∷ targets) zero =
         ⊎_elim

@@ -49,7 +49,8 @@ pub open_rows : (table : RegisterTable) → IsKept table →
     length (filter (λ row. not (is_free_row row)) table.rows.items) ≡ length (misses_of table.registers.items)
 open_rows table kept =
     ap (λ rows. length (filter (λ row. not (is_free_row row)) rows)) kept.rows
-    ∙ kept-map row_of (λ row. not (is_free_row row)) (λ register. is_waited register.targets) used_row table.registers.items
+    ∙ kept-map row_of (λ row. not (is_free_row row))
+    (λ register. is_waited register.targets) used_row table.registers.items
 
 pub as_many : (table : RegisterTable) → IsKept table → length table.rows.items ≡ length table.registers.items
 as_many table kept = ap length kept.rows ∙ length-map table.registers.items row_of
@@ -64,16 +65,19 @@ pub record IsServedAt (table : RegisterTable) (line place : ℕ) : Type 0 where
   pub row : place < length table.rows.items
   pub inside : place < length table.registers.items
   pub serving : serves line (get_or table.registers.items place no_register) ≡ true
-  pub waits : targets_of (misses_of table.registers.items) line ≡ (get_or table.registers.items place no_register).targets
+  pub waits : targets_of (misses_of table.registers.items) line
+      ≡ (get_or table.registers.items place no_register).targets
 
 -- Where a search finds a row for a line, the line waits in its register.
-pub served_at : (table : RegisterTable) (line place : ℕ) → IsKept table → position (row_serves line) table.rows.items ≡ Some place →
+pub served_at : (table : RegisterTable) (line place : ℕ) → IsKept table →
+    position (row_serves line) table.rows.items ≡ Some place →
     IsServedAt table line place
 served_at table line place kept found = record {
   row = row;
   inside = inside;
   serving = serving;
-  waits = waits_for table.registers.items place line (register_serving table.registers.items place line kept.single inside serving);
+  waits = waits_for table.registers.items place line
+      (register_serving table.registers.items place line kept.single inside serving);
 }
   where
     row : place < length table.rows.items
@@ -104,12 +108,14 @@ unserved table line kept missing =
         none-some _ (sym some)
 
 -- A miss is found.
-pub row_found : (table : RegisterTable) (line : ℕ) → IsKept table → has_miss (misses_of table.registers.items) line ≡ true →
+pub row_found : (table : RegisterTable) (line : ℕ) → IsKept table →
+    has_miss (misses_of table.registers.items) line ≡ true →
     IsSome (position (row_serves line) table.rows.items)
 row_found table line kept there = position_found (row_serves line) table.rows.items (row_for table line kept ∙ there)
 
 -- Where not all registers are open, a free row is found.
-pub free_found : (table : RegisterTable) → IsKept table → length (misses_of table.registers.items) < length table.registers.items →
+pub free_found : (table : RegisterTable) → IsKept table →
+    length (misses_of table.registers.items) < length table.registers.items →
     IsSome (position is_free_row table.rows.items)
 free_found table kept fewer =
     position_found is_free_row table.rows.items (free_somewhere table.rows.items few)
@@ -117,7 +123,8 @@ free_found table kept fewer =
     few : length (filter (λ row. not (is_free_row row)) table.rows.items) < length table.rows.items
     few = let used = open_rows table kept in let same = as_many table kept in omega (arith, fewer, used, same)
 
-    free_somewhere : (rows : List Row) → length (filter (λ row. not (is_free_row row)) rows) < length rows → list_any is_free_row rows ≡ true
+    free_somewhere : (rows : List Row) → length (filter (λ row. not (is_free_row row)) rows) < length rows →
+        list_any is_free_row rows ≡ true
     free_somewhere [] none = absurd (omega (arith, none))
     free_somewhere (row ∷ rows) less =
         ⊎_elim
@@ -130,13 +137,16 @@ pub record IsFreeAt (table : RegisterTable) (place : ℕ) : Type 0 where
   pub inside : place < length table.registers.items
   pub free : is_waited (get_or table.registers.items place no_register).targets ≡ false
 
-pub free_at : (table : RegisterTable) (place : ℕ) → IsKept table → position is_free_row table.rows.items ≡ Some place → IsFreeAt table place
+pub free_at : (table : RegisterTable) (place : ℕ) → IsKept table → position is_free_row table.rows.items ≡ Some place →
+    IsFreeAt table place
 free_at table place kept found = record {
   row = row;
   inside = inside;
   free =
       by_not _
-      (sym (free_row (get_or table.registers.items place no_register)) ∙ ap is_free_row (sym (row_at table place no_row kept inside)) ∙ (position-Some is_free_row table.rows.items place no_row found).1);
+      (sym (free_row (get_or table.registers.items place no_register))
+      ∙ ap is_free_row (sym (row_at table place no_row kept inside))
+      ∙ (position-Some is_free_row table.rows.items place no_row found).1);
 }
   where
     row : place < length table.rows.items
@@ -155,7 +165,11 @@ pub free_kept : (count : ℕ) (table : RegisterTable) → table.rows.items ≡ r
 free_kept count table rows registers = record {
   few = rw rows (all_free count);
   rows = rows ∙ free_rows count ∙ ap (map row_of) (sym registers);
-  single = rw registers (record { once = λ line. let none = sum_by-replicate (λ r. if serves line r then 1 else 0) count no_register in omega (arith, none) });
+  single = rw registers
+      (record {
+        once = λ line. let none = sum_by-replicate (λ r. if serves line r then 1 else 0) count no_register in
+            omega (arith, none);
+      });
 }
   where
     free_rows : (count : ℕ) → replicate count no_row ≡ map row_of (replicate count no_register)
@@ -164,12 +178,14 @@ free_kept count table rows registers = record {
 
     all_free : (count : ℕ) → All (λ row. row.waiting ≤ 64) (replicate count no_row)
     all_free zero = All-nil _
-    all_free (suc count) = All-cons (λ row. row.waiting ≤ 64) no_row (replicate count no_row) (omega arith) (all_free count)
+    all_free (suc count) =
+        All-cons (λ row. row.waiting ≤ 64) no_row (replicate count no_row) (omega arith) (all_free count)
 
 -- A table is kept where a register and its row change together.
 pub kept_after : (table after : RegisterTable) (place : ℕ) (register : Register) (row : Row) → IsKept table →
     HasEachLineOnce (set table.registers.items place register) →
-    after.registers.items ≡ set table.registers.items place register → after.rows.items ≡ set table.rows.items place row →
+    after.registers.items ≡ set table.registers.items place register →
+    after.rows.items ≡ set table.rows.items place row →
     row ≡ row_of register → row.waiting ≤ 64 → IsKept after
 kept_after table after place register row kept single registers rows for few = record {
   few = rw rows (All-set (λ row. row.waiting ≤ 64) table.rows.items place row few kept.few);

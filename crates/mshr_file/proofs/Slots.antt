@@ -29,7 +29,8 @@ slot_named tag slot = slot.tag == tag
 pub any_slot : (table : EntryTable) (line : ℕ) → IsEntryTable table →
     list_any (slot_for line) table.order.items ≡ list_any (waits_for line) (waiting_in table)
 any_slot table line kept =
-    ap (list_any (slot_for line)) kept.slots ∙ any-map slot_of (slot_for line) (waits_for line) (λ entry. refl) (waiting_in table)
+    ap (list_any (slot_for line)) kept.slots
+    ∙ any-map slot_of (slot_for line) (waits_for line) (λ entry. refl) (waiting_in table)
 
 pub count_slot : (table : EntryTable) (line : ℕ) → IsEntryTable table →
     length (filter (slot_for line) table.order.items) ≡ length (filter (waits_for line) (waiting_in table))
@@ -40,42 +41,51 @@ count_slot table line kept =
 pub first_slot : (table : EntryTable) (line : ℕ) → IsEntryTable table →
     position (slot_for line) table.order.items ≡ position (waits_for line) (waiting_in table)
 first_slot table line kept =
-    ap (position (slot_for line)) kept.slots ∙ position-map slot_of (slot_for line) (waits_for line) (λ entry. refl) (waiting_in table)
+    ap (position (slot_for line)) kept.slots
+    ∙ position-map slot_of (slot_for line) (waits_for line) (λ entry. refl) (waiting_in table)
 
 pub load_slots : (table : EntryTable) (line : ℕ) → IsEntryTable table →
     prefix_len (λ slot. slot.load) (filter (slot_for line) table.order.items)
     ≡ prefix_len (λ entry. is_load entry.target) (filter (waits_for line) (waiting_in table))
 load_slots table line kept =
     ap (λ slots. prefix_len (λ slot. slot.load) (filter (slot_for line) slots)) kept.slots
-    ∙ ap (prefix_len (λ slot. slot.load)) (filter-map slot_of (slot_for line) (waits_for line) (λ entry. refl) (waiting_in table))
-    ∙ prefix-map slot_of (λ slot. slot.load) (λ entry. is_load entry.target) (λ entry. refl) (filter (waits_for line) (waiting_in table))
+    ∙ ap (prefix_len (λ slot. slot.load))
+    (filter-map slot_of (slot_for line) (waits_for line) (λ entry. refl) (waiting_in table))
+    ∙ prefix-map slot_of (λ slot. slot.load) (λ entry. is_load entry.target) (λ entry. refl)
+    (filter (waits_for line) (waiting_in table))
 
 pub as_many : (table : EntryTable) → length (waiting_in table) ≡ length table.order.items
 as_many table = length-map table.order.items (entry_at table.entries)
 
 -- What stands under a tag that no slot has may change.
-elsewhere : (entries : List (Option Waiting)) (slots : List Slot) (tag : ℕ) (held : Option Waiting) → list_any (slot_named tag) slots ≡ false →
+elsewhere : (entries : List (Option Waiting)) (slots : List Slot) (tag : ℕ) (held : Option Waiting) →
+    list_any (slot_named tag) slots ≡ false →
     map (entry_at (set entries tag held)) slots ≡ map (entry_at entries) slots
 elsewhere entries [] tag held none = refl
 elsewhere entries (slot ∷ slots) tag held none =
     ⊎_elim
-    (λ same. let here : (slot.tag == tag) ≡ true = eq-eqb slot.tag tag same in let clash : true ≡ false = rw here at none in absurd cc)
+    (λ same. let here : (slot.tag == tag) ≡ true = eq-eqb slot.tag tag same in let clash : true ≡ false =
+    rw here at none in absurd cc)
     (λ differs.
     let not_here : (slot.tag == tag) ≡ false = ne_eqb slot.tag tag differs in
     let first = ap (λ option. unwrap_or option no_waiting) (get_or-set_other entries tag slot.tag held None differs) in
     let rest = elsewhere entries slots tag held (rw not_here at none) in
-    ap (λ entry. entry ∷ map (entry_at (set entries tag held)) slots) first ∙ ap (λ more. entry_at entries slot ∷ more) rest)
+    ap (λ entry. entry ∷ map (entry_at (set entries tag held)) slots) first
+    ∙ ap (λ more. entry_at entries slot ∷ more) rest)
     (cases_eq slot.tag tag)
 
 -- No tag of the slots is one that no entry has.
-unnamed : (slots : List Slot) (entries : List Waiting) (tag : ℕ) → slots ≡ map slot_of entries → list_any (named tag) entries ≡ false →
+unnamed : (slots : List Slot) (entries : List Waiting) (tag : ℕ) → slots ≡ map slot_of entries →
+    list_any (named tag) entries ≡ false →
     list_any (slot_named tag) slots ≡ false
-unnamed slots entries tag are none = ap (list_any (slot_named tag)) are ∙ any-map slot_of (slot_named tag) (named tag) (λ entry. refl) entries ∙ none
+unnamed slots entries tag are none = ap (list_any (slot_named tag)) are
+    ∙ any-map slot_of (slot_named tag) (named tag) (λ entry. refl) entries ∙ none
 
 -- The table after an entry was put under a free tag, and its slot behind the others.
 pub put_in : (table after : EntryTable) (entry : Waiting) → IsEntryTable table → entry.target.tag < 64 →
     count_at (has_tag entry.target.tag) (waiting_in table) ≡ 0 →
-    after.entries ≡ set table.entries entry.target.tag (Some entry) → after.order.items ≡ table.order.items ++ slot_of entry ∷ [] →
+    after.entries ≡ set table.entries entry.target.tag (Some entry) →
+    after.order.items ≡ table.order.items ++ slot_of entry ∷ [] →
     IsEntryTable after × (waiting_in after ≡ waiting_in table ++ entry ∷ [])
 put_in table after entry kept small free entries order = (
   record {
@@ -100,7 +110,8 @@ put_in table after entry kept small free entries order = (
     own : entry_at (set table.entries entry.target.tag (Some entry)) (slot_of entry) ≡ entry
     own =
         let inside : entry.target.tag < length table.entries = let size = kept.size in omega (arith, size, small) in
-        ap (λ option. unwrap_or option no_waiting) (get_or-set_same table.entries entry.target.tag (Some entry) None inside)
+        ap (λ option. unwrap_or option no_waiting)
+        (get_or-set_same table.entries entry.target.tag (Some entry) None inside)
 
     seen : waiting_in after ≡ waiting_in table ++ entry ∷ []
     seen =
@@ -109,7 +120,8 @@ put_in table after entry kept small free entries order = (
         ∙ map-append (entry_at (set table.entries entry.target.tag (Some entry))) table.order.items (slot_of entry ∷ [])
         ∙ ap
         (λ front. front ++ entry_at (set table.entries entry.target.tag (Some entry)) (slot_of entry) ∷ [])
-        (elsewhere table.entries table.order.items entry.target.tag (Some entry) (unnamed table.order.items (waiting_in table) entry.target.tag kept.slots none))
+        (elsewhere table.entries table.order.items entry.target.tag (Some entry)
+        (unnamed table.order.items (waiting_in table) entry.target.tag kept.slots none))
         ∙ ap (λ last. waiting_in table ++ last ∷ []) own
 
     held : (t : ℕ) → t < 64 → get_or after.entries t None ≡ find (named t) (waiting_in after)
@@ -124,7 +136,8 @@ put_in table after entry kept small free entries order = (
         (get_or-set_same table.entries entry.target.tag (Some entry) None inside
         ∙ sym
         (find-append (named entry.target.tag) (waiting_in table) (entry ∷ [])
-        ∙ ap (λ first. option_or first (find (named entry.target.tag) (entry ∷ []))) (find_none (named entry.target.tag) (waiting_in table) none)
+        ∙ ap (λ first. option_or first (find (named entry.target.tag) (entry ∷ [])))
+        (find_none (named entry.target.tag) (waiting_in table) none)
         ∙ last)))
         (λ differs.
         let isnt : (entry.target.tag == t) ≡ false = ne_eqb entry.target.tag t (λ same. differs (sym same)) in
@@ -200,16 +213,19 @@ taken_out table after line place slot entry kept there found at_place is entries
         ∙ map-remove (entry_at table.entries) table.order.items place
 
     takes : TakesEntries (waiting_in table) line (entry.target ∷ []) (waiting_in after)
-    takes = taken_at line (waiting_in table) place entry entry (waiting_in after) there (sym (first_slot table line kept) ∙ found) first seen
+    takes = taken_at line (waiting_in table) place entry entry (waiting_in after) there
+        (sym (first_slot table line kept) ∙ found) first seen
 
     held : (t : ℕ) → t < 64 → get_or after.entries t None ≡ find (named t) (waiting_in after)
     held t below =
         ap (λ all. get_or all t None) entries
         ∙ ⊎_elim
-        (λ same. rw same (emptied table.entries slot.tag ∙ sym (find_none (named slot.tag) (remove (waiting_in table) place) none)))
+        (λ same. rw same
+        (emptied table.entries slot.tag ∙ sym (find_none (named slot.tag) (remove (waiting_in table) place) none)))
         (λ differs.
         let isnt : named t (get_or (waiting_in table) place entry) ≡ false =
-        ap (named t) (sym first) ∙ ne_eqb entry.target.tag t (λ same. differs (sym same ∙ sym (ap (λ s. s.tag) tagged))) in
+        ap (named t) (sym first)
+        ∙ ne_eqb entry.target.tag t (λ same. differs (sym same ∙ sym (ap (λ s. s.tag) tagged))) in
         get_or-set_other table.entries slot.tag t None None differs
         ∙ kept.held t below
         ∙ sym (find-remove (named t) (waiting_in table) place entry within isnt))
@@ -226,7 +242,8 @@ below_of : (entries : List Waiting) (place : ℕ) → count_at (is_past 64) entr
 below_of entries place none inside =
     ⊎_elim
     (λ past.
-    let least = get_or-le-sum_by (λ (e : Waiting). if is_past 64 e.target then 1 else 0) entries place no_waiting inside in
+    let least = get_or-le-sum_by
+    (λ (e : Waiting). if is_past 64 e.target then 1 else 0) entries place no_waiting inside in
     let one = one-if _ true past in
     absurd (omega (arith, least, one, none)))
     (λ below. ltb-true _ _ (by_not _ below))
@@ -240,7 +257,8 @@ below_of entries place none inside =
 pub slot_held : (table : EntryTable) (line place : ℕ) (slot : Slot) → IsEntryTable table →
     position (slot_for line) table.order.items ≡ Some place → slot ≡ get_or table.order.items place slot →
     (slot.tag < 64) × ((held : Option Waiting) → held ≡ get_or table.entries slot.tag None → is_some held ≡ true)
-slot_held table line place slot kept found at_place = (small, λ held read. ap is_some (read ∙ kept.held slot.tag small) ∙ some)
+slot_held table line place slot kept found at_place =
+    (small, λ held read. ap is_some (read ∙ kept.held slot.tag small) ∙ some)
   where
     inside : place < length table.order.items
     inside = (position-Some (slot_for line) table.order.items place slot found).0
@@ -251,7 +269,8 @@ slot_held table line place slot kept found at_place = (small, λ held read. ap i
     tagged : slot.tag ≡ (get_or (waiting_in table) place no_waiting).target.tag
     tagged =
         ap (λ s. s.tag)
-        (at_place ∙ ap (λ slots. get_or slots place slot) kept.slots ∙ get_or-map slot_of (waiting_in table) place no_waiting slot within)
+        (at_place ∙ ap (λ slots. get_or slots place slot) kept.slots
+        ∙ get_or-map slot_of (waiting_in table) place no_waiting slot within)
 
     small : slot.tag < 64
     small = let below = below_of (waiting_in table) place kept.by_tag.small within in omega (arith, below, tagged)
@@ -262,17 +281,21 @@ slot_held table line place slot kept found at_place = (small, λ held read. ap i
         ∙ list_any_at (named slot.tag) (waiting_in table) place no_waiting within (eq-eqb _ _ (sym tagged))
 
 -- No entry has a tag past the last.
-pub past_last : (table : EntryTable) (tag : ℕ) → IsEntryTable table → 64 ≤ tag → find (named tag) (waiting_in table) ≡ None
-past_last table tag kept past = find_none (named tag) (waiting_in table) (none_counted (named tag) (waiting_in table) nobody)
+pub past_last : (table : EntryTable) (tag : ℕ) → IsEntryTable table → 64 ≤ tag →
+    find (named tag) (waiting_in table) ≡ None
+past_last table tag kept past =
+    find_none (named tag) (waiting_in table) (none_counted (named tag) (waiting_in table) nobody)
   where
     nobody : count_at (has_tag tag) (waiting_in table) ≡ 0
     nobody =
-        let fewer = count_by-fewer (λ (e : Waiting). has_tag tag e.target) (λ e. is_past 64 e.target) (λ e is. reaches e (eqb-true _ _ is)) (waiting_in table) in
+        let fewer = count_by-fewer (λ (e : Waiting). has_tag tag e.target) (λ e. is_past 64 e.target)
+        (λ e is. reaches e (eqb-true _ _ is)) (waiting_in table) in
         let none = kept.by_tag.small in
         omega (arith, fewer, none)
       where
         reaches : (e : Waiting) → e.target.tag ≡ tag → is_past 64 e.target ≡ true
-        reaches e is = let not_below : nat_lt e.target.tag 64 ≡ false = le-ltb _ _ (omega (arith, is, past)) in rw not_below refl
+        reaches e is = let not_below : nat_lt e.target.tag 64 ≡ false = le-ltb _ _ (omega (arith, is, past)) in
+            rw not_below refl
 
 -- A tag is free where nothing is held under it.
 pub free_under : (table : EntryTable) (tag : ℕ) (nothing : Bool) → IsEntryTable table → tag < 64 →
@@ -288,7 +311,8 @@ free_under table tag nothing kept small is =
     turned a false is = rw is refl
 
 -- A table with nothing in it.
-pub empty_kept : (table : EntryTable) → table.order.items ≡ [] → table.entries ≡ replicate 64 None → IsEntryTable table × (waiting_in table ≡ [])
+pub empty_kept : (table : EntryTable) → table.order.items ≡ [] → table.entries ≡ replicate 64 None →
+    IsEntryTable table × (waiting_in table ≡ [])
 empty_kept table order entries = (
   record {
     size = ap length entries;
@@ -308,7 +332,8 @@ empty_kept table order entries = (
     nothing (suc count) (suc tag) = nothing count tag
 
 -- The first entry for a line has its slot among the others.
-pub slot_found : (table : EntryTable) (line : ℕ) → IsEntryTable table → list_any (waits_for line) (waiting_in table) ≡ true →
+pub slot_found : (table : EntryTable) (line : ℕ) → IsEntryTable table →
+    list_any (waits_for line) (waiting_in table) ≡ true →
     IsSome (position (slot_for line) table.order.items)
 slot_found table line kept there = position_found (slot_for line) table.order.items (any_slot table line kept ∙ there)
 

@@ -18,18 +18,38 @@ push-requires c = (
 )
 
 step : (c : goal.After-push) →
-    IsEntryTable (record { entries = slice_set c.args.self.now.entries c.args.target.tag (Some (record { target = c.args.target; line = c.args.line })); order = c.push.new.self })
-    × (waiting_in (record { entries = slice_set c.args.self.now.entries c.args.target.tag (Some (record { target = c.args.target; line = c.args.line })); order = c.push.new.self }) ≡ waiting_in c.args.self.now ++ (record { target = c.args.target; line = c.args.line }) ∷ [])
+    IsEntryTable
+    (record {
+      entries =
+          slice_set c.args.self.now.entries c.args.target.tag
+          (Some (record { target = c.args.target; line = c.args.line }));
+      order = c.push.new.self;
+    })
+    × (waiting_in
+    (record {
+      entries =
+          slice_set c.args.self.now.entries c.args.target.tag
+          (Some (record { target = c.args.target; line = c.args.line }));
+      order = c.push.new.self;
+    })
+    ≡ waiting_in c.args.self.now ++ (record { target = c.args.target; line = c.args.line }) ∷ [])
 step c =
     put_in
     c.args.self.now
-    (record { entries = slice_set c.args.self.now.entries c.args.target.tag (Some (record { target = c.args.target; line = c.args.line })); order = c.push.new.self })
+    (record {
+      entries =
+          slice_set c.args.self.now.entries c.args.target.tag
+          (Some (record { target = c.args.target; line = c.args.line }));
+      order = c.push.new.self;
+    })
     (record { target = c.args.target; line = c.args.line })
     c.requires.kept
     c.requires.tag
     (free_at c.args.target.tag (waiting_in c.args.self.now) c.requires.free)
     refl
-    (c.push.ensures.items ∙ ap (λ load. c.args.self.now.order.items ++ (record { line = c.args.line; tag = c.args.target.tag; load = load }) ∷ []) c.is_load.ensures)
+    (c.push.ensures.items
+    ∙ ap (λ load. c.args.self.now.order.items ++
+    (record { line = c.args.line; tag = c.args.target.tag; load = load }) ∷ []) c.is_load.ensures)
 
 pub returns-clause-kept : goal.returns-clause-kept
 returns-clause-kept c = (step c).0
@@ -40,7 +60,14 @@ returns-clause-added c =
     rw seen (pushed_entry (waiting_in c.args.self.now) (record { target = c.args.target; line = c.args.line }))
 
 pub returns-clause-sound : goal.returns-clause-sound
-returns-clause-sound c = by_line_sound (waiting_in (record { entries = slice_set c.args.self.now.entries c.args.target.tag (Some (record { target = c.args.target; line = c.args.line })); order = c.push.new.self }))
+returns-clause-sound c =
+    by_line_sound
+    (waiting_in
+    (record {
+      entries =
+          slice_set c.args.self.now.entries c.args.target.tag (Some (record { target = c.args.target; line = c.args.line }));
+      order = c.push.new.self;
+    }))
 
 pub returns-clause-lines : goal.returns-clause-lines
 returns-clause-lines c =

@@ -6,14 +6,16 @@ use Rattle.mshr_file.proofs.Rows.{kept_after}
 use Rattle.mshr_file.proofs.Steps.{sound}
 use Rattle.mshr_file.proofs.registers.RegisterTable.close.Goals as goal
 
-same : (c : goal.After-self-2-1) → c.index_mut-register.result.now ≡ slice_index_or c.args.self.now.registers.items c.place_of-place.result no_register
+same : (c : goal.After-self-2-1) →
+    c.index_mut-register.result.now ≡ slice_index_or c.args.self.now.registers.items c.place_of-place.result no_register
 same c =
     c.index_mut-register.ensures.value
     ∙ get_or_default c.args.self.now.registers.items c.place_of-place.result c.index_mut-register.result.now no_register c.place_of-place.ensures.inside
 
 step : (c : goal.After-self-2-1) →
     IsTaken c.args.self.now.registers.items
-    (slice_set c.args.self.now.registers.items c.place_of-place.result (record { targets = c.take_all-all.new.self; line = c.index_mut-register.result.now.line }))
+    (slice_set c.args.self.now.registers.items c.place_of-place.result
+    (record { targets = c.take_all-all.new.self; line = c.index_mut-register.result.now.line }))
     c.args.line.0 c.index_mut-register.result.now (c.take_all-all.result.items) c.take_all-all.new.self
 step c =
     took
@@ -27,7 +29,9 @@ step c =
     c.place_of-place.ensures.inside
     (same c)
     c.place_of-place.ensures.serves
-    (sym c.take_all-all.ensures.taken ∙ sym (ap (λ rest. c.take_all-all.result.items ++ rest) c.take_all-all.ensures.left ∙ append-nil c.take_all-all.result.items))
+    (sym c.take_all-all.ensures.taken
+    ∙ sym (ap (λ rest. c.take_all-all.result.items ++ rest) c.take_all-all.ensures.left
+    ∙ append-nil c.take_all-all.result.items))
 
 pub returns-clause-kept : goal.returns-clause-kept
 returns-clause-kept c =

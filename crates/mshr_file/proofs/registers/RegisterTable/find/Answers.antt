@@ -6,7 +6,8 @@ use Rattle.mshr_file.proofs.Steps.{sound}
 use Rattle.mshr_file.proofs.registers.RegisterTable.find.Goals as goal
 
 pub returns-clause-served : goal.returns-clause-served
-returns-clause-served c = c.any_serves.ensures ∙ ap (list_any (row_serves c.args.line.0)) c.deref.ensures.value ∙ row_for c.args.self.now c.args.line.0 c.requires
+returns-clause-served c = c.any_serves.ensures ∙ ap (list_any (row_serves c.args.line.0)) c.deref.ensures.value
+    ∙ row_for c.args.self.now c.args.line.0 c.requires
 
 pub returns-clause-sound : goal.returns-clause-sound
 returns-clause-sound c = sound c.args.self.now.registers.items c.requires.single

@@ -13,19 +13,22 @@ push-requires c =
     let found = c.place_of-place.ensures in
     let home = register_serving registers place c.args.line.0 c.requires.kept.single found.inside found.serves in
     let waits = waits_for registers place c.args.line.0 home in
-    let same = c.index_mut-register.ensures.value ∙ get_or_default registers place c.index_mut-register.result.now no_register found.inside in
+    let same = c.index_mut-register.ensures.value
+    ∙ get_or_default registers place c.index_mut-register.result.now no_register found.inside in
     let short = c.requires.room in
     let equal = ap length (waits ∙ ap (λ r. r.targets) (sym same)) in
     omega (arith, short, equal)
 
-same : (c : goal.After-self-2-1) → c.index_mut-register.result.now ≡ slice_index_or c.args.self.now.registers.items c.place_of-place.result no_register
+same : (c : goal.After-self-2-1) →
+    c.index_mut-register.result.now ≡ slice_index_or c.args.self.now.registers.items c.place_of-place.result no_register
 same c =
     c.index_mut-register.ensures.value
     ∙ get_or_default c.args.self.now.registers.items c.place_of-place.result c.index_mut-register.result.now no_register c.place_of-place.ensures.inside
 
 step : (c : goal.After-self-2-1) →
     IsAdded c.args.self.now.registers.items
-    (slice_set c.args.self.now.registers.items c.place_of-place.result (record { targets = c.push.new.self; line = c.index_mut-register.result.now.line }))
+    (slice_set c.args.self.now.registers.items c.place_of-place.result
+    (record { targets = c.push.new.self; line = c.index_mut-register.result.now.line }))
     c.args.line.0 c.args.target 0
 step c =
     joined

@@ -6,14 +6,17 @@ use Rattle.mshr_file.proofs.Rows.{kept_after}
 use Rattle.mshr_file.proofs.Steps.{sound}
 use Rattle.mshr_file.proofs.registers.RegisterTable.open.Goals as goal
 
-same : (c : goal.After-self-2-1) → c.index_mut-register.result.now ≡ slice_index_or c.args.self.now.registers.items c.free_place-place.result no_register
+same : (c : goal.After-self-2-1) →
+    c.index_mut-register.result.now
+    ≡ slice_index_or c.args.self.now.registers.items c.free_place-place.result no_register
 same c =
     c.index_mut-register.ensures.value
     ∙ get_or_default c.args.self.now.registers.items c.free_place-place.result c.index_mut-register.result.now no_register c.free_place-place.ensures.inside
 
 step : (c : goal.After-self-2-1) →
     IsAdded c.args.self.now.registers.items
-    (slice_set c.args.self.now.registers.items c.free_place-place.result (record { targets = c.push.new.self; line = c.args.line }))
+    (slice_set c.args.self.now.registers.items c.free_place-place.result
+    (record { targets = c.push.new.self; line = c.args.line }))
     c.args.line.0 c.args.target 1
 step c =
     opened

@@ -5,10 +5,14 @@ use Rattle.mshr_file.proofs.Rows.{IsServedAt, row_found, served_at}
 use Rattle.mshr_file.proofs.registers.RegisterTable.place_of.Goals as goal
 
 pub unwrap-requires : goal.unwrap-requires
-unwrap-requires c = rw (c.first_serving.ensures, c.deref.ensures.value) (row_found c.args.self.now c.args.line.0 c.requires.kept c.requires.served)
+unwrap-requires c =
+    rw (c.first_serving.ensures, c.deref.ensures.value)
+    (row_found c.args.self.now c.args.line.0 c.requires.kept c.requires.served)
 
 at : (c : goal.After-unwrap) → IsServedAt c.args.self.now c.args.line.0 c.unwrap.result
-at c = served_at c.args.self.now c.args.line.0 c.unwrap.result c.requires.kept (ap (position (row_serves c.args.line.0)) (sym c.deref.ensures.value) ∙ sym c.first_serving.ensures ∙ c.unwrap.ensures)
+at c = served_at c.args.self.now c.args.line.0 c.unwrap.result c.requires.kept
+    (ap (position (row_serves c.args.line.0)) (sym c.deref.ensures.value) ∙ sym c.first_serving.ensures
+    ∙ c.unwrap.ensures)
 
 pub returns-clause-row : goal.returns-clause-row
 returns-clause-row c = (at c).row

@@ -1,6 +1,6 @@
--- Laws of the table, in words that are not its cells. They say when a core gains the right to read or to write a line,
--- when it gives the right up, and what it owes to others.
-use Rattle.std.specs.Prelude.{◌≡◌, ◌+◌, ◌==◌, ◌&&◌, ◌||◌, Bool, true, false, not, IsTrue, IsFalse}
+-- Laws of the table, in words that are not its cells. Each says of a fact about the copy when it holds afterwards: what
+-- brings it about, and what ends it. Together they leave each row no choice.
+use Rattle.std.specs.Prelude.{◌≡◌, ◌+◌, ◌==◌, ◌&&◌, ◌||◌, Bool, true, false, not, nat_le, IsTrue}
 use Rattle.cache_table.specs.CopyState.{is_leaving, is_readable, is_waiting, is_writer}
 use Rattle.cache_table.specs.declared.state.CopyState.{CopyState}
 use Rattle.cache_table.specs.declared.state.CopyState.TheVariants as states
@@ -17,24 +17,27 @@ IfGo (rows.Go next sent) P = P next sent
 IfGo rows.Blocked P = Unit {0}
 IfGo rows.NoEntry P = Unit {0}
 
--- Where the row is blocked, the fact holds.
-abbrev pub IfBlocked : Row → Type 0 → Type 0
-IfBlocked rows.Blocked P = P
-IfBlocked _ P = Unit {0}
+abbrev pub has_entry : Row → Bool
+has_entry rows.NoEntry = false
+has_entry _ = true
+
+abbrev pub is_blocked : Row → Bool
+is_blocked rows.Blocked = true
+is_blocked _ = false
 
 -- ---- events
 
--- with this event all that a write awaits has come: the data, and each acknowledgement that they name
-abbrev pub completes : CacheEvent → Bool
-completes (events.Data n k) = k == n
-completes (events.InvAck n k) = k + 1 == n
-completes (events.DataE loads) = true
-completes _ = false
+abbrev pub is_load : CacheEvent → Bool
+is_load events.Load = true
+is_load _ = false
 
-abbrev pub brings_data : CacheEvent → Bool
-brings_data (events.Data n k) = true
-brings_data (events.DataE loads) = true
-brings_data _ = false
+abbrev pub is_write : CacheEvent → Bool
+is_write events.Write = true
+is_write _ = false
+
+abbrev pub is_eviction : CacheEvent → Bool
+is_eviction events.Eviction = true
+is_eviction _ = false
 
 -- another core reads the line, and asks its holder for the data
 abbrev pub is_read : CacheEvent → Bool
@@ -55,12 +58,93 @@ abbrev pub is_put_ack : CacheEvent → Bool
 is_put_ack events.PutAck = true
 is_put_ack _ = false
 
+abbrev pub brings_data : CacheEvent → Bool
+brings_data (events.Data n k) = true
+brings_data (events.DataE loads) = true
+brings_data _ = false
+
+-- data as the only copy, for loads alone
+abbrev pub brings_clean : CacheEvent → Bool
+brings_clean (events.DataE loads) = loads
+brings_clean _ = false
+
 -- ---- states
+
+abbrev pub is_clean : CopyState → Bool
+is_clean states.E = true
+is_clean _ = false
 
 -- the copy's data are the newest, and the home copy isn't: the only copy, in the array or on its way out
 abbrev pub holds_data : CopyState → Bool
 holds_data states.MI_A = true
 holds_data state = is_writer state
+
+-- the copy is one of those that are invalidated when another core writes the line
+abbrev pub is_sharer : CopyState → Bool
+is_sharer states.S = true
+is_sharer states.SM_AD = true
+is_sharer states.SI_A = true
+is_sharer _ = false
+
+-- a miss awaits its data
+abbrev pub awaits_data : CopyState → Bool
+awaits_data states.IS_D = true
+awaits_data states.IM_AD = true
+awaits_data states.SM_AD = true
+awaits_data _ = false
+
+-- the miss asked for the right to write
+abbrev pub asked_to_write : CopyState → Bool
+asked_to_write states.IM_AD = true
+asked_to_write states.IM_A = true
+asked_to_write states.SM_AD = true
+asked_to_write states.SM_A = true
+asked_to_write _ = false
+
+-- the miss asked for the right to read alone
+abbrev pub asked_to_read : CopyState → Bool
+asked_to_read state = is_waiting state && not (asked_to_write state)
+
+-- ---- what an event does to a copy
+
+-- an access for which the copy has no right
+abbrev pub misses : CopyState → CacheEvent → Bool
+misses state event = is_load event && not (is_readable state) || is_write event && not (is_writer state)
+
+-- all has come that a write awaits: the data with each acknowledgement, or the last acknowledgement after the data. A
+-- read may be given the only copy.
+abbrev pub grants_writing : CopyState → CacheEvent → Bool
+grants_writing state (events.Data n k) = asked_to_write state && awaits_data state && k == n
+grants_writing state (events.InvAck n k) = asked_to_write state && not (awaits_data state) && k + 1 == n
+grants_writing state (events.DataE loads) = asked_to_read state
+grants_writing state _ = false
+
+-- the data have come that a read awaits
+abbrev pub serves_read : CopyState → CacheEvent → Bool
+serves_read state event = asked_to_read state && brings_data event
+
+-- the miss has what it asked for
+abbrev pub ends_miss : CopyState → CacheEvent → Bool
+ends_miss state event = grants_writing state event || serves_read state event
+
+-- the protocol can bring the event to a copy: an access or an eviction while nothing is under way, a request of another
+-- core to the holder or to who becomes one, an answer to who awaits it, with no more acknowledgements than there are
+abbrev pub can_come : CopyState → CacheEvent → Bool
+can_come state events.Load = not (is_waiting state) && not (is_leaving state)
+can_come state events.Write = not (is_waiting state) && not (is_leaving state)
+can_come state events.Eviction = is_readable state && not (is_waiting state)
+can_come state events.FwdGetS = holds_data state || is_waiting state
+can_come state events.FwdGetM = holds_data state || is_waiting state
+can_come state events.Inv = is_sharer state || asked_to_read state
+can_come state events.PutAck = is_leaving state
+can_come state (events.Data n k) = asked_to_read state || asked_to_write state && awaits_data state && nat_le k n
+can_come state (events.InvAck n k) = asked_to_write state && (awaits_data state || nat_le (k + 1) n)
+can_come state (events.DataE loads) = asked_to_read state
+
+-- the message has to wait: another core asks for the line while a miss is outstanding. Only an invalidation needn't wait
+-- for a write.
+abbrev pub has_to_wait : CopyState → CacheEvent → Bool
+has_to_wait state event = is_waiting state && (is_read event || is_written event) || asked_to_read state && is_invalidated event
 
 -- ---- messages
 
@@ -77,10 +161,13 @@ abbrev pub sends_inv_ack : CacheSends → Bool
 sends_inv_ack sends.InvAckToRequester = true
 sends_inv_ack _ = false
 
+abbrev pub sends_get_m : CacheSends → Bool
+sends_get_m sends.GetM = true
+sends_get_m _ = false
+
 abbrev pub sends_get : CacheSends → Bool
 sends_get sends.GetS = true
-sends_get sends.GetM = true
-sends_get _ = false
+sends_get sent = sends_get_m sent
 
 abbrev pub sends_put_m : CacheSends → Bool
 sends_put_m sends.PutM = true
@@ -92,44 +179,71 @@ sends_put sent = sends_put_m sent
 
 -- ---- laws
 
--- A core becomes the writer only out of the writer's right, or of a miss for which nothing is missing any more.
-abbrev pub TakesWriteRight : CopyState → CacheEvent → CopyState → Type 0
-TakesWriteRight state event next = IsTrue (is_writer next) → IsTrue (is_writer state || (is_waiting state && completes event))
+-- A core may write the line once all has come that its miss awaits, until it evicts the copy or another core asks for
+-- the line. Until its first write the only copy is clean.
+pub record MayWrite (state : CopyState) (event : CacheEvent) (next : CopyState) : Type 0 where
+  pub right : is_writer next ≡ (grants_writing state event || is_writer state && not (is_eviction event || is_read event || is_written event))
+  pub clean : is_clean next ≡ (brings_clean event || is_clean state && is_load event)
 
--- A copy becomes readable only out of a readable one, or of a miss: by data, or by the last acknowledgement after them.
-abbrev pub TakesReadRight : CopyState → CacheEvent → CopyState → Type 0
-TakesReadRight state event next =
-    IsTrue (is_readable next) → IsTrue (is_readable state || (is_waiting state && (brings_data event || completes event)))
+-- A core may read the line once its miss has what it asked for, until it evicts the copy or another core writes the line.
+abbrev pub MayRead : CopyState → CacheEvent → CopyState → Type 0
+MayRead state event next =
+    is_readable next ≡ (ends_miss state event || is_readable state && not (is_eviction event || is_invalidated event || is_written event))
 
--- When another core writes the line, the copy is readable no more; when another core reads it, it isn't the only copy any more.
-pub record GivesUp (event : CacheEvent) (next : CopyState) : Type 0 where
-  pub reading : IsTrue (is_invalidated event || is_written event) → IsFalse (is_readable next)
-  pub writing : IsTrue (is_read event || is_written event) → IsFalse (holds_data next)
+-- A copy has the newest data from the right to write on, until it gives them to another core or its eviction is over.
+abbrev pub HoldsData : CopyState → CacheEvent → CopyState → Type 0
+HoldsData state event next =
+    holds_data next ≡ (grants_writing state event || holds_data state && not (is_read event || is_written event || is_put_ack event))
+
+-- A copy is a sharer from its data on, or from when another core reads what it held, until it is invalidated, its eviction
+-- is over, or data come as which it may be written.
+abbrev pub IsShared : CopyState → CacheEvent → CopyState → Type 0
+IsShared state event next =
+    is_sharer next
+    ≡ (serves_read state event && not (grants_writing state event) || is_read event
+    || is_sharer state && not (is_invalidated event || is_put_ack event || brings_data event))
+
+-- A miss begins with an access that has no right, and lasts until it has what it asked for. Its data come once.
+pub record Waits (state : CopyState) (event : CacheEvent) (next : CopyState) : Type 0 where
+  pub miss : is_waiting next ≡ (misses state event || is_waiting state && not (ends_miss state event))
+  pub data_missing : awaits_data next ≡ (misses state event || awaits_data state && not (brings_data event))
+  pub to_write : asked_to_write next
+      ≡ (misses state event && is_write event || asked_to_write state && not (ends_miss state event))
+
+-- An eviction lasts until its Put is acknowledged.
+abbrev pub Leaves : CopyState → CacheEvent → CopyState → Type 0
+Leaves state event next = is_leaving next ≡ (is_eviction event || is_leaving state && not (is_put_ack event))
 
 -- Data go out exactly for a forwarded request, from who holds them, and home too where the request only reads. One
--- acknowledgement goes out for each invalidation, and none otherwise.
+-- acknowledgement goes out for each invalidation, from a sharer, and none otherwise.
 pub record Answers (state : CopyState) (event : CacheEvent) (sent : CacheSends) : Type 0 where
   pub answer : sends_data sent ≡ (is_read event || is_written event)
   pub holder : IsTrue (sends_data sent) → IsTrue (holds_data state)
   pub home : sends_home sent ≡ is_read event
   pub acknowledgement : sends_inv_ack sent ≡ is_invalidated event
+  pub sharer : IsTrue (sends_inv_ack sent) → IsTrue (is_sharer state)
 
--- A request goes out exactly where a miss begins, and a Put exactly where an eviction begins: with the block from the
--- writer, and without it from a reader. So nobody has two requests under way.
-pub record Asks (state next : CopyState) (sent : CacheSends) : Type 0 where
-  pub miss : sends_get sent ≡ (is_waiting next && not (is_waiting state))
-  pub eviction : sends_put sent ≡ (is_leaving next && not (is_leaving state))
-  pub block : sends_put_m sent ≡ (sends_put sent && is_writer state)
+-- A Get goes out exactly where a miss begins, to write if the access writes, and a Put exactly where an eviction begins:
+-- with the block from the writer, and without it from a reader. So nobody has two requests under way.
+pub record Asks (state : CopyState) (event : CacheEvent) (sent : CacheSends) : Type 0 where
+  pub miss : sends_get sent ≡ misses state event
+  pub to_write : sends_get_m sent ≡ (misses state event && is_write event)
+  pub eviction : sends_put sent ≡ is_eviction event
+  pub block : sends_put_m sent ≡ (is_eviction event && is_writer state)
 
--- A miss lasts until the copy is readable: no message takes it back.
-abbrev pub EndsMiss : CopyState → CopyState → Type 0
-EndsMiss state next = IsTrue (is_waiting state) → IsTrue (is_waiting next || is_readable next)
+-- a row that obeys all laws
+pub record IsLawful (state : CopyState) (event : CacheEvent) (row : Row) : Type 0 where
+  pub entry : has_entry row ≡ can_come state event
+  pub blocked : is_blocked row ≡ has_to_wait state event
+  pub write_right : IfGo row (λ next sent. MayWrite state event next)
+  pub read_right : IfGo row (λ next sent. MayRead state event next)
+  pub held : IfGo row (λ next sent. HoldsData state event next)
+  pub shared : IfGo row (λ next sent. IsShared state event next)
+  pub miss : IfGo row (λ next sent. Waits state event next)
+  pub eviction : IfGo row (λ next sent. Leaves state event next)
+  pub answered : IfGo row (λ next sent. Answers state event sent)
+  pub asked : IfGo row (λ next sent. Asks state event sent)
 
--- An eviction lasts until the Put is acknowledged, and then nothing is left.
-pub record EndsEviction (state : CopyState) (event : CacheEvent) (next : CopyState) : Type 0 where
-  pub lasts : IsTrue (is_leaving state) → is_leaving next ≡ not (is_put_ack event)
-  pub ends : IsTrue (is_put_ack event) → next ≡ states.I
-
--- A message has to wait only for a miss, and only one by which another core asks for the line.
-abbrev pub WaitsForMiss : CopyState → CacheEvent → Type 0
-WaitsForMiss state event = IsTrue (is_waiting state && (is_invalidated event || is_read event || is_written event))
+-- the one row that obeys them
+abbrev pub IsOnlyLawful : CopyState → CacheEvent → Row → Type 0
+IsOnlyLawful state event row = (other : Row) → IsLawful state event other → other ≡ row

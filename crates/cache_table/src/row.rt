@@ -1,5 +1,5 @@
 ghost use Rattle.std.specs.Prelude.{◌≡◌};
-ghost use Rattle.cache_table.specs.Law.{Answers, Asks, EndsEviction, EndsMiss, GivesUp, IfBlocked, IfGo, TakesReadRight, TakesWriteRight, WaitsForMiss};
+ghost use Rattle.cache_table.specs.Law.{IsLawful, IsOnlyLawful};
 ghost use Rattle.cache_table.specs.Row.{row_of};
 
 use super::state::CopyState;
@@ -57,15 +57,9 @@ pub enum Row {
 pub const fn cache_row(state: CopyState, event: CacheEvent) -> Row
     ensures table { result ≡ row_of state event }
 
-    // What the coherence of a line rests on, whatever the cells are.
-    ensures write_right { IfGo result (λ next _. TakesWriteRight state event next) }
-    ensures read_right { IfGo result (λ next _. TakesReadRight state event next) }
-    ensures given_up { IfGo result (λ next _. GivesUp event next) }
-    ensures answered { IfGo result (λ _ sent. Answers state event sent) }
-    ensures asked { IfGo result (λ next sent. Asks state next sent) }
-    ensures miss { IfGo result (λ next _. EndsMiss state next) }
-    ensures eviction { IfGo result (λ next _. EndsEviction state event next) }
-    ensures blocked { IfBlocked result (WaitsForMiss state event) }
+    // What the coherence of a line rests on, whatever the cells are: no other row would do.
+    ensures lawful { IsLawful state event result }
+    ensures only { IsOnlyLawful state event result }
 {
     cell(state, event)
 }

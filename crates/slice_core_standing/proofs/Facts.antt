@@ -1,0 +1,93 @@
+-- What follows from an account: what waits and what was performed is numbered below what comes next, and may be performed.
+use Rattle.std.proofs.Common.{◌≡◌, ◌≢◌, ℕ, ◌+◌, ◌<◌, ◌≤◌, Bool, true, false, not, List, length, get_or, Some, refl, sym, ap, ◌∙◌, ⊎_elim, arith, eq-eqb}
+use Rattle.std.specs.Prelude.{◌&&◌, count_by, slice_get, All, IsTrue, nat_lt, nat_le}
+use Rattle.std.proofs.lemmas.Bool.{and_from, and_parts, cases_Bool, ltb-true, leb-true}
+use Rattle.std.proofs.lemmas.List.Elements.{All-weaker}
+use Rattle.std.proofs.lemmas.Option.{get_or_from_slice_get, same_Some}
+use Rattle.address_map.specs.Locator.{Lines}
+use Rattle.mshr_file.proofs.Changes.{all_pass, count_of-line}
+use Rattle.mshr_file.specs.Miss.{count_of, has_tag, targets_of, is_free, HasEachTagOnce}
+use Rattle.mshr_file.specs.declared.registers.Register.{Register}
+use Rattle.slice_core_log.specs.declared.entry.Entry.{Entry}
+use Rattle.slice_core_side.specs.Tags.{tag_in}
+use Rattle.slice_core_side.specs.Targets.{IsPerformable}
+use Rattle.slice_core_side.specs.declared.tags.TagState.{TagState}
+use Rattle.slice_core_side.specs.declared.tags.TagState.TheVariants as tags
+use Rattle.slice_core_standing.proofs.Lists.{one, none, one_if, is_below, count_by-all, counted_at}
+use Rattle.slice_core_standing.specs.Standing.{is_of, is_request, has_seq, standings, waiting, is_performable, is_asked_by, is_open, StandsOnce, CanWait, HasTags, IsAccount}
+use Rattle.target_list.specs.declared.target.Target.{Target}
+
+-- An entry of the core is numbered below what it asks for next.
+pub entries-below : (log : List Entry) (core : ℕ) (misses : List Register) (accepted : ℕ) → StandsOnce log core misses accepted
+    → All (λ entry. entry.core.0 ≡ core → entry.seq < accepted) log
+entries-below log core misses accepted stands k d inside own =
+    let entry = get_or log k d in
+    let passes : is_request core entry.seq entry ≡ true = and_from _ _ (eq-eqb entry.core.0 core own) (eq-eqb entry.seq entry.seq refl) in
+    let here = counted_at (is_request core entry.seq) log k d inside passes in
+    let all = stands.once entry.seq in
+    is_below entry.seq accepted (omega (arith, here, all))
+
+-- So is what waits for a line.
+pub targets-below : (log : List Entry) (core : ℕ) (misses : List Register) (accepted line : ℕ) → StandsOnce log core misses accepted
+    → All (λ target. target.seq < accepted) (targets_of misses line)
+targets-below log core misses accepted line stands k d inside =
+    let seq = (get_or (targets_of misses line) k d).seq in
+    let here = counted_at (has_seq seq) (targets_of misses line) k d inside (eq-eqb seq seq refl) in
+    let among = count_of-line (has_seq seq) misses line in
+    let all = stands.once seq in
+    is_below seq accepted (omega (arith, here, among, all))
+
+-- What waits for a line can be performed.
+pub all-performable : (log : List Entry) (misses : List Register) (line : ℕ) → CanWait log misses → All IsPerformable (targets_of misses line)
+all-performable log misses line waits =
+    All-weaker (λ target. IsTrue (is_performable target)) IsPerformable can (targets_of misses line) (all_pass is_performable misses line waits.performable)
+  where
+    can : (target : Target) → IsTrue (is_performable target) → IsPerformable target
+    can target passes =
+        let parts = and_parts (nat_lt target.offset.0 8) (nat_lt target.tag 64) passes in
+        record { word = ltb-true target.offset.0 8 parts.0; tag = ltb-true target.tag 64 parts.1 }
+
+-- What waits for a line was asked for in the past.
+pub all-asked : (log : List Entry) (misses : List Register) (line : ℕ) → CanWait log misses
+    → All (λ target. target.since ≤ length log) (targets_of misses line)
+all-asked log misses line waits =
+    All-weaker (λ target. IsTrue (is_asked_by (length log) target)) (λ target. target.since ≤ length log)
+    (λ target passes. leb-true target.since (length log) passes) (targets_of misses line)
+    (all_pass (is_asked_by (length log)) misses line waits.asked)
+
+-- No two targets have one tag, and none has a tag that isn't open.
+pub each-tag_once : (log : List Entry) (core : ℕ) (misses : List Register) (states : List TagState) → HasTags log core misses states
+    → HasEachTagOnce misses
+each-tag_once log core misses states named tag =
+    let all = named.opened tag in
+    let few = at_most (is_open (tag_in states tag)) in
+    omega (arith, all, few)
+  where
+    at_most : (b : Bool) → one_if b ≤ 1
+    at_most true = omega arith
+    at_most false = omega arith
+
+pub tag-names_none : (log : List Entry) (core : ℕ) (misses : List Register) (states : List TagState) (tag : ℕ)
+    → HasTags log core misses states → is_open (tag_in states tag) ≡ false → count_of (has_tag tag) misses ≡ 0
+tag-names_none log core misses states tag named shut = named.opened tag ∙ none (is_open (tag_in states tag)) shut
+
+pub tag-is_free : (log : List Entry) (core : ℕ) (misses : List Register) (states : List TagState) (tag : ℕ)
+    → HasTags log core misses states → is_open (tag_in states tag) ≡ false → is_free misses tag ≡ true
+tag-is_free log core misses states tag named shut =
+    eq-eqb (count_of (has_tag tag) misses) 0 (tag-names_none log core misses states tag named shut)
+
+-- Two tags never name one entry.
+pub replies-apart : (log : List Entry) (core : ℕ) (misses : List Register) (states : List TagState) (tag other number : ℕ)
+    → HasTags log core misses states → tag_in states tag ≡ tags.Performed number → tag_in states other ≡ tags.Performed number → tag ≡ other
+replies-apart log core misses states tag other number named first second =
+    let a = named.replies tag number first in
+    let b = named.replies other number second in
+    let same : a.0 ≡ b.0 = same_Some a.0 b.0 (sym a.1 ∙ b.1) in
+    sym a.3 ∙ ap (λ (e : Entry). e.tag) same ∙ b.3
+
+-- No more wait for a line than wait in all.
+pub waiting-line : (misses : List Register) (line : ℕ) → length (targets_of misses line) ≤ waiting misses
+waiting-line misses line =
+    let among = count_of-line (λ target. true) misses line in
+    let all = count_by-all (targets_of misses line) in
+    omega (arith, among, all)

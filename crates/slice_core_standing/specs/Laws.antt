@@ -1,0 +1,1 @@
+-- What the account of a core's requests says to a caller.

@@ -1,3 +1,7 @@
 mod Lists
 pub mod Facts
 pub mod Begins
+pub mod Grown
+pub mod Hit
+pub mod Added
+pub mod Handed

@@ -91,8 +91,12 @@ one_if-more : (b c : Bool) → (b ≡ true → c ≡ true) → one_if b ≤ one_
 one_if-more true c more = let counted = one c (more refl) in omega (arith, counted)
 one_if-more false c more = omega arith
 
+pub count_by-more : {X : Type 0} (p q : X → Bool) (xs : List X) → ((x : X) → p x ≡ true → q x ≡ true) → count_by p xs ≤ count_by q xs
+count_by-more p q xs more =
+    sum_by-le-sum_by (λ x. one_if (p x)) (λ x. one_if (q x)) xs (λ x. one_if-more (p x) (q x) (more x))
+
 pub count_of-more : (p q : Target → Bool) (misses : List Register) → ((target : Target) → p target ≡ true → q target ≡ true)
     → count_of p misses ≤ count_of q misses
 count_of-more p q misses more =
     sum_by-le-sum_by (λ register. count_by p register.targets) (λ register. count_by q register.targets) misses
-    (λ register. sum_by-le-sum_by (λ t. one_if (p t)) (λ t. one_if (q t)) register.targets (λ t. one_if-more (p t) (q t) (more t)))
+    (λ register. count_by-more p q register.targets more)

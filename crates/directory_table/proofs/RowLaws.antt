@@ -1,12 +1,11 @@
 -- All laws of a row, and that they hold in each cell of the table.
-use Rattle.std.proofs.Common.{◌≡◌, ◌≢◌, ℕ, ◌+◌, ◌==◌, ◌<◌, ◌≤◌, ◌&&◌, ◌||◌, Bool, true, false, not, if◌then◌else◌, Option, Some, refl, sym, ap, ◌∙◌, rules, arith, inl, inr, IsTrue}
-use Rattle.std.proofs.Math.Bool.{or-true}
+use Rattle.std.proofs.Common.{◌≡◌, ℕ, ◌+◌, ◌==◌, ◌<◌, ◌≤◌, ◌&&◌, ◌||◌, Bool, true, false, not, if◌then◌else◌, Option, Some, refl, ap, ◌∙◌, rules, arith, inl, inr, IsTrue}
 use Rattle.std.proofs.lemmas.Bool.{eq-eqb}
 use Rattle.std.proofs.lemmas.Bool.Decides.{eqb_tells}
 use Rattle.address_map.specs.declared.address.CoreId.{CoreId}
-use Rattle.address_map.specs.CoreSet.{count_of, has, only, with, without}
+use Rattle.address_map.specs.CoreSet.{has, only, with, without}
 use Rattle.address_map.proofs.CoreSets.{has-zero, has-with_same, has-with_below, has-only_below, has-without, has-only, only-some, with-some}
-use Rattle.directory_table.specs.Law.{HasExactly, HasSharersInS, IsOfSet, Replies, AwaitsHome, AwaitsInvalidated, ForgetsNobody, GivesOnlyCopy, GrantsWriting, HasOwnerInM, IfBlocked, IfGo, Invalidates, KnowsRequester, SendsOneToEach, Serves, WaitsForHome, brings_home, is_sharer_after, messages_to}
+use Rattle.directory_table.specs.Law.{HasExactly, HasSharersInS, IsOfSet, Replies, AwaitsHome, AwaitsInvalidated, ForgetsNobody, GivesOnlyCopy, GrantsWriting, HasOwnerInM, IfGo, Invalidates, KnowsRequester, SendsOneToEach, Serves, brings_home, has_to_wait, is_blocked, is_sharer_after, messages_to}
 use Rattle.directory_table.specs.Row.{cell, row_of}
 use Rattle.directory_table.specs.declared.state.DirEntry.{DirEntry}
 use Rattle.directory_table.specs.declared.state.DirState.{DirState}
@@ -30,9 +29,9 @@ pub record IsLawful (exclusive : Bool) (state : DirState) (owner : Option CoreId
       → IfGo row (λ next owns shares sent writes. HasSharersInS next shares)
   pub messages : IfGo row (λ next owns shares sent writes. SendsOneToEach event sent)
   pub idle : IfGo row (λ next owns shares sent writes. ForgetsNobody state next shares)
-  pub awaited : IfGo row (λ next owns shares sent writes. AwaitsHome state event next)
-  pub blocked : IfBlocked row (WaitsForHome state event)
-  pub only_copy : IfGo row (λ next owns shares sent writes. GivesOnlyCopy exclusive state sent)
+  pub awaited : IfGo row (λ next owns shares sent writes. AwaitsHome state event sent next)
+  pub blocked : is_blocked row ≡ has_to_wait state event
+  pub only_copy : IfGo row (λ next owns shares sent writes. GivesOnlyCopy exclusive state event sent)
 
 joined : (cores core : ℕ) → core < 64 → IsTrue (has (with cores core) core)
 joined cores core within = rw (has-with_same cores core within) refl

@@ -18,10 +18,9 @@ IfGo (rows.Go state owner sharers sent writes) P = P state owner sharers sent wr
 IfGo rows.Blocked P = Unit {0}
 IfGo rows.NoEntry P = Unit {0}
 
--- Where the row is blocked, the fact holds.
-abbrev pub IfBlocked : DirRow → Type 0 → Type 0
-IfBlocked rows.Blocked P = P
-IfBlocked _ P = Unit {0}
+abbrev pub is_blocked : DirRow → Bool
+is_blocked rows.Blocked = true
+is_blocked _ = false
 
 -- ---- states, owners and sharers
 
@@ -123,6 +122,11 @@ abbrev pub forwarded_to : DirSends → Option CoreId
 forwarded_to (sends.FwdGetS owner) = Some owner
 forwarded_to sent = forwarded_get_m sent
 
+-- invalidations go out; one of them to this core
+abbrev pub sends_inv : DirSends → Bool
+sends_inv (sends.DataAndInv acks invalidated) = true
+sends_inv _ = false
+
 abbrev pub is_sent_inv : DirSends → ℕ → Bool
 is_sent_inv (sends.DataAndInv acks invalidated) core = has invalidated core
 is_sent_inv _ core = false
@@ -161,15 +165,19 @@ abbrev pub KnowsRequester : DirEvent → Option CoreId → ℕ → Type 0
 KnowsRequester event owner sharers =
     IfSome (getter event) (λ core. core.0 < 64 → IsTrue (has sharers core.0 || is_named owner core.0))
 
--- A GetM makes its requester the owner. Nothing else makes a new owner but, under the setting, a GetS of a line that nobody has.
+-- A GetM makes its requester the owner. Nothing else makes a new owner but, under the setting, a GetS of a line that nobody
+-- has. An owner stays until another Get, or until it writes the line back.
 pub record GrantsWriting (exclusive : Bool) (state : DirState) (owner : Option CoreId) (event : DirEvent) (next : Option CoreId) : Type 0 where
   pub granted : IfSome (writer event) (λ core. next ≡ Some core)
   pub asked : IfSome next (λ core. (owner ≡ Some core) ⊎ (writer event ≡ Some core) ⊎ (IsTrue (exclusive && is_idle state) × (reader event ≡ Some core)))
+  pub kept : IsFalse (is_some (getter event) || is_written_back state owner event) → next ≡ owner
+  pub given_up : IsTrue (is_written_back state owner event) → next ≡ None
 
 -- A GetM of a shared line has each sharer invalidated but the requester. Nothing else invalidates.
-abbrev pub Invalidates : DirState → ℕ → DirEvent → DirSends → Type 0
-Invalidates state sharers event sent = (core : ℕ) → core < 64
-    → is_sent_inv sent core ≡ (is_shared state && is_some (writer event) && has sharers core && not (is_named (writer event) core))
+pub record Invalidates (state : DirState) (sharers : ℕ) (event : DirEvent) (sent : DirSends) : Type 0 where
+  pub written : sends_inv sent ≡ (is_shared state && is_some (writer event))
+  pub each : (core : ℕ) → core < 64
+      → is_sent_inv sent core ≡ (is_shared state && is_some (writer event) && has sharers core && not (is_named (writer event) core))
 
 -- The requester is told to await as many acknowledgements as cores are sent an invalidation.
 abbrev pub AwaitsInvalidated : DirSends → Type 0
@@ -210,15 +218,15 @@ SendsOneToEach event sent = (core : ℕ) → core < 64 → messages_to event sen
 abbrev pub ForgetsNobody : DirState → DirState → ℕ → Type 0
 ForgetsNobody state next sharers = IsTrue (is_shared state || is_awaited state) → IsTrue (is_idle next) → sharers ≡ 0
 
--- The directory waits for a block until it comes home, and only then does one come.
-pub record AwaitsHome (state : DirState) (event : DirEvent) (next : DirState) : Type 0 where
-  pub lasts : IsTrue (is_awaited state) → is_awaited next ≡ not (is_data_home event)
+-- The directory waits for a block from when it forwards a GetS until the block comes home, and only then does one come.
+pub record AwaitsHome (state : DirState) (event : DirEvent) (sent : DirSends) (next : DirState) : Type 0 where
+  pub lasts : is_awaited next ≡ (is_some (forwarded_get_s sent) || is_awaited state && not (is_data_home event))
   pub comes : IsTrue (is_data_home event) → IsTrue (is_awaited state)
 
--- Only who asks for a line whose block is on its way home has to wait.
-abbrev pub WaitsForHome : DirState → DirEvent → Type 0
-WaitsForHome state event = IsTrue (is_awaited state && is_some (getter event))
+-- Who asks for a line whose block is on its way home has to wait, and nobody else.
+abbrev pub has_to_wait : DirState → DirEvent → Bool
+has_to_wait state event = is_awaited state && is_some (getter event)
 
--- The only copy is given only under the setting, and of a line that nobody has.
-abbrev pub GivesOnlyCopy : Bool → DirState → DirSends → Type 0
-GivesOnlyCopy exclusive state sent = IsTrue (sends_only_copy sent) → IsTrue (exclusive && is_idle state)
+-- The only copy is given exactly where the setting is on and a core asks to read a line that nobody has.
+abbrev pub GivesOnlyCopy : Bool → DirState → DirEvent → DirSends → Type 0
+GivesOnlyCopy exclusive state event sent = sends_only_copy sent ≡ (exclusive && is_idle state && is_some (reader event))

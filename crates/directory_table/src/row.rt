@@ -1,6 +1,6 @@
 ghost use Rattle.std.specs.Prelude.{◌≡◌};
 ghost use Rattle.address_map.specs.CoreSet.{count_of, without};
-ghost use Rattle.directory_table.specs.Law.{AwaitsHome, AwaitsInvalidated, ForgetsNobody, GivesOnlyCopy, GrantsWriting, HasOwnerInM, IfBlocked, IfGo, HasExactly, HasSharersInS, Invalidates, IsOfSet, KnowsRequester, Replies, SendsOneToEach, Serves, WaitsForHome, brings_home, is_sharer_after};
+ghost use Rattle.directory_table.specs.Law.{AwaitsHome, AwaitsInvalidated, ForgetsNobody, GivesOnlyCopy, GrantsWriting, HasOwnerInM, IfGo, HasExactly, HasSharersInS, Invalidates, IsOfSet, KnowsRequester, Replies, SendsOneToEach, Serves, brings_home, has_to_wait, is_blocked, is_sharer_after};
 ghost use Rattle.directory_table.specs.Row.{cell, goes, goes_home, row_of, shared_by};
 
 use super::state::{DirEntry, DirState};
@@ -71,9 +71,9 @@ pub fn dir_row(exclusive: bool, entry: &DirEntry, event: DirEvent) -> DirRow
         → IfGo result (λ state _ sharers _ _. HasSharersInS state sharers) }
     ensures messages { IfGo result (λ _ _ _ sent _. SendsOneToEach event sent) }
     ensures idle { IfGo result (λ state _ sharers _ _. ForgetsNobody entry.now.state state sharers) }
-    ensures awaited { IfGo result (λ state _ _ _ _. AwaitsHome entry.now.state event state) }
-    ensures blocked { IfBlocked result (WaitsForHome entry.now.state event) }
-    ensures exclusive { IfGo result (λ _ _ _ sent _. GivesOnlyCopy exclusive entry.now.state sent) }
+    ensures awaited { IfGo result (λ state _ _ sent _. AwaitsHome entry.now.state event sent state) }
+    ensures blocked { is_blocked result ≡ has_to_wait entry.now.state event }
+    ensures exclusive { IfGo result (λ _ _ _ sent _. GivesOnlyCopy exclusive entry.now.state event sent) }
 {
     cell(exclusive, entry.state, entry.owner, entry.sharers, event)
 }

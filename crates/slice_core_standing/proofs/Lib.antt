@@ -5,3 +5,4 @@ pub mod Grown
 pub mod Hit
 pub mod Added
 pub mod Handed
+pub mod Settled

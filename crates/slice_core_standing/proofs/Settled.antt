@@ -1,0 +1,147 @@
+-- Targets that are performed: they leave the front of their line, and stand as the last entries of the log.
+use Rattle.std.proofs.Common.{◌≡◌, ◌≢◌, ℕ, ◌+◌, ◌/◌, ◌*◌, ◌<◌, ◌≤◌, ◌⊎◌, inl, inr, Bool, true, false, List, [], ◌∷◌, ◌++◌, length, Some, refl, sym, ap, subst, ◌∙◌, ⊎_elim, arith, eq-eqb, get_or, append_assoc}
+use Rattle.std.specs.Prelude.{◌==◌, ◌&&◌, nat_lt, count_by, slice_set, slice_get, All, if◌then◌else◌}
+use Rattle.std.proofs.lemmas.Bool.{cases_Bool, cases_eq, cases_lt, eqb-true}
+use Rattle.std.proofs.lemmas.List.{get_or-set_other, get_or-set_same, length-append, length-set, length_push}
+use Rattle.std.proofs.lemmas.List.Elements.{All-append, All-cons, All-head, All-nil, All-push, All-tail, All-weaker}
+use Rattle.address_map.proofs.Ascending.{IsAscendingBy-head, IsAscendingBy-tail}
+use Rattle.address_map.specs.Locator.{Lines, line_at}
+use Rattle.address_map.specs.Words.{IsAscendingBy}
+use Rattle.address_map.specs.declared.address.CoreId.{CoreId}
+use Rattle.address_map.specs.declared.address.Local.{Local}
+use Rattle.address_map.specs.declared.block.Block.{Block}
+use Rattle.mshr_file.proofs.Changes.{count_of-taken_none}
+use Rattle.mshr_file.specs.Miss.{count_of, has_tag, targets_of, IsMissFile, TakesTargets}
+use Rattle.mshr_file.specs.declared.registers.Register.{Register}
+use Rattle.slice_core_log.proofs.Pushes.{IsOrdered-push}
+use Rattle.slice_core_log.specs.Log.{IsAfter, IsOrdered}
+use Rattle.slice_core_log.specs.declared.entry.Entry.{Entry}
+use Rattle.slice_core_side.specs.Copy.{performed_on}
+use Rattle.slice_core_side.specs.Perform.{entries_of, entry_of, tags_after}
+use Rattle.slice_core_side.specs.Tags.{tag_in}
+use Rattle.slice_core_side.specs.Targets.{IsPerformable}
+use Rattle.slice_core_side.specs.declared.tags.TagState.{TagState}
+use Rattle.slice_core_side.specs.declared.tags.TagState.TheVariants as tags
+use Rattle.slice_core_standing.proofs.Facts.{all-asked, all-performable, entries-below}
+use Rattle.slice_core_standing.proofs.Grown.{account-others, CanWait-grown, one_place}
+use Rattle.slice_core_standing.proofs.Lists.{ascending-apart, ascending-left, count_by-all, count_by-append, count_by-cons, none, one, one_if, slice_get-kept, slice_get-next}
+use Rattle.slice_core_standing.specs.Standing.{is_of, is_open, is_request, has_seq, waiting, CanWait, HasTags, IsAccount, IsAhead, StandsInOrder, StandsOnce}
+use Rattle.target_list.specs.declared.target.Target.{Target}
+
+-- ---- the entries of targets
+
+-- What holds of the entry of each target, on whatever block, holds of all entries.
+pub entries-all : (P : Entry → Type 0) (Q : Target → Type 0) (core : CoreId) (first : ℕ)
+    → ((block : Block) (target : Target) → Q target → P (entry_of core first block target))
+    → (block : Block) (taken : List Target) → All Q taken → All P (entries_of core first block taken)
+unfolding entries_of
+entries-all P Q core first each block [] all = All-nil P
+entries-all P Q core first each block (target ∷ taken) all =
+    All-cons P (entry_of core first block target) (entries_of core first (performed_on block target.offset.0 target.op) taken)
+    (each block target (All-head Q target taken all))
+    (entries-all P Q core first each (performed_on block target.offset.0 target.op) taken (All-tail Q target taken all))
+
+-- They are entries of this core, and of no other.
+pub entries-others : (core : CoreId) (other first : ℕ) (block : Block) (taken : List Target) → core.0 ≢ other
+    → All (λ entry. entry.core.0 ≢ other) (entries_of core first block taken)
+entries-others core other first block taken apart =
+    entries-all (λ entry. entry.core.0 ≢ other) (λ target. target.tag ≡ target.tag) core first (λ block target same. apart) block taken
+    (λ k d inside. refl)
+
+-- They have the targets' numbers, one each.
+entries-request : (core : CoreId) (first seq : ℕ) (block : Block) (taken : List Target)
+    → count_by (is_request core.0 seq) (entries_of core first block taken) ≡ count_by (has_seq seq) taken
+unfolding entries_of
+entries-request core first seq block [] = refl
+entries-request core first seq block (target ∷ taken) =
+    let after = performed_on block target.offset.0 target.op in
+    let entries = count_by-cons (is_request core.0 seq) (entry_of core first block target) (entries_of core first after taken) in
+    let targets = count_by-cons (has_seq seq) target taken in
+    let later = entries-request core first seq after taken in
+    let mine = ap (λ b. one_if (b && (target.seq == seq))) (eq-eqb core.0 core.0 refl) in
+    omega (arith, entries, targets, later, mine)
+
+entries-own : (core : CoreId) (first : ℕ) (block : Block) (taken : List Target)
+    → count_by (is_of core.0) (entries_of core first block taken) ≡ length taken
+unfolding entries_of
+entries-own core first block [] = refl
+entries-own core first block (target ∷ taken) =
+    let after = performed_on block target.offset.0 target.op in
+    let entries = count_by-cons (is_of core.0) (entry_of core first block target) (entries_of core first after taken) in
+    let later = entries-own core first after taken in
+    let mine = one (core.0 == core.0) (eq-eqb core.0 core.0 refl) in
+    omega (arith, entries, later, mine)
+
+-- ---- tags
+
+tags-length : (states : List TagState) (number : ℕ) (taken : List Target) → length (tags_after states number taken) ≡ length states
+unfolding tags_after
+tags-length states number [] = refl
+tags-length states number (target ∷ taken) =
+    tags-length (slice_set states target.tag (tags.Performed number)) (number + 1) taken
+    ∙ length-set states target.tag (tags.Performed number)
+
+-- A tag that no target has names what it did.
+tag-kept : (states : List TagState) (number tag : ℕ) (taken : List Target) → count_by (has_tag tag) taken ≡ 0
+    → tag_in (tags_after states number taken) tag ≡ tag_in states tag
+unfolding tags_after
+tag-kept states number tag [] none = refl
+tag-kept states number tag (target ∷ taken) none =
+    let all = count_by-cons (has_tag tag) target taken in
+    ⊎_elim
+    (λ same.
+    let mine = one (has_tag tag target) (eq-eqb target.tag tag (sym same)) in
+    absurd (omega (arith, all, mine, none)))
+    (λ apart.
+    tag-kept (slice_set states target.tag (tags.Performed number)) (number + 1) tag taken (omega (arith, all, none))
+    ∙ get_or-set_other states target.tag tag (tags.Performed number) tags.Free apart) (cases_eq tag target.tag)
+
+-- The tag names an entry of the log that its core asked for by it.
+abbrev NamesEntry : List Entry → CoreId → List TagState → ℕ → Type 0
+NamesEntry log core states tag =
+    (number : ℕ) × (e : Entry) × (tag_in states tag ≡ tags.Performed number) × (slice_get log number ≡ Some e) × (e.core.0 ≡ core.0)
+    × (e.tag ≡ tag)
+
+-- The tag of the first target names its entry where no later one has the tag.
+tag-first : (log more : List Entry) (core : CoreId) (first : ℕ) (block : Block) (states : List TagState) (tag : ℕ) (target : Target)
+    (taken : List Target) → length states ≡ 64 → target.tag < 64 → target.tag ≡ tag → count_by (has_tag tag) taken ≡ 0
+    → NamesEntry (log ++ entry_of core first block target ∷ more) core
+      (tags_after (slice_set states target.tag (tags.Performed (length log))) (length log + 1) taken) tag
+tag-first log more core first block states tag target taken sized small same none =
+    let now = slice_set states target.tag (tags.Performed (length log)) in
+    let set_here = get_or-set_same states target.tag (tags.Performed (length log)) tags.Free (omega (arith, small, sized)) in
+    (
+      length log,
+      entry_of core first block target,
+      tag-kept now (length log + 1) tag taken none ∙ ap (tag_in now) (sym same) ∙ set_here,
+      slice_get-next log more (entry_of core first block target),
+      refl,
+      same,
+    )
+
+-- The tag of a target names its entry.
+tag-performed : (log : List Entry) (core : CoreId) (first : ℕ) (block : Block) (states : List TagState) (tag : ℕ) (taken : List Target)
+    → length states ≡ 64 → All IsPerformable taken → 1 ≤ count_by (has_tag tag) taken
+    → NamesEntry (log ++ entries_of core first block taken) core (tags_after states (length log) taken) tag
+unfolding entries_of tags_after
+tag-performed log core first block states tag [] sized can has = absurd (omega (arith, has))
+tag-performed log core first block states tag (target ∷ taken) sized can has =
+    let entry = entry_of core first block target in
+    let after = performed_on block target.offset.0 target.op in
+    let now = slice_set states target.tag (tags.Performed (length log)) in
+    elim (cases_lt 0 (count_by (has_tag tag) taken)) [
+      | inl more ↦
+          let size = length-set states target.tag (tags.Performed (length log)) ∙ sized in
+          let found =
+          tag-performed (log ++ entry ∷ []) core first after now tag taken size (All-tail IsPerformable target taken can) more in
+          rw (append_assoc, length_push log entry) at found
+      | inr last ↦
+          let all = count_by-cons (has_tag tag) target taken in
+          let same = eqb-true target.tag tag (passes (has_tag tag target) (omega (arith, all, last, has))) in
+          tag-first log (entries_of core first after taken) core first block states tag target taken sized
+          (All-head IsPerformable target taken can).tag same (omega (arith, last))
+    ]
+  where
+    passes : (b : Bool) → 1 ≤ one_if b → b ≡ true
+    passes true counted = refl
+    passes false counted = absurd (omega (arith, counted))

@@ -1,0 +1,216 @@
+ghost use Rattle.std.specs.Prelude.{◌≡◌, ◌+◌, ◌^◌, ◌<◌, length, true, false, None, Some, IsTrue, position};
+ghost use Rattle.cache_array.specs.Array.{held_at as array_at, slots_at};
+ghost use Rattle.cache_array.specs.Set.{holds};
+ghost use Rattle.mshr_file.specs.Miss.{has_miss, can_open, can_join, AddsTarget};
+ghost use Rattle.writeback_buffer.specs.Buffer.{held_at as buffer_at};
+ghost use Rattle.slice_core_log.specs.Op.{reply_of};
+ghost use Rattle.slice_core_side.specs.Access.{is_silent};
+ghost use Rattle.slice_core_side.specs.Copy.{word_at};
+
+use super::Side;
+use crate::access::{Access, Ask, Way, event_of};
+use crate::copy::CacheCopy;
+use crate::tags::TagState;
+use address_map::{Local, Offset, Op, Request};
+use cache_table::{CacheEvent, CacheSends, CopyState, Row, cache_row};
+use mshr_file::{Admission, MissFile};
+use slice_core_answer::Stall;
+use slice_core_log::{performed, reply_to};
+use target_list::Target;
+
+impl<F: MissFile> Side<F> {
+    ghost use Rattle.slice_core_side.specs.Side.{array_copy};
+    ghost use Rattle.slice_core_side.specs.Access.{access_of, alone_of, in_way, CanStand, IsAlone, IsWithin};
+    ghost use Rattle.slice_core_side.specs.Steps.{after_hit, after_join, after_open, target_of};
+
+    /// What is to be done with an access to a line.
+    pub fn decide(&self, local: Local, tag: u8, op: Op) -> Access
+        requires { tag < 64 }
+        ensures decided { result ≡ access_of self.now local tag op }
+        ensures within { IsWithin self.now local tag result }
+    {
+        match self.file.admit(local, tag) {
+            Admission::Join => Access::Join,
+            Admission::NoTarget => Access::Stall(Stall::NoTarget),
+            Admission::Open => self.decide_alone(local, op, true),
+            Admission::NoRegister => self.decide_alone(local, op, false),
+        }
+    }
+
+    // What is to be done where the line has no register. `room` says that one can be opened.
+    fn decide_alone(&self, local: Local, op: Op, room: bool) -> Access
+        ensures decided { result ≡ alone_of self.now local room op }
+        ensures within { IsAlone self.now local room result }
+    {
+        match self.array.find(local) {
+            Some(place) => self.decide_held(local, place, op, room),
+            None if self.buffer.get(local).is_some() => Access::Stall(Stall::WriteBackBusy),
+            None => self.decide_absent(local, op, room),
+        }
+    }
+
+    // What is to be done with an access to a copy in this place of its set.
+    fn decide_held(&self, local: Local, place: usize, op: Op, room: bool) -> Access
+        requires { position (holds local) (slots_at self.now.array local) ≡ Some place }
+        ensures decided { result ≡ alone_of self.now local room op }
+        ensures within { IsAlone self.now local room result }
+    {
+        let state = self.array.value(local, place).state;
+        let (next, ask) = match cache_row(state, event_of(op)) {
+            Row::Go(next, CacheSends::Nothing) => {
+                let silent = is_silent(state, next);
+                return Access::Hit {
+                    place,
+                    next,
+                    silent,
+                };
+            }
+            Row::Go(next, CacheSends::GetS) => (next, Ask::GetS),
+            Row::Go(next, CacheSends::GetM) => (next, Ask::GetM),
+            _ => return Access::Stall(Stall::NoTarget),
+        };
+        if room {
+            let way = Way::Held;
+            Access::Open { next, ask, way }
+        } else {
+            Access::Stall(Stall::NoRegister)
+        }
+    }
+
+    // What is to be done with an access to a line that stands nowhere.
+    fn decide_absent(&self, local: Local, op: Op, room: bool) -> Access
+        requires absent { array_at self.now.array local ≡ None }
+        requires stays { buffer_at self.now.buffer.entries local.0 ≡ None }
+        ensures decided { result ≡ alone_of self.now local room op }
+        ensures within { IsAlone self.now local room result }
+    {
+        let (next, ask) = match cache_row(CopyState::I, event_of(op)) {
+            Row::Go(next, CacheSends::GetS) => (next, Ask::GetS),
+            Row::Go(next, CacheSends::GetM) => (next, Ask::GetM),
+            _ => return Access::Stall(Stall::NoTarget),
+        };
+        if room {
+            self.decide_way(local, next, ask)
+        } else {
+            Access::Stall(Stall::NoRegister)
+        }
+    }
+
+    // Where the copy of a line that stands nowhere is to stand.
+    fn decide_way(&self, local: Local, next: CopyState, ask: Ask) -> Access
+        requires absent { array_at self.now.array local ≡ None }
+        requires stays { buffer_at self.now.buffer.entries local.0 ≡ None }
+        ensures decided { result ≡ in_way self.now local next ask }
+        ensures within { IsAlone self.now local true result }
+    {
+        let way = if self.array.has_way(local) {
+            Way::Free
+        } else if !self.has_victim(local) {
+            return Access::Stall(Stall::NoWay);
+        } else if !self.buffer.has_room() {
+            return Access::Stall(Stall::WriteBackFull);
+        } else {
+            Way::Victim
+        };
+        Access::Open { next, ask, way }
+    }
+
+    /// Performs an access on the copy in this place of the line's set, which allows it, and answers the reply.
+    pub fn hit(
+        &mut self,
+        local: Local,
+        place: usize,
+        offset: Offset,
+        op: Op,
+        next: CopyState,
+    ) -> u64
+        requires held { position (holds local) (slots_at self.old.array local) ≡ Some place }
+        requires within { offset.0 < 8 }
+        requires fits { self.old.accepted + 1 < 2 ^ 64 }
+        ensures reply { result ≡ reply_of op (word_at (array_copy self.old local).block offset.0) }
+        ensures after { self.new ≡ after_hit self.old local offset.0 op next }
+    {
+        self.accepted += 1;
+        let copy = self.array.value_mut(local, place);
+        copy.state = next;
+        let word = &mut copy.block.words[offset.0 as usize];
+        let value = *word;
+        *word = performed(op, value);
+        self.array.touch_at(local, place);
+        reply_to(op, value)
+    }
+
+    /// Adds the access to the line's miss register. Answers its `seq`.
+    pub fn join(&mut self, local: Local, offset: Offset, request: Request, since: u64) -> u64
+        requires tag { request.tag < 64 }
+        requires found { has_miss self.old.misses local.0 ≡ true }
+        requires room { can_join self.old.bound self.old.misses local.0 request.tag ≡ true }
+        requires fits { self.old.accepted + 1 < 2 ^ 64 }
+        ensures seq { result ≡ self.old.accepted }
+        ensures added { AddsTarget self.old.misses self.new.misses local.0 (target_of self.old request offset since) }
+        ensures after { self.new ≡ after_join self.old request self.new.misses }
+    {
+        let target = self.next_target(offset, request, since);
+        self.file.join(local, target);
+        target.seq
+    }
+
+    /// Opens a miss register for the access. Its copy goes to a state that waits, in the way that it holds (`held`) or in
+    /// a free one. Answers its `seq`.
+    pub fn open(
+        &mut self,
+        local: Local,
+        held: bool,
+        next: CopyState,
+        offset: Offset,
+        request: Request,
+        since: u64,
+    ) -> u64
+        requires tag { request.tag < 64 }
+        requires free { has_miss self.old.misses local.0 ≡ false }
+        requires room { can_open self.old.bound self.old.misses request.tag ≡ true }
+        requires way { CanStand self.old local held }
+        requires fits { self.old.accepted + 1 < 2 ^ 64 }
+        ensures seq { result ≡ self.old.accepted }
+        ensures added { AddsTarget self.old.misses self.new.misses local.0 (target_of self.old request offset since) }
+        ensures after { self.new ≡ after_open self.old local held next request self.new.misses }
+    {
+        if held {
+            let copy = self.array.get_mut(local);
+            copy.state = next;
+            copy.wants = 0;
+            copy.counted = 0;
+        } else {
+            self.array.insert(local, CacheCopy::missing(next));
+        }
+        let target = self.next_target(offset, request, since);
+        self.file.open(local, target);
+        target.seq
+    }
+
+    // The access as a target, the next request that is accepted. Its tag is open.
+    fn next_target(&mut self, offset: Offset, request: Request, since: u64) -> Target
+        requires tag { request.tag < 64 }
+        requires fits { self.old.accepted + 1 < 2 ^ 64 }
+        ensures target { result ≡ target_of self.old request offset since }
+        ensures after { self.new ≡ after_join self.old request self.old.misses }
+    {
+        let seq = self.accepted;
+        self.accepted += 1;
+        self.tags.set(request.tag, TagState::Open);
+        Target {
+            op: request.op,
+            seq,
+            since,
+            offset,
+            tag: request.tag,
+        }
+    }
+}
+
+// Whether a write to an exclusive copy changed it: nobody is told.
+const fn is_silent(state: CopyState, next: CopyState) -> bool
+    ensures { result ≡ is_silent state next }
+{
+    matches!((state, next), (CopyState::E, CopyState::M))
+}

@@ -13,7 +13,7 @@ use Rattle.slice_core_side.specs.Tags.{tag_in}
 use Rattle.slice_core_side.specs.Targets.{IsPerformable}
 use Rattle.slice_core_side.specs.declared.tags.TagState.{TagState}
 use Rattle.slice_core_side.specs.declared.tags.TagState.TheVariants as tags
-use Rattle.slice_core_standing.proofs.Lists.{one, none, one_if, is_below, count_by-all, counted_at}
+use Rattle.slice_core_standing.proofs.Lists.{at_most_one, none, is_below, count_by-all, counted_at}
 use Rattle.slice_core_standing.specs.Standing.{is_of, is_request, has_seq, standings, waiting, is_performable, is_asked_by, is_open, StandsOnce, CanWait, HasTags, IsAccount}
 use Rattle.target_list.specs.declared.target.Target.{Target}
 
@@ -60,12 +60,8 @@ pub each-tag_once : (log : List Entry) (core : ℕ) (misses : List Register) (st
     → HasEachTagOnce misses
 each-tag_once log core misses states named tag =
     let all = named.opened tag in
-    let few = at_most (is_open (tag_in states tag)) in
+    let few = at_most_one (is_open (tag_in states tag)) in
     omega (arith, all, few)
-  where
-    at_most : (b : Bool) → one_if b ≤ 1
-    at_most true = omega arith
-    at_most false = omega arith
 
 pub tag-names_none : (log : List Entry) (core : ℕ) (misses : List Register) (states : List TagState) (tag : ℕ)
     → HasTags log core misses states → is_open (tag_in states tag) ≡ false → count_of (has_tag tag) misses ≡ 0

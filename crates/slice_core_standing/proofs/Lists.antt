@@ -19,6 +19,10 @@ one b passes = rw passes refl
 pub none : (b : Bool) → b ≡ false → one_if b ≡ 0
 none b fails = rw fails refl
 
+pub at_most_one : (b : Bool) → one_if b ≤ 1
+at_most_one true = omega arith
+at_most_one false = omega arith
+
 -- The numbers below the next one are those below this one, and this one.
 pub below_next : (seq accepted : ℕ) → one_if (nat_lt seq accepted) + one_if (accepted == seq) ≡ one_if (nat_lt seq (accepted + 1))
 below_next seq accepted = grind (arith, nat_tests)
@@ -67,6 +71,13 @@ module _ {X : Type 0} where
   pub slice_get-next : (xs ys : List X) (y : X) → slice_get (xs ++ y ∷ ys) (length xs) ≡ Some y
   slice_get-next [] ys y = refl
   slice_get-next (z ∷ zs) ys y = slice_get-next zs ys y
+
+  -- What holds of all elements holds of those of the second part.
+  pub All-right : (P : X → Type 0) (xs ys : List X) → All P (xs ++ ys) → All P ys
+  All-right P xs ys all k d inside =
+      let long = length-append xs ys in
+      let here = get_or-append-add xs ys k d in
+      rw here at (all (length xs + k) d (omega (arith, inside, long)))
 
   -- Of a list that ascends the first part ascends, and its elements are below those of the second part.
   pub ascending-left : (n : X → ℕ) (xs ys : List X) → IsAscendingBy n (xs ++ ys) → IsAscendingBy n xs

@@ -2,7 +2,7 @@
 use Rattle.std.proofs.Common.{◌≡◌, ◌≢◌, ℕ, ◌+◌, ◌/◌, ◌*◌, ◌<◌, ◌≤◌, ◌⊎◌, inl, inr, Bool, true, false, List, [], ◌∷◌, ◌++◌, length, Some, refl, sym, ap, subst, ◌∙◌, ⊎_elim, arith, eq-eqb, get_or, append_assoc}
 use Rattle.std.specs.Prelude.{◌==◌, ◌&&◌, nat_lt, count_by, slice_set, slice_get, All, if◌then◌else◌}
 use Rattle.std.proofs.lemmas.Bool.{cases_Bool, cases_eq, cases_lt, eqb-true}
-use Rattle.std.proofs.lemmas.List.{get_or-set_other, get_or-set_same, length-append, length-set, length_push}
+use Rattle.std.proofs.lemmas.List.{get_or-set_other, get_or-set_same, get_or_append_left, length-append, length-set, length_push}
 use Rattle.std.proofs.lemmas.List.Elements.{All-append, All-cons, All-head, All-nil, All-push, All-tail, All-weaker}
 use Rattle.address_map.proofs.Ascending.{IsAscendingBy-head, IsAscendingBy-tail}
 use Rattle.address_map.specs.Locator.{Lines, line_at}
@@ -23,9 +23,9 @@ use Rattle.slice_core_side.specs.Targets.{IsPerformable}
 use Rattle.slice_core_side.specs.declared.tags.TagState.{TagState}
 use Rattle.slice_core_side.specs.declared.tags.TagState.TheVariants as tags
 use Rattle.slice_core_standing.proofs.Facts.{all-asked, all-performable, entries-below}
-use Rattle.slice_core_standing.proofs.Grown.{account-others, CanWait-grown, one_place}
-use Rattle.slice_core_standing.proofs.Lists.{ascending-apart, ascending-left, count_by-all, count_by-append, count_by-cons, none, one, one_if, slice_get-kept, slice_get-next}
-use Rattle.slice_core_standing.specs.Standing.{is_of, is_open, is_request, has_seq, waiting, CanWait, HasTags, IsAccount, IsAhead, StandsInOrder, StandsOnce}
+use Rattle.slice_core_standing.proofs.Grown.{account-others, CanWait-grown, no_entry-others, one_place}
+use Rattle.slice_core_standing.proofs.Lists.{ascending-apart, ascending-left, at_most_one, count_by-all, count_by-append, count_by-cons, none, one, one_if, slice_get-kept, slice_get-next, All-right}
+use Rattle.slice_core_standing.specs.Standing.{is_of, is_open, is_request, has_seq, waiting, CanWait, HasNoEntry, HasTags, IsAccount, IsAhead, StandsInOrder, StandsOnce}
 use Rattle.target_list.specs.declared.target.Target.{Target}
 
 -- ---- the entries of targets
@@ -145,3 +145,160 @@ tag-performed log core first block states tag (target ∷ taken) sized can has =
     passes : (b : Bool) → 1 ≤ one_if b → b ≡ true
     passes true counted = refl
     passes false counted = absurd (omega (arith, counted))
+
+-- ---- the account
+
+-- What the taken targets still count, they count before.
+some-taken : (log : List Entry) (old : List Register) (line : ℕ) (taken left : List Target) → targets_of old line ≡ taken ++ left
+    → (P : Target → Type 0) → All P (targets_of old line) → All P taken
+some-taken log old line taken left is P all k d inside =
+    let long = length-append taken left in
+    let here = get_or_append_left taken left d k inside in
+    rw (is, here) at (all k d (rw is (omega (arith, inside, long))))
+
+-- Fewer wait.
+pub waiting-taken : (old new : List Register) (line : ℕ) (taken : List Target) → TakesTargets old new line taken
+    → waiting old ≡ waiting new + length taken
+waiting-taken old new line taken takes =
+    let fewer = takes.counts (λ target. true) in
+    let all = count_by-all taken in
+    omega (arith, fewer, all)
+
+module _ (log : List Entry) (core : CoreId) (first : ℕ) (block : Block) (old new : List Register) (line : ℕ) (taken : List Target)
+    (takes : TakesTargets old new line taken) where
+  -- Each stands as its entry now.
+  once-settled : (accepted : ℕ) → StandsOnce log core.0 old accepted
+      → StandsOnce (log ++ entries_of core first block taken) core.0 new accepted
+  once-settled accepted stands = record {
+    once = λ seq.
+        let fewer = takes.counts (has_seq seq) in
+        let more = count_by-append (is_request core.0 seq) log (entries_of core first block taken) in
+        let moved = entries-request core first seq block taken in
+        let before = stands.once seq in
+        omega (arith, fewer, more, moved, before);
+    counted =
+        let fewer = waiting-taken old new line taken takes in
+        let more = count_by-append (is_of core.0) log (entries_of core first block taken) in
+        let moved = entries-own core first block taken in
+        let before = stands.counted in
+        omega (arith, fewer, more, moved, before);
+  }
+
+  waits-settled : IsMissFile new → CanWait log old → CanWait (log ++ entries_of core first block taken) new
+  waits-settled file waits = CanWait-grown log (entries_of core first block taken) new (record {
+    file = file;
+    performable = count_of-taken_none _ old new line taken takes waits.performable;
+    asked = count_of-taken_none _ old new line taken takes waits.asked;
+  })
+
+  tags-settled : (states : List TagState) → CanWait log old → HasTags log core.0 old states
+      → HasTags (log ++ entries_of core first block taken) core.0 new (tags_after states (length log) taken)
+  tags-settled states waits named = record {
+    sized = tags-length states (length log) taken ∙ named.sized;
+    opened = λ tag. elim (cases_lt 0 (count_by (has_tag tag) taken)) [ inl some ↦ shut tag some | inr none ↦ still tag (omega (arith, none)) ];
+    replies = λ tag number is. elim (cases_lt 0 (count_by (has_tag tag) taken)) [
+      | inl some ↦ answered tag number is (found tag some)
+      | inr none ↦
+          let was = sym (tag-kept states (length log) tag taken (omega (arith, none))) ∙ is in
+          let before = named.replies tag number was in
+          (before.0, slice_get-kept log (entries_of core first block taken) number before.0 before.1, before.2, before.3)
+    ];
+  }
+    where
+      can : All IsPerformable taken
+      can = some-taken log old line taken (targets_of new line) takes.here IsPerformable (all-performable log old line waits)
+
+      found : (tag : ℕ) → 1 ≤ count_by (has_tag tag) taken
+          → NamesEntry (log ++ entries_of core first block taken) core (tags_after states (length log) taken) tag
+      found tag some = tag-performed log core first block states tag taken named.sized can some
+
+      shut : (tag : ℕ) → 1 ≤ count_by (has_tag tag) taken
+          → count_of (has_tag tag) new ≡ one_if (is_open (tag_in (tags_after states (length log) taken) tag))
+      shut tag some =
+          let fewer = takes.counts (has_tag tag) in
+          let before = named.opened tag in
+          let few = at_most_one (is_open (tag_in states tag)) in
+          let now = ap (λ state. one_if (is_open state)) (found tag some).2 in
+          omega (arith, fewer, before, few, now, some)
+
+      still : (tag : ℕ) → count_by (has_tag tag) taken ≡ 0
+          → count_of (has_tag tag) new ≡ one_if (is_open (tag_in (tags_after states (length log) taken) tag))
+      still tag none =
+          let fewer = takes.counts (has_tag tag) in
+          let before = named.opened tag in
+          let now = ap (λ state. one_if (is_open state)) (tag-kept states (length log) tag taken none) in
+          omega (arith, fewer, before, now, none)
+
+      number_of : (m n : ℕ) → tags.Performed m ≡ tags.Performed n → m ≡ n
+      number_of m n same = cc
+
+      answered : (tag number : ℕ) → tag_in (tags_after states (length log) taken) tag ≡ tags.Performed number
+          → NamesEntry (log ++ entries_of core first block taken) core (tags_after states (length log) taken) tag
+          → (e : Entry) × (slice_get (log ++ entries_of core first block taken) number ≡ Some e) × (e.core.0 ≡ core.0) × (e.tag ≡ tag)
+      answered tag number is named =
+          let same = number_of named.0 number (sym named.2 ∙ is) in
+          (named.1, ap (slice_get (log ++ entries_of core first block taken)) (sym same) ∙ named.3, named.4, named.5)
+
+-- On its line what was taken was asked for before what is left.
+order-settled : (lines : Lines) (log : List Entry) (core : CoreId) (first : ℕ) (block : Block) (old new : List Register) (local : Local)
+    (taken : List Target) → TakesTargets old new local.0 taken → lines.slice < lines.slices → first ≡ 8 * (line_at lines local).0
+    → CanWait log old → StandsInOrder lines log core.0 old
+    → StandsInOrder lines (log ++ entries_of core first block taken) core.0 new
+order-settled lines log core first block old new local taken takes few begins waits order = record {
+  targets = takes.ordered order.targets;
+  entries =
+      All-append (IsAhead lines core.0 new) log (entries_of core first block taken)
+      (All-weaker (IsAhead lines core.0 old) (IsAhead lines core.0 new) still log order.entries)
+      (entries-all (IsAhead lines core.0 new) IsTaken core first ahead block taken both);
+}
+  where
+    IsTaken : Target → Type 0
+    IsTaken target = IsPerformable target × All (λ (later : Target). target.seq < later.seq) (targets_of new local.0)
+
+    still : (entry : Entry) → IsAhead lines core.0 old entry → IsAhead lines core.0 new entry
+    still entry before other own on =
+        elim (cases_eq other.0 local.0) [
+          | inl here ↦
+              let was = rw (here, takes.here) at (before other own on) in
+              rw here (All-right (λ (t : Target). entry.seq < t.seq) taken (targets_of new local.0) was)
+          | inr apart ↦ rw (takes.others other.0 apart) (before other own on)
+        ]
+
+    ahead : (block : Block) (target : Target) → IsTaken target → IsAhead lines core.0 new (entry_of core first block target)
+    ahead block target is other own on =
+        let word = is.0.word in
+        let line : (first + target.offset.0) / 8 ≡ (line_at lines local).0 = omega (arith, word, begins) in
+        let same = one_place lines local other few (sym line ∙ on) in
+        subst (λ n. All (λ (later : Target). target.seq < later.seq) (targets_of new n)) same is.1
+
+    both : All IsTaken taken
+    both k d inside = (
+      some-taken log old local.0 taken (targets_of new local.0) takes.here IsPerformable (all-performable log old local.0 waits) k d inside,
+      ascending-apart (λ (t : Target). t.seq) taken (targets_of new local.0) (rw takes.here at (order.targets local.0)) k d inside,
+    )
+
+-- Targets of a line are performed: the account is that of the entries.
+pub account-settled : (lines : Lines) (log : List Entry) (core : CoreId) (first : ℕ) (block : Block) (old new : List Register)
+    (states : List TagState) (accepted : ℕ) (local : Local) (taken : List Target) → TakesTargets old new local.0 taken → IsMissFile new
+    → lines.slice < lines.slices → first ≡ 8 * (line_at lines local).0 → IsAccount lines log core.0 old states accepted
+    → IsAccount lines (log ++ entries_of core first block taken) core.0 new (tags_after states (length log) taken) accepted
+account-settled lines log core first block old new states accepted local taken takes file few begins account = record {
+  standing = once-settled log core first block old new local.0 taken takes accepted account.standing;
+  waits = waits-settled log core first block old new local.0 taken takes file account.waits;
+  tags = tags-settled log core first block old new local.0 taken takes states account.waits account.tags;
+  order = order-settled lines log core first block old new local taken takes few begins account.waits account.order;
+}
+
+-- Another core's targets are performed: this core's account is as it was.
+pub account-settled_other : (lines : Lines) (log : List Entry) (performer : CoreId) (first : ℕ) (block : Block) (taken : List Target)
+    (core : ℕ) (misses : List Register) (states : List TagState) (accepted : ℕ) → performer.0 ≢ core
+    → IsAccount lines log core misses states accepted
+    → IsAccount lines (log ++ entries_of performer first block taken) core misses states accepted
+account-settled_other lines log performer first block taken core misses states accepted other account =
+    account-others lines log (entries_of performer first block taken) core misses states accepted
+    (entries-others performer core first block taken other) account
+
+pub no_entry-settled_other : (log : List Entry) (performer : CoreId) (first : ℕ) (block : Block) (taken : List Target) (core : ℕ)
+    → performer.0 ≢ core → HasNoEntry core log → HasNoEntry core (log ++ entries_of performer first block taken)
+no_entry-settled_other log performer first block taken core other absent =
+    no_entry-others core log (entries_of performer first block taken) (entries-others performer core first block taken other) absent

@@ -6,3 +6,4 @@ pub mod Hit
 pub mod Added
 pub mod Handed
 pub mod Settled
+pub mod Ordered

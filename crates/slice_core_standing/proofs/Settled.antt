@@ -149,7 +149,7 @@ tag-performed log core first block states tag (target ∷ taken) sized can has =
 -- ---- the account
 
 -- What the taken targets still count, they count before.
-some-taken : (log : List Entry) (old : List Register) (line : ℕ) (taken left : List Target) → targets_of old line ≡ taken ++ left
+pub some-taken : (log : List Entry) (old : List Register) (line : ℕ) (taken left : List Target) → targets_of old line ≡ taken ++ left
     → (P : Target → Type 0) → All P (targets_of old line) → All P taken
 some-taken log old line taken left is P all k d inside =
     let long = length-append taken left in

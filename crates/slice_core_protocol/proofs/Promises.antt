@@ -1,0 +1,18 @@
+-- What is promised of every line that the machine reaches.
+use Rattle.std.proofs.Common.{ℕ, ◌<◌, ◌≤◌, Bool}
+use Rattle.slice_core_protocol.proofs.HasRows.{has_rows}
+use Rattle.slice_core_protocol.proofs.OneWriter.{one_writer}
+use Rattle.slice_core_protocol.proofs.Steps.{reached_coherent}
+use Rattle.slice_core_protocol.specs.Line.{Line}
+use Rattle.slice_core_protocol.specs.Machine.{Reached}
+use Rattle.slice_core_protocol.specs.Promise.{HasOneWriter, HasRows}
+
+pub reached_one_writer : (exclusive : Bool) (cores : ℕ) (line : Line) → 0 < cores → cores ≤ 64 → Reached exclusive cores line → HasOneWriter cores line
+reached_one_writer exclusive cores line some most reached =
+    let kept = reached_coherent exclusive cores line some most reached in
+    one_writer cores line kept.0 kept.1
+
+pub reached_has_rows : (exclusive : Bool) (cores : ℕ) (line : Line) → 0 < cores → cores ≤ 64 → Reached exclusive cores line → HasRows exclusive cores line
+reached_has_rows exclusive cores line some most reached =
+    let kept = reached_coherent exclusive cores line some most reached in
+    has_rows exclusive cores line kept.0 some kept.1

@@ -1,0 +1,5 @@
+pub mod Coherent
+pub mod Fit
+pub mod Line
+pub mod Machine
+pub mod Promise

@@ -1,0 +1,27 @@
+//! Why the protocol is coherent: theorems on one line and any number of cores, up to the 64 that a directory's entry can
+//! name.
+//!
+//! The definitions are a machine. A line (`specs/Line.antt`) is the directory's entry, a block on its way home, and for
+//! each core its copy's state, its channels and its count of acknowledgements. A step (`specs/Machine.antt`) takes one row
+//! of one of the two tables, `cache_table`'s or `directory_table`'s, whose event is at hand: it changes the state as the
+//! row says, takes the message, and puts what the row sends into its channels. The machine starts with nothing cached and
+//! takes any steps in any order. What is promised of all that it reaches stands in `specs/Promise.antt`.
+//!
+//! The functions here do nothing and cost nothing: each has a theorem for its contract. Their proofs rest on what
+//! `specs/Coherent.antt` says of a line, which every step keeps.
+#![tactic(auto)]
+
+ghost use Rattle.std.specs.Prelude.{◌≤◌, ◌<◌, ℕ, Bool};
+ghost use Rattle.slice_core_protocol.specs.Line.{Line};
+ghost use Rattle.slice_core_protocol.specs.Machine.{Reached};
+ghost use Rattle.slice_core_protocol.specs.Promise.{HasOneWriter, HasRows};
+
+/// Whatever a line reaches, a core that may write it is the only one that may read it.
+pub fn one_writer()
+    ensures one { (exclusive : Bool) (cores : ℕ) (line : Line) → 0 < cores → cores ≤ 64 → Reached exclusive cores line → HasOneWriter cores line }
+{}
+
+/// Whatever a line reaches, the tables have a row for each message at the front of its channel, or it has to wait.
+pub fn each_message_has_a_row()
+    ensures rows { (exclusive : Bool) (cores : ℕ) (line : Line) → 0 < cores → cores ≤ 64 → Reached exclusive cores line → HasRows exclusive cores line }
+{}

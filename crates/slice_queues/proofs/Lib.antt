@@ -1,6 +1,8 @@
-pub mod AckLaws
 pub mod LineLaws
+pub mod MailLaws
 pub mod SliceLaws
-pub mod MembersLaws
 pub mod OnceLaws
+pub mod WaitingLaws
+pub mod InvalidateLaws
+pub mod RingLaws
 pub mod PickLaws

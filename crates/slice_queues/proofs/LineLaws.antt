@@ -1,8 +1,9 @@
 -- A send and a take change their own channel alone.
-use Rattle.std.proofs.Common.{◌≡◌, ◌≢◌, ℕ, ◌<◌, ◌≤◌, Bool, true, false, List, [], ◌∷◌, ◌++◌, length, map, drop, refl, ap, sym, ◌∙◌, subst, arith, Option, Some, None, zero, suc, replicate, get_or, inl, inr, is_some, IsTrue, ◌↔◌, EachIndex}
+use Rattle.std.proofs.Common.{rules, eq-eqb, eqb-true, ◌≡◌, ◌≢◌, ℕ, ◌<◌, ◌≤◌, Bool, true, false, List, [], ◌∷◌, ◌++◌, length, map, drop, refl, ap, sym, ◌∙◌, subst, arith, Option, Some, None, zero, suc, replicate, get_or, inl, inr, is_some, IsTrue, ◌↔◌, EachIndex}
 use Rattle.std.proofs.Math.ListN.{set, length-set}
-use Rattle.std.proofs.lemmas.List.{get_or-set_same, get_or-set_other, length-replicate, map-append}
+use Rattle.std.proofs.lemmas.List.{get_or-set_same, get_or-set_other, get_or_past, set-get_or, length-replicate, map-append}
 use Rattle.std.proofs.lemmas.Bool.{cases_eq}
+use borrow.Author.Tests.{ltb-true}
 use Rattle.address_map.specs.declared.address.CoreId.{CoreId}
 use Rattle.address_map.specs.declared.block.Block.{Block}
 use Rattle.slice_queues_message.specs.declared.channel.Channel.{Channel}
@@ -12,9 +13,10 @@ use Rattle.slice_queues_message.specs.declared.message.Message.TheVariants as me
 use Rattle.slice_queues_message.specs.declared.message.RequestMessage.{RequestMessage}
 use Rattle.slice_queues_message.specs.declared.message.ForwardedMessage.{ForwardedMessage}
 use Rattle.slice_queues_message.specs.declared.message.DataMessage.{DataMessage}
-use Rattle.slice_queues.specs.Acks.{has_ack, with_ack, without_ack}
+use Rattle.address_map.specs.CoreSet.{has, with, without}
+use Rattle.slice_queues.specs.Waiting.{is_from_core, is_same_channel}
 use Rattle.slice_queues.specs.Line.{CoreChannels, LineChannels, no_messages, core_at, with_core, request_messages, data_messages, home_messages, ack_messages, messages_at, HasChannel, HasRoom, Carries, after_send, after_take, SendsOnly, TakesOnly, IsWithinCores, IsEmptyLine}
-use Rattle.slice_queues.proofs.AckLaws.{has_ack-with_same, has_ack-with_other, has_ack-without_same, has_ack-without_other, has_ack-zero, same_as_zero}
+use Rattle.address_map.proofs.CoreSets.{has-with_same, has-with_other, has-without_same, has-without_other, without-missing, has-zero, zero-from_none}
 
 -- cores with the same number are the same
 pub same_core : (c d : CoreId) → c.0 ≡ d.0 → c ≡ d
@@ -41,11 +43,11 @@ holds-set P (y ∷ ys) (suc c) (suc d) x none new old = holds-set P ys c d x non
 
 -- a core's change keeps the bounds where its own acknowledgements come from cores of the line
 pub IsWithinCores-set : (cores : List CoreChannels) (c : ℕ) (x : CoreChannels) →
-    IsWithinCores cores → ((from : ℕ) → has_ack x.acks from ≡ true → from < length cores) → IsWithinCores (set cores c x)
+    IsWithinCores cores → ((from : ℕ) → has x.acks from ≡ true → from < length cores) → IsWithinCores (set cores c x)
 IsWithinCores-set cores c x within senders = record {
   at_most_64 = rw length-set within.at_most_64;
   senders_are_cores = λ to from h.
-      let P : CoreChannels → Type 0 = λ k. has_ack k.acks from ≡ true → from < length cores in
+      let P : CoreChannels → Type 0 = λ k. has k.acks from ≡ true → from < length cores in
       let bound : from < length cores = holds-set P cores c to x no_messages (senders from) (within.senders_are_cores to from) h in
       rw length-set bound;
 }
@@ -58,43 +60,43 @@ read_default (z ∷ zs) (suc i) x y within = let shorter : i < length zs = omega
 
 -- so does an acknowledgement that a core of the line sends
 pub IsWithinCores-with_ack : (cores : List CoreChannels) (to from : ℕ) (old new : CoreChannels) →
-    to < length cores → old ≡ get_or cores to old → new.acks ≡ with_ack old.acks from →
+    to < length cores → old ≡ get_or cores to old → new.acks ≡ with old.acks from →
     IsWithinCores cores → from < length cores → IsWithinCores (set cores to new)
 IsWithinCores-with_ack cores to from old new there read is within sender = IsWithinCores-set cores to new within bound
   where
-    bound : (k : ℕ) → has_ack new.acks k ≡ true → k < length cores
+    bound : (k : ℕ) → has new.acks k ≡ true → k < length cores
     bound k h =
         elim (cases_eq k from) [
           | inl same ↦ rw same sender
           | inr other ↦
-              let kept : has_ack new.acks k ≡ has_ack old.acks k = ap (λ acks. has_ack acks k) is ∙ has_ack-with_other old.acks from k other in
+              let kept : has new.acks k ≡ has old.acks k = ap (λ acks. has acks k) is ∙ has-with_other old.acks from k other in
               let here : old ≡ get_or cores to no_messages = read ∙ read_default cores to old no_messages there in
-              within.senders_are_cores to k (sym (ap (λ core. has_ack core.acks k) here) ∙ sym kept ∙ h)
+              within.senders_are_cores to k (sym (ap (λ core. has core.acks k) here) ∙ sym kept ∙ h)
         ]
 
 -- and one that is taken
 pub IsWithinCores-without_ack : (cores : List CoreChannels) (to from : ℕ) (old new : CoreChannels) →
-    to < length cores → old ≡ get_or cores to old → new.acks ≡ without_ack old.acks from →
+    to < length cores → old ≡ get_or cores to old → new.acks ≡ without old.acks from →
     IsWithinCores cores → IsWithinCores (set cores to new)
 IsWithinCores-without_ack cores to from old new there read is within = IsWithinCores-set cores to new within bound
   where
     gone : {b : Bool} → b ≡ false → b ≡ true → ⊥
     gone e f = cc
 
-    bound : (k : ℕ) → has_ack new.acks k ≡ true → k < length cores
+    bound : (k : ℕ) → has new.acks k ≡ true → k < length cores
     bound k h =
         elim (cases_eq k from) [
           | inl same ↦
               absurd
               (gone
-              (ap (λ acks. has_ack acks k) is
-              ∙ ap (λ other. has_ack (without_ack old.acks from) other) same
-              ∙ has_ack-without_same old.acks from)
+              (ap (λ acks. has acks k) is
+              ∙ ap (λ other. has (without old.acks from) other) same
+              ∙ has-without_same old.acks from)
               h)
           | inr other ↦
-              let kept : has_ack new.acks k ≡ has_ack old.acks k = ap (λ acks. has_ack acks k) is ∙ has_ack-without_other old.acks from k other in
+              let kept : has new.acks k ≡ has old.acks k = ap (λ acks. has acks k) is ∙ has-without_other old.acks from k other in
               let here : old ≡ get_or cores to no_messages = read ∙ read_default cores to old no_messages there in
-              within.senders_are_cores to k (sym (ap (λ core. has_ack core.acks k) here) ∙ sym kept ∙ h)
+              within.senders_are_cores to k (sym (ap (λ core. has core.acks k) here) ∙ sym kept ∙ h)
         ]
 
 -- every place of a list of the same is this
@@ -110,8 +112,8 @@ IsWithinCores-empty cores few = record {
   senders_are_cores = λ to from h. absurd (none-true (none-waits to from) h);
 }
   where
-    none-waits : (to from : ℕ) → has_ack (get_or (replicate cores no_messages) to no_messages).acks from ≡ false
-    none-waits to from = rw read-replicate (has_ack-zero from)
+    none-waits : (to from : ℕ) → has (get_or (replicate cores no_messages) to no_messages).acks from ≡ false
+    none-waits to from = rw read-replicate (has-zero from)
 
     none-true : {b : Bool} → b ≡ false → b ≡ true → ⊥
     none-true e f = cc
@@ -132,7 +134,7 @@ request_alone line core request (channels.Fwd d) ne =
 request_alone line core request (channels.Data d) ne =
     read-set_unchanged (λ k. data_messages k.data) line.cores core.0 d.0 _ no_messages refl
 request_alone line core request (channels.Ack to from) ne =
-    read-set_unchanged (λ k. ack_messages (has_ack k.acks from.0)) line.cores core.0 to.0 _ no_messages refl
+    read-set_unchanged (λ k. ack_messages (has k.acks from.0)) line.cores core.0 to.0 _ no_messages refl
 request_alone line core request channels.Home ne = refl
 
 pub forwarded_alone : (line : LineChannels) (core : CoreId) (forwarded : List ForwardedMessage) (other : Channel) →
@@ -145,7 +147,7 @@ forwarded_alone line core forwarded (channels.Fwd d) ne =
 forwarded_alone line core forwarded (channels.Data d) ne =
     read-set_unchanged (λ k. data_messages k.data) line.cores core.0 d.0 _ no_messages refl
 forwarded_alone line core forwarded (channels.Ack to from) ne =
-    read-set_unchanged (λ k. ack_messages (has_ack k.acks from.0)) line.cores core.0 to.0 _ no_messages refl
+    read-set_unchanged (λ k. ack_messages (has k.acks from.0)) line.cores core.0 to.0 _ no_messages refl
 forwarded_alone line core forwarded channels.Home ne = refl
 
 pub data_alone : (line : LineChannels) (core : CoreId) (message : Option DataMessage) (other : Channel) →
@@ -158,11 +160,11 @@ data_alone line core message (channels.Fwd d) ne =
 data_alone line core message (channels.Data d) ne =
     ap (λ k. data_messages k.data) (get_or-set_other line.cores core.0 d.0 _ no_messages (λ e. ne (ap channels.Data (same_core d core e))))
 data_alone line core message (channels.Ack to from) ne =
-    read-set_unchanged (λ k. ack_messages (has_ack k.acks from.0)) line.cores core.0 to.0 _ no_messages refl
+    read-set_unchanged (λ k. ack_messages (has k.acks from.0)) line.cores core.0 to.0 _ no_messages refl
 data_alone line core message channels.Home ne = refl
 
 pub acks_alone : (line : LineChannels) (to from : CoreId) (acks : ℕ) →
-    ((other : ℕ) → other ≢ from.0 → has_ack acks other ≡ has_ack (core_at line to.0).acks other) →
+    ((other : ℕ) → other ≢ from.0 → has acks other ≡ has (core_at line to.0).acks other) →
     (other : Channel) → other ≢ channels.Ack to from →
     messages_at (with_core line to.0 (record (core_at line to.0) { acks = acks })) other ≡ messages_at line other
 acks_alone line to from acks same (channels.Req d) ne =
@@ -173,8 +175,8 @@ acks_alone line to from acks same (channels.Data d) ne =
     read-set_unchanged (λ k. data_messages k.data) line.cores to.0 d.0 _ no_messages refl
 acks_alone line to from acks same (channels.Ack d e) ne =
     elim (cases_eq e.0 from.0) [
-      | inl is ↦ ap (λ k. ack_messages (has_ack k.acks e.0)) (get_or-set_other line.cores to.0 d.0 _ no_messages (λ same_to. ne (cc (same_core d to same_to, same_core e from is))))
-      | inr is_not ↦ read-set_unchanged (λ k. ack_messages (has_ack k.acks e.0)) line.cores to.0 d.0 _ no_messages (ap ack_messages (same e.0 is_not))
+      | inl is ↦ ap (λ k. ack_messages (has k.acks e.0)) (get_or-set_other line.cores to.0 d.0 _ no_messages (λ same_to. ne (cc (same_core d to same_to, same_core e from is))))
+      | inr is_not ↦ read-set_unchanged (λ k. ack_messages (has k.acks e.0)) line.cores to.0 d.0 _ no_messages (ap ack_messages (same e.0 is_not))
     ]
 acks_alone line to from acks same channels.Home ne = refl
 
@@ -189,37 +191,37 @@ home_alone line home channels.Home ne = absurd (ne refl)
 
 -- what is sent waits behind the others of its channel, and no other channel changes
 pub sends_only : (line : LineChannels) (channel : Channel) (message : Message) →
-    HasChannel line channel → HasRoom line channel → Carries channel message →
+    HasChannel line channel → HasRoom line channel → Carries channel message → is_from_core channel ≡ true →
     SendsOnly line (after_send line channel message) channel message
-sends_only line (channels.Req core) (messages.Request message) there room carried = record {
+sends_only line (channels.Req core) (messages.Request message) there room carried known = record {
   appended =
       ap (λ k. request_messages k.request) (get_or-set_same line.cores core.0 _ no_messages there)
       ∙ sym (ap (λ waiting. waiting ++ messages.Request message ∷ []) (nil_of_room _ room));
   others = request_alone line core (Some message);
 }
-sends_only line (channels.Fwd core) (messages.Forwarded message) there room carried = record {
+sends_only line (channels.Fwd core) (messages.Forwarded message) there room carried known = record {
   appended =
       ap (λ k. map messages.Forwarded k.forwarded) (get_or-set_same line.cores core.0 _ no_messages there) ∙ simp map-append;
   others = forwarded_alone line core _;
 }
-sends_only line (channels.Data core) (messages.Data message) there room carried = record {
+sends_only line (channels.Data core) (messages.Data message) there room carried known = record {
   appended =
       ap (λ k. data_messages k.data) (get_or-set_same line.cores core.0 _ no_messages there)
       ∙ sym (ap (λ waiting. waiting ++ messages.Data message ∷ []) (nil_of_room _ room));
   others = data_alone line core (Some message);
 }
-sends_only line (channels.Ack to from) messages.InvAck there room carried = record {
+sends_only line (channels.Ack to from) messages.InvAck there room carried known = record {
   appended =
-      ap (λ k. ack_messages (has_ack k.acks from.0)) (get_or-set_same line.cores to.0 _ no_messages there.0)
-      ∙ ap ack_messages (has_ack-with_same (core_at line to.0).acks from.0)
+      ap (λ k. ack_messages (has k.acks from.0)) (get_or-set_same line.cores to.0 _ no_messages there.0)
+      ∙ ap ack_messages (has-with_same (core_at line to.0).acks from.0 (ltb-true from.0 64 known))
       ∙ sym (ap (λ waiting. waiting ++ messages.InvAck ∷ []) (nil_of_room _ room));
-  others = acks_alone line to from _ (has_ack-with_other (core_at line to.0).acks from.0);
+  others = acks_alone line to from _ (has-with_other (core_at line to.0).acks from.0);
 }
-sends_only line channels.Home (messages.Home block) there room carried = record {
+sends_only line channels.Home (messages.Home block) there room carried known = record {
   appended = sym (ap (λ waiting. waiting ++ messages.Home block ∷ []) (nil_of_room _ room));
   others = home_alone line (Some block);
 }
-sends_only line channel message there room carried = absurd carried
+sends_only line channel message there room carried known = absurd carried
 
 -- what is taken is the oldest message of its channel, and no other channel changes
 pub takes_only : (line : LineChannels) (channel : Channel) →
@@ -256,10 +258,10 @@ takes_only line (channels.Data core) there = record {
     alone (Some message) = refl
 takes_only line (channels.Ack to from) there = record {
   rest =
-      ap (λ k. ack_messages (has_ack k.acks from.0)) (get_or-set_same line.cores to.0 _ no_messages there.0)
-      ∙ ap ack_messages (has_ack-without_same (core_at line to.0).acks from.0)
-      ∙ alone (has_ack (core_at line to.0).acks from.0);
-  others = acks_alone line to from _ (has_ack-without_other (core_at line to.0).acks from.0);
+      ap (λ k. ack_messages (has k.acks from.0)) (get_or-set_same line.cores to.0 _ no_messages there.0)
+      ∙ ap ack_messages (has-without_same (core_at line to.0).acks from.0)
+      ∙ alone (has (core_at line to.0).acks from.0);
+  others = acks_alone line to from _ (has-without_other (core_at line to.0).acks from.0);
 }
   where
     alone : (waits : Bool) → [] ≡ drop 1 (ack_messages waits)
@@ -278,7 +280,7 @@ IsEmptyLine-from_cores line quiet home (channels.Req core) = ap (λ k. request_m
 IsEmptyLine-from_cores line quiet home (channels.Fwd core) = ap (λ k. map messages.Forwarded k.forwarded) (quiet core.0)
 IsEmptyLine-from_cores line quiet home (channels.Data core) = ap (λ k. data_messages k.data) (quiet core.0)
 IsEmptyLine-from_cores line quiet home (channels.Ack to from) =
-    ap (λ k. ack_messages (has_ack k.acks from.0)) (quiet to.0) ∙ ap ack_messages (has_ack-zero from.0)
+    ap (λ k. ack_messages (has k.acks from.0)) (quiet to.0) ∙ ap ack_messages (has-zero from.0)
 IsEmptyLine-from_cores line quiet home channels.Home = ap home_messages home
 
 -- an empty channel shows that its field has nothing
@@ -310,7 +312,7 @@ cores-from_IsEmptyLine line quiet c =
     let forwarded : (core_at line c).forwarded ≡ [] = nil-from_forwarded _ (quiet (channels.Fwd core)) in
     let message : (core_at line c).data ≡ None = None-from_data _ (quiet (channels.Data core)) in
     let acks : (core_at line c).acks ≡ 0 =
-    same_as_zero _ (λ from. false-from_ack _ (quiet (channels.Ack core (record { 0 = from })))) in
+    zero-from_none _ (λ from. false-from_ack _ (quiet (channels.Ack core (record { 0 = from })))) in
     same_fields (core_at line c) request forwarded message acks
   where
     same_fields : (k : CoreChannels) → k.request ≡ None → k.forwarded ≡ [] → k.data ≡ None → k.acks ≡ 0 → k ≡ no_messages
@@ -320,37 +322,47 @@ cores-from_IsEmptyLine line quiet c =
         ∙ ap (λ (m : Option DataMessage). let x : CoreChannels = record k { request = None; forwarded = []; «data» = m } in x) g
         ∙ ap (λ (a : ℕ). let x : CoreChannels = record { request = None; forwarded = []; «data» = None; acks = a } in x) h
 
--- a list is the default everywhere where it is so within
-pub read-everywhere : (xs : List CoreChannels) (x : CoreChannels) →
-    ((i : ℕ) → i < length xs → get_or xs i x ≡ x) → (c : ℕ) → get_or xs c x ≡ x
-read-everywhere [] x each c = refl
-read-everywhere (y ∷ ys) x each zero = each 0 (omega arith)
-read-everywhere (y ∷ ys) x each (suc c) = read-everywhere ys x (λ i within. each (suc i) (omega arith)) c
-
--- a line with no block for the directory is empty exactly where its cores have no message
-pub IsEmptyLine-from_test : (line : LineChannels) (cores : List CoreChannels) (home : Option Block) →
-    record { cores = cores; home = home } ≡ line → is_some home ≡ false →
-    (quiet : Bool) → (IsTrue quiet ↔ EachIndex cores (λ c. get_or cores c no_messages ≡ no_messages)) →
-    IsTrue quiet ↔ IsEmptyLine line
-IsEmptyLine-from_test line cores home viewed gone quiet test =
-    let here : LineChannels = record { cores = cores; home = home } in
-    let P : LineChannels → Type 0 = λ l. (IsTrue quiet ↔ IsEmptyLine l) in
-    subst
-    P
-    viewed (
-      (λ t. IsEmptyLine-from_cores here (read-everywhere cores no_messages (test.0 t)) (no_block home gone)),
-      (λ empty. test.1 (λ c within. cores-from_IsEmptyLine here empty c)),
-    )
+-- no acknowledgement waits that isn't from a core of the line
+pub has-past_end : (cores : List CoreChannels) (to from : ℕ) → IsWithinCores cores → length cores ≤ from →
+    has (get_or cores to no_messages).acks from ≡ false
+has-past_end cores to from within past = none (has (get_or cores to no_messages).acks from) refl
   where
-    no_block : (block : Option Block) → is_some block ≡ false → block ≡ None
-    no_block None e = refl
-    no_block (Some block) e = cc
+    none : (waits : Bool) → has (get_or cores to no_messages).acks from ≡ waits → waits ≡ false
+    none false e = refl
+    none true e = absurd (omega (arith, within.senders_are_cores to from e))
 
--- and one with such a block isn't empty
-pub not_empty-from_home : (line : LineChannels) (cores : List CoreChannels) (home : Option Block) →
-    record { cores = cores; home = home } ≡ line → is_some home ≡ true → IsEmptyLine line → ⊥
-not_empty-from_home line cores home viewed there empty = full home (there) (ap (λ l. l.home) viewed ∙ None-from_home line.home (empty channels.Home))
+-- to take what isn't there changes nothing
+pub after_take-no_ack : (line : LineChannels) (to from : CoreId) → has (core_at line to.0).acks from.0 ≡ false →
+    after_take line (channels.Ack to from) ≡ line
+after_take-no_ack line to from none =
+    rw (without-missing (core_at line to.0).acks from.0 none, set-get_or line.cores to.0 no_messages) refl
+
+-- to a core that isn't there no acknowledgement waits
+pub no_ack-past_end : (line : LineChannels) (to from : CoreId) → length line.cores ≤ to.0 →
+    messages_at line (channels.Ack to from) ≡ []
+no_ack-past_end line to from past =
+    ap (λ k. ack_messages (has k.acks from.0)) (get_or_past line.cores to.0 no_messages past)
+    ∙ ap ack_messages (has-zero from.0)
+
+-- channels have one name exactly where they are the same
+same_itself : (channel : Channel) → is_same_channel channel channel ≡ true
+same_itself (channels.Req core) = eq-eqb core.0 core.0 refl
+same_itself (channels.Fwd core) = eq-eqb core.0 core.0 refl
+same_itself (channels.Data core) = eq-eqb core.0 core.0 refl
+same_itself (channels.Ack to from) = rw (eq-eqb to.0 to.0 refl, eq-eqb from.0 from.0 refl) refl
+same_itself channels.Home = refl
+
+same-from_name : (channel other : Channel) → is_same_channel channel other ≡ true → channel ≡ other
+same-from_name channel other e = search (rules, same_core, eqb-true)
+
+-- an empty line stays empty when a message is taken
+pub IsEmptyLine-from_taken : (old new : LineChannels) (channel : Channel) → TakesOnly old new channel → IsEmptyLine old → IsEmptyLine new
+IsEmptyLine-from_taken old new channel taken empty other = by_name (is_same_channel other channel) refl
   where
-    full : (block : Option Block) → is_some block ≡ true → block ≡ None → ⊥
-    full None e n = cc
-    full (Some block) e n = cc
+    by_name : (same : Bool) → is_same_channel other channel ≡ same → messages_at new other ≡ []
+    by_name true e =
+        let here : other ≡ channel = same-from_name other channel e in
+        ap (messages_at new) here ∙ taken.rest ∙ ap (drop 1) (empty channel)
+    by_name false e =
+        let differs : other ≢ channel = λ here. let clash : false ≡ true = sym e ∙ ap (λ c. is_same_channel c channel) here ∙ same_itself channel in cc in
+        taken.others other differs ∙ empty other

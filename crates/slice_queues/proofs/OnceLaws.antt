@@ -10,11 +10,11 @@ use Rattle.slice_queues_message.specs.declared.channel.Channel.TheVariants as ch
 use Rattle.slice_queues_message.specs.declared.message.RequestMessage.{RequestMessage}
 use Rattle.slice_queues_message.specs.declared.message.DataMessage.{DataMessage}
 use Rattle.address_map.specs.declared.block.Block.{Block}
-use Rattle.slice_queues.specs.Acks.{has_ack}
-use Rattle.slice_queues.specs.Members.{members}
+use Rattle.address_map.specs.CoreSet.{has}
+use Rattle.address_map.specs.CoreSet.{members}
 use Rattle.slice_queues.specs.Line.{CoreChannels, LineChannels, no_messages, core_at, request_messages, data_messages, home_messages, ack_messages}
 use Rattle.slice_queues.specs.Waiting.{only_if, core_waiting, cores_waiting, line_waiting, is_same_channel, is_waiting, is_from_core, HasEachOnce}
-use Rattle.slice_queues.proofs.AckLaws.{has_ack-zero}
+use Rattle.address_map.proofs.CoreSets.{has-zero}
 
 -- how often a channel stands in a list
 abbrev pub times : Channel → List Channel → ℕ
@@ -74,12 +74,12 @@ pub and-false : (b : Bool) → (b && false) ≡ false
 and-false true = refl
 and-false false = refl
 
-count-members : (acks f : ℕ) → count_by (λ k. f == k) (members acks) ≡ (if nat_lt f 64 && has_ack acks f then 1 else 0)
+count-members : (acks f : ℕ) → count_by (λ k. f == k) (members acks) ≡ (if nat_lt f 64 && has acks f then 1 else 0)
 unfolding members
 count-members acks f =
     elim (cases_lt f 64) [
-      | inl within ↦ rw (lt-ltb f 64 within) (present (has_ack acks) f 64 0 (omega arith) (omega arith))
-      | inr past ↦ rw (le-ltb f 64 past) (absent (has_ack acks) f 64 0 (λ i from within e. absurd (omega arith)))
+      | inl within ↦ rw (lt-ltb f 64 within) (present (has acks) f 64 0 (omega arith) (omega arith))
+      | inr past ↦ rw (le-ltb f 64 past) (absent (has acks) f 64 0 (λ i from within e. absurd (omega arith)))
     ]
 
 -- channels of another kind
@@ -117,12 +117,12 @@ times-senders to from core here (k ∷ ks) = by_name (from.0 == k) refl (times-s
 
 times-acks : (to from : CoreId) (acks : ℕ) (core : CoreId) →
     times (channels.Ack to from) (map (λ k. channels.Ack core (record { 0 = k })) (members acks))
-    ≡ (if to.0 == core.0 then (if nat_lt from.0 64 && has_ack acks from.0 then 1 else 0) else 0)
+    ≡ (if to.0 == core.0 then (if nat_lt from.0 64 && has acks from.0 then 1 else 0) else 0)
 times-acks to from acks core = by_core (to.0 == core.0) refl
   where
     by_core : (here : Bool) → (to.0 == core.0) ≡ here →
         times (channels.Ack to from) (map (λ k. channels.Ack core (record { 0 = k })) (members acks))
-        ≡ (if here then (if nat_lt from.0 64 && has_ack acks from.0 then 1 else 0) else 0)
+        ≡ (if here then (if nat_lt from.0 64 && has acks from.0 then 1 else 0) else 0)
     by_core false e = times-none (channels.Ack to from) _ (λ k. rw e refl) (members acks)
     by_core true e = times-senders to from core e (members acks) ∙ count-members acks from.0
 
@@ -234,7 +234,7 @@ times-core_data d core queues =
 
 times-core_ack : (to from core : CoreId) (queues : CoreChannels) →
     times (channels.Ack to from) (core_waiting core queues)
-    ≡ (if to.0 == core.0 then (if nat_lt from.0 64 && has_ack queues.acks from.0 then 1 else 0) else 0)
+    ≡ (if to.0 == core.0 then (if nat_lt from.0 64 && has queues.acks from.0 then 1 else 0) else 0)
 times-core_ack to from core queues =
     times-core (channels.Ack to from) core queues
     ∙ fourth_of_four
@@ -375,7 +375,7 @@ times-line_waiting line (channels.Data d) =
     (other_kind (channels.Data d) channels.Home (is_some line.home) refl)
     (add-zero _ ∙ ap (λ waits. if waits then 1 else 0) (waits-data (core_at line d.0).data))
 times-line_waiting line (channels.Ack to from) =
-    let g : CoreChannels → ℕ = λ queues. if nat_lt from.0 64 && has_ack queues.acks from.0 then 1 else 0 in
+    let g : CoreChannels → ℕ = λ queues. if nat_lt from.0 64 && has queues.acks from.0 then 1 else 0 in
     times-line
     (channels.Ack to from)
     line
@@ -390,10 +390,10 @@ times-line_waiting line (channels.Ack to from) =
     0
     to.0
     (sym (zero-add to.0))
-    (rw (has_ack-zero from.0, and-false (nat_lt from.0 64)) refl)
+    (rw (has-zero from.0, and-false (nat_lt from.0 64)) refl)
     (λ i core. times-core_ack to from (record { 0 = core }) (core_at line i)))
     (other_kind (channels.Ack to from) channels.Home (is_some line.home) refl)
-    (add-zero _ ∙ ap (λ waits. if nat_lt from.0 64 && waits then 1 else 0) (waits-ack (has_ack (core_at line to.0).acks from.0)))
+    (add-zero _ ∙ ap (λ waits. if nat_lt from.0 64 && waits then 1 else 0) (waits-ack (has (core_at line to.0).acks from.0)))
 times-line_waiting line channels.Home =
     let g : CoreChannels → ℕ = λ queues. 0 in
     times-line
@@ -408,13 +408,13 @@ times-line_waiting line channels.Home =
 
 -- where all senders are cores, each channel of a line is found that has a message
 pub line_waiting-once : (line : LineChannels) →
-    ((to from : ℕ) → has_ack (core_at line to).acks from ≡ true → from < 64) → HasEachOnce line (line_waiting line)
+    ((to from : ℕ) → has (core_at line to).acks from ≡ true → from < 64) → HasEachOnce line (line_waiting line)
 line_waiting-once line bound (channels.Req d) = times-line_waiting line (channels.Req d)
 line_waiting-once line bound (channels.Fwd d) = times-line_waiting line (channels.Fwd d)
 line_waiting-once line bound (channels.Data d) = times-line_waiting line (channels.Data d)
 line_waiting-once line bound (channels.Ack to from) =
     times-line_waiting line (channels.Ack to from)
-    ∙ ap (λ waits. if waits then 1 else 0) (of_core (has_ack (core_at line to.0).acks from.0) (bound to.0 from.0))
+    ∙ ap (λ waits. if waits then 1 else 0) (of_core (has (core_at line to.0).acks from.0) (bound to.0 from.0))
   where
     of_core : (waits : Bool) → (waits ≡ true → from.0 < 64) →
         (nat_lt from.0 64 && nat_lt 0 (length (ack_messages waits))) ≡ nat_lt 0 (length (ack_messages waits))

@@ -13,8 +13,8 @@ use Rattle.slice_queues_message.specs.declared.channel.Pick.TheVariants as picks
 use Rattle.slice_queues_message.specs.declared.message.Message.{Message}
 use Rattle.slice_queues_message.specs.Pick.{line_of, channel_of, pick_at}
 use Rattle.slice_queues.specs.Line.{LineChannels, messages_at, Carries, after_send, empty_line, IsEmptyLine, SendsOnly, TakesOnly}
-use Rattle.slice_queues.specs.Slice.{SliceChannels, is_of_slice, HasLine, line_at, with_line, messages_in, HasPick, HasRoomIn, after_send_in, SendsOnlyIn, TakesOnlyIn, IsEmptySlice}
-use Rattle.slice_queues.proofs.LineLaws.{sends_only, IsEmptyLine-from_cores, read-replicate}
+use Rattle.slice_queues.specs.Slice.{SliceChannels, is_of_slice, HasLine, local_of, line_at, with_line, messages_in, HasPick, HasRoomIn, after_send_in, SendsOnlyIn, TakesOnlyIn, IsEmptySlice}
+use Rattle.slice_queues.proofs.LineLaws.{IsEmptyLine-from_cores, read-replicate}
 
 -- a pick is its line and its channel
 pub pick_at-parts : (pick : Pick) → pick_at (line_of pick) (channel_of pick) ≡ pick
@@ -95,25 +95,20 @@ messages_in-with_line_other queues pick new there alone other ne = by_slice (is_
 
 -- what is sent waits behind the others at its pick, and no other pick changes
 pub sends_only_in : (queues : SliceChannels) (pick : Pick) (message : Message) →
-    HasPick queues pick → HasRoomIn queues pick → Carries (channel_of pick) message →
+    HasLine queues (line_of pick) →
+    SendsOnly
+    (line_at queues (line_of pick))
+    (after_send (line_at queues (line_of pick)) (channel_of pick) message)
+    (channel_of pick)
+    message →
     SendsOnlyIn queues (after_send_in queues pick message) pick message
-sends_only_in queues pick message there room carried = record {
+sends_only_in queues pick message there sent = record {
   appended =
-      messages_in-with_line_same queues pick _ there.0
+      messages_in-with_line_same queues pick _ there
       ∙ sent.appended
-      ∙ sym (ap (λ waiting. waiting ++ message ∷ []) here);
-  others = messages_in-with_line_other queues pick _ there.0 sent.others;
+      ∙ sym (ap (λ waiting. waiting ++ message ∷ []) (messages_in-here queues pick (eq-eqb _ _ there.0)));
+  others = messages_in-with_line_other queues pick _ there sent.others;
 }
-  where
-    here : messages_in queues pick ≡ messages_at (line_at queues (line_of pick)) (channel_of pick)
-    here = messages_in-here queues pick (eq-eqb _ _ there.0.0)
-
-    sent : SendsOnly
-        (line_at queues (line_of pick))
-        (after_send (line_at queues (line_of pick)) (channel_of pick) message)
-        (channel_of pick)
-        message
-    sent = sends_only (line_at queues (line_of pick)) (channel_of pick) message there.1 (rw here at room) carried
 
 -- what is taken is the oldest message at its pick, and no other pick changes
 pub takes_only_in : (queues : SliceChannels) (pick : Pick) (new : LineChannels) →
@@ -156,26 +151,27 @@ lines-from_IsEmptySlice queues one_of_them empty i channel =
     ∙ ap (messages_at (line_at queues (line_of pick))) (sym (channel_of-pick_at line channel))
     ∙ waits
 
--- what is empty within a list of lines is so at every place
-pub each_line : (lines : List LineChannels) → EachIndex lines (λ i. IsEmptyLine (get_or lines i (empty_line 0))) →
-    (i : ℕ) → IsEmptyLine (get_or lines i (empty_line 0))
-each_line lines each i =
-    elim (cases_lt i (length lines)) [
-      | inl within ↦ each i within
-      | inr past ↦ rw (get_or_past lines i (empty_line 0) past) (IsEmptyLine-empty_line 0)
-    ]
+-- at a line that isn't there no message waits
+pub messages_in-absent : (queues : SliceChannels) (pick : Pick) → (HasLine queues (line_of pick) → ⊥) → messages_in queues pick ≡ []
+messages_in-absent queues pick absent = by_slice (is_of_slice queues (line_of pick)) refl
+  where
+    by_slice : (here : Bool) → is_of_slice queues (line_of pick) ≡ here →
+        (if here then messages_at (line_at queues (line_of pick)) (channel_of pick) else []) ≡ []
+    by_slice false here = refl
+    by_slice true here =
+        elim (cases_lt (local_of queues (line_of pick)) (length queues.lines)) [
+          | inl within ↦ absurd (absent (eqb-true _ _ here, within))
+          | inr past ↦
+              ap
+              (λ line. messages_at line (channel_of pick))
+              (get_or_past queues.lines (local_of queues (line_of pick)) (empty_line 0) past)
+              ∙ IsEmptyLine-empty_line 0 (channel_of pick)
+        ]
 
--- the test of each line is the test of the slice
-pub IsEmptySlice-from_test : (queues : SliceChannels) (lines : List LineChannels) (slice slices : ℕ) →
-    record { lines = lines; slice = slice; slices = slices } ≡ queues → slice < slices →
-    (quiet : Bool) → (IsTrue quiet ↔ EachIndex lines (λ i. IsEmptyLine (get_or lines i (empty_line 0)))) →
-    IsTrue quiet ↔ IsEmptySlice queues
-IsEmptySlice-from_test queues lines slice slices viewed one_of_them quiet test =
-    let here : SliceChannels = record { lines = lines; slice = slice; slices = slices } in
-    let P : SliceChannels → Type 0 = λ q. (IsTrue quiet ↔ IsEmptySlice q) in
-    subst
-    P
-    viewed (
-      (λ t. IsEmptySlice-from_lines here (each_line lines (test.0 t))),
-      (λ empty. test.1 (λ i within. lines-from_IsEmptySlice here one_of_them empty i)),
-    )
+-- to take from a line that isn't there changes nothing
+pub after_take_in-absent : (queues : SliceChannels) (pick : Pick) → (HasLine queues (line_of pick) → ⊥) →
+    TakesOnlyIn queues queues pick
+after_take_in-absent queues pick absent = record {
+  rest = messages_in-absent queues pick absent ∙ sym (ap (drop 1) (messages_in-absent queues pick absent));
+  others = λ other apart. refl;
+}

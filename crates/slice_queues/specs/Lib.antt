@@ -1,8 +1,9 @@
-pub mod Acks
 pub mod Forwarded
 pub mod Line
+pub mod Mail
 pub mod Slice
+pub mod Ring
 pub use Rattle.slice_queues_message.specs.Pick
+pub use Rattle.slice_queues_message.specs.Class
 pub mod Lending
-pub mod Members
 pub mod Waiting

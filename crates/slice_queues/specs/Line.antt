@@ -1,5 +1,8 @@
 -- What waits in the channels of one line.
-use Rattle.std.specs.Prelude.{◌≡◌, ◌≢◌, ℕ, ◌<◌, ◌≤◌, Bool, true, if◌then◌else◌, List, [], ◌∷◌, ◌++◌, length, map, drop, slice_set, slice_index_or, replicate, Option, Some, None}
+use Rattle.std.specs.Prelude.{◌≡◌, ◌≢◌, ℕ, ◌<◌, ◌≤◌, ◌||◌, Bool, true, nat_lt, is_some, if◌then◌else◌, List, [], ◌∷◌, ◌++◌, length, map, drop, slice_set, slice_index_or, replicate, Option, Some, None}
+use Rattle.std.specs.List.{list_any, range_with_len}
+use Rattle.address_map.specs.CoreSet.{has, with, without}
+use Rattle.address_map.specs.declared.address.CoreId.{CoreId}
 use Rattle.address_map.specs.declared.block.Block.{Block}
 use Rattle.slice_queues_message.specs.declared.channel.Channel.{Channel}
 use Rattle.slice_queues_message.specs.declared.channel.Channel.TheVariants as channels
@@ -7,8 +10,8 @@ use Rattle.slice_queues_message.specs.declared.message.Message.{Message}
 use Rattle.slice_queues_message.specs.declared.message.Message.TheVariants as messages
 use Rattle.slice_queues_message.specs.declared.message.RequestMessage.{RequestMessage}
 use Rattle.slice_queues_message.specs.declared.message.ForwardedMessage.{ForwardedMessage}
+use Rattle.slice_queues_message.specs.declared.message.ForwardedMessage.TheVariants as forwards
 use Rattle.slice_queues_message.specs.declared.message.DataMessage.{DataMessage}
-use Rattle.slice_queues.specs.Acks.{has_ack, with_ack, without_ack}
 
 -- one core's channels: what it asks of the directory, and what waits for it. The acknowledgements that wait for it
 -- are the set of their senders: bit c of `acks` is 1 where core c's waits, and else 0.
@@ -30,6 +33,27 @@ no_messages = record { request = None; forwarded = []; «data» = None; acks = 0
 -- the channels of a core, all empty where there is no such core
 abbrev pub core_at : LineChannels → ℕ → CoreChannels
 core_at line c = slice_index_or line.cores c no_messages
+
+-- a request waits in the core's channels, and so on
+abbrev pub has_request : CoreChannels → Bool
+has_request core = is_some core.request
+
+abbrev pub has_forwarded : CoreChannels → Bool
+has_forwarded core = nat_lt 0 (length core.forwarded)
+
+abbrev pub has_data : CoreChannels → Bool
+has_data core = is_some core.data
+
+abbrev pub has_acks : CoreChannels → Bool
+has_acks core = nat_lt 0 core.acks
+
+-- some message waits in the core's channels
+abbrev pub has_messages : CoreChannels → Bool
+has_messages core = ((has_request core || has_forwarded core) || has_data core) || has_acks core
+
+-- some message waits in a channel of the line
+abbrev pub has_mail : LineChannels → Bool
+has_mail line = is_some line.home || list_any has_messages line.cores
 
 -- the line with this core's channels changed
 abbrev pub with_core : LineChannels → ℕ → CoreChannels → LineChannels
@@ -57,7 +81,7 @@ abbrev pub messages_at : LineChannels → Channel → List Message
 messages_at line (channels.Req core) = request_messages (core_at line core.0).request
 messages_at line (channels.Fwd core) = map messages.Forwarded (core_at line core.0).forwarded
 messages_at line (channels.Data core) = data_messages (core_at line core.0).data
-messages_at line (channels.Ack to from) = ack_messages (has_ack (core_at line to.0).acks from.0)
+messages_at line (channels.Ack to from) = ack_messages (has (core_at line to.0).acks from.0)
 messages_at line channels.Home = home_messages line.home
 
 -- how many messages a channel takes
@@ -104,7 +128,7 @@ after_send line (channels.Ack to from) messages.InvAck =
     with_core
     line
     to.0
-    (record (core_at line to.0) { acks = with_ack (core_at line to.0).acks from.0 })
+    (record (core_at line to.0) { acks = with (core_at line to.0).acks from.0 })
 after_send line channels.Home (messages.Home block) = record line { home = Some block }
 after_send line channel message = line
 
@@ -123,7 +147,7 @@ after_take line (channels.Ack to from) =
     with_core
     line
     to.0
-    (record (core_at line to.0) { acks = without_ack (core_at line to.0).acks from.0 })
+    (record (core_at line to.0) { acks = without (core_at line to.0).acks from.0 })
 after_take line channels.Home = record line { home = None }
 
 -- the message went behind those of its channel, and the other channels have what they had
@@ -144,7 +168,27 @@ IsEmptyLine line = (channel : Channel) → messages_at line channel ≡ []
 pub record IsWithinCores (cores : List CoreChannels) : Type 0 where
   pub at_most_64 : length cores ≤ 64
   pub senders_are_cores : (to from : ℕ) →
-      has_ack (slice_index_or cores to no_messages).acks from ≡ true → from < length cores
+      has (slice_index_or cores to no_messages).acks from ≡ true → from < length cores
+
+-- each core of the set is a core of the line, and its forwarded channel takes another message
+abbrev pub TakesInvalidations : LineChannels → ℕ → Type 0
+TakesInvalidations line cores =
+    (core : CoreId) → has cores core.0 ≡ true → HasChannel line (channels.Fwd core) × HasRoom line (channels.Fwd core)
+
+-- the core's channels with one more forwarded message: an Inv that names the requester
+abbrev pub with_invalidation : CoreId → CoreChannels → CoreChannels
+with_invalidation requester core =
+    record core { forwarded = core.forwarded ++ forwards.Inv requester ∷ [] }
+
+-- the line once an Inv that names the requester went to each core of the set, behind what waits there
+abbrev pub after_invalidating : LineChannels → ℕ → CoreId → LineChannels
+after_invalidating line cores requester =
+    record line {
+      cores =
+          map
+          (λ core. if has cores core then with_invalidation requester (core_at line core) else core_at line core)
+          (range_with_len 0 (length line.cores));
+    }
 
 -- a line of this many cores in which no message waits
 abbrev pub empty_line : ℕ → LineChannels

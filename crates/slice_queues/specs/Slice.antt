@@ -21,14 +21,24 @@ is_of_slice queues line = line.0 % queues.slices == queues.slice
 abbrev pub HasLine : SliceChannels → LineAddr → Type 0
 HasLine queues line = (line.0 % queues.slices ≡ queues.slice) × (line.0 / queues.slices < length queues.lines)
 
--- the channels of a line of this slice, none where it isn't there
-abbrev pub line_at : SliceChannels → LineAddr → LineChannels
-line_at queues line = slice_index_or queues.lines (line.0 / queues.slices) (empty_line 0)
+-- the channels of the line at a place of the slice, none where it isn't there
+abbrev pub at_local : SliceChannels → ℕ → LineChannels
+at_local queues local = slice_index_or queues.lines local (empty_line 0)
 
--- the slice with this line's channels changed
+-- the slice with the channels of the line at this place changed
+abbrev pub with_local : SliceChannels → ℕ → LineChannels → SliceChannels
+with_local queues local channels = record queues { lines = slice_set queues.lines local channels }
+
+-- the place of a line of the memory in its slice
+abbrev pub local_of : SliceChannels → LineAddr → ℕ
+local_of queues line = line.0 / queues.slices
+
+-- the same for a line of the memory
+abbrev pub line_at : SliceChannels → LineAddr → LineChannels
+line_at queues line = at_local queues (local_of queues line)
+
 abbrev pub with_line : SliceChannels → LineAddr → LineChannels → SliceChannels
-with_line queues line channels =
-    record queues { lines = slice_set queues.lines (line.0 / queues.slices) channels }
+with_line queues line = with_local queues (local_of queues line)
 
 -- the messages that wait at a pick, the oldest first; none where it names a line or a core that isn't there
 abbrev pub messages_in : SliceChannels → Pick → List Message
@@ -78,8 +88,3 @@ IsEmptySlice queues = (pick : Pick) → messages_in queues pick ≡ []
 abbrev pub empty_slice : ℕ → ℕ → ℕ → ℕ → SliceChannels
 empty_slice lines cores slice slices =
     record { lines = replicate lines (empty_line cores); slice = slice; slices = slices }
-
--- the slice is one of the slices, and the numbers of its lines are below 2 ^ 64
-pub record IsAddressed (lines slice slices : ℕ) : Type 0 where
-  pub one_of_them : slice < slices
-  pub in_range : lines * slices < 2 ^ 64

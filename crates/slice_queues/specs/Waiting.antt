@@ -1,13 +1,17 @@
 -- The channels in which a message waits, each once, in a fixed order.
-use Rattle.std.specs.Prelude.{◌≡◌, ◌==◌, ◌&&◌, true, false, count_by, ℕ, ◌+◌, ◌*◌, ◌/◌, ◌^◌, ◌<◌, ◌++◌, nat_lt, if◌then◌else◌, is_some, length, List, [], ◌∷◌, map, take, drop, Bool}
+use Rattle.std.specs.Prelude.{◌≡◌, ◌==◌, ◌&&◌, true, false, count_by, ℕ, ◌+◌, ◌*◌, ◌/◌, ◌^◌, ◌<◌, ◌++◌, nat_lt, if◌then◌else◌, is_some, length, List, [], ◌∷◌, map, take, drop, slice_index_or, Bool}
 use Rattle.address_map.specs.declared.address.CoreId.{CoreId}
 use Rattle.address_map.specs.declared.address.LineAddr.{LineAddr}
 use Rattle.slice_queues_message.specs.declared.channel.Channel.{Channel}
 use Rattle.slice_queues_message.specs.declared.channel.Channel.TheVariants as channels
 use Rattle.slice_queues_message.specs.declared.channel.Pick.{Pick}
 use Rattle.slice_queues_message.specs.Pick.{line_of, channel_of, pick_at}
-use Rattle.slice_queues.specs.Line.{CoreChannels, LineChannels, messages_at}
-use Rattle.slice_queues.specs.Members.{members}
+use Rattle.slice_queues_message.specs.declared.channel.Class.{Class}
+use Rattle.slice_queues_message.specs.Class.{is_of_class}
+use Rattle.slice_queues.specs.declared.mail.Mail.{Mail}
+use Rattle.slice_queues.specs.Line.{CoreChannels, LineChannels, no_messages, messages_at}
+use Rattle.address_map.specs.CoreSet.{has, members}
+use Rattle.std.specs.List.{flat_map}
 use Rattle.slice_queues.specs.Slice.{SliceChannels, messages_in}
 
 -- the channel, where a message waits in it
@@ -30,14 +34,25 @@ core_waiting core queues =
     (is_some queues.data)
     queues.acks
 
+-- the core's channels for which the marks say that a message waits
+abbrev pub core_left : Mail → List CoreChannels → ℕ → List Channel
+core_left mail cores core =
+    channels_left
+    (record { 0 = core })
+    (has mail.requests core)
+    (has mail.forwarded core)
+    (has mail.data_messages core)
+    (if has mail.acks core then (slice_index_or cores core no_messages).acks else 0)
+
+-- what is left of a line: these channels, those of these cores that are marked, and home
+abbrev pub line_left : List Channel → Mail → List CoreChannels → List ℕ → Bool → List Channel
+line_left current mail cores left home =
+    current ++ (flat_map (core_left mail cores) left ++ only_if home channels.Home)
+
 -- those of the cores from this number on
 abbrev pub cores_waiting : ℕ → List CoreChannels → List Channel
 cores_waiting core [] = []
 cores_waiting core (queues ∷ rest) = core_waiting (record { 0 = core }) queues ++ cores_waiting (core + 1) rest
-
--- what is left of a line: these channels, those of the cores from this number on, and home
-abbrev pub line_left : List Channel → ℕ → List CoreChannels → Bool → List Channel
-line_left current core rest home = current ++ (cores_waiting core rest ++ only_if home channels.Home)
 
 -- the line's channels in which a message waits: core by core, and then home
 abbrev pub line_waiting : LineChannels → List Channel
@@ -62,6 +77,12 @@ abbrev pub HasEachOnce : LineChannels → List Channel → Type 0
 HasEachOnce line names =
     (channel : Channel) →
     count_by (is_same_channel channel) names ≡ (if is_waiting line channel then 1 else 0)
+
+-- each channel of the class in which a message waits stands in the list once, and no other does
+abbrev pub HasEachOnceIn : Class → LineChannels → List Channel → Type 0
+HasEachOnceIn class line names =
+    (channel : Channel) →
+    count_by (is_same_channel channel) names ≡ (if is_of_class class channel && is_waiting line channel then 1 else 0)
 
 -- the line of the memory at a place of a slice
 abbrev pub line_number : ℕ → ℕ → ℕ → LineAddr

@@ -1,10 +1,8 @@
 ghost use Rattle.std.specs.Prelude.{◌≡◌, ◌<◌, ◌++◌, ◌↔◌, [], ◌∷◌, length, slice_get, drop, IsTrue, Some, None};
 ghost use Rattle.std.specs.Option.{option_copied};
 
-use super::core_set::CoreSet;
 use super::forwarded_queue::ForwardedQueue;
-use super::waiting::CoreWaiting;
-use address_map::CoreId;
+use address_map::{CoreId, CoreSet};
 use slice_queues_message::{DataMessage, ForwardedMessage, RequestMessage};
 use std::marker::Model;
 
@@ -28,9 +26,8 @@ impl Model for CoreQueues {
 }
 
 impl CoreQueues {
-    ghost use Rattle.slice_queues.specs.Acks.{has_ack, with_ack, without_ack};
-    ghost use Rattle.slice_queues.specs.Line.{no_messages};
-    ghost use Rattle.slice_queues.specs.Waiting.{core_waiting};
+    ghost use Rattle.address_map.specs.CoreSet.{has, with, without};
+    ghost use Rattle.slice_queues.specs.Line.{no_messages, has_forwarded, has_acks};
 
     pub fn new() -> Self
         ensures { result ≡ no_messages }
@@ -66,6 +63,12 @@ impl CoreQueues {
         ensures { option_copied result ≡ slice_get self.now.forwarded 0 }
     {
         self.forwarded.front()
+    }
+
+    pub fn has_forwarded(&self) -> bool
+        ensures { result ≡ has_forwarded self.now }
+    {
+        !matches!(self.forwarded, ForwardedQueue::Empty)
     }
 
     pub fn takes_forwarded(&self) -> bool
@@ -107,49 +110,40 @@ impl CoreQueues {
         self.data_message.take()
     }
 
-    pub fn has_ack(&self, from: CoreId) -> bool
-        requires { from.0 < 64 }
-        ensures { result ≡ has_ack self.now.acks from.0 }
+    pub fn drop_request(&mut self)
+        ensures { self.new ≡ record self.old { request = None } }
     {
-        self.acks.has(from)
+        self.request = None;
+    }
+
+    pub fn drop_data(&mut self)
+        ensures { self.new ≡ record self.old { «data» = None } }
+    {
+        self.data_message = None;
+    }
+
+    /// The senders of the acknowledgements that wait.
+    pub fn acks(&self) -> CoreSet
+        ensures { result ≡ self.now.acks }
+    {
+        self.acks
+    }
+
+    pub fn has_acks(&self) -> bool
+        ensures { result ≡ has_acks self.now }
+    {
+        self.acks.bits() > 0
     }
 
     pub fn put_ack(&mut self, from: CoreId)
-        requires { from.0 < 64 }
-        ensures { self.new ≡ record self.old { acks = with_ack self.old.acks from.0 } }
+        ensures { self.new ≡ record self.old { acks = with self.old.acks from.0 } }
     {
         self.acks.insert(from);
     }
 
-    pub fn take_ack(&mut self, from: CoreId) -> bool
-        requires { from.0 < 64 }
-        ensures taken { result ≡ has_ack self.old.acks from.0 }
-        ensures rest { self.new ≡ record self.old { acks = without_ack self.old.acks from.0 } }
+    pub fn take_ack(&mut self, from: CoreId)
+        ensures { self.new ≡ record self.old { acks = without self.old.acks from.0 } }
     {
-        let waited = self.acks.has(from);
         self.acks.remove(from);
-        waited
-    }
-
-    /// The channels in which a message waits, of the core with this number.
-    pub fn waiting(&self, core: CoreId) -> CoreWaiting
-        ensures { result ≡ core_waiting core self.now }
-    {
-        CoreWaiting::new(
-            core,
-            self.request.is_some(),
-            self.forwarded.front().is_some(),
-            self.data_message.is_some(),
-            self.acks,
-        )
-    }
-
-    pub fn is_empty(&self) -> bool
-        ensures { IsTrue result ↔ (self.now ≡ no_messages) }
-    {
-        self.request.is_none()
-            && self.data_message.is_none()
-            && self.acks.bits() == 0
-            && matches!(self.forwarded, ForwardedQueue::Empty)
     }
 }

@@ -8,16 +8,24 @@
 //!   `messages_at` lists what waits in a channel, the oldest first.
 //! - [`LineQueues::send`] puts a message behind those of its channel, [`LineQueues::take`] removes the oldest, and no
 //!   other channel changes (`SendsOnly`, `TakesOnly`). The calls for one kind of channel, as
-//!   [`LineQueues::front_request`], give references and copy no block.
-//! - [`LineQueues::waiting`] goes through the channels in which a message waits, each once and no other (`HasEachOnce`).
-//! - [`Queues`] says the same of a slice (specs/Slice.antt), where a pick names a line of the whole memory.
-//!   [`Queues::picks_from`] goes through its lines, the start line first, round and round (specs/Waiting.antt), and
-//!   gives each pick with a message once and no other (`HasEachPickOnce`).
+//!   [`LineQueues::front_request`], give references and copy no block, and [`LineQueues::drop_request`] and its like
+//!   take without a copy. [`LineQueues::invalidate`] sends an invalidation to each core of a set.
+//! - [`LineQueues::waiting`] goes through the channels in which a message waits, each once and no other
+//!   (`HasEachOnce`), [`LineQueues::waiting_in`] through those of one class.
+//! - [`Queues`] holds the lines of a slice, by their places in it, and a ring of lines (specs/Ring.antt). Every line
+//!   with a message stands in the ring, and none twice ([`Queues::ring_len`] says so, `IsRing`).
+//!   [`Queues::line_mut`] puts the line that it lends into the ring, so whatever is sent, that holds.
+//!   [`Queues::rotate`] sends the front lines with messages to the back, and the others out of the ring.
+//! - The calls of [`Queues`] that take a pick say of the slice what those of a line say of a line (specs/Slice.antt). A
+//!   pick names a line of the whole memory. [`Queues::picks_from`] goes through the lines, the start line first, round
+//!   and round (specs/Waiting.antt), and gives each pick with a message once and no other (`HasEachPickOnce`).
 //!
-//! All memory is taken by [`Queues::build`], the only call that can fail: 184 bytes for each core of a line, and 96
-//! for the line. The largest slice, 65536 lines of 64 cores, takes 780 MB, and its building 0.6 to 0.8 s, nearly all of
-//! it for the first touch of the pages. A send or a take costs the same whatever the number of lines and cores.
-//! [`LineQueues::is_empty`] and [`LineQueues::waiting`] look at each core of the line, those of the slice at each line.
+//! All memory is taken by [`Queues::build`], the only call that can fail: 184 bytes for each core of a line, and 137
+//! for the line, of which 9 are its place in the ring. The largest slice, 65536 lines of 64 cores, takes 783 MB, and its
+//! building 0.6 to 0.8 s, nearly all of it for the first touch of the pages. A send or a take costs the same whatever
+//! the number of lines and cores, and so does [`LineQueues::is_empty`]: four sets say for which cores messages wait.
+//! [`LineQueues::waiting`] looks at no core without a message, [`Queues::is_empty`] at the lines of the ring alone, and
+//! [`Queues::picks_from`] at each line.
 #![tactic(auto)]
 
 pub use line_queues::LineQueues;
@@ -29,12 +37,13 @@ pub use slice_queues_message::{
 pub use waiting::LineWaiting;
 
 mod core_queues;
-mod core_set;
 mod forwarded_queue;
 mod line_by_channel;
 mod line_queues;
+mod mail;
 mod picks;
 mod queues;
+mod ring;
 #[cfg(test)]
 mod tests;
 mod waiting;

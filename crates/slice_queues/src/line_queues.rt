@@ -1,38 +1,42 @@
-ghost use Rattle.std.specs.Prelude.{◌≡◌, ◌<◌, ◌≤◌, ◌↔◌, [], length, slice_get, Some, None, false, IsTrue, IfOk, EachIndex, slice_index_or};
-ghost use Rattle.slice_queues.specs.Line.{no_messages};
+ghost use Rattle.std.specs.Prelude.{◌≡◌, ◌≤◌, ◌↔◌, [], filter, length, not, ◌&&◌, slice_get, false, IsTrue, IfOk};
+ghost use Rattle.slice_queues_message.specs.Class.{is_of_class};
 ghost use Rattle.std.specs.Option.{option_copied};
 ghost use Rattle.slice_queues_message.specs.declared.channel.Channel.TheVariants as channels;
 ghost use Rattle.slice_queues_message.specs.declared.message.Message.TheVariants as messages;
 
 use super::core_queues::CoreQueues;
+use super::mail::{Mail, without_unless};
 use super::waiting::LineWaiting;
-use address_map::{Block, CoreId};
-use slice_queues_message::{Channel, DataMessage, ForwardedMessage, RequestMessage};
+use address_map::{Block, CoreId, CoreSet};
+use slice_queues_message::{Channel, Class, DataMessage, ForwardedMessage, RequestMessage};
 use std::alloc::{AllocError, Global};
 use std::marker::Model;
 
 /// The channels of one line.
 #[derive(Drop)]
 pub struct LineQueues {
+    // What says whether and where messages wait stands in front.
+    mail: Mail,
     cores: Vec<CoreQueues>,
     home: Option<Block>,
 }
 
 impl Model for LineQueues {
-    ghost use Rattle.slice_queues.specs.Line.{LineChannels, IsWithinCores};
+    ghost use Rattle.slice_queues.specs.Line.{LineChannels};
+    ghost use Rattle.slice_queues.specs.Mail.{IsLine};
 
     ghost Value = { LineChannels };
 
     ghost view = { λ line. record { cores = line.cores.items; home = line.home } };
 
-    ghost invariant = { λ line. IsWithinCores line.cores.items };
+    ghost invariant = { λ line. IsLine line.cores.items line.mail };
 }
 
 /// The channels one kind at a time: nothing is copied to look at a message.
 impl LineQueues {
-    ghost use Rattle.slice_queues.specs.Acks.{has_ack};
-    ghost use Rattle.slice_queues.specs.Waiting.{line_waiting, HasEachOnce};
-    ghost use Rattle.slice_queues.specs.Line.{core_at, messages_at, after_send, after_take, HasRoom, HasChannel, empty_line, IsEmptyLine};
+    ghost use Rattle.address_map.specs.CoreSet.{has};
+    ghost use Rattle.slice_queues.specs.Waiting.{line_waiting, HasEachOnce, HasEachOnceIn};
+    ghost use Rattle.slice_queues.specs.Line.{core_at, messages_at, after_send, after_take, SendsOnly, HasRoom, HasChannel, empty_line, IsEmptyLine, has_mail, TakesInvalidations, after_invalidating};
 
     /// Takes the memory for a line of `cores` cores.
     pub fn build(alloc: Global, cores: usize) -> Result<Self, AllocError>
@@ -44,6 +48,7 @@ impl LineQueues {
             queues.push(CoreQueues::new())?;
         }
         Ok(LineQueues {
+            mail: Mail::none(),
             cores: queues,
             home: None,
         })
@@ -76,7 +81,16 @@ impl LineQueues {
         ensures order { result ≡ line_waiting self.now }
         ensures once { HasEachOnce self.now result }
     {
-        LineWaiting::new(&self.cores, self.home.is_some())
+        self.waiting_in(Class::Any)
+    }
+
+    /// Those of them that are of this class, in the same order.
+    pub fn waiting_in(&self, class: Class) -> LineWaiting<'_>
+        ensures order { result ≡ filter (is_of_class class) (line_waiting self.now) }
+        ensures once { HasEachOnceIn class self.now result }
+    {
+        let home = waits_at_home(class, self.home.is_some());
+        LineWaiting::new(&self.cores, self.mail.of_class(class), home)
     }
 
     /// The request that waits for the directory.
@@ -94,6 +108,7 @@ impl LineQueues {
         ensures { self.new ≡ after_send self.old (channels.Req core) (messages.Request message) }
     {
         self.cores[core.0 as usize].put_request(message);
+        self.mail.requests.insert(core);
     }
 
     /// Takes a core's request; `None` where none waits.
@@ -102,7 +117,17 @@ impl LineQueues {
         ensures taken { result ≡ (core_at self.old core.0).request }
         ensures rest { self.new ≡ after_take self.old (channels.Req core) }
     {
+        self.mail.requests.remove(core);
         self.cores[core.0 as usize].take_request()
+    }
+
+    /// Takes a core's request without a look at it.
+    pub fn drop_request(&mut self, core: CoreId)
+        requires { HasChannel self.old (channels.Req core) }
+        ensures { self.new ≡ after_take self.old (channels.Req core) }
+    {
+        self.mail.requests.remove(core);
+        self.cores[core.0 as usize].drop_request();
     }
 
     /// The oldest forwarded message that waits for the core.
@@ -120,6 +145,7 @@ impl LineQueues {
         ensures { self.new ≡ after_send self.old (channels.Fwd core) (messages.Forwarded message) }
     {
         self.cores[core.0 as usize].push_forwarded(message);
+        self.mail.forwarded.insert(core);
     }
 
     /// Takes the oldest forwarded message; `None` where none waits.
@@ -128,7 +154,10 @@ impl LineQueues {
         ensures taken { result ≡ slice_get (core_at self.old core.0).forwarded 0 }
         ensures rest { self.new ≡ after_take self.old (channels.Fwd core) }
     {
-        self.cores[core.0 as usize].take_forwarded()
+        let queues = &mut self.cores[core.0 as usize];
+        let taken = queues.take_forwarded();
+        self.mail.forwarded = without_unless(self.mail.forwarded, core, queues.has_forwarded());
+        taken
     }
 
     /// Whether the core's forwarded channel takes another message.
@@ -154,6 +183,7 @@ impl LineQueues {
         ensures { self.new ≡ after_send self.old (channels.Data core) (messages.Data message) }
     {
         self.cores[core.0 as usize].put_data(message);
+        self.mail.data_messages.insert(core);
     }
 
     /// Takes the core's data; `None` where none wait.
@@ -162,33 +192,49 @@ impl LineQueues {
         ensures taken { result ≡ (core_at self.old core.0).data }
         ensures rest { self.new ≡ after_take self.old (channels.Data core) }
     {
+        self.mail.data_messages.remove(core);
         self.cores[core.0 as usize].take_data()
+    }
+
+    /// Takes the core's data without a look at them.
+    pub fn drop_data(&mut self, core: CoreId)
+        requires { HasChannel self.old (channels.Data core) }
+        ensures { self.new ≡ after_take self.old (channels.Data core) }
+    {
+        self.mail.data_messages.remove(core);
+        self.cores[core.0 as usize].drop_data();
     }
 
     /// Whether an acknowledgement from the one core waits for the other.
     pub fn has_ack(&self, to: CoreId, from: CoreId) -> bool
         requires { HasChannel self.now (channels.Ack to from) }
-        ensures { result ≡ has_ack (core_at self.now to.0).acks from.0 }
+        ensures { result ≡ has (core_at self.now to.0).acks from.0 }
     {
-        self.cores[to.0 as usize].has_ack(from)
+        self.cores[to.0 as usize].acks().has(from)
     }
 
     /// Acknowledges an invalidation to the core that asked for it.
     pub fn send_ack(&mut self, to: CoreId, from: CoreId)
         requires there { HasChannel self.old (channels.Ack to from) }
         requires room { HasRoom self.old (channels.Ack to from) }
-        ensures { self.new ≡ after_send self.old (channels.Ack to from) messages.InvAck }
+        ensures after { self.new ≡ after_send self.old (channels.Ack to from) messages.InvAck }
+        ensures sent { SendsOnly self.old self.new (channels.Ack to from) messages.InvAck }
     {
         self.cores[to.0 as usize].put_ack(from);
+        self.mail.acks.insert(to);
     }
 
     /// Whether an acknowledgement was there to be taken.
     pub fn take_ack(&mut self, to: CoreId, from: CoreId) -> bool
         requires { HasChannel self.old (channels.Ack to from) }
-        ensures taken { result ≡ has_ack (core_at self.old to.0).acks from.0 }
+        ensures taken { result ≡ has (core_at self.old to.0).acks from.0 }
         ensures rest { self.new ≡ after_take self.old (channels.Ack to from) }
     {
-        self.cores[to.0 as usize].take_ack(from)
+        let queues = &mut self.cores[to.0 as usize];
+        let waited = queues.acks().has(from);
+        queues.take_ack(from);
+        self.mail.acks = without_unless(self.mail.acks, to, queues.has_acks());
+        waited
     }
 
     /// The block that waits for the directory.
@@ -214,17 +260,58 @@ impl LineQueues {
         self.home.take()
     }
 
+    /// Takes the block that waits for the directory without a look at it.
+    pub fn drop_home(&mut self)
+        ensures { self.new ≡ after_take self.old channels.Home }
+    {
+        self.home = None;
+    }
+
     /// Whether no message waits in any channel of the line.
     pub fn is_empty(&self) -> bool
-        ensures { IsTrue result ↔ IsEmptyLine self.now }
+        ensures empty { IsTrue result ↔ IsEmptyLine self.now }
+        ensures mail { result ≡ not (has_mail self.now) }
     {
-        self.home.is_none() && all_empty(&self.cores)
+        self.home.is_none() && self.mail.cores().is_empty()
+    }
+
+    /// Whether a message waits in some channel of the line.
+    pub fn has_mail(&self) -> bool
+        ensures { result ≡ has_mail self.now }
+    {
+        !self.is_empty()
+    }
+
+    /// Whether all of these are cores of the line, and each one's forwarded channel takes another message.
+    pub fn takes_invalidations(&self, cores: CoreSet) -> bool
+        ensures { IsTrue result ↔ TakesInvalidations self.now cores }
+    {
+        let _ = cores.bits();
+        let mut left = cores;
+        while let Some(core) = left.pop_first() {
+            if !self.has_room(Channel::Fwd(core)) {
+                return false;
+            }
+        }
+        true
+    }
+
+    /// Sends an invalidation for the requester to each of these cores, behind what waits there.
+    pub fn invalidate(&mut self, cores: CoreSet, requester: CoreId)
+        requires { TakesInvalidations self.old cores }
+        ensures { self.new ≡ after_invalidating self.old cores requester }
+    {
+        let _ = &self.cores;
+        let mut left = cores;
+        while let Some(core) = left.pop_first() {
+            self.send_forwarded(core, ForwardedMessage::Inv(requester));
+        }
     }
 }
 
-// Whether no core has a message.
-fn all_empty(cores: &[CoreQueues]) -> bool
-    ensures { IsTrue result ↔ EachIndex cores.now (λ c. slice_index_or cores.now c no_messages ≡ no_messages) }
+// Whether a block waits at home that is of this class.
+fn waits_at_home(class: Class, home: bool) -> bool
+    ensures { result ≡ (is_of_class class channels.Home && home) }
 {
-    cores.iter().all(|core| core.is_empty())
+    matches!(class, Class::Home | Class::Any) && home
 }

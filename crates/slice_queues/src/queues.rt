@@ -1,165 +1,226 @@
-ghost use Rattle.std.specs.Prelude.{◌≡◌, ◌<◌, ◌≤◌, ◌*◌, ◌^◌, ◌↔◌, slice_get, IsTrue, IfOk, EachIndex, slice_index_or};
-ghost use Rattle.slice_queues.specs.Line.{empty_line, IsEmptyLine};
+ghost use Rattle.std.specs.Prelude.{◌≡◌, ◌<◌, ◌≤◌, ◌↔◌, ◌++◌, [], length, take, drop, filter, slice_get, slice_index, Some, IsTrue, IfOk};
 ghost use Rattle.std.specs.Borrow.{sem};
-ghost use Rattle.slice_queues_message.specs.Pick.{channel_of};
+ghost use Rattle.slice_queues_message.specs.Pick.{line_of, channel_of};
 
 use super::line_queues::LineQueues;
 use super::picks::{LinesWaiting, Picks};
-use address_map::{LineAddr, SliceId};
-use slice_queues_message::{Message, Pick};
+use super::ring::LineRing;
+use address_map::{LineAddr, Local, Locator};
+use slice_queues_message::{Channel, Message, Pick};
 use std::alloc::{AllocError, Global};
 use std::marker::Model;
 
-/// The channels of one slice, by line. Of `slices` slices this is number `slice`: it has the lines l of the memory with
-/// `l % slices` equal to `slice`, line l at place `l / slices`.
+/// The channels of one slice, by line, and a ring of the lines that may have messages.
 #[derive(Drop)]
 pub struct Queues {
     lines: Vec<LineQueues>,
-    slice: u8,
-    slices: u8,
+    ring: LineRing,
+    locator: Locator,
 }
 
 impl Model for Queues {
-    ghost use Rattle.std.specs.Prelude.{length};
-    ghost use Rattle.slice_queues.specs.Slice.{SliceChannels, IsAddressed};
+    ghost use Rattle.slice_queues.specs.Ring.{QueuesView, IsQueues};
 
-    ghost Value = { SliceChannels };
+    ghost Value = { QueuesView };
 
-    ghost view = { λ queues. record { lines = queues.lines.items; slice = queues.slice; slices = queues.slices } };
+    ghost view = { λ queues. record { channels = record { lines = queues.lines.items; slice = queues.locator.slice; slices = queues.locator.slices }; ring = queues.ring.order } };
 
-    ghost invariant = { λ queues. IsAddressed (length queues.lines.items) queues.slice queues.slices };
+    ghost invariant = { λ queues. IsQueues queues.lines.items queues.ring queues.locator };
 }
 
+/// The lines by their places in the slice, and the ring.
 impl Queues {
-    ghost use Rattle.slice_queues.specs.Line.{Carries};
-    ghost use Rattle.slice_queues.specs.Slice.{HasLine, line_at, messages_in, HasPick, HasRoomIn, after_send_in, after_take_in, SendsOnlyIn, TakesOnlyIn, IsEmptySlice, empty_slice};
+    ghost use Rattle.slice_queues.specs.Slice.{at_local, empty_slice, IsEmptySlice};
+    ghost use Rattle.slice_queues.specs.Ring.{has_mail_at, IsRing};
     ghost use Rattle.slice_queues.specs.Lending.{LendsLine};
-    ghost use Rattle.slice_queues.specs.Waiting.{picks_waiting, HasEachPickOnce};
 
-    /// Takes all the memory that the slice will ever need, for `lines` lines of `cores` cores each.
-    pub fn build(
-        alloc: Global,
-        cores: usize,
-        lines: usize,
-        slice: SliceId,
-        slices: u8,
-    ) -> Result<Self, AllocError>
-        requires cores { cores ≤ 64 }
-        requires one_of_them { slice.0 < slices }
-        requires in_range { lines * slices < 2 ^ 64 }
-        ensures { IfOk result (λ queues. queues ≡ empty_slice lines cores slice.0 slices) }
+    /// Takes all the memory that the slice will ever need, for the slice's lines of `cores` cores each.
+    pub fn build(alloc: Global, cores: usize, locator: Locator) -> Result<Self, AllocError>
+        requires { cores ≤ 64 }
+        ensures { IfOk result (λ queues. queues ≡ record { channels = empty_slice locator.lines cores locator.slice locator.slices; ring = [] }) }
     {
-        let mut all = Vec::with_capacity(alloc, lines)?;
-        for line in 0..lines {
-            all.push(LineQueues::build(alloc, cores)?)?;
+        let count = locator.lines();
+        let mut lines = Vec::with_capacity(alloc, count)?;
+        for line in 0..count {
+            lines.push(LineQueues::build(alloc, cores)?)?;
         }
+        let ring = LineRing::build(alloc, count)?;
         Ok(Queues {
-            lines: all,
-            slice: slice.0,
-            slices,
+            lines,
+            ring,
+            locator,
         })
     }
 
-    /// Whether the line is one of this slice, and is there.
-    pub fn has_line(&self, line: LineAddr) -> bool
-        ensures { IsTrue result ↔ HasLine self.now line }
+    /// How many lines the slice has.
+    pub fn lines(&self) -> usize
+        ensures { result ≡ length self.now.channels.lines }
     {
-        let slices = self.slices as u64;
-        line.0 % slices == self.slice as u64 && line.0 / slices < self.lines.len() as u64
+        self.lines.len()
     }
 
     /// The channels of one line.
-    pub fn line(&self, line: LineAddr) -> &LineQueues
-        requires { HasLine self.now line }
-        ensures { result.now ≡ line_at self.now line }
+    pub fn line(&self, local: Local) -> &LineQueues
+        requires { local.0 < length self.now.channels.lines }
+        ensures { result.now ≡ at_local self.now.channels local.0 }
     {
-        &self.lines[(line.0 / self.slices as u64) as usize]
+        &self.lines[local.0]
     }
 
-    /// The channels of one line, to be changed.
-    pub fn line_mut(&mut self, line: LineAddr) -> &mut LineQueues
-        requires { HasLine self.old line }
-        ensures* lends { sem 𝓛 (LendsLine self.entry line result) }
-        ensures value { result.now ≡ line_at self.old line }
+    /// The channels of one line, to be changed. The line comes into the ring, at the back, if it isn't there.
+    pub fn line_mut(&mut self, local: Local) -> &mut LineQueues
+        requires { local.0 < length self.old.channels.lines }
+        ensures* lends { sem 𝓛 (LendsLine self.entry local result) }
+        ensures value { result.now ≡ at_local self.old.channels local.0 }
     {
-        &mut self.lines[(line.0 / self.slices as u64) as usize]
+        self.ring.list(local);
+        &mut self.lines[local.0]
+    }
+
+    /// How many lines the ring has.
+    pub fn ring_len(&self) -> usize
+        ensures len { result ≡ length self.now.ring }
+        ensures ring { IsRing self.now }
+    {
+        let _ = &self.lines;
+        self.ring.len()
+    }
+
+    /// The line at a place of the ring, the front at 0.
+    pub fn ring_at(&self, index: usize) -> Local
+        requires { index < length self.now.ring }
+        ensures line { result.0 ≡ slice_index self.now.ring index }
+        ensures there { result.0 < length self.now.channels.lines }
+    {
+        self.ring.at(index)
+    }
+
+    /// Of the first `count` lines of the ring those with a message go to the back, and the others leave it.
+    pub fn rotate(&mut self, count: usize)
+        requires { count ≤ length self.old.ring }
+        ensures ring { self.new.ring ≡ drop count self.old.ring ++ filter (has_mail_at self.old.channels) (take count self.old.ring) }
+        ensures channels { self.new.channels ≡ self.old.channels }
+    {
+        for turn in 0..count {
+            let first = self.ring.at(0);
+            let has_mail = self.lines[first.0].has_mail();
+            self.ring.turn(has_mail);
+        }
+    }
+
+    /// Whether no message waits anywhere in the slice.
+    pub fn is_empty(&self) -> bool
+        ensures { IsTrue result ↔ IsEmptySlice self.now.channels }
+    {
+        for index in 0..self.ring.len() {
+            let line = self.ring.at(index);
+            if self.lines[line.0].has_mail() {
+                return false;
+            }
+        }
+        true
+    }
+}
+
+/// The channels by their names in the whole memory.
+impl Queues {
+    ghost use Rattle.slice_queues.specs.Line.{Carries, messages_at, after_take, TakesOnly};
+    ghost use Rattle.slice_queues.specs.Slice.{at_local, with_local, HasLine, local_of, messages_in, HasPick, HasRoomIn, after_send_in, after_take_in, SendsOnlyIn, TakesOnlyIn};
+    ghost use Rattle.slice_queues.specs.Ring.{with_listed};
+    ghost use Rattle.slice_queues.specs.Waiting.{picks_waiting, HasEachPickOnce};
+
+    /// Whether the line is one of this slice, and is there.
+    pub fn has_line(&self, line: LineAddr) -> bool
+        ensures { IsTrue result ↔ HasLine self.now.channels line }
+    {
+        self.locator.local_of(line).is_some()
+    }
+
+    /// The place of a line that is there.
+    fn place_of(&self, line: LineAddr) -> Local
+        requires { HasLine self.now.channels line }
+        ensures { result.0 ≡ local_of self.now.channels line }
+    {
+        match self.locator.local_of(line) {
+            Some(local) => local,
+            None => unreachable!(),
+        }
     }
 
     /// Whether the pick names a channel that is there and takes another message.
     pub fn has_room(&self, pick: Pick) -> bool
-        ensures { IsTrue result ↔ (HasPick self.now pick × HasRoomIn self.now pick) }
+        ensures { IsTrue result ↔ (HasPick self.now.channels pick × HasRoomIn self.now.channels pick) }
     {
-        self.has_line(pick.line()) && self.line(pick.line()).has_room(pick.channel())
+        self.has_line(pick.line())
+            && self
+                .line(self.place_of(pick.line()))
+                .has_room(pick.channel())
     }
 
     /// The oldest message at the pick. `None` too where the pick names a line or a core that isn't there.
     pub fn front(&self, pick: Pick) -> Option<Message>
-        ensures { result ≡ slice_get (messages_in self.now pick) 0 }
+        ensures { result ≡ slice_get (messages_in self.now.channels pick) 0 }
     {
         if self.has_line(pick.line()) {
-            self.line(pick.line()).front(pick.channel())
+            self.line(self.place_of(pick.line())).front(pick.channel())
         } else {
             None
         }
     }
 
-    /// Sends the message at the pick, behind those that wait there.
+    /// Sends the message at the pick, behind those that wait there. Its line comes into the ring.
     pub fn send(&mut self, pick: Pick, message: Message)
-        requires there { HasPick self.old pick }
-        requires room { HasRoomIn self.old pick }
+        requires there { HasPick self.old.channels pick }
+        requires room { HasRoomIn self.old.channels pick }
         requires kind { Carries (channel_of pick) message }
-        ensures after { self.new ≡ after_send_in self.old pick message }
-        ensures sent { SendsOnlyIn self.old self.new pick message }
+        ensures after { self.new.channels ≡ after_send_in self.old.channels pick message }
+        ensures sent { SendsOnlyIn self.old.channels self.new.channels pick message }
+        ensures ring { self.new.ring ≡ with_listed self.old.ring (local_of self.old.channels (line_of pick)) }
     {
-        self.line_mut(pick.line()).send(pick.channel(), message);
+        let local = self.place_of(pick.line());
+        self.line_mut(local).send(pick.channel(), message);
     }
 
     /// Takes the oldest message at the pick. Nothing changes where none waits, or the pick names a line or a core
-    /// that isn't there.
+    /// that isn't there. The ring stays.
     pub fn take(&mut self, pick: Pick) -> Option<Message>
-        ensures taken { result ≡ slice_get (messages_in self.old pick) 0 }
-        ensures after { self.new ≡ after_take_in self.old pick }
-        ensures rest { TakesOnlyIn self.old self.new pick }
+        ensures taken { result ≡ slice_get (messages_in self.old.channels pick) 0 }
+        ensures after { self.new.channels ≡ after_take_in self.old.channels pick }
+        ensures rest { TakesOnlyIn self.old.channels self.new.channels pick }
+        ensures ring { self.new.ring ≡ self.old.ring }
     {
         if self.has_line(pick.line()) {
-            self.line_mut(pick.line()).take(pick.channel())
+            self.take_at(self.place_of(pick.line()), pick.channel())
         } else {
             None
         }
+    }
+
+    /// Takes the oldest message in the channel of a line.
+    fn take_at(&mut self, local: Local, channel: Channel) -> Option<Message>
+        requires { local.0 < length self.old.channels.lines }
+        ensures taken { result ≡ slice_get (messages_at (at_local self.old.channels local.0) channel) 0 }
+        ensures after { self.new ≡ record self.old { channels = with_local self.old.channels local.0 (after_take (at_local self.old.channels local.0) channel) } }
+        ensures rest { TakesOnly (at_local self.old.channels local.0) (after_take (at_local self.old.channels local.0) channel) channel }
+    {
+        self.lines[local.0].take(channel)
     }
 
     /// The picks with a message, each once and no other: those of the start line first, then those of the lines behind
     /// it, and at last those of the lines before it. Within a line they come core by core, and home last. It takes no
     /// memory.
     pub fn picks_from(&self, start: LineAddr) -> Picks<'_>
-        requires { HasLine self.now start }
-        ensures order { result ≡ picks_waiting self.now start }
-        ensures once { HasEachPickOnce self.now result }
+        requires { HasLine self.now.channels start }
+        ensures order { result ≡ picks_waiting self.now.channels start }
+        ensures once { HasEachPickOnce self.now.channels result }
     {
-        let place = (start.0 / self.slices as u64) as usize;
+        let place = self.place_of(start).0;
+        let slice = self.locator.slice().0;
+        let slices = self.locator.slices() as u8;
         let (before, from) = self.lines.split_at(place);
         Picks::new(
-            LinesWaiting::new(from, place, self.slice, self.slices),
-            LinesWaiting::new(before, 0, self.slice, self.slices),
+            LinesWaiting::new(from, place, slice, slices),
+            LinesWaiting::new(before, 0, slice, slices),
         )
     }
-
-    /// Whether no message waits anywhere in the slice.
-    pub fn is_empty(&self) -> bool
-        ensures { IsTrue result ↔ IsEmptySlice self.now }
-    {
-        all_empty(&self.lines)
-    }
-}
-
-// Whether every line is empty.
-fn all_empty(lines: &[LineQueues]) -> bool
-    ensures { IsTrue result ↔ EachIndex lines.now (λ i. IsEmptyLine (slice_index_or lines.now i (empty_line 0))) }
-{
-    for line in lines {
-        if !line.is_empty() {
-            return false;
-        }
-    }
-    true
 }

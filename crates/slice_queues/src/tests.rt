@@ -1,8 +1,20 @@
-use super::{DataMessage, ForwardedMessage, Message, Pick, Queues, RequestMessage};
-use address_map::{Block, CoreId, LineAddr, SliceId};
+use super::{Channel, Class, DataMessage, ForwardedMessage, Message, Pick, Queues, RequestMessage};
+use address_map::{Block, Config, CoreId, CoreSet, LineAddr, Local, Locator, SliceId};
+use std::alloc::Global;
+use std::process::Abort;
 use std::test::Fail;
 
-// Three lines of slice 1 of 2: the lines 1, 3 and 5.
+// Slice 1 of 2, with two cores: the lines 1, 3 and 5.
+fn three_lines(rt: &impl Abort, alloc: Global) -> Result<Queues, Fail> {
+    let mut config = Config::new(alloc);
+    config.slices = 2;
+    config.lines = 6;
+    let config = config.check()?;
+    assert_eq!(rt; config.slices(), 2);
+    let locator = Locator::of(&config, SliceId(1));
+    Ok(Queues::build(alloc, 2, locator)?)
+}
+
 #[test]
 fn picks_go_round_from_the_start_line(rt: HostRuntime) -> Result<(), Fail> {
     let home = Pick::Home(LineAddr(1));
@@ -15,7 +27,7 @@ fn picks_go_round_from_the_start_line(rt: HostRuntime) -> Result<(), Fail> {
     };
     let grant = Pick::Data(LineAddr(5), CoreId(0));
 
-    let mut queues = Queues::build(rt.alloc(), 2, 3, SliceId(1), 2)?;
+    let mut queues = three_lines(&rt, rt.alloc())?;
     assert!(rt; queues.is_empty());
     assert!(rt; queues.has_room(home));
     queues.send(home, Message::Home(Block::zero()));
@@ -39,5 +51,36 @@ fn picks_go_round_from_the_start_line(rt: HostRuntime) -> Result<(), Fail> {
     assert_eq!(rt; picks.next(), None);
     assert_eq!(rt; queues.take(ack), Some(Message::InvAck));
     assert_eq!(rt; queues.front(ack), None);
+    Ok(())
+}
+
+#[test]
+fn lines_with_messages_stay_in_the_ring(rt: HostRuntime) -> Result<(), Fail> {
+    let core = CoreId(1);
+    let both = CoreSet::only(CoreId(0)).with(core);
+    let mut queues = three_lines(&rt, rt.alloc())?;
+    assert_eq!(rt; queues.lines(), 3);
+    let line = queues.line_mut(Local(2));
+    assert!(rt; line.takes_invalidations(both));
+    line.invalidate(both, CoreId(2));
+    assert!(rt; line.has_room(Channel::Req(core)));
+    line.send(Channel::Req(core), Message::Request(RequestMessage::GetS));
+    let mut waiting = line.waiting_in(Class::Fwd);
+    assert_eq!(rt; waiting.next(), Some(Channel::Fwd(CoreId(0))));
+    assert_eq!(rt; waiting.next(), Some(Channel::Fwd(core)));
+    assert_eq!(rt; waiting.next(), None);
+    assert!(rt; line.has_channel(Channel::Req(core)));
+    line.drop_request(core);
+    assert!(rt; line.has_mail());
+
+    assert_eq!(rt; queues.lines(), 3);
+    assert!(rt; queues.line_mut(Local(0)).is_empty());
+    assert_eq!(rt; queues.ring_len(), 2);
+    assert_eq!(rt; queues.ring_at(0), Local(2));
+    assert_eq!(rt; queues.ring_at(1), Local(0));
+    queues.rotate(2);
+    assert_eq!(rt; queues.ring_len(), 1);
+    assert_eq!(rt; queues.ring_at(0), Local(2));
+    assert!(rt; !queues.is_empty());
     Ok(())
 }

@@ -1,8 +1,9 @@
-ghost use Rattle.std.specs.Prelude.{◌≡◌, ◌+◌, ◌≤◌, ◌++◌, [], length, drop, slice_get};
+ghost use Rattle.std.specs.Prelude.{◌≡◌, ◌<◌, [], length, drop, slice_get};
+ghost use Rattle.slice_queues.specs.Waiting.{core_left};
 
 use super::core_queues::CoreQueues;
-use super::core_set::CoreSet;
-use address_map::CoreId;
+use super::mail::Mail;
+use address_map::{CoreId, CoreSet};
 use slice_queues_message::Channel;
 use std::marker::Model;
 
@@ -47,7 +48,7 @@ impl CoreWaiting {
         }
     }
 
-    #[tactic(auto, using(crate::proofs::MembersLaws::members_none))]
+    #[tactic(auto, using(address_map::proofs::Members::members_none))]
     pub fn none() -> Self
         ensures { result ≡ [] }
     {
@@ -88,47 +89,57 @@ impl CoreWaiting {
 #[derive(Drop)]
 pub struct LineWaiting<'a> {
     cores: &'a [CoreQueues],
+    mail: Mail,
+    left: CoreSet,
     current: CoreWaiting,
-    next_core: u8,
     home: bool,
 }
 
 impl<'a> Model for LineWaiting<'a> {
-    ghost use Rattle.std.specs.Prelude.{List, ◌+◌, ◌≤◌, length};
+    ghost use Rattle.std.specs.Prelude.{List, ◌<◌, length};
+    ghost use Rattle.std.specs.List.{AllByRecursion};
+    ghost use Rattle.address_map.specs.CoreSet.{members};
     ghost use Rattle.slice_queues_message.specs.declared.channel.Channel.{Channel};
     ghost use Rattle.slice_queues.specs.Waiting.{line_left};
 
     ghost Value = { List Channel };
 
-    ghost view = { λ left. line_left left.current left.next_core left.cores.now left.home };
+    ghost view = { λ left. line_left left.current left.mail left.cores.now (members left.left) left.home };
 
-    ghost invariant = { λ left. left.next_core + length left.cores.now ≤ 64 };
+    ghost invariant = { λ left. AllByRecursion (λ core. core < length left.cores.now) (members left.left) };
 }
 
 impl<'a> LineWaiting<'a> {
-    ghost use Rattle.slice_queues_message.specs.declared.channel.Channel.TheVariants as channels;
-    ghost use Rattle.slice_queues.specs.Waiting.{cores_waiting, only_if};
+    ghost use Rattle.std.specs.List.{AllByRecursion};
+    ghost use Rattle.address_map.specs.CoreSet.{members};
+    ghost use Rattle.slice_queues.specs.Mail.{all_marked};
+    ghost use Rattle.slice_queues.specs.Waiting.{line_left, core_left};
 
-    pub(crate) fn new(cores: &'a [CoreQueues], home: bool) -> Self
-        requires { length cores.now ≤ 64 }
-        ensures { result ≡ cores_waiting 0 cores.now ++ only_if home channels.Home }
+    /// The channels of these cores for which the marks say that a message waits.
+    pub(crate) fn new(cores: &'a [CoreQueues], mail: Mail, home: bool) -> Self
+        requires { AllByRecursion (λ core. core < length cores.now) (members (all_marked mail)) }
+        ensures { result ≡ line_left [] mail cores.now (members (all_marked mail)) home }
     {
+        let left = mail.cores();
         LineWaiting {
             cores,
+            mail,
+            left,
             current: CoreWaiting::none(),
-            next_core: 0,
             home,
         }
     }
 
     /// No channel.
+    #[tactic(auto, using(address_map::proofs::Members::members_none))]
     pub(crate) fn none() -> Self
         ensures { result ≡ [] }
     {
         LineWaiting {
             cores: &[],
+            mail: Mail::none(),
+            left: CoreSet::none(),
             current: CoreWaiting::none(),
-            next_core: 0,
             home: false,
         }
     }
@@ -143,12 +154,10 @@ impl<'a> LineWaiting<'a> {
                 Some(channel) => return Some(channel),
                 None => {}
             }
-            let Some((core, rest)) = self.cores.split_first() else {
+            let Some(core) = self.left.pop_first() else {
                 break;
             };
-            self.current = core.waiting(CoreId(self.next_core));
-            self.cores = rest;
-            self.next_core += 1;
+            self.current = waiting_of(self.cores, self.mail, core);
         }
         if self.home {
             self.home = false;
@@ -157,4 +166,23 @@ impl<'a> LineWaiting<'a> {
             None
         }
     }
+}
+
+// The channels of one core for which the marks say that a message waits.
+fn waiting_of(cores: &[CoreQueues], mail: Mail, core: CoreId) -> CoreWaiting
+    requires { core.0 < length cores.now }
+    ensures { result ≡ core_left mail cores.now core.0 }
+{
+    let acks = if mail.acks.has(core) {
+        cores[core.0 as usize].acks()
+    } else {
+        CoreSet::none()
+    };
+    CoreWaiting::new(
+        core,
+        mail.requests.has(core),
+        mail.forwarded.has(core),
+        mail.data_messages.has(core),
+        acks,
+    )
 }

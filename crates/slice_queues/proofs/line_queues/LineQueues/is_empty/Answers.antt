@@ -1,19 +1,20 @@
-use Rattle.std.proofs.Common.{◌≡◌, true, is_some, rules}
-use Rattle.slice_queues.proofs.LineLaws.{IsEmptyLine-from_test, not_empty-from_home}
+use Rattle.std.proofs.Common.{◌≡◌, ◌∙◌, not, false, true, refl, is_some, ap, rules, subst}
+use Rattle.slice_queues.specs.Line.{LineChannels, has_mail}
+use Rattle.slice_queues.proofs.MailLaws.{quiet-from_marks, IsEmptyLine-from_quiet}
 use Rattle.slice_queues.proofs.line_queues.LineQueues.is_empty.Goals as goal
 
 pub returns-then-is_none : goal.returns-then-is_none
 returns-then-is_none c =
-    IsEmptyLine-from_test
-    _
-    _
-    _
-    c.self.view_is
-    (search rules)
-    _
-    (rw c.deref.ensures.value at c.all_empty.ensures)
+    let gone : is_some c.self.inside.home ≡ false = c.is_none.ensures ∙ ap not c.if-is_none.true in
+    let P : LineChannels → Type 0 = λ line. c.is_empty.result ≡ not (has_mail line) in
+    let quiet : c.is_empty.result ≡ not (has_mail c.args.self.now) =
+    subst P c.self.view_is (quiet-from_marks _ _ c.self.invariant.marked gone _ (rw c.cores.ensures at c.is_empty.ensures)) in
+    record { empty = IsEmptyLine-from_quiet _ _ quiet; mail = quiet }
 
 pub returns-else-is_none : goal.returns-else-is_none
 returns-else-is_none c =
-    let there : is_some c.self.inside.home ≡ true = search rules in
-    ((λ t. absurd (search rules)), (λ empty. absurd (not_empty-from_home _ _ _ c.self.view_is there empty)))
+    let there : is_some c.self.inside.home ≡ true = c.is_none.ensures ∙ ap not c.if-is_none.false in
+    let P : LineChannels → Type 0 = λ line. c.is_none.result ≡ not (has_mail line) in
+    let quiet : c.is_none.result ≡ not (has_mail c.args.self.now) =
+    subst P c.self.view_is (c.if-is_none.false ∙ rw there refl) in
+    record { empty = IsEmptyLine-from_quiet _ _ quiet; mail = quiet }

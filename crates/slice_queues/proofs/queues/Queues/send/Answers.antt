@@ -4,5 +4,12 @@ use Rattle.slice_queues.proofs.queues.Queues.send.Goals as goal
 pub returns-clause-sent : goal.returns-clause-sent
 returns-clause-sent c =
     rw
-    (c.send.ensures.after, c.line_mut.ensures.value, c.channel.ensures, c.line.ensures)
-    (sends_only_in _ _ _ c.requires.there c.requires.room c.requires.kind)
+    (c.send.ensures.after, c.line_mut.ensures.value, c.place_of-local.ensures, c.channel.ensures, c.line.ensures)
+    (sends_only_in
+    c.args.self.now.channels
+    c.args.pick
+    c.args.message
+    c.requires.there.0
+    (rw
+    (c.send.ensures.after, c.line_mut.ensures.value, c.place_of-local.ensures, c.channel.ensures, c.line.ensures)
+    at c.send.ensures.sent))

@@ -1,0 +1,47 @@
+use Rattle.std.proofs.Common.{◌≡◌, ◌<◌, ◌∙◌, ap, arith, sym, length, get_or, ℕ, Bool}
+use Rattle.slice_queues.specs.Line.{empty_line, has_mail}
+use Rattle.slice_queues.proofs.LineLaws.{read_default}
+use Rattle.slice_queues.proofs.RingLaws.{rotate-step, IsQueues-turn}
+use Rattle.slice_queues.proofs.queues.Queues.rotate.Goals as goal
+
+pub loop-turn-preserved : goal.loop-turn-preserved
+loop-turn-preserved c =
+    let now = c.loop-turn.self-inside in
+    let queues = c.loop-turn.invariant.3 in
+    let place = c.at-first.result.0 in
+    let there : place < length now.lines.items = omega (arith, c.at-first.ensures.there, queues.ring_for_all) in
+    let line : c.index.result.now ≡ get_or now.lines.items (get_or now.ring.order 0 0) (empty_line 0) =
+    c.index.ensures
+    ∙ read_default now.lines.items place c.index.result.now (empty_line 0) there
+    ∙ ap (λ (l : ℕ). get_or now.lines.items l (empty_line 0)) c.at-first.ensures.line in
+    let mail : ℕ → Bool = λ local. has_mail (get_or c.self.inside.lines.items local (empty_line 0)) in
+    let says : c.has_mail-has_mail.result ≡ mail (get_or now.ring.order 0 0) =
+    c.has_mail-has_mail.ensures
+    ∙ ap has_mail line
+    ∙ ap (λ lines. has_mail (get_or lines.items (get_or now.ring.order 0 0) (empty_line 0))) c.loop-turn.invariant.1 in
+    let within : c.loop-turn.turn < length c.self.inside.ring.order =
+    omega (arith, ap (λ v. length v.ring) c.self.view_is, c.requires, c.loop-turn-test.true) in (
+      ap (λ r. r.order) c.turn.ensures
+          ∙ rotate-step
+          mail
+          c.self.inside.ring.order
+          now.ring.order
+          c.loop-turn.turn
+          c.has_mail-has_mail.result
+          within
+          c.loop-turn.invariant.0
+          says,
+      c.loop-turn.invariant.1,
+      c.loop-turn.invariant.2,
+      IsQueues-turn
+          now.lines.items
+          now.ring
+          _
+          now.locator
+          c.index.result.now
+          c.has_mail-has_mail.result
+          line
+          c.has_mail-has_mail.ensures
+          c.turn.ensures
+          queues,
+    )

@@ -1,0 +1,84 @@
+ghost use Rattle.std.specs.Prelude.{◌≡◌, ◌<◌, ◌++◌, [], ◌∷◌, drop, take, if◌then◌else◌, length, slice_index, IfOk};
+
+use address_map::Local;
+use circular_buffer::HeapCircularBuffer;
+use std::alloc::{AllocError, Global};
+use std::marker::Model;
+
+/// Lines of a slice in a round, none of them twice.
+#[derive(Drop)]
+pub struct LineRing {
+    order: HeapCircularBuffer<usize>,
+    // whether a line stands in the round, by its place
+    listed: Vec<bool>,
+}
+
+impl Model for LineRing {
+    ghost use Rattle.std.specs.Prelude.{length};
+    ghost use Rattle.slice_queues.specs.Ring.{LineOrder, IsRound};
+
+    ghost Value = { LineOrder };
+
+    ghost view = { λ ring. record { order = ring.order.items; lines = length ring.listed.items } };
+
+    ghost invariant = { λ ring. IsRound ring.order.items ring.listed.items ring.order.capacity };
+}
+
+impl LineRing {
+    ghost use Rattle.slice_queues.specs.Ring.{IsOrder, with_listed};
+
+    /// Takes the memory for a round of up to this many lines, in which none stands yet.
+    pub fn build(alloc: Global, lines: usize) -> Result<Self, AllocError>
+        ensures { IfOk result (λ ring. ring ≡ record { order = []; lines = lines }) }
+    {
+        Ok(LineRing {
+            order: HeapCircularBuffer::with_capacity(alloc, lines)?,
+            listed: vec![in alloc; false; lines]?,
+        })
+    }
+
+    pub fn len(&self) -> usize
+        ensures len { result ≡ length self.now.order }
+        ensures order { IsOrder self.now.order self.now.lines }
+    {
+        let _ = &self.listed;
+        self.order.len()
+    }
+
+    pub fn at(&self, index: usize) -> Local
+        requires { index < length self.now.order }
+        ensures line { result.0 ≡ slice_index self.now.order index }
+        ensures there { result.0 < self.now.lines }
+    {
+        match self.order.get(index) {
+            Some(line) => Local(*line),
+            None => unreachable!(),
+        }
+    }
+
+    /// Puts the line at the end, unless it stands in the round.
+    pub fn list(&mut self, local: Local)
+        requires { local.0 < self.old.lines }
+        ensures { self.new ≡ record self.old { order = with_listed self.old.order local.0 } }
+    {
+        if !self.listed[local.0] {
+            self.listed[local.0] = true;
+            self.order.push_back(local.0);
+        }
+    }
+
+    /// The first line goes to the end where it stays, or else leaves the round.
+    pub fn turn(&mut self, stays: bool)
+        requires { 0 < length self.old.order }
+        ensures { self.new ≡ record self.old { order = drop 1 self.old.order ++ (if stays then take 1 self.old.order else []) } }
+    {
+        let Some(first) = self.order.pop_front() else {
+            unreachable!()
+        };
+        if stays {
+            self.order.push_back(first);
+        } else {
+            self.listed[first] = false;
+        }
+    }
+}

@@ -30,7 +30,9 @@ has-below set core fits there =
 -- sets with the same cores are the same
 pub same_from_has : (set other : ℕ) → ((core : ℕ) → has set core ≡ has other core) → set ≡ other
 unfolding has
-same_from_has set other same = same_from_bits set other (λ core. bit (bit_at set core) (bit_at other core) (bit_at-lt set core) (bit_at-lt other core) (same core))
+same_from_has set other same =
+    same_from_bits set other
+    (λ core. bit (bit_at set core) (bit_at other core) (bit_at-lt set core) (bit_at-lt other core) (same core))
   where
     bit : (a b : ℕ) → a < 2 → b < 2 → (a == 1) ≡ (b == 1) → a ≡ b
     bit a b small small_too e =

@@ -13,7 +13,8 @@ use Rattle.std.proofs.lemmas.Nat.Bits.{bit_at-trailing_zeros, bit_at_lowest, bit
 use Rattle.address_map.specs.CoreSet.{has, with, without, members, count_of}
 use Rattle.address_map.proofs.CoreSets.{has-without_same, has-without_other, has-with_same, has-zero, without-with}
 
-branch : (b c : Bool) (a : ℕ) (xs ys : List ℕ) → b ≡ c → xs ≡ ys → (if b then a ∷ xs else xs) ≡ (if c then a ∷ ys else ys)
+branch : (b c : Bool) (a : ℕ) (xs ys : List ℕ) → b ≡ c → xs ≡ ys
+    → (if b then a ∷ xs else xs) ≡ (if c then a ∷ ys else ys)
 branch b c a xs ys e f = cc
 
 -- sets with the same cores from a number on have the same list of them
@@ -85,7 +86,8 @@ pub ruleset members_none = members-zero
 -- ---- how many
 
 -- Core 0 is counted by the lowest bit, and the others in the half.
-halved : (n a set : ℕ) → length (filter (has set) (range_with_len (a + 1) n)) ≡ length (filter (has (set / 2)) (range_with_len a n))
+halved : (n a set : ℕ)
+    → length (filter (has set) (range_with_len (a + 1) n)) ≡ length (filter (has (set / 2)) (range_with_len a n))
 unfolding has
 halved zero a set = refl
 halved (suc n) a set = counted _ _ _ _ _ _ (shifted set a) (halved n (a + 1) set)
@@ -136,7 +138,8 @@ filter-taken (suc n) a set core from within there =
       | inl here ↦
           let first : has set a ≡ true = rw here there in
           let gone : has (without set core) a ≡ false = rw here (has-without_same set core) in
-          let later : filter (has set) (range_with_len (a + 1) n) ≡ filter (has (without set core)) (range_with_len (a + 1) n) =
+          let later : filter (has set) (range_with_len (a + 1) n)
+          ≡ filter (has (without set core)) (range_with_len (a + 1) n) =
           filter-same n (a + 1) set (without set core) (λ i behind. sym (has-without_other set core i (omega arith))) in
           rw (first, gone, later) (sym (add-one _))
       | inr apart ↦
@@ -159,7 +162,8 @@ count_of-without set core below there = filter-taken 64 0 set core (omega arith)
 pub count_of-with : (set core : ℕ) → core < 64 → has set core ≡ false → count_of (with set core) ≡ count_of set + 1
 unfolding count_of members
 count_of-with set core below missing =
-    count_of-without (with set core) core below (has-with_same set core below) ∙ ap (λ cores. count_of cores + 1) (without-with set core below missing)
+    let back : without (with set core) core ≡ set = without-with set core below missing in
+    count_of-without (with set core) core below (has-with_same set core below) ∙ ap (λ cores. count_of cores + 1) back
 
 -- No set has more than 64 cores.
 pub count_of-most : (set : ℕ) → count_of set ≤ 64

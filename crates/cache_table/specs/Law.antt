@@ -141,10 +141,11 @@ can_come state (events.Data n k) = asked_to_read state || asked_to_write state &
 can_come state (events.InvAck n k) = asked_to_write state && (awaits_data state || nat_le (k + 1) n)
 can_come state (events.DataE loads) = asked_to_read state
 
--- the message has to wait: another core asks for the line while a miss is outstanding. Only an invalidation needn't wait
--- for a write.
+-- the message has to wait: another core asks for the line while a miss is outstanding. Only an invalidation needn't
+-- wait for a write.
 abbrev pub has_to_wait : CopyState → CacheEvent → Bool
-has_to_wait state event = is_waiting state && (is_read event || is_written event) || asked_to_read state && is_invalidated event
+has_to_wait state event =
+    is_waiting state && (is_read event || is_written event) || asked_to_read state && is_invalidated event
 
 -- ---- messages
 
@@ -182,21 +183,25 @@ sends_put sent = sends_put_m sent
 -- A core may write the line once all has come that its miss awaits, until it evicts the copy or another core asks for
 -- the line. Until its first write the only copy is clean.
 pub record MayWrite (state : CopyState) (event : CacheEvent) (next : CopyState) : Type 0 where
-  pub right : is_writer next ≡ (grants_writing state event || is_writer state && not (is_eviction event || is_read event || is_written event))
+  pub right : is_writer next
+      ≡ (grants_writing state event || is_writer state && not (is_eviction event || is_read event || is_written event))
   pub clean : is_clean next ≡ (brings_clean event || is_clean state && is_load event)
 
--- A core may read the line once its miss has what it asked for, until it evicts the copy or another core writes the line.
+-- A core may read the line once its miss has what it asked for, until it evicts the copy or another core writes the
+-- line.
 abbrev pub MayRead : CopyState → CacheEvent → CopyState → Type 0
 MayRead state event next =
-    is_readable next ≡ (ends_miss state event || is_readable state && not (is_eviction event || is_invalidated event || is_written event))
+    is_readable next
+    ≡ (ends_miss state event || is_readable state && not (is_eviction event || is_invalidated event || is_written event))
 
 -- A copy has the newest data from the right to write on, until it gives them to another core or its eviction is over.
 abbrev pub HoldsData : CopyState → CacheEvent → CopyState → Type 0
 HoldsData state event next =
-    holds_data next ≡ (grants_writing state event || holds_data state && not (is_read event || is_written event || is_put_ack event))
+    holds_data next
+    ≡ (grants_writing state event || holds_data state && not (is_read event || is_written event || is_put_ack event))
 
--- A copy is a sharer from its data on, or from when another core reads what it held, until it is invalidated, its eviction
--- is over, or data come as which it may be written.
+-- A copy is a sharer from its data on, or from when another core reads what it held, until it is invalidated, its
+-- eviction is over, or the data of its write come.
 abbrev pub IsShared : CopyState → CacheEvent → CopyState → Type 0
 IsShared state event next =
     is_sharer next
@@ -223,8 +228,8 @@ pub record Answers (state : CopyState) (event : CacheEvent) (sent : CacheSends) 
   pub acknowledgement : sends_inv_ack sent ≡ is_invalidated event
   pub sharer : IsTrue (sends_inv_ack sent) → IsTrue (is_sharer state)
 
--- A Get goes out exactly where a miss begins, to write if the access writes, and a Put exactly where an eviction begins:
--- with the block from the writer, and without it from a reader. So nobody has two requests under way.
+-- A Get goes out exactly where a miss begins, to write if the access writes, and a Put exactly where an eviction
+-- begins: with the block from the writer, and without it from a reader. So nobody has two requests under way.
 pub record Asks (state : CopyState) (event : CacheEvent) (sent : CacheSends) : Type 0 where
   pub miss : sends_get sent ≡ misses state event
   pub to_write : sends_get_m sent ≡ (misses state event && is_write event)

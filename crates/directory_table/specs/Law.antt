@@ -165,11 +165,13 @@ abbrev pub KnowsRequester : DirEvent → Option CoreId → ℕ → Type 0
 KnowsRequester event owner sharers =
     IfSome (getter event) (λ core. core.0 < 64 → IsTrue (has sharers core.0 || is_named owner core.0))
 
--- A GetM makes its requester the owner. Nothing else makes a new owner but, under the setting, a GetS of a line that nobody
--- has. An owner stays until another Get, or until it writes the line back.
-pub record GrantsWriting (exclusive : Bool) (state : DirState) (owner : Option CoreId) (event : DirEvent) (next : Option CoreId) : Type 0 where
+-- A GetM makes its requester the owner. Nothing else makes a new owner but, under the setting, a GetS of a line that
+-- nobody has. An owner stays until another Get, or until it writes the line back.
+pub record GrantsWriting (exclusive : Bool) (state : DirState) (owner : Option CoreId) (event : DirEvent)
+    (next : Option CoreId) : Type 0 where
   pub granted : IfSome (writer event) (λ core. next ≡ Some core)
-  pub asked : IfSome next (λ core. (owner ≡ Some core) ⊎ (writer event ≡ Some core) ⊎ (IsTrue (exclusive && is_idle state) × (reader event ≡ Some core)))
+  pub asked : IfSome next (λ core. (owner ≡ Some core) ⊎ (writer event ≡ Some core)
+      ⊎ (IsTrue (exclusive && is_idle state) × (reader event ≡ Some core)))
   pub kept : IsFalse (is_some (getter event) || is_written_back state owner event) → next ≡ owner
   pub given_up : IsTrue (is_written_back state owner event) → next ≡ None
 
@@ -177,7 +179,8 @@ pub record GrantsWriting (exclusive : Bool) (state : DirState) (owner : Option C
 pub record Invalidates (state : DirState) (sharers : ℕ) (event : DirEvent) (sent : DirSends) : Type 0 where
   pub written : sends_inv sent ≡ (is_shared state && is_some (writer event))
   pub each : (core : ℕ) → core < 64
-      → is_sent_inv sent core ≡ (is_shared state && is_some (writer event) && has sharers core && not (is_named (writer event) core))
+      → is_sent_inv sent core
+      ≡ (is_shared state && is_some (writer event) && has sharers core && not (is_named (writer event) core))
 
 -- The requester is told to await as many acknowledgements as cores are sent an invalidation.
 abbrev pub AwaitsInvalidated : DirSends → Type 0

@@ -57,7 +57,8 @@ pub fn dir_row(exclusive: bool, entry: &DirEntry, event: DirEvent) -> DirRow
     ensures table { result ≡ row_of exclusive entry.now event }
 
     // What the coherence of a line rests on, whatever the cells are.
-    ensures owner { HasOwnerInM entry.now.state entry.now.owner → IfGo result (λ state owner _ _ _. HasOwnerInM state owner) }
+    ensures owner { HasOwnerInM entry.now.state entry.now.owner
+        → IfGo result (λ state owner _ _ _. HasOwnerInM state owner) }
     ensures home { IfGo result (λ _ _ _ _ writes. writes ≡ brings_home entry.now.state entry.now.owner event) }
     ensures served { IfGo result (λ _ _ _ sent _. Serves entry.now.state entry.now.owner event sent) }
     ensures replied { IfGo result (λ _ _ _ sent _. Replies event sent) }
@@ -93,7 +94,8 @@ fn cell(exclusive: bool, state: DirState, owner: Option<CoreId>, sharers: CoreSe
         (I, _, GetM(core)) => go(M, Some(core), sharers, Data { acks: 0 }),
         (S, _, GetS(core)) => go(S, owner, sharers.with(core), Data { acks: 0 }),
         (S, _, GetM(core)) => go(M, Some(core), CoreSet::none(), invalidate_others(sharers, core)),
-        (M, Some(from), GetS(core)) if from != core => go(S_D, None, CoreSet::only(from).with(core), FwdGetS { owner: from }),
+        (M, Some(from), GetS(core)) if from != core =>
+            go(S_D, None, CoreSet::only(from).with(core), FwdGetS { owner: from }),
         (M, Some(from), GetM(core)) if from != core => go(M, Some(core), sharers, FwdGetM { owner: from }),
         (M, Some(from), PutM(core)) if from == core => go_home(I, None, sharers, PutAck),
         (S_D, _, GetS(_) | GetM(_)) => Blocked,

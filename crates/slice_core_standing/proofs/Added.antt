@@ -48,21 +48,21 @@ once-added log core old new accepted line target adds next stands = record {
 }
 
 waits-added : (log : List Entry) (old new : List Register) (line : ℕ) (target : Target) → AddsTarget old new line target
-    → IsMissFile new → IsPerformable target → target.since ≤ length log → CanWait log old → CanWait log new
-waits-added log old new line target adds file can asked waits = record {
+    → IsMissFile new → target.offset.0 < 8 → target.tag < 64 → target.since ≡ length log → CanWait log old → CanWait log new
+waits-added log old new line target adds file word tag now waits = record {
   file = file;
   performable =
-      let passes : is_performable target ≡ true = and_from _ _ (lt-ltb target.offset.0 8 can.word) (lt-ltb target.tag 64 can.tag) in
+      let passes : is_performable target ≡ true = and_from _ _ (lt-ltb target.offset.0 8 word) (lt-ltb target.tag 64 tag) in
       count_of-added_none (λ t. not (is_performable t)) old new line target adds (rw passes refl) waits.performable;
   asked =
-      let passes : is_asked_by (length log) target ≡ true = le-leb target.since (length log) asked in
+      let passes : is_asked_by (length log) target ≡ true = le-leb target.since (length log) (omega (arith, now)) in
       count_of-added_none (λ t. not (is_asked_by (length log) t)) old new line target adds (rw passes refl) waits.asked;
 }
 
 tags-added : (log : List Entry) (core : ℕ) (old new : List Register) (states : List TagState) (line : ℕ) (target : Target)
-    → AddsTarget old new line target → target.tag < 64 → is_open (tag_in states target.tag) ≡ false → HasTags log core old states
+    → AddsTarget old new line target → target.tag < 64 → tag_in states target.tag ≡ tags.Free → HasTags log core old states
     → HasTags log core new (slice_set states target.tag tags.Open)
-tags-added log core old new states line target adds small shut named = record {
+tags-added log core old new states line target adds small free named = record {
   sized = length-set states target.tag tags.Open ∙ named.sized;
   opened = λ tag. ⊎_elim (opened_here tag) (opened_there tag) (cases_eq tag target.tag);
   replies = λ tag number is.
@@ -82,7 +82,7 @@ tags-added log core old new states line target adds small shut named = record {
     opened_here : (tag : ℕ) → tag ≡ target.tag
         → count_of (has_tag tag) new ≡ one_if (is_open (tag_in (slice_set states target.tag tags.Open) tag))
     opened_here tag same =
-        let before = tag-names_none log core old states tag named (ap (λ t. is_open (tag_in states t)) same ∙ shut) in
+        let before = tag-names_none log core old states tag named (ap (λ t. tag_in states t) same ∙ free) in
         let more = added (has_tag tag) old new line target adds in
         let mine = one (has_tag tag target) (eq-eqb target.tag tag (sym same)) in
         let now = ap (λ state. one_if (is_open state)) (here tag same) in
@@ -121,12 +121,12 @@ order-added lines log core old new accepted line target adds next stands order =
 }
 
 pub account-added : (lines : Lines) (log : List Entry) (core : ℕ) (old new : List Register) (states : List TagState) (accepted line : ℕ)
-    (target : Target) → AddsTarget old new line target → IsMissFile new → IsPerformable target → target.seq ≡ accepted
-    → target.since ≤ length log → is_open (tag_in states target.tag) ≡ false → IsAccount lines log core old states accepted
-    → IsAccount lines log core new (slice_set states target.tag tags.Open) (accepted + 1)
-account-added lines log core old new states accepted line target adds file can next asked shut account = record {
+    (target : Target) → AddsTarget old new line target → IsMissFile new → target.offset.0 < 8 → target.tag < 64
+    → target.seq ≡ accepted → target.since ≡ length log → tag_in states target.tag ≡ tags.Free
+    → IsAccount lines log core old states accepted → IsAccount lines log core new (slice_set states target.tag tags.Open) (accepted + 1)
+account-added lines log core old new states accepted line target adds file word tag next now free account = record {
   standing = once-added log core old new accepted line target adds next account.standing;
-  waits = waits-added log old new line target adds file can asked account.waits;
-  tags = tags-added log core old new states line target adds can.tag shut account.tags;
+  waits = waits-added log old new line target adds file word tag now account.waits;
+  tags = tags-added log core old new states line target adds tag free account.tags;
   order = order-added lines log core old new accepted line target adds next account.standing account.order;
 }

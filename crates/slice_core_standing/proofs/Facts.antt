@@ -55,7 +55,7 @@ all-asked log misses line waits =
     (λ target passes. leb-true target.since (length log) passes) (targets_of misses line)
     (all_pass (is_asked_by (length log)) misses line waits.asked)
 
--- No two targets have one tag, and none has a tag that isn't open.
+-- No two targets have one tag, and none has a free one.
 pub each-tag_once : (log : List Entry) (core : ℕ) (misses : List Register) (states : List TagState) → HasTags log core misses states
     → HasEachTagOnce misses
 each-tag_once log core misses states named tag =
@@ -64,13 +64,14 @@ each-tag_once log core misses states named tag =
     omega (arith, all, few)
 
 pub tag-names_none : (log : List Entry) (core : ℕ) (misses : List Register) (states : List TagState) (tag : ℕ)
-    → HasTags log core misses states → is_open (tag_in states tag) ≡ false → count_of (has_tag tag) misses ≡ 0
-tag-names_none log core misses states tag named shut = named.opened tag ∙ none (is_open (tag_in states tag)) shut
+    → HasTags log core misses states → tag_in states tag ≡ tags.Free → count_of (has_tag tag) misses ≡ 0
+tag-names_none log core misses states tag named free =
+    named.opened tag ∙ none (is_open (tag_in states tag)) (ap is_open free)
 
 pub tag-is_free : (log : List Entry) (core : ℕ) (misses : List Register) (states : List TagState) (tag : ℕ)
-    → HasTags log core misses states → is_open (tag_in states tag) ≡ false → is_free misses tag ≡ true
-tag-is_free log core misses states tag named shut =
-    eq-eqb (count_of (has_tag tag) misses) 0 (tag-names_none log core misses states tag named shut)
+    → HasTags log core misses states → tag_in states tag ≡ tags.Free → is_free misses tag ≡ true
+tag-is_free log core misses states tag named free =
+    eq-eqb (count_of (has_tag tag) misses) 0 (tag-names_none log core misses states tag named free)
 
 -- Two tags never name one entry.
 pub replies-apart : (log : List Entry) (core : ℕ) (misses : List Register) (states : List TagState) (tag other number : ℕ)

@@ -66,10 +66,10 @@ account-hit lines log core misses states accepted local entry few own next here 
 
 -- The log stays ordered: the core's other entries were asked for before.
 pub ordered-hit : (log : List Entry) (core : ℕ) (misses : List Register) (accepted : ℕ) (entry : Entry) → entry.core.0 ≡ core
-    → entry.seq ≡ accepted → entry.since ≤ length log → StandsOnce log core misses accepted → IsOrdered log
+    → entry.seq ≡ accepted → entry.since ≡ length log → StandsOnce log core misses accepted → IsOrdered log
     → IsOrdered (log ++ entry ∷ [])
-ordered-hit log core misses accepted entry own next asked stands ordered =
+ordered-hit log core misses accepted entry own next now stands ordered =
     IsOrdered-push log entry ordered
     (All-weaker (λ (e : Entry). e.core.0 ≡ core → e.seq < accepted) (λ e. IsAfter e entry)
     (λ e below same line. let less = below (ap (λ c. c.0) same ∙ own) in omega (arith, less, next)) log
-    (entries-below log core misses accepted stands)) asked
+    (entries-below log core misses accepted stands)) (omega (arith, now))

@@ -7,3 +7,5 @@ pub mod Added
 pub mod Handed
 pub mod Settled
 pub mod Ordered
+mod Laws
+mod Examples

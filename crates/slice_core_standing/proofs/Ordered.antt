@@ -85,4 +85,4 @@ ordered-settled lines log core first block old new states accepted local taken t
     }) ordered
   where
     some : (P : Target → Type 0) → All P (targets_of old local.0) → All P taken
-    some P all = some-taken log old local.0 taken (targets_of new local.0) takes.here P all
+    some P all = some-taken old local.0 taken (targets_of new local.0) takes.here P all

@@ -148,10 +148,10 @@ tag-performed log core first block states tag (target ∷ taken) sized can has =
 
 -- ---- the account
 
--- What the taken targets still count, they count before.
-pub some-taken : (log : List Entry) (old : List Register) (line : ℕ) (taken left : List Target) → targets_of old line ≡ taken ++ left
+-- What holds of all that wait for a line holds of those that are taken from its front.
+pub some-taken : (old : List Register) (line : ℕ) (taken left : List Target) → targets_of old line ≡ taken ++ left
     → (P : Target → Type 0) → All P (targets_of old line) → All P taken
-some-taken log old line taken left is P all k d inside =
+some-taken old line taken left is P all k d inside =
     let long = length-append taken left in
     let here = get_or_append_left taken left d k inside in
     rw (is, here) at (all k d (rw is (omega (arith, inside, long))))
@@ -206,7 +206,7 @@ module _ (log : List Entry) (core : CoreId) (first : ℕ) (block : Block) (old n
   }
     where
       can : All IsPerformable taken
-      can = some-taken log old line taken (targets_of new line) takes.here IsPerformable (all-performable log old line waits)
+      can = some-taken old line taken (targets_of new line) takes.here IsPerformable (all-performable log old line waits)
 
       found : (tag : ℕ) → 1 ≤ count_by (has_tag tag) taken
           → NamesEntry (log ++ entries_of core first block taken) core (tags_after states (length log) taken) tag
@@ -273,7 +273,7 @@ order-settled lines log core first block old new local taken takes few begins wa
 
     both : All IsTaken taken
     both k d inside = (
-      some-taken log old local.0 taken (targets_of new local.0) takes.here IsPerformable (all-performable log old local.0 waits) k d inside,
+      some-taken old local.0 taken (targets_of new local.0) takes.here IsPerformable (all-performable log old local.0 waits) k d inside,
       ascending-apart (λ (t : Target). t.seq) taken (targets_of new local.0) (rw takes.here at (order.targets local.0)) k d inside,
     )
 

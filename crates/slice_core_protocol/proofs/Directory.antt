@@ -21,6 +21,7 @@ use Rattle.slice_core_protocol.proofs.ForwardGetS.{forward_get_s}
 use Rattle.slice_core_protocol.proofs.Invalidate.{write_shared}
 use Rattle.slice_core_protocol.proofs.OnlyCopy.{read_alone, write_idle}
 use Rattle.slice_core_protocol.proofs.Puts.{last_sharer_leaves, late_put, owner_leaves, sharer_leaves}
+use Rattle.slice_core_protocol.proofs.Settings.{by_setting}
 use Rattle.slice_core_protocol.proofs.ReadShared.{read_idle, read_shared}
 use Rattle.slice_core_protocol.specs.Coherent.{IsCoherent}
 use Rattle.slice_core_protocol.specs.Fit.{is_put, is_put_m, is_put_s}
@@ -145,70 +146,25 @@ rows_on cores roles dirs.S_D None s home part (asks.PutM core) most coherent wit
 rows_on cores roles dirs.S_D None s home part asks.DataHome most coherent within wants =
     home_comes cores roles s home part coherent wants
 
--- The request is one to read a line that nobody has: the setting makes a difference to this one alone.
-reads_idle : DirState → DirEvent → Bool
-reads_idle dirs.I (asks.GetS core) = true
-reads_idle _ _ = false
-
-other_setting : (directory : DirState) (owner : Option CoreId) (s : ℕ) (event : DirEvent) → reads_idle directory event ≡ false
-    → cell true directory owner s event ≡ cell false directory owner s event
-unfolding reads_idle
-other_setting dirs.I owner s (asks.GetS core) e = absurd (true≢false e)
-other_setting dirs.I owner s (asks.GetM core) e = refl
-other_setting dirs.I owner s (asks.PutS core) e = refl
-other_setting dirs.I owner s (asks.PutM core) e = refl
-other_setting dirs.I owner s asks.DataHome e = refl
-other_setting dirs.S owner s (asks.GetS core) e = refl
-other_setting dirs.S owner s (asks.GetM core) e = refl
-other_setting dirs.S owner s (asks.PutS core) e = refl
-other_setting dirs.S owner s (asks.PutM core) e = refl
-other_setting dirs.S owner s asks.DataHome e = refl
-other_setting dirs.M None s (asks.GetS core) e = refl
-other_setting dirs.M None s (asks.GetM core) e = refl
-other_setting dirs.M None s (asks.PutS core) e = refl
-other_setting dirs.M None s (asks.PutM core) e = refl
-other_setting dirs.M None s asks.DataHome e = refl
-other_setting dirs.M (Some owner) s (asks.GetS core) e = refl
-other_setting dirs.M (Some owner) s (asks.GetM core) e = refl
-other_setting dirs.M (Some owner) s (asks.PutS core) e = refl
-other_setting dirs.M (Some owner) s (asks.PutM core) e = refl
-other_setting dirs.M (Some owner) s asks.DataHome e = refl
-other_setting dirs.S_D owner s (asks.GetS core) e = refl
-other_setting dirs.S_D owner s (asks.GetM core) e = refl
-other_setting dirs.S_D owner s (asks.PutS core) e = refl
-other_setting dirs.S_D owner s (asks.PutM core) e = refl
-other_setting dirs.S_D owner s asks.DataHome e = refl
-
--- The rows without it.
-rows_off : (cores : ℕ) (roles : Roles) (directory : DirState) (owner : Option CoreId) (s : ℕ) (home : Bool)
-    (part : ℕ → Part) (event : DirEvent) → cores ≤ 64 → IsCoherent cores (line_at directory owner s home part) roles
-    → IsWithin cores event → IsTrue (is_asked_for (line_at directory owner s home part) event)
-    → (b : Bool) → reads_idle directory event ≡ b
-    → IsKeptBy cores (line_at directory owner s home part) event (cell false directory owner s event)
-unfolding reads_idle
-rows_off cores roles directory owner s home part event most coherent within wants false e =
-    subst (IsKeptBy cores (line_at directory owner s home part) event) (other_setting directory owner s event e)
-    (rows_on cores roles directory owner s home part event most coherent within wants)
-rows_off cores roles dirs.I None s home part (asks.GetS core) most coherent within wants true e =
-    (roles, read_idle cores roles s home part core.0 most coherent within wants)
-rows_off cores roles dirs.I (Some owner) s home part event most coherent within wants true e = absurd (true≢false coherent.entry.in_m)
-rows_off cores roles dirs.I None s home part (asks.GetM core) most coherent within wants true e = absurd (true≢false (sym e))
-rows_off cores roles dirs.I None s home part (asks.PutS core) most coherent within wants true e = absurd (true≢false (sym e))
-rows_off cores roles dirs.I None s home part (asks.PutM core) most coherent within wants true e = absurd (true≢false (sym e))
-rows_off cores roles dirs.I None s home part asks.DataHome most coherent within wants true e = absurd (true≢false (sym e))
-rows_off cores roles dirs.S owner s home part event most coherent within wants true e = absurd (true≢false (sym e))
-rows_off cores roles dirs.M owner s home part event most coherent within wants true e = absurd (true≢false (sym e))
-rows_off cores roles dirs.S_D owner s home part event most coherent within wants true e = absurd (true≢false (sym e))
+-- The row that the setting changes, without it.
+row_off : (cores : ℕ) (roles : Roles) (owner : Option CoreId) (s : ℕ) (home : Bool) (part : ℕ → Part) (core : CoreId) → cores ≤ 64
+    → IsCoherent cores (line_at dirs.I owner s home part) roles → core.0 < cores
+    → IsTrue (is_asked_for (line_at dirs.I owner s home part) (asks.GetS core))
+    → IsKeptBy cores (line_at dirs.I owner s home part) (asks.GetS core) (cell false dirs.I owner s (asks.GetS core))
+row_off cores roles None s home part core most coherent within wants = (roles, read_idle cores roles s home part core.0 most coherent within wants)
+row_off cores roles (Some owner) s home part core most coherent within wants = absurd (true≢false coherent.entry.in_m)
 
 -- The rows at both settings.
-rows_kept : (cores : ℕ) (roles : Roles) (exclusive : Bool) (directory : DirState) (owner : Option CoreId) (s : ℕ) (home : Bool)
-    (part : ℕ → Part) (event : DirEvent) → cores ≤ 64 → IsCoherent cores (line_at directory owner s home part) roles
-    → IsWithin cores event → IsTrue (is_asked_for (line_at directory owner s home part) event)
+rows_kept : (cores : ℕ) (roles : Roles) (s : ℕ) (home : Bool) (part : ℕ → Part) → cores ≤ 64
+    → (exclusive : Bool) (directory : DirState) (owner : Option CoreId) (event : DirEvent)
+    → IsCoherent cores (line_at directory owner s home part) roles → IsWithin cores event
+    → IsTrue (is_asked_for (line_at directory owner s home part) event)
     → IsKeptBy cores (line_at directory owner s home part) event (cell exclusive directory owner s event)
-rows_kept cores roles true directory owner s home part event most coherent within wants =
-    rows_on cores roles directory owner s home part event most coherent within wants
-rows_kept cores roles false directory owner s home part event most coherent within wants =
-    rows_off cores roles directory owner s home part event most coherent within wants (reads_idle directory event) refl
+rows_kept cores roles s home part most =
+    by_setting (λ directory owner event row. IsCoherent cores (line_at directory owner s home part) roles → IsWithin cores event
+    → IsTrue (is_asked_for (line_at directory owner s home part) event) → IsKeptBy cores (line_at directory owner s home part) event row) s
+    (λ directory owner event coherent within wants. rows_on cores roles directory owner s home part event most coherent within wants)
+    (λ owner core coherent within wants. row_off cores roles owner s home part core most coherent within wants)
 
 -- A turn of the directory keeps the line coherent.
 pub serve_kept : (cores : ℕ) (roles : Roles) (line : Line) (exclusive : Bool) (event : DirEvent) (home : Block) (state : DirState)
@@ -218,4 +174,4 @@ pub serve_kept : (cores : ℕ) (roles : Roles) (line : Line) (exclusive : Bool) 
     → IsKept cores (after_service line event state owner sharers sent)
 serve_kept cores roles line exclusive event home state owner sharers sent writes most coherent within asks row =
     subst (IsKeptBy cores line event) row
-    (rows_kept cores roles exclusive line.directory line.owner line.sharers line.home line.part event most coherent within asks)
+    (rows_kept cores roles line.sharers line.home line.part most exclusive line.directory line.owner event coherent within asks)

@@ -114,14 +114,14 @@ other_kept n p fit counted asked not_server not_keeper not_asker =
     refl refl refl counted.missing counted
 
 -- What is known of the server and the asker.
-record Pair (line : Line) (roles : Roles) (c r : ℕ) : Type 0 where
-  asked : is_asked line.directory line.home ≡ true
-  server : c ≡ roles.server
-  keeper : c ≡ roles.keeper
-  asker : r ≡ roles.asker
-  apart : r ≡ c → ⊥
+pub record Pair (line : Line) (roles : Roles) (c r : ℕ) : Type 0 where
+  pub asked : is_asked line.directory line.home ≡ true
+  pub server : c ≡ roles.server
+  pub keeper : c ≡ roles.keeper
+  pub asker : r ≡ roles.asker
+  pub apart : r ≡ c → ⊥
 
-pair : (cores : ℕ) (line : Line) (roles : Roles) (c : ℕ) (next : CopyState) (sent : CacheSends) → IsCoherent cores line roles
+pub pair : (cores : ℕ) (line : Line) (roles : Roles) (c : ℕ) (next : CopyState) (sent : CacheSends) → IsCoherent cores line roles
     → c < cores → IsTrue (stands (line.part c) events.FwdGetS) → row_of (line.part c).look.state events.FwdGetS ≡ rows.Go next sent
     → Pair line roles c (line.part c).names
 pair cores line roles c next sent coherent within here row =

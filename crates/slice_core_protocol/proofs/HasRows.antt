@@ -19,6 +19,7 @@ use Rattle.slice_core_protocol.proofs.Data.{AtHand, at_hand}
 use Rattle.slice_core_protocol.proofs.Each.{all_words, each_fit, each_fit-at, if_so, if_so-at, left, not-at, right}
 use Rattle.slice_core_protocol.proofs.InvAck.{Pair, pair}
 use Rattle.slice_core_protocol.proofs.Quiet.{keeper_holds}
+use Rattle.slice_core_protocol.proofs.Settings.{by_setting}
 use Rattle.slice_core_protocol.proofs.Samples.{ack_row, ack_sample, data_row, data_sample}
 use Rattle.slice_core_protocol.specs.Coherent.{IsCoherent, debts, wanted}
 use Rattle.slice_core_protocol.specs.Fit.{awaits, holder, is_fit, is_fwd_get_m, is_fwd_get_s, is_get_m, is_get_s, is_only_data, is_put_ack_first, is_put_s, is_shared_data, owes}
@@ -193,60 +194,48 @@ owner_is cores roles owner core s home part coherent within own =
     owner_asks_at (near_of (line_at dirs.M (Some owner) s home part) roles core.0) (part core.0).look (coherent.fit core.0 within)
     (eq-eqb core.0 owner.0 (sym (eqb-true owner.0 core.0 own)))
 
-serve_has_row : (exclusive : Bool) (cores : ℕ) (roles : Roles) (directory : DirState) (owner : Option CoreId) (s : ℕ) (home : Bool)
+row_on : (cores : ℕ) (roles : Roles) (directory : DirState) (owner : Option CoreId) (s : ℕ) (home : Bool)
     (part : ℕ → Part) (event : DirEvent) → IsCoherent cores (line_at directory owner s home part) roles
     → 0 < cores → IsWithin cores event → IsTrue (is_asked_for (line_at directory owner s home part) event)
-    → is_directory_entry (Directory.cell exclusive directory owner s event) ≡ true
-serve_has_row true cores roles dirs.I owner s home part (asks.GetS core) coherent some within wants = refl
-serve_has_row false cores roles dirs.I owner s home part (asks.GetS core) coherent some within wants = refl
-serve_has_row true cores roles dirs.M None s home part event coherent some within wants = absurd (true≢false (sym coherent.entry.in_m))
-serve_has_row false cores roles dirs.M None s home part event coherent some within wants = absurd (true≢false (sym coherent.entry.in_m))
-serve_has_row true cores roles dirs.I owner s home part (asks.GetM core) coherent some within wants = refl
-serve_has_row true cores roles dirs.I owner s home part (asks.PutS core) coherent some within wants = refl
-serve_has_row true cores roles dirs.I owner s home part (asks.PutM core) coherent some within wants = refl
-serve_has_row true cores roles dirs.S owner s home part (asks.GetS core) coherent some within wants = refl
-serve_has_row true cores roles dirs.S owner s home part (asks.GetM core) coherent some within wants = refl
-serve_has_row true cores roles dirs.S owner s home part (asks.PutS core) coherent some within wants = refl
-serve_has_row true cores roles dirs.S owner s home part (asks.PutM core) coherent some within wants = refl
-serve_has_row true cores roles dirs.S_D owner s home part (asks.GetS core) coherent some within wants = refl
-serve_has_row true cores roles dirs.S_D owner s home part (asks.GetM core) coherent some within wants = refl
-serve_has_row true cores roles dirs.S_D owner s home part (asks.PutS core) coherent some within wants = refl
-serve_has_row true cores roles dirs.S_D owner s home part (asks.PutM core) coherent some within wants = refl
-serve_has_row true cores roles dirs.S_D owner s home part asks.DataHome coherent some within wants = refl
-serve_has_row true cores roles dirs.I owner s home part asks.DataHome coherent some within wants = absurd (true≢false (sym (awaited cores roles dirs.I owner s home part coherent some wants)))
-serve_has_row true cores roles dirs.S owner s home part asks.DataHome coherent some within wants = absurd (true≢false (sym (awaited cores roles dirs.S owner s home part coherent some wants)))
-serve_has_row true cores roles dirs.M (Some owner) s home part asks.DataHome coherent some within wants = absurd (true≢false (sym (awaited cores roles dirs.M (Some owner) s home part coherent some wants)))
-serve_has_row true cores roles dirs.M (Some owner) s home part (asks.GetS core) coherent some within wants =
+    → is_directory_entry (Directory.cell true directory owner s event) ≡ true
+row_on cores roles dirs.M None s home part event coherent some within wants = absurd (true≢false (sym coherent.entry.in_m))
+row_on cores roles dirs.I owner s home part asks.DataHome coherent some within wants =
+    absurd (true≢false (sym (awaited cores roles dirs.I owner s home part coherent some wants)))
+row_on cores roles dirs.S owner s home part asks.DataHome coherent some within wants =
+    absurd (true≢false (sym (awaited cores roles dirs.S owner s home part coherent some wants)))
+row_on cores roles dirs.M (Some owner) s home part asks.DataHome coherent some within wants =
+    absurd (true≢false (sym (awaited cores roles dirs.M (Some owner) s home part coherent some wants)))
+row_on cores roles dirs.M (Some owner) s home part (asks.GetS core) coherent some within wants =
     no_own (owner.0 == core.0) _ _ (λ own. true≢false (sym wants ∙ (owner_is cores roles owner core s home part coherent within own).get_s)) refl
-serve_has_row true cores roles dirs.M (Some owner) s home part (asks.GetM core) coherent some within wants =
+row_on cores roles dirs.M (Some owner) s home part (asks.GetM core) coherent some within wants =
     no_own (owner.0 == core.0) _ _ (λ own. true≢false (sym wants ∙ (owner_is cores roles owner core s home part coherent within own).get_m)) refl
-serve_has_row true cores roles dirs.M (Some owner) s home part (asks.PutS core) coherent some within wants =
+row_on cores roles dirs.M (Some owner) s home part (asks.PutS core) coherent some within wants =
     no_own (owner.0 == core.0) _ _ (λ own. true≢false (sym wants ∙ (owner_is cores roles owner core s home part coherent within own).put_s)) refl
-serve_has_row true cores roles dirs.M (Some owner) s home part (asks.PutM core) coherent some within wants =
-    entry_if (owner.0 == core.0) _ _ refl refl
-serve_has_row false cores roles dirs.I owner s home part (asks.GetM core) coherent some within wants = refl
-serve_has_row false cores roles dirs.I owner s home part (asks.PutS core) coherent some within wants = refl
-serve_has_row false cores roles dirs.I owner s home part (asks.PutM core) coherent some within wants = refl
-serve_has_row false cores roles dirs.S owner s home part (asks.GetS core) coherent some within wants = refl
-serve_has_row false cores roles dirs.S owner s home part (asks.GetM core) coherent some within wants = refl
-serve_has_row false cores roles dirs.S owner s home part (asks.PutS core) coherent some within wants = refl
-serve_has_row false cores roles dirs.S owner s home part (asks.PutM core) coherent some within wants = refl
-serve_has_row false cores roles dirs.S_D owner s home part (asks.GetS core) coherent some within wants = refl
-serve_has_row false cores roles dirs.S_D owner s home part (asks.GetM core) coherent some within wants = refl
-serve_has_row false cores roles dirs.S_D owner s home part (asks.PutS core) coherent some within wants = refl
-serve_has_row false cores roles dirs.S_D owner s home part (asks.PutM core) coherent some within wants = refl
-serve_has_row false cores roles dirs.S_D owner s home part asks.DataHome coherent some within wants = refl
-serve_has_row false cores roles dirs.I owner s home part asks.DataHome coherent some within wants = absurd (true≢false (sym (awaited cores roles dirs.I owner s home part coherent some wants)))
-serve_has_row false cores roles dirs.S owner s home part asks.DataHome coherent some within wants = absurd (true≢false (sym (awaited cores roles dirs.S owner s home part coherent some wants)))
-serve_has_row false cores roles dirs.M (Some owner) s home part asks.DataHome coherent some within wants = absurd (true≢false (sym (awaited cores roles dirs.M (Some owner) s home part coherent some wants)))
-serve_has_row false cores roles dirs.M (Some owner) s home part (asks.GetS core) coherent some within wants =
-    no_own (owner.0 == core.0) _ _ (λ own. true≢false (sym wants ∙ (owner_is cores roles owner core s home part coherent within own).get_s)) refl
-serve_has_row false cores roles dirs.M (Some owner) s home part (asks.GetM core) coherent some within wants =
-    no_own (owner.0 == core.0) _ _ (λ own. true≢false (sym wants ∙ (owner_is cores roles owner core s home part coherent within own).get_m)) refl
-serve_has_row false cores roles dirs.M (Some owner) s home part (asks.PutS core) coherent some within wants =
-    no_own (owner.0 == core.0) _ _ (λ own. true≢false (sym wants ∙ (owner_is cores roles owner core s home part coherent within own).put_s)) refl
-serve_has_row false cores roles dirs.M (Some owner) s home part (asks.PutM core) coherent some within wants =
-    entry_if (owner.0 == core.0) _ _ refl refl
+row_on cores roles dirs.M (Some owner) s home part (asks.PutM core) coherent some within wants = entry_if (owner.0 == core.0) _ _ refl refl
+row_on cores roles dirs.I owner s home part (asks.GetS core) coherent some within wants = refl
+row_on cores roles dirs.I owner s home part (asks.GetM core) coherent some within wants = refl
+row_on cores roles dirs.I owner s home part (asks.PutS core) coherent some within wants = refl
+row_on cores roles dirs.I owner s home part (asks.PutM core) coherent some within wants = refl
+row_on cores roles dirs.S owner s home part (asks.GetS core) coherent some within wants = refl
+row_on cores roles dirs.S owner s home part (asks.GetM core) coherent some within wants = refl
+row_on cores roles dirs.S owner s home part (asks.PutS core) coherent some within wants = refl
+row_on cores roles dirs.S owner s home part (asks.PutM core) coherent some within wants = refl
+row_on cores roles dirs.S_D owner s home part (asks.GetS core) coherent some within wants = refl
+row_on cores roles dirs.S_D owner s home part (asks.GetM core) coherent some within wants = refl
+row_on cores roles dirs.S_D owner s home part (asks.PutS core) coherent some within wants = refl
+row_on cores roles dirs.S_D owner s home part (asks.PutM core) coherent some within wants = refl
+row_on cores roles dirs.S_D owner s home part asks.DataHome coherent some within wants = refl
+
+serve_has_row : (exclusive : Bool) (cores : ℕ) (roles : Roles) (line : Line) (event : DirEvent) → IsCoherent cores line roles → 0 < cores
+    → IsWithin cores event → IsTrue (is_asked_for line event)
+    → is_directory_entry (Directory.cell exclusive line.directory line.owner line.sharers event) ≡ true
+serve_has_row exclusive cores roles line event coherent some within wants =
+    by_setting (λ directory owner event row. IsCoherent cores (line_at directory owner line.sharers line.home line.part) roles
+    → IsWithin cores event → IsTrue (is_asked_for (line_at directory owner line.sharers line.home line.part) event) → is_directory_entry row ≡ true)
+    line.sharers
+    (λ directory owner event coherent within wants. row_on cores roles directory owner line.sharers line.home line.part event coherent some within wants)
+    (λ owner core coherent within wants. refl)
+    exclusive line.directory line.owner event coherent within wants
 
 sent_owes : (l : Look) → l.sent ≡ true → owes l ≡ true
 unfolding owes
@@ -258,6 +247,5 @@ has_rows exclusive cores line roles some coherent = record {
   turn = λ c event within message here. turn_has_row cores line roles c event coherent within message here;
   ack = λ c d within below here. ack_has_row cores line roles c d coherent within below (pair cores line roles c d coherent within below here);
   ack_for_core = λ d below sent. subst (λ y. y < cores) (sym (coherent.balanced.due d below (sent_owes (line.part d).look sent))) coherent.roles_within.keeper;
-  serve = λ event home within wants.
-      serve_has_row exclusive cores roles line.directory line.owner line.sharers line.home line.part event coherent some within wants;
+  serve = λ event home within wants. serve_has_row exclusive cores roles line event coherent some within wants;
 }

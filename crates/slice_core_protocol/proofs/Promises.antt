@@ -1,11 +1,13 @@
 -- What is promised of every line that the machine reaches.
 use Rattle.std.proofs.Common.{ℕ, ◌<◌, ◌≤◌, Bool}
 use Rattle.slice_core_protocol.proofs.HasRows.{has_rows}
+use Rattle.slice_core_protocol.proofs.HasRoom.{has_room}
 use Rattle.slice_core_protocol.proofs.OneWriter.{one_writer}
+use Rattle.slice_core_protocol.proofs.Settled.{nothing_early, settled}
 use Rattle.slice_core_protocol.proofs.Steps.{reached_coherent}
 use Rattle.slice_core_protocol.specs.Line.{Line}
 use Rattle.slice_core_protocol.specs.Machine.{Reached}
-use Rattle.slice_core_protocol.specs.Promise.{HasOneWriter, HasRows}
+use Rattle.slice_core_protocol.specs.Promise.{HasOneWriter, HasRoom, HasRows, IsSettled, NothingIsEarly}
 
 pub reached_one_writer : (exclusive : Bool) (cores : ℕ) (line : Line) → 0 < cores → cores ≤ 64 → Reached exclusive cores line → HasOneWriter cores line
 reached_one_writer exclusive cores line some most reached =
@@ -16,3 +18,21 @@ pub reached_has_rows : (exclusive : Bool) (cores : ℕ) (line : Line) → 0 < co
 reached_has_rows exclusive cores line some most reached =
     let kept = reached_coherent exclusive cores line some most reached in
     has_rows exclusive cores line kept.0 some kept.1
+
+pub reached_has_room : (exclusive : Bool) (cores : ℕ) (line : Line) → 0 < cores → cores ≤ 64 → Reached exclusive cores line
+    → HasRoom exclusive cores line
+reached_has_room exclusive cores line some most reached =
+    let kept = reached_coherent exclusive cores line some most reached in
+    has_room exclusive cores line kept.0 most kept.1
+
+pub reached_nothing_early : (exclusive : Bool) (cores : ℕ) (line : Line) → 0 < cores → cores ≤ 64 → Reached exclusive cores line
+    → NothingIsEarly cores line
+reached_nothing_early exclusive cores line some most reached =
+    let kept = reached_coherent exclusive cores line some most reached in
+    nothing_early cores line kept.0 kept.1
+
+pub reached_settled : (exclusive : Bool) (cores : ℕ) (line : Line) → 0 < cores → cores ≤ 64 → Reached exclusive cores line
+    → IsSettled cores line
+reached_settled exclusive cores line some most reached =
+    let kept = reached_coherent exclusive cores line some most reached in
+    settled cores line kept.0 kept.1

@@ -14,7 +14,7 @@
 ghost use Rattle.std.specs.Prelude.{◌≤◌, ◌<◌, ℕ, Bool};
 ghost use Rattle.slice_core_protocol.specs.Line.{Line};
 ghost use Rattle.slice_core_protocol.specs.Machine.{Reached};
-ghost use Rattle.slice_core_protocol.specs.Promise.{HasOneWriter, HasRows};
+ghost use Rattle.slice_core_protocol.specs.Promise.{HasOneWriter, HasRoom, HasRows, IsSettled, NothingIsEarly};
 
 /// Whatever a line reaches, a core that may write it is the only one that may read it.
 pub fn one_writer()
@@ -24,4 +24,20 @@ pub fn one_writer()
 /// Whatever a line reaches, the tables have a row for each message at the front of its channel, or it has to wait.
 pub fn each_message_has_a_row()
     ensures rows { (exclusive : Bool) (cores : ℕ) (line : Line) → 0 < cores → cores ≤ 64 → Reached exclusive cores line → HasRows exclusive cores line }
+{}
+
+/// Whatever a line reaches, each channel that a step sends to has room, and what it sends overtakes nothing.
+pub fn each_send_has_room()
+    ensures room { (exclusive : Bool) (cores : ℕ) (line : Line) → 0 < cores → cores ≤ 64 → Reached exclusive cores line → HasRoom exclusive cores line }
+{}
+
+/// Whatever a line reaches, data and Put-Acks are there only for who has no request waiting.
+pub fn nothing_comes_early()
+    ensures early { (exclusive : Bool) (cores : ℕ) (line : Line) → 0 < cores → cores ≤ 64 → Reached exclusive cores line → NothingIsEarly cores line }
+{}
+
+/// Whatever a line reaches, once nothing is in flight its owner has the only copy, or it has no owner and the directory
+/// waits for nothing.
+pub fn owner_has_the_line()
+    ensures settled { (exclusive : Bool) (cores : ℕ) (line : Line) → 0 < cores → cores ≤ 64 → Reached exclusive cores line → IsSettled cores line }
 {}

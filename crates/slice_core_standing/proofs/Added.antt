@@ -1,22 +1,20 @@
 -- An access that is accepted and waits: the last target of its line, under the core's next number and an open tag.
-use Rattle.std.proofs.Common.{◌≡◌, ◌≢◌, ℕ, ◌+◌, ◌<◌, ◌≤◌, Bool, true, false, not, List, [], ◌∷◌, ◌++◌, length, Some, refl, sym, ap, subst, ◌∙◌, ⊎_elim, arith, eq-eqb, get_or, set}
-use Rattle.std.specs.Prelude.{◌==◌, ◌&&◌, nat_lt, nat_le, count_by, slice_set, slice_get, All, if◌then◌else◌}
+use Rattle.std.proofs.Common.{◌≡◌, ◌≢◌, ℕ, ◌+◌, ◌<◌, Bool, true, not, List, [], length, refl, sym, ap, ◌∙◌, ⊎_elim, arith, eq-eqb, get_or}
+use Rattle.std.specs.Prelude.{◌==◌, slice_set}
 use Rattle.std.proofs.lemmas.Bool.{and_from, cases_eq, le-leb, lt-ltb, ne_eqb}
 use Rattle.std.proofs.lemmas.List.{get_or-set_other, get_or-set_same, length-set}
 use Rattle.std.proofs.lemmas.List.Elements.{All-push, All-weaker}
 use Rattle.address_map.specs.Locator.{Lines}
-use Rattle.address_map.specs.declared.address.Local.{Local}
 use Rattle.mshr_file.proofs.Changes.{count_of-added_none}
-use Rattle.mshr_file.specs.Miss.{count_of, has_tag, targets_of, AddsTarget, IsInOrder, IsMissFile}
+use Rattle.mshr_file.specs.Miss.{count_of, has_tag, targets_of, AddsTarget, IsMissFile}
 use Rattle.mshr_file.specs.declared.registers.Register.{Register}
 use Rattle.slice_core_log.specs.declared.entry.Entry.{Entry}
 use Rattle.slice_core_side.specs.Tags.{tag_in}
-use Rattle.slice_core_side.specs.Targets.{IsPerformable}
 use Rattle.slice_core_side.specs.declared.tags.TagState.{TagState}
 use Rattle.slice_core_side.specs.declared.tags.TagState.TheVariants as tags
 use Rattle.slice_core_standing.proofs.Facts.{entries-below, tag-names_none, targets-below}
 use Rattle.slice_core_standing.proofs.Lists.{below_next, count_by-cons, one, one_if, none}
-use Rattle.slice_core_standing.specs.Standing.{has_seq, is_asked_by, is_open, is_performable, waiting, CanWait, HasTags, IsAccount, IsAhead, StandsInOrder, StandsOnce}
+use Rattle.slice_core_standing.specs.Standing.{has_seq, is_asked_by, is_open, is_performable, waiting, CanWait, HasTags, IsAccount, StandsInOrder, StandsOnce}
 use Rattle.target_list.specs.declared.target.Target.{Target}
 
 -- what one target adds to a count
@@ -33,7 +31,8 @@ pub waiting-added : (old new : List Register) (line : ℕ) (target : Target) →
 waiting-added old new line target adds = added (λ t. true) old new line target adds
 
 once-added : (log : List Entry) (core : ℕ) (old new : List Register) (accepted line : ℕ) (target : Target)
-    → AddsTarget old new line target → target.seq ≡ accepted → StandsOnce log core old accepted → StandsOnce log core new (accepted + 1)
+    → AddsTarget old new line target → target.seq ≡ accepted → StandsOnce log core old accepted
+    → StandsOnce log core new (accepted + 1)
 once-added log core old new accepted line target adds next stands = record {
   once = λ seq.
       let more = added (has_seq seq) old new line target adds in
@@ -48,19 +47,23 @@ once-added log core old new accepted line target adds next stands = record {
 }
 
 waits-added : (log : List Entry) (old new : List Register) (line : ℕ) (target : Target) → AddsTarget old new line target
-    → IsMissFile new → target.offset.0 < 8 → target.tag < 64 → target.since ≡ length log → CanWait log old → CanWait log new
+    → IsMissFile new → target.offset.0 < 8 → target.tag < 64 → target.since ≡ length log → CanWait log old
+    → CanWait log new
 waits-added log old new line target adds file word tag now waits = record {
   file = file;
   performable =
-      let passes : is_performable target ≡ true = and_from _ _ (lt-ltb target.offset.0 8 word) (lt-ltb target.tag 64 tag) in
+      let passes : is_performable target ≡ true = and_from _ _ (lt-ltb target.offset.0 8 word)
+      (lt-ltb target.tag 64 tag) in
       count_of-added_none (λ t. not (is_performable t)) old new line target adds (rw passes refl) waits.performable;
   asked =
       let passes : is_asked_by (length log) target ≡ true = le-leb target.since (length log) (omega (arith, now)) in
       count_of-added_none (λ t. not (is_asked_by (length log) t)) old new line target adds (rw passes refl) waits.asked;
 }
 
-tags-added : (log : List Entry) (core : ℕ) (old new : List Register) (states : List TagState) (line : ℕ) (target : Target)
-    → AddsTarget old new line target → target.tag < 64 → tag_in states target.tag ≡ tags.Free → HasTags log core old states
+tags-added : (log : List Entry) (core : ℕ) (old new : List Register) (states : List TagState) (line : ℕ)
+    (target : Target)
+    → AddsTarget old new line target → target.tag < 64 → tag_in states target.tag ≡ tags.Free
+    → HasTags log core old states
     → HasTags log core new (slice_set states target.tag tags.Open)
 tags-added log core old new states line target adds small free named = record {
   sized = length-set states target.tag tags.Open ∙ named.sized;
@@ -100,13 +103,16 @@ tags-added log core old new states line target adds small free named = record {
     Open_names : (number : ℕ) → tags.Open ≢ tags.Performed number
     Open_names number same = cc
 
-order-added : (lines : Lines) (log : List Entry) (core : ℕ) (old new : List Register) (accepted line : ℕ) (target : Target)
-    → AddsTarget old new line target → target.seq ≡ accepted → StandsOnce log core old accepted → StandsInOrder lines log core old
+order-added : (lines : Lines) (log : List Entry) (core : ℕ) (old new : List Register) (accepted line : ℕ)
+    (target : Target)
+    → AddsTarget old new line target → target.seq ≡ accepted → StandsOnce log core old accepted
+    → StandsInOrder lines log core old
     → StandsInOrder lines log core new
 order-added lines log core old new accepted line target adds next stands order = record {
   targets =
       adds.ordered order.targets
-      (All-weaker (λ (t : Target). t.seq < accepted) (λ t. t.seq < target.seq) (λ t below. omega (arith, below, next)) (targets_of old line)
+      (All-weaker (λ (t : Target). t.seq < accepted) (λ t. t.seq < target.seq) (λ t below. omega (arith, below, next))
+      (targets_of old line)
       (targets-below log core old accepted line stands));
   entries = λ k d inside local own on.
       let before = order.entries k d inside local own on in
@@ -120,10 +126,12 @@ order-added lines log core old new accepted line target adds next stands order =
       (λ other. rw (adds.others local.0 other) before) (cases_eq local.0 line);
 }
 
-pub account-added : (lines : Lines) (log : List Entry) (core : ℕ) (old new : List Register) (states : List TagState) (accepted line : ℕ)
+pub account-added : (lines : Lines) (log : List Entry) (core : ℕ) (old new : List Register) (states : List TagState)
+    (accepted line : ℕ)
     (target : Target) → AddsTarget old new line target → IsMissFile new → target.offset.0 < 8 → target.tag < 64
     → target.seq ≡ accepted → target.since ≡ length log → tag_in states target.tag ≡ tags.Free
-    → IsAccount lines log core old states accepted → IsAccount lines log core new (slice_set states target.tag tags.Open) (accepted + 1)
+    → IsAccount lines log core old states accepted
+    → IsAccount lines log core new (slice_set states target.tag tags.Open) (accepted + 1)
 account-added lines log core old new states accepted line target adds file word tag next now free account = record {
   standing = once-added log core old new accepted line target adds next account.standing;
   waits = waits-added log old new line target adds file word tag now account.waits;

@@ -1,6 +1,6 @@
 -- The account as the log grows: what was performed stays there, and entries of other cores change nothing.
-use Rattle.std.proofs.Common.{◌≡◌, ◌≢◌, ℕ, ◌+◌, ◌*◌, ◌/◌, ◌<◌, ◌≤◌, Bool, true, false, not, List, [], ◌∷◌, ◌++◌, length, refl, sym, ap, ◌∙◌, arith}
-use Rattle.std.specs.Prelude.{◌==◌, count_by, nat_le, All, sum_by}
+use Rattle.std.proofs.Common.{◌≡◌, ◌≢◌, ℕ, ◌+◌, ◌*◌, ◌/◌, ◌<◌, true, false, not, List, [], ◌∷◌, ◌++◌, length, refl, sym, ap, ◌∙◌, arith}
+use Rattle.std.specs.Prelude.{count_by, nat_le, All}
 use Rattle.std.proofs.Math.Nat.{mul-div_cancel}
 use Rattle.std.proofs.lemmas.Bool.{and_left, and_parts, ne_eqb, leb-false, lt-leb, not-true, not_from_false}
 use Rattle.std.proofs.lemmas.List.{length-append}
@@ -12,13 +12,14 @@ use Rattle.mshr_file.specs.declared.registers.Register.{Register}
 use Rattle.slice_core_log.specs.declared.entry.Entry.{Entry}
 use Rattle.slice_core_side.specs.declared.tags.TagState.{TagState}
 use Rattle.slice_core_standing.proofs.Lists.{count_by-append, count_by-more, count_by-none, count_of-more, slice_get-kept}
-use Rattle.slice_core_standing.specs.Standing.{is_of, is_request, is_asked_by, HasNoEntry, StandsOnce, CanWait, HasTags, IsAhead, StandsInOrder, IsAccount, standings}
+use Rattle.slice_core_standing.specs.Standing.{is_of, is_request, is_asked_by, HasNoEntry, CanWait, HasTags, IsAhead, IsAccount, standings}
 use Rattle.target_list.specs.declared.target.Target.{Target}
 
 -- ---- lines
 
 -- A line has one place in its slice.
-pub one_place : (lines : Lines) (a b : Local) → lines.slice < lines.slices → (line_at lines a).0 ≡ (line_at lines b).0 → a.0 ≡ b.0
+pub one_place : (lines : Lines) (a b : Local) → lines.slice < lines.slices → (line_at lines a).0 ≡ (line_at lines b).0
+    → a.0 ≡ b.0
 one_place lines a b few same =
     let dealt : a.0 * lines.slices ≡ b.0 * lines.slices = omega (arith, same) in
     let some : 0 < lines.slices = omega (arith, few) in
@@ -39,18 +40,21 @@ CanWait-grown log more misses waits = record {
   file = waits.file;
   performable = waits.performable;
   asked =
-      let fewer = count_of-more (λ t. not (is_asked_by (length (log ++ more)) t)) (λ t. not (is_asked_by (length log) t)) misses still in
+      let fewer = count_of-more (λ t. not (is_asked_by (length (log ++ more)) t))
+      (λ t. not (is_asked_by (length log) t)) misses still in
       let before = waits.asked in
       omega (arith, fewer, before);
 }
   where
-    still : (target : Target) → not (nat_le target.since (length (log ++ more))) ≡ true → not (nat_le target.since (length log)) ≡ true
+    still : (target : Target) → not (nat_le target.since (length (log ++ more))) ≡ true
+        → not (nat_le target.since (length log)) ≡ true
     still target late =
         let long = length-append log more in
         let above = leb-false target.since (length (log ++ more)) (not-true _ late) in
         not_from_false _ (lt-leb target.since (length log) (omega (arith, above, long)))
 
-pub HasTags-grown : (log more : List Entry) (core : ℕ) (misses : List Register) (states : List TagState) → HasTags log core misses states
+pub HasTags-grown : (log more : List Entry) (core : ℕ) (misses : List Register) (states : List TagState)
+    → HasTags log core misses states
     → HasTags (log ++ more) core misses states
 HasTags-grown log more core misses states named = record {
   sized = named.sized;
@@ -66,16 +70,19 @@ HasTags-grown log more core misses states named = record {
 pub none-of : (core : ℕ) (more : List Entry) → All (λ entry. entry.core.0 ≢ core) more → count_by (is_of core) more ≡ 0
 none-of core more others =
     count_by-none (is_of core) more
-    (All-weaker (λ entry. entry.core.0 ≢ core) (λ entry. is_of core entry ≡ false) (λ entry other. ne_eqb entry.core.0 core other) more others)
+    (All-weaker (λ entry. entry.core.0 ≢ core) (λ entry. is_of core entry ≡ false)
+    (λ entry other. ne_eqb entry.core.0 core other) more others)
 
-none-request : (core seq : ℕ) (more : List Entry) → All (λ entry. entry.core.0 ≢ core) more → count_by (is_request core seq) more ≡ 0
+none-request : (core seq : ℕ) (more : List Entry) → All (λ entry. entry.core.0 ≢ core) more
+    → count_by (is_request core seq) more ≡ 0
 none-request core seq more others =
     count_by-none (is_request core seq) more
     (All-weaker (λ entry. entry.core.0 ≢ core) (λ entry. is_request core seq entry ≡ false)
     (λ entry other. and_left _ _ (ne_eqb entry.core.0 core other)) more others)
 
 -- Entries of other cores leave a core's account as it is.
-pub account-others : (lines : Lines) (log more : List Entry) (core : ℕ) (misses : List Register) (states : List TagState) (accepted : ℕ)
+pub account-others : (lines : Lines) (log more : List Entry) (core : ℕ) (misses : List Register)
+    (states : List TagState) (accepted : ℕ)
     → All (λ entry. entry.core.0 ≢ core) more → IsAccount lines log core misses states accepted
     → IsAccount lines (log ++ more) core misses states accepted
 account-others lines log more core misses states accepted others account = record {
@@ -97,11 +104,13 @@ account-others lines log more core misses states accepted others account = recor
     targets = account.order.targets;
     entries =
         All-append (IsAhead lines core misses) log more account.order.entries
-        (All-weaker (λ entry. entry.core.0 ≢ core) (IsAhead lines core misses) (λ entry other local own. absurd (other own)) more others);
+        (All-weaker (λ entry. entry.core.0 ≢ core) (IsAhead lines core misses)
+        (λ entry other local own. absurd (other own)) more others);
   };
 }
 
-pub account-other : (lines : Lines) (log : List Entry) (entry : Entry) (core : ℕ) (misses : List Register) (states : List TagState)
+pub account-other : (lines : Lines) (log : List Entry) (entry : Entry) (core : ℕ) (misses : List Register)
+    (states : List TagState)
     (accepted : ℕ) → entry.core.0 ≢ core → IsAccount lines log core misses states accepted
     → IsAccount lines (log ++ entry ∷ []) core misses states accepted
 account-other lines log entry core misses states accepted other account =

@@ -1,10 +1,9 @@
 -- A reply that is handed out: its tag is free then.
-use Rattle.std.proofs.Common.{◌≡◌, ◌≢◌, ℕ, ◌<◌, ◌≤◌, Bool, true, false, List, length, refl, sym, ap, ◌∙◌, ⊎_elim, arith}
-use Rattle.std.specs.Prelude.{slice_set, if◌then◌else◌}
+use Rattle.std.proofs.Common.{◌≡◌, ◌≢◌, ℕ, ◌<◌, List, length, sym, ap, ◌∙◌, ⊎_elim, arith}
+use Rattle.std.specs.Prelude.{slice_set}
 use Rattle.std.proofs.lemmas.Bool.{cases_eq, cases_lt}
 use Rattle.std.proofs.lemmas.List.{get_or-set_other, get_or-set_same, get_or_past, length-set}
 use Rattle.address_map.specs.Locator.{Lines}
-use Rattle.mshr_file.specs.Miss.{count_of, has_tag}
 use Rattle.mshr_file.specs.declared.registers.Register.{Register}
 use Rattle.slice_core_log.specs.declared.entry.Entry.{Entry}
 use Rattle.slice_core_side.specs.Tags.{tag_in}
@@ -16,7 +15,8 @@ use Rattle.slice_core_standing.specs.Standing.{is_open, HasTags, IsAccount}
 -- a tag that is performed is one of those that there are
 within : (states : List TagState) (tag number : ℕ) → tag_in states tag ≡ tags.Performed number → tag < length states
 within states tag number named =
-    ⊎_elim (λ inside. inside) (λ past. absurd (Free_names (sym (get_or_past states tag tags.Free past) ∙ named))) (cases_lt tag (length states))
+    ⊎_elim (λ inside. inside) (λ past. absurd (Free_names (sym (get_or_past states tag tags.Free past) ∙ named)))
+    (cases_lt tag (length states))
   where
     Free_names : tags.Free ≢ tags.Performed number
     Free_names same = cc
@@ -33,7 +33,8 @@ tags-handed log core misses states tag number performed named = record {
       let was = ap (λ t. one_if (is_open (tag_in states t))) same ∙ ap (λ state. one_if (is_open state)) performed in
       let now = ap (λ state. one_if (is_open state)) (here other same) in
       omega (arith, before, was, now))
-      (λ apart. named.opened other ∙ ap (λ state. one_if (is_open state)) (sym (there other apart))) (cases_eq other tag);
+      (λ apart. named.opened other ∙ ap (λ state. one_if (is_open state)) (sym (there other apart)))
+      (cases_eq other tag);
   replies = λ other entry is.
       ⊎_elim (λ same. absurd (Free_names entry (sym (here other same) ∙ is)))
       (λ apart. named.replies other entry (sym (there other apart) ∙ is)) (cases_eq other tag);
@@ -51,7 +52,8 @@ tags-handed log core misses states tag number performed named = record {
     Free_names n same = cc
 
 pub account-handed : (lines : Lines) (log : List Entry) (core : ℕ) (misses : List Register) (states : List TagState)
-    (accepted tag number : ℕ) → tag_in states tag ≡ tags.Performed number → IsAccount lines log core misses states accepted
+    (accepted tag number : ℕ) → tag_in states tag ≡ tags.Performed number
+    → IsAccount lines log core misses states accepted
     → IsAccount lines log core misses (slice_set states tag tags.Free) accepted
 account-handed lines log core misses states accepted tag number performed account = record {
   standing = account.standing;

@@ -1,8 +1,8 @@
 -- An access that is accepted and performed at once: the last entry of the log, under the core's next number.
-use Rattle.std.proofs.Common.{◌≡◌, ℕ, ◌+◌, ◌/◌, ◌<◌, ◌≤◌, Bool, true, false, List, [], ◌∷◌, ◌++◌, length, refl, sym, ap, ◌∙◌, arith, eq-eqb}
-use Rattle.std.specs.Prelude.{◌==◌, ◌&&◌, nat_lt, count_by, All}
+use Rattle.std.proofs.Common.{◌≡◌, ℕ, ◌+◌, ◌/◌, ◌<◌, false, List, [], ◌∷◌, ◌++◌, length, refl, sym, ap, ◌∙◌, arith, eq-eqb}
+use Rattle.std.specs.Prelude.{◌==◌, ◌&&◌}
 use Rattle.std.proofs.lemmas.Bool.{false≢true}
-use Rattle.std.proofs.lemmas.List.Elements.{All-cons, All-nil, All-push, All-weaker}
+use Rattle.std.proofs.lemmas.List.Elements.{All-nil, All-push, All-weaker}
 use Rattle.std.proofs.lemmas.List.Sums.{sum_by_push}
 use Rattle.address_map.specs.Locator.{Lines, line_at}
 use Rattle.address_map.specs.declared.address.Local.{Local}
@@ -28,7 +28,8 @@ nothing_waits misses line idle = empty (targets_of misses line) idle
 
 -- The entry has the next number: no other request stands where it does.
 once-hit : (log : List Entry) (core : ℕ) (misses : List Register) (accepted : ℕ) (entry : Entry) → entry.core.0 ≡ core
-    → entry.seq ≡ accepted → StandsOnce log core misses accepted → StandsOnce (log ++ entry ∷ []) core misses (accepted + 1)
+    → entry.seq ≡ accepted → StandsOnce log core misses accepted
+    → StandsOnce (log ++ entry ∷ []) core misses (accepted + 1)
 once-hit log core misses accepted entry own next stands = record {
   once = λ seq.
       let more = sum_by_push (λ e. one_if (is_request core seq e)) log entry in
@@ -44,10 +45,12 @@ once-hit log core misses accepted entry own next stands = record {
       omega (arith, more, mine, before);
 }
 
-pub account-hit : (lines : Lines) (log : List Entry) (core : ℕ) (misses : List Register) (states : List TagState) (accepted : ℕ)
+pub account-hit : (lines : Lines) (log : List Entry) (core : ℕ) (misses : List Register) (states : List TagState)
+    (accepted : ℕ)
     (local : Local) (entry : Entry) → lines.slice < lines.slices → entry.core.0 ≡ core → entry.seq ≡ accepted
     → entry.word.0 / 8 ≡ (line_at lines local).0 → has_miss misses local.0 ≡ false
-    → IsAccount lines log core misses states accepted → IsAccount lines (log ++ entry ∷ []) core misses states (accepted + 1)
+    → IsAccount lines log core misses states accepted
+    → IsAccount lines (log ++ entry ∷ []) core misses states (accepted + 1)
 account-hit lines log core misses states accepted local entry few own next here idle account = record {
   standing = once-hit log core misses accepted entry own next account.standing;
   waits = CanWait-grown log (entry ∷ []) misses account.waits;
@@ -65,7 +68,8 @@ account-hit lines log core misses states accepted local entry few own next here 
         rw none (All-nil (λ (target : Target). entry.seq < target.seq))
 
 -- The log stays ordered: the core's other entries were asked for before.
-pub ordered-hit : (log : List Entry) (core : ℕ) (misses : List Register) (accepted : ℕ) (entry : Entry) → entry.core.0 ≡ core
+pub ordered-hit : (log : List Entry) (core : ℕ) (misses : List Register) (accepted : ℕ) (entry : Entry)
+    → entry.core.0 ≡ core
     → entry.seq ≡ accepted → entry.since ≡ length log → StandsOnce log core misses accepted → IsOrdered log
     → IsOrdered (log ++ entry ∷ [])
 ordered-hit log core misses accepted entry own next now stands ordered =

@@ -1,5 +1,5 @@
 -- The laws that the public functions state.
-use Rattle.std.proofs.Common.{◌≡◌, ◌≢◌, ℕ, ◌<◌, ◌≤◌, Bool, true, false, refl, ap, ◌∙◌}
+use Rattle.std.proofs.Common.{◌≡◌, ◌≢◌, false, refl, ap, ◌∙◌}
 use Rattle.std.proofs.lemmas.Bool.{le-ltb, lt-ltb}
 use Rattle.slice_core_side.specs.Tags.{tag_in}
 use Rattle.slice_core_side.specs.declared.tags.TagState.{TagState}

@@ -1,10 +1,10 @@
 -- Lists: counts of elements, what a longer list still has, and lists that ascend.
-use Rattle.std.proofs.Common.{◌≡◌, ◌≢◌, ℕ, zero, suc, ◌+◌, ◌<◌, ◌≤◌, Bool, true, false, List, [], ◌∷◌, ◌++◌, length, get_or, Some, refl, sym, ap, subst, ◌∙◌, ⊎_elim, arith}
+use Rattle.std.proofs.Common.{◌≡◌, ℕ, zero, suc, ◌+◌, ◌<◌, ◌≤◌, Bool, true, false, List, [], ◌∷◌, ◌++◌, length, get_or, Some, refl, arith}
 use Rattle.std.specs.Prelude.{if◌then◌else◌, nat_lt, ◌==◌, count_by, slice_get, All}
 use Rattle.std.proofs.lemmas.Bool.Decides.{nat_tests}
 use Rattle.std.proofs.lemmas.List.{get_or_append_left, get_or-append-add, get_or_default, length-append}
-use Rattle.std.proofs.lemmas.List.Elements.{All-nil, All-tail}
-use Rattle.std.proofs.lemmas.List.Sums.{get_or-le-sum_by, sum_by-append, sum_by-cons, sum_by_push, sum_by-le-sum_by}
+use Rattle.std.proofs.lemmas.List.Elements.{All-tail}
+use Rattle.std.proofs.lemmas.List.Sums.{get_or-le-sum_by, sum_by-append, sum_by-cons, sum_by-le-sum_by}
 use Rattle.address_map.specs.Words.{IsAscendingBy}
 use Rattle.mshr_file.specs.Miss.{count_of}
 use Rattle.mshr_file.specs.declared.registers.Register.{Register}
@@ -24,7 +24,8 @@ at_most_one true = omega arith
 at_most_one false = omega arith
 
 -- The numbers below the next one are those below this one, and this one.
-pub below_next : (seq accepted : ℕ) → one_if (nat_lt seq accepted) + one_if (accepted == seq) ≡ one_if (nat_lt seq (accepted + 1))
+pub below_next : (seq accepted : ℕ)
+    → one_if (nat_lt seq accepted) + one_if (accepted == seq) ≡ one_if (nat_lt seq (accepted + 1))
 below_next seq accepted = grind (arith, nat_tests)
 
 -- A number that is counted below a bound is below it.
@@ -48,7 +49,8 @@ module _ {X : Type 0} where
       omega (arith, more, first, later)
 
   -- An element that passes is counted.
-  pub counted_at : (p : X → Bool) (xs : List X) (k : ℕ) (d : X) → k < length xs → p (get_or xs k d) ≡ true → 1 ≤ count_by p xs
+  pub counted_at : (p : X → Bool) (xs : List X) (k : ℕ) (d : X) → k < length xs → p (get_or xs k d) ≡ true
+      → 1 ≤ count_by p xs
   counted_at p xs k d inside passes =
       let here = get_or-le-sum_by (λ y. one_if (p y)) xs k d inside in
       let counted = one (p (get_or xs k d)) passes in
@@ -88,7 +90,8 @@ module _ {X : Type 0} where
       let rises = ascending i j d before (omega (arith, inside, long)) in
       rw (at_i, at_j) at rises
 
-  pub ascending-apart : (n : X → ℕ) (xs ys : List X) → IsAscendingBy n (xs ++ ys) → All (λ x. All (λ y. n x < n y) ys) xs
+  pub ascending-apart : (n : X → ℕ) (xs ys : List X) → IsAscendingBy n (xs ++ ys)
+      → All (λ x. All (λ y. n x < n y) ys) xs
   ascending-apart n xs ys ascending i d inside j e behind =
       let long = length-append xs ys in
       let at_i = get_or_append_left xs ys d i inside in
@@ -102,11 +105,13 @@ one_if-more : (b c : Bool) → (b ≡ true → c ≡ true) → one_if b ≤ one_
 one_if-more true c more = let counted = one c (more refl) in omega (arith, counted)
 one_if-more false c more = omega arith
 
-pub count_by-more : {X : Type 0} (p q : X → Bool) (xs : List X) → ((x : X) → p x ≡ true → q x ≡ true) → count_by p xs ≤ count_by q xs
+pub count_by-more : {X : Type 0} (p q : X → Bool) (xs : List X) → ((x : X) → p x ≡ true → q x ≡ true)
+    → count_by p xs ≤ count_by q xs
 count_by-more p q xs more =
     sum_by-le-sum_by (λ x. one_if (p x)) (λ x. one_if (q x)) xs (λ x. one_if-more (p x) (q x) (more x))
 
-pub count_of-more : (p q : Target → Bool) (misses : List Register) → ((target : Target) → p target ≡ true → q target ≡ true)
+pub count_of-more : (p q : Target → Bool) (misses : List Register)
+    → ((target : Target) → p target ≡ true → q target ≡ true)
     → count_of p misses ≤ count_of q misses
 count_of-more p q misses more =
     sum_by-le-sum_by (λ register. count_by p register.targets) (λ register. count_by q register.targets) misses

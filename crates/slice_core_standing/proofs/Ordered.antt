@@ -1,5 +1,6 @@
--- A log stays ordered where a core's targets are performed, since each line's targets stand in the order of their numbers.
-use Rattle.std.proofs.Common.{◌≡◌, ℕ, ◌+◌, ◌/◌, ◌*◌, ◌<◌, ◌≤◌, List, [], ◌∷◌, ◌++◌, length, refl, sym, ap, ◌∙◌, arith, append_assoc, append-nil}
+-- A log stays ordered where a core's targets are performed, since each line's targets stand in the order of their
+-- numbers.
+use Rattle.std.proofs.Common.{◌≡◌, ℕ, ◌+◌, ◌/◌, ◌*◌, ◌<◌, ◌≤◌, List, [], ◌∷◌, ◌++◌, length, ap, ◌∙◌, arith, append_assoc, append-nil}
 use Rattle.std.specs.Prelude.{All}
 use Rattle.std.proofs.lemmas.List.{length_push}
 use Rattle.std.proofs.lemmas.List.Elements.{All-head, All-push, All-tail, All-weaker}
@@ -29,21 +30,26 @@ record IsNext (log : List Entry) (core : CoreId) (line : ℕ) (taken : List Targ
   pub ascending : IsAscendingBy (λ (target : Target). target.seq) taken
   pub words : All IsPerformable taken
   pub asked : All (λ (target : Target). target.since ≤ length log) taken
-  pub behind : All (λ (d : Entry). d.core ≡ core → d.word.0 / 8 ≡ line → All (λ (target : Target). d.seq < target.seq) taken) log
+  pub behind : All (λ (d : Entry). d.core ≡ core → d.word.0 / 8 ≡ line
+      → All (λ (target : Target). d.seq < target.seq) taken) log
 
 -- Once the first is performed the others are next.
-next-performed : (log : List Entry) (core : CoreId) (first line : ℕ) (block : Block) (target : Target) (taken : List Target)
+next-performed : (log : List Entry) (core : CoreId) (first line : ℕ) (block : Block) (target : Target)
+    (taken : List Target)
     → IsNext log core line (target ∷ taken) → IsNext (log ++ entry_of core first block target ∷ []) core line taken
 next-performed log core first line block target taken next = record {
   ascending = IsAscendingBy-tail (λ (t : Target). t.seq) target taken next.ascending;
   words = All-tail IsPerformable target taken next.words;
   asked =
       let longer = length_push log (entry_of core first block target) in
-      All-weaker (λ (t : Target). t.since ≤ length log) (λ t. t.since ≤ length (log ++ entry_of core first block target ∷ []))
-      (λ t before. omega (arith, before, longer)) taken (All-tail (λ (t : Target). t.since ≤ length log) target taken next.asked);
+      All-weaker (λ (t : Target). t.since ≤ length log)
+      (λ t. t.since ≤ length (log ++ entry_of core first block target ∷ []))
+      (λ t before. omega (arith, before, longer)) taken
+      (All-tail (λ (t : Target). t.since ≤ length log) target taken next.asked);
   behind =
       All-push IsBefore log (entry_of core first block target)
-      (All-weaker (λ (d : Entry). d.core ≡ core → d.word.0 / 8 ≡ line → All (λ (t : Target). d.seq < t.seq) (target ∷ taken)) IsBefore
+      (All-weaker (λ (d : Entry). d.core ≡ core → d.word.0 / 8 ≡ line
+      → All (λ (t : Target). d.seq < t.seq) (target ∷ taken)) IsBefore
       (λ d before own on. All-tail (λ (t : Target). d.seq < t.seq) target taken (before own on)) log next.behind)
       (λ own on. IsAscendingBy-head (λ (t : Target). t.seq) target taken next.ascending);
 }
@@ -51,7 +57,8 @@ next-performed log core first line block target taken next = record {
     IsBefore : Entry → Type 0
     IsBefore d = d.core ≡ core → d.word.0 / 8 ≡ line → All (λ (t : Target). d.seq < t.seq) taken
 
-ordered-next : (log : List Entry) (core : CoreId) (first line : ℕ) (block : Block) (taken : List Target) → first ≡ 8 * line
+ordered-next : (log : List Entry) (core : CoreId) (first line : ℕ) (block : Block) (taken : List Target)
+    → first ≡ 8 * line
     → IsNext log core line taken → IsOrdered log → IsOrdered (log ++ entries_of core first block taken)
 unfolding entries_of
 ordered-next log core first line block [] begins next ordered = rw append-nil ordered
@@ -62,26 +69,33 @@ ordered-next log core first line block (target ∷ taken) begins next ordered =
     let on : (first + target.offset.0) / 8 ≡ line = omega (arith, word, begins) in
     let asked = All-head (λ (t : Target). t.since ≤ length log) target taken next.asked in
     let last =
-    All-weaker (λ (d : Entry). d.core ≡ core → d.word.0 / 8 ≡ line → All (λ (t : Target). d.seq < t.seq) (target ∷ taken))
+    All-weaker (λ (d : Entry). d.core ≡ core → d.word.0 / 8 ≡ line
+    → All (λ (t : Target). d.seq < t.seq) (target ∷ taken))
     (λ d. IsAfter d entry)
-    (λ d before own same. All-head (λ (t : Target). d.seq < t.seq) target taken (before own (same ∙ on))) log next.behind in
+    (λ d before own same. All-head (λ (t : Target). d.seq < t.seq) target taken (before own (same ∙ on))) log
+    next.behind in
     let now = IsOrdered-push log entry ordered last asked in
     rw append_assoc at
-    (ordered-next (log ++ entry ∷ []) core first line after taken begins (next-performed log core first line block target taken next) now)
+    (ordered-next (log ++ entry ∷ []) core first line after taken begins
+    (next-performed log core first line block target taken next) now)
 
-pub ordered-settled : (lines : Lines) (log : List Entry) (core : CoreId) (first : ℕ) (block : Block) (old new : List Register)
+pub ordered-settled : (lines : Lines) (log : List Entry) (core : CoreId) (first : ℕ) (block : Block)
+    (old new : List Register)
     (states : List TagState) (accepted : ℕ) (local : Local) (taken : List Target) → TakesTargets old new local.0 taken
     → first ≡ 8 * (line_at lines local).0 → IsAccount lines log core.0 old states accepted → IsOrdered log
     → IsOrdered (log ++ entries_of core first block taken)
 ordered-settled lines log core first block old new states accepted local taken takes begins account ordered =
     ordered-next log core first (line_at lines local).0 block taken begins (record {
-      ascending = ascending-left (λ (t : Target). t.seq) taken (targets_of new local.0) (rw takes.here at (account.order.targets local.0));
+      ascending = ascending-left (λ (t : Target). t.seq) taken (targets_of new local.0)
+          (rw takes.here at (account.order.targets local.0));
       words = some IsPerformable (all-performable log old local.0 account.waits);
       asked = some (λ (t : Target). t.since ≤ length log) (all-asked log old local.0 account.waits);
       behind =
           All-weaker (IsAhead lines core.0 old)
-          (λ (d : Entry). d.core ≡ core → d.word.0 / 8 ≡ (line_at lines local).0 → All (λ (t : Target). d.seq < t.seq) taken)
-          (λ d before own on. some (λ (t : Target). d.seq < t.seq) (before local (ap (λ c. c.0) own) on)) log account.order.entries;
+          (λ (d : Entry). d.core ≡ core → d.word.0 / 8 ≡ (line_at lines local).0
+          → All (λ (t : Target). d.seq < t.seq) taken)
+          (λ d before own on. some (λ (t : Target). d.seq < t.seq) (before local (ap (λ c. c.0) own) on)) log
+          account.order.entries;
     }) ordered
   where
     some : (P : Target → Type 0) → All P (targets_of old local.0) → All P taken

@@ -1,20 +1,16 @@
 -- Targets that are performed: they leave the front of their line, and stand as the last entries of the log.
-use Rattle.std.proofs.Common.{◌≡◌, ◌≢◌, ℕ, ◌+◌, ◌/◌, ◌*◌, ◌<◌, ◌≤◌, ◌⊎◌, inl, inr, Bool, true, false, List, [], ◌∷◌, ◌++◌, length, Some, refl, sym, ap, subst, ◌∙◌, ⊎_elim, arith, eq-eqb, get_or, append_assoc}
-use Rattle.std.specs.Prelude.{◌==◌, ◌&&◌, nat_lt, count_by, slice_set, slice_get, All, if◌then◌else◌}
-use Rattle.std.proofs.lemmas.Bool.{cases_Bool, cases_eq, cases_lt, eqb-true}
+use Rattle.std.proofs.Common.{◌≡◌, ◌≢◌, ℕ, ◌+◌, ◌/◌, ◌*◌, ◌<◌, ◌≤◌, inl, inr, Bool, true, false, List, [], ◌∷◌, ◌++◌, length, Some, refl, sym, ap, subst, ◌∙◌, ⊎_elim, arith, eq-eqb, append_assoc}
+use Rattle.std.specs.Prelude.{◌==◌, ◌&&◌, count_by, slice_set, slice_get, All}
+use Rattle.std.proofs.lemmas.Bool.{cases_eq, cases_lt, eqb-true}
 use Rattle.std.proofs.lemmas.List.{get_or-set_other, get_or-set_same, get_or_append_left, length-append, length-set, length_push}
-use Rattle.std.proofs.lemmas.List.Elements.{All-append, All-cons, All-head, All-nil, All-push, All-tail, All-weaker}
-use Rattle.address_map.proofs.Ascending.{IsAscendingBy-head, IsAscendingBy-tail}
+use Rattle.std.proofs.lemmas.List.Elements.{All-append, All-cons, All-head, All-nil, All-tail, All-weaker}
 use Rattle.address_map.specs.Locator.{Lines, line_at}
-use Rattle.address_map.specs.Words.{IsAscendingBy}
 use Rattle.address_map.specs.declared.address.CoreId.{CoreId}
 use Rattle.address_map.specs.declared.address.Local.{Local}
 use Rattle.address_map.specs.declared.block.Block.{Block}
 use Rattle.mshr_file.proofs.Changes.{count_of-taken_none}
 use Rattle.mshr_file.specs.Miss.{count_of, has_tag, targets_of, IsMissFile, TakesTargets}
 use Rattle.mshr_file.specs.declared.registers.Register.{Register}
-use Rattle.slice_core_log.proofs.Pushes.{IsOrdered-push}
-use Rattle.slice_core_log.specs.Log.{IsAfter, IsOrdered}
 use Rattle.slice_core_log.specs.declared.entry.Entry.{Entry}
 use Rattle.slice_core_side.specs.Copy.{performed_on}
 use Rattle.slice_core_side.specs.Perform.{entries_of, entry_of, tags_after}
@@ -22,9 +18,9 @@ use Rattle.slice_core_side.specs.Tags.{tag_in}
 use Rattle.slice_core_side.specs.Targets.{IsPerformable}
 use Rattle.slice_core_side.specs.declared.tags.TagState.{TagState}
 use Rattle.slice_core_side.specs.declared.tags.TagState.TheVariants as tags
-use Rattle.slice_core_standing.proofs.Facts.{all-asked, all-performable, entries-below}
+use Rattle.slice_core_standing.proofs.Facts.{all-performable}
 use Rattle.slice_core_standing.proofs.Grown.{account-others, CanWait-grown, no_entry-others, one_place}
-use Rattle.slice_core_standing.proofs.Lists.{ascending-apart, ascending-left, at_most_one, count_by-all, count_by-append, count_by-cons, none, one, one_if, slice_get-kept, slice_get-next, All-right}
+use Rattle.slice_core_standing.proofs.Lists.{ascending-apart, at_most_one, count_by-all, count_by-append, count_by-cons, none, one, one_if, slice_get-kept, slice_get-next, All-right}
 use Rattle.slice_core_standing.specs.Standing.{is_of, is_open, is_request, has_seq, waiting, CanWait, HasNoEntry, HasTags, IsAccount, IsAhead, StandsInOrder, StandsOnce}
 use Rattle.target_list.specs.declared.target.Target.{Target}
 
@@ -37,7 +33,8 @@ pub entries-all : (P : Entry → Type 0) (Q : Target → Type 0) (core : CoreId)
 unfolding entries_of
 entries-all P Q core first each block [] all = All-nil P
 entries-all P Q core first each block (target ∷ taken) all =
-    All-cons P (entry_of core first block target) (entries_of core first (performed_on block target.offset.0 target.op) taken)
+    All-cons P (entry_of core first block target)
+    (entries_of core first (performed_on block target.offset.0 target.op) taken)
     (each block target (All-head Q target taken all))
     (entries-all P Q core first each (performed_on block target.offset.0 target.op) taken (All-tail Q target taken all))
 
@@ -45,7 +42,8 @@ entries-all P Q core first each block (target ∷ taken) all =
 pub entries-others : (core : CoreId) (other first : ℕ) (block : Block) (taken : List Target) → core.0 ≢ other
     → All (λ entry. entry.core.0 ≢ other) (entries_of core first block taken)
 entries-others core other first block taken apart =
-    entries-all (λ entry. entry.core.0 ≢ other) (λ target. target.tag ≡ target.tag) core first (λ block target same. apart) block taken
+    entries-all (λ entry. entry.core.0 ≢ other) (λ target. target.tag ≡ target.tag) core first
+    (λ block target same. apart) block taken
     (λ k d inside. refl)
 
 -- They have the targets' numbers, one each.
@@ -55,7 +53,8 @@ unfolding entries_of
 entries-request core first seq block [] = refl
 entries-request core first seq block (target ∷ taken) =
     let after = performed_on block target.offset.0 target.op in
-    let entries = count_by-cons (is_request core.0 seq) (entry_of core first block target) (entries_of core first after taken) in
+    let entries = count_by-cons (is_request core.0 seq) (entry_of core first block target)
+    (entries_of core first after taken) in
     let targets = count_by-cons (has_seq seq) target taken in
     let later = entries-request core first seq after taken in
     let mine = ap (λ b. one_if (b && (target.seq == seq))) (eq-eqb core.0 core.0 refl) in
@@ -74,7 +73,8 @@ entries-own core first block (target ∷ taken) =
 
 -- ---- tags
 
-tags-length : (states : List TagState) (number : ℕ) (taken : List Target) → length (tags_after states number taken) ≡ length states
+tags-length : (states : List TagState) (number : ℕ) (taken : List Target)
+    → length (tags_after states number taken) ≡ length states
 unfolding tags_after
 tags-length states number [] = refl
 tags-length states number (target ∷ taken) =
@@ -99,18 +99,20 @@ tag-kept states number tag (target ∷ taken) none =
 -- The tag names an entry of the log that its core asked for by it.
 abbrev NamesEntry : List Entry → CoreId → List TagState → ℕ → Type 0
 NamesEntry log core states tag =
-    (number : ℕ) × (e : Entry) × (tag_in states tag ≡ tags.Performed number) × (slice_get log number ≡ Some e) × (e.core.0 ≡ core.0)
+    (number : ℕ) × (e : Entry) × (tag_in states tag ≡ tags.Performed number) × (slice_get log number ≡ Some e) ×
+    (e.core.0 ≡ core.0)
     × (e.tag ≡ tag)
 
 -- The tag of the first target names its entry where no later one has the tag.
-tag-first : (log more : List Entry) (core : CoreId) (first : ℕ) (block : Block) (states : List TagState) (tag : ℕ) (target : Target)
+tag-first : (log more : List Entry) (core : CoreId) (first : ℕ) (block : Block) (states : List TagState) (tag : ℕ)
+    (target : Target)
     (taken : List Target) → length states ≡ 64 → target.tag < 64 → target.tag ≡ tag → count_by (has_tag tag) taken ≡ 0
     → NamesEntry (log ++ entry_of core first block target ∷ more) core
-      (tags_after (slice_set states target.tag (tags.Performed (length log))) (length log + 1) taken) tag
+    (tags_after (slice_set states target.tag (tags.Performed (length log))) (length log + 1) taken) tag
 tag-first log more core first block states tag target taken sized small same none =
     let now = slice_set states target.tag (tags.Performed (length log)) in
-    let set_here = get_or-set_same states target.tag (tags.Performed (length log)) tags.Free (omega (arith, small, sized)) in
-    (
+    let set_here = get_or-set_same states target.tag (tags.Performed (length log)) tags.Free
+    (omega (arith, small, sized)) in (
       length log,
       entry_of core first block target,
       tag-kept now (length log + 1) tag taken none ∙ ap (tag_in now) (sym same) ∙ set_here,
@@ -120,7 +122,8 @@ tag-first log more core first block states tag target taken sized small same non
     )
 
 -- The tag of a target names its entry.
-tag-performed : (log : List Entry) (core : CoreId) (first : ℕ) (block : Block) (states : List TagState) (tag : ℕ) (taken : List Target)
+tag-performed : (log : List Entry) (core : CoreId) (first : ℕ) (block : Block) (states : List TagState) (tag : ℕ)
+    (taken : List Target)
     → length states ≡ 64 → All IsPerformable taken → 1 ≤ count_by (has_tag tag) taken
     → NamesEntry (log ++ entries_of core first block taken) core (tags_after states (length log) taken) tag
 unfolding entries_of tags_after
@@ -133,7 +136,8 @@ tag-performed log core first block states tag (target ∷ taken) sized can has =
       | inl more ↦
           let size = length-set states target.tag (tags.Performed (length log)) ∙ sized in
           let found =
-          tag-performed (log ++ entry ∷ []) core first after now tag taken size (All-tail IsPerformable target taken can) more in
+          tag-performed (log ++ entry ∷ []) core first after now tag taken size
+          (All-tail IsPerformable target taken can) more in
           rw (append_assoc, length_push log entry) at found
       | inr last ↦
           let all = count_by-cons (has_tag tag) target taken in
@@ -164,7 +168,8 @@ waiting-taken old new line taken takes =
     let all = count_by-all taken in
     omega (arith, fewer, all)
 
-module _ (log : List Entry) (core : CoreId) (first : ℕ) (block : Block) (old new : List Register) (line : ℕ) (taken : List Target)
+module _ (log : List Entry) (core : CoreId) (first : ℕ) (block : Block) (old new : List Register) (line : ℕ)
+    (taken : List Target)
     (takes : TakesTargets old new line taken) where
   -- Each stands as its entry now.
   once-settled : (accepted : ℕ) → StandsOnce log core.0 old accepted
@@ -195,18 +200,25 @@ module _ (log : List Entry) (core : CoreId) (first : ℕ) (block : Block) (old n
       → HasTags (log ++ entries_of core first block taken) core.0 new (tags_after states (length log) taken)
   tags-settled states waits named = record {
     sized = tags-length states (length log) taken ∙ named.sized;
-    opened = λ tag. elim (cases_lt 0 (count_by (has_tag tag) taken)) [ inl some ↦ shut tag some | inr none ↦ still tag (omega (arith, none)) ];
+    opened = λ tag. elim (cases_lt 0 (count_by (has_tag tag) taken))
+        [ inl some ↦ shut tag some | inr none ↦ still tag (omega (arith, none)) ];
     replies = λ tag number is. elim (cases_lt 0 (count_by (has_tag tag) taken)) [
       | inl some ↦ answered tag number is (found tag some)
       | inr none ↦
           let was = sym (tag-kept states (length log) tag taken (omega (arith, none))) ∙ is in
-          let before = named.replies tag number was in
-          (before.0, slice_get-kept log (entries_of core first block taken) number before.0 before.1, before.2, before.3)
+          let before = named.replies tag number was in (
+            before.0,
+            slice_get-kept log
+                (entries_of core first block taken) number before.0 before.1,
+            before.2,
+            before.3,
+          )
     ];
   }
     where
       can : All IsPerformable taken
-      can = some-taken old line taken (targets_of new line) takes.here IsPerformable (all-performable log old line waits)
+      can = some-taken old line taken (targets_of new line) takes.here IsPerformable
+          (all-performable log old line waits)
 
       found : (tag : ℕ) → 1 ≤ count_by (has_tag tag) taken
           → NamesEntry (log ++ entries_of core first block taken) core (tags_after states (length log) taken) tag
@@ -234,14 +246,17 @@ module _ (log : List Entry) (core : CoreId) (first : ℕ) (block : Block) (old n
 
       answered : (tag number : ℕ) → tag_in (tags_after states (length log) taken) tag ≡ tags.Performed number
           → NamesEntry (log ++ entries_of core first block taken) core (tags_after states (length log) taken) tag
-          → (e : Entry) × (slice_get (log ++ entries_of core first block taken) number ≡ Some e) × (e.core.0 ≡ core.0) × (e.tag ≡ tag)
+          → (e : Entry) × (slice_get (log ++ entries_of core first block taken) number ≡ Some e) × (e.core.0 ≡ core.0)
+          × (e.tag ≡ tag)
       answered tag number is named =
           let same = number_of named.0 number (sym named.2 ∙ is) in
           (named.1, ap (slice_get (log ++ entries_of core first block taken)) (sym same) ∙ named.3, named.4, named.5)
 
 -- On its line what was taken was asked for before what is left.
-order-settled : (lines : Lines) (log : List Entry) (core : CoreId) (first : ℕ) (block : Block) (old new : List Register) (local : Local)
-    (taken : List Target) → TakesTargets old new local.0 taken → lines.slice < lines.slices → first ≡ 8 * (line_at lines local).0
+order-settled : (lines : Lines) (log : List Entry) (core : CoreId) (first : ℕ) (block : Block)
+    (old new : List Register) (local : Local)
+    (taken : List Target) → TakesTargets old new local.0 taken → lines.slice < lines.slices
+    → first ≡ 8 * (line_at lines local).0
     → CanWait log old → StandsInOrder lines log core.0 old
     → StandsInOrder lines (log ++ entries_of core first block taken) core.0 new
 order-settled lines log core first block old new local taken takes few begins waits order = record {
@@ -264,7 +279,8 @@ order-settled lines log core first block old new local taken takes few begins wa
           | inr apart ↦ rw (takes.others other.0 apart) (before other own on)
         ]
 
-    ahead : (block : Block) (target : Target) → IsTaken target → IsAhead lines core.0 new (entry_of core first block target)
+    ahead : (block : Block) (target : Target) → IsTaken target
+        → IsAhead lines core.0 new (entry_of core first block target)
     ahead block target is other own on =
         let word = is.0.word in
         let line : (first + target.offset.0) / 8 ≡ (line_at lines local).0 = omega (arith, word, begins) in
@@ -273,15 +289,20 @@ order-settled lines log core first block old new local taken takes few begins wa
 
     both : All IsTaken taken
     both k d inside = (
-      some-taken old local.0 taken (targets_of new local.0) takes.here IsPerformable (all-performable log old local.0 waits) k d inside,
-      ascending-apart (λ (t : Target). t.seq) taken (targets_of new local.0) (rw takes.here at (order.targets local.0)) k d inside,
+      some-taken old local.0 taken (targets_of new local.0) takes.here IsPerformable
+          (all-performable log old local.0 waits) k d inside,
+      ascending-apart (λ (t : Target). t.seq) taken (targets_of new local.0)
+          (rw takes.here at (order.targets local.0)) k d inside,
     )
 
 -- Targets of a line are performed: the account is that of the entries.
-pub account-settled : (lines : Lines) (log : List Entry) (core : CoreId) (first : ℕ) (block : Block) (old new : List Register)
-    (states : List TagState) (accepted : ℕ) (local : Local) (taken : List Target) → TakesTargets old new local.0 taken → IsMissFile new
+pub account-settled : (lines : Lines) (log : List Entry) (core : CoreId) (first : ℕ) (block : Block)
+    (old new : List Register)
+    (states : List TagState) (accepted : ℕ) (local : Local) (taken : List Target) → TakesTargets old new local.0 taken
+    → IsMissFile new
     → lines.slice < lines.slices → first ≡ 8 * (line_at lines local).0 → IsAccount lines log core.0 old states accepted
-    → IsAccount lines (log ++ entries_of core first block taken) core.0 new (tags_after states (length log) taken) accepted
+    → IsAccount lines (log ++ entries_of core first block taken) core.0 new
+    (tags_after states (length log) taken) accepted
 account-settled lines log core first block old new states accepted local taken takes file few begins account = record {
   standing = once-settled log core first block old new local.0 taken takes accepted account.standing;
   waits = waits-settled log core first block old new local.0 taken takes file account.waits;
@@ -290,7 +311,8 @@ account-settled lines log core first block old new states accepted local taken t
 }
 
 -- Another core's targets are performed: this core's account is as it was.
-pub account-settled_other : (lines : Lines) (log : List Entry) (performer : CoreId) (first : ℕ) (block : Block) (taken : List Target)
+pub account-settled_other : (lines : Lines) (log : List Entry) (performer : CoreId) (first : ℕ) (block : Block)
+    (taken : List Target)
     (core : ℕ) (misses : List Register) (states : List TagState) (accepted : ℕ) → performer.0 ≢ core
     → IsAccount lines log core misses states accepted
     → IsAccount lines (log ++ entries_of performer first block taken) core misses states accepted
@@ -298,7 +320,9 @@ account-settled_other lines log performer first block taken core misses states a
     account-others lines log (entries_of performer first block taken) core misses states accepted
     (entries-others performer core first block taken other) account
 
-pub no_entry-settled_other : (log : List Entry) (performer : CoreId) (first : ℕ) (block : Block) (taken : List Target) (core : ℕ)
+pub no_entry-settled_other : (log : List Entry) (performer : CoreId) (first : ℕ) (block : Block) (taken : List Target)
+    (core : ℕ)
     → performer.0 ≢ core → HasNoEntry core log → HasNoEntry core (log ++ entries_of performer first block taken)
 no_entry-settled_other log performer first block taken core other absent =
-    no_entry-others core log (entries_of performer first block taken) (entries-others performer core first block taken other) absent
+    no_entry-others core log (entries_of performer first block taken)
+    (entries-others performer core first block taken other) absent

@@ -1,5 +1,5 @@
--- One core's requests: each that was accepted stands in exactly one place. It is a target of a miss register, or an entry
--- of the log: a reply as long as a tag names its number, and handed out otherwise.
+-- One core's requests: each that was accepted stands in exactly one place. It is a target of a miss register, or an
+-- entry of the log: a reply as long as a tag names its number, and handed out otherwise.
 use Rattle.std.specs.Prelude.{◌≡◌, ℕ, ◌+◌, ◌/◌, ◌<◌, ◌==◌, ◌&&◌, nat_lt, nat_le, Bool, true, false, not, if◌then◌else◌, List, length, count_by, slice_get, Some, All}
 use Rattle.address_map.specs.Locator.{Lines, line_at}
 use Rattle.address_map.specs.declared.address.Local.{Local}
@@ -37,7 +37,8 @@ waiting misses = count_of (λ target. true) misses
 abbrev pub HasNoEntry : ℕ → List Entry → Type 0
 HasNoEntry core log = count_by (is_of core) log ≡ 0
 
--- The requests that were accepted are those of the numbers below this one, each in one place, and no other stands anywhere.
+-- The requests that were accepted are those of the numbers below this one, each in one place, and no other stands
+-- anywhere.
 pub record StandsOnce (log : List Entry) (core : ℕ) (misses : List Register) (accepted : ℕ) : Type 0 where
   pub once : (seq : ℕ) → standings misses log core seq ≡ (if nat_lt seq accepted then 1 else 0)
   pub counted : accepted ≡ waiting misses + count_by (is_of core) log
@@ -69,7 +70,8 @@ abbrev pub is_open : TagState → Bool
 is_open tags.Open = true
 is_open _ = false
 
--- An open tag names one target and no other tag names any; a performed tag names an entry that the core asked for by it.
+-- An open tag names one target, and no other tag names any. A performed tag names an entry that the core asked for
+-- by it.
 pub record HasTags (log : List Entry) (core : ℕ) (misses : List Register) (states : List TagState) : Type 0 where
   pub sized : length states ≡ 64
   pub opened : (tag : ℕ) → count_of (has_tag tag) misses ≡ (if is_open (tag_in states tag) then 1 else 0)
@@ -91,7 +93,8 @@ pub record StandsInOrder (lines : Lines) (log : List Entry) (core : ℕ) (misses
 -- ---- all together
 
 -- All that holds of one core's requests, where its tags name these and so many were accepted.
-pub record IsAccount (lines : Lines) (log : List Entry) (core : ℕ) (misses : List Register) (states : List TagState) (accepted : ℕ) : Type 0 where
+pub record IsAccount (lines : Lines) (log : List Entry) (core : ℕ) (misses : List Register) (states : List TagState)
+    (accepted : ℕ) : Type 0 where
   pub standing : StandsOnce log core misses accepted
   pub waits : CanWait log misses
   pub tags : HasTags log core misses states

@@ -1,0 +1,9 @@
+pub mod View
+pub mod Decision
+pub mod Sends
+pub mod Plan
+pub mod Within
+pub mod Next
+pub mod Steps
+pub mod Initial
+pub mod Parts

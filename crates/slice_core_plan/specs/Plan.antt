@@ -1,0 +1,151 @@
+-- What is to be done at the front of a channel, as a function of the state.
+use Rattle.std.specs.Prelude.{◌&&◌, Bool, true, false, not, if◌then◌else◌, is_some, slice_get, Option, Some, None}
+use Rattle.std.specs.List.{list_all}
+use Rattle.address_map.specs.CoreSet.{has}
+use Rattle.address_map.specs.declared.address.CoreId.{CoreId}
+use Rattle.address_map.specs.declared.address.Local.{Local}
+use Rattle.cache_table.specs.Row.{row_of}
+use Rattle.cache_table.specs.declared.row.CacheEvent.{CacheEvent}
+use Rattle.cache_table.specs.declared.row.CacheEvent.TheVariants as events
+use Rattle.cache_table.specs.declared.row.Row.{Row}
+use Rattle.cache_table.specs.declared.row.Row.TheVariants as rows
+use Rattle.directory_table.specs.Row.{row_of as dir_row_of}
+use Rattle.directory_table.specs.declared.row.DirEvent.{DirEvent}
+use Rattle.directory_table.specs.declared.row.DirEvent.TheVariants as dir_events
+use Rattle.directory_table.specs.declared.row.DirRow.{DirRow}
+use Rattle.directory_table.specs.declared.row.DirRow.TheVariants as dir_rows
+use Rattle.mshr_file.specs.Miss.{targets_of}
+use Rattle.slice_core_answer.specs.declared.answer.Cell.TheVariants as cells
+use Rattle.slice_core_side.specs.Side.{copy_of, place_of}
+use Rattle.slice_core_side.specs.declared.copy.CacheCopy.{CacheCopy}
+use Rattle.slice_core_plan.specs.Sends.{cache_room, directory_room}
+use Rattle.slice_core_plan.specs.View.{View, channels_at, entry_at, side_at}
+use Rattle.slice_core_plan.specs.declared.decide.Plan.{Plan}
+use Rattle.slice_core_plan.specs.declared.decide.Plan.TheVariants as plans
+use Rattle.slice_queues.specs.Line.{core_at}
+use Rattle.slice_queues_message.specs.declared.channel.Channel.{Channel}
+use Rattle.slice_queues_message.specs.declared.channel.Channel.TheVariants as channels
+use Rattle.slice_queues_message.specs.declared.message.DataMessage.{DataMessage}
+use Rattle.slice_queues_message.specs.declared.message.DataMessage.TheVariants as replies
+use Rattle.slice_queues_message.specs.declared.message.ForwardedMessage.{ForwardedMessage}
+use Rattle.slice_queues_message.specs.declared.message.ForwardedMessage.TheVariants as forwards
+use Rattle.slice_queues_message.specs.declared.message.RequestMessage.{RequestMessage}
+use Rattle.slice_queues_message.specs.declared.message.RequestMessage.TheVariants as requests
+use Rattle.target_list.specs.Target.{is_load}
+
+-- ---- the directory
+
+-- the event of the directory's table that a core's request is
+abbrev pub event_of_request : CoreId → RequestMessage → DirEvent
+event_of_request core requests.GetS = dir_events.GetS core
+event_of_request core requests.GetM = dir_events.GetM core
+event_of_request core requests.PutS = dir_events.PutS core
+event_of_request core (requests.PutM block) = dir_events.PutM core
+
+-- what follows from the directory's row for a core's request
+abbrev pub by_directory_row : View → Local → CoreId → DirRow → Plan
+by_directory_row v local core dir_rows.NoEntry = plans.Broken cells.Entry
+by_directory_row v local core dir_rows.Blocked = plans.Blocked
+by_directory_row v local core (dir_rows.Go state owner sharers sent writes) =
+    if directory_room (channels_at v local) core sent then plans.Directory state owner sharers sent writes
+    else plans.Broken cells.Full
+
+abbrev pub request_plan : View → Local → CoreId → Plan
+request_plan v local core = by_message (core_at (channels_at v local) core.0).request
+  where
+    by_message : Option RequestMessage → Plan
+    by_message None = plans.Nothing
+    by_message (Some message) =
+        by_directory_row v local core (dir_row_of v.exclusive (entry_at v local) (event_of_request core message))
+
+-- what follows from the directory's row for a block that comes home, which sends nothing
+abbrev pub by_home_row : DirRow → Plan
+by_home_row dir_rows.NoEntry = plans.Broken cells.Entry
+by_home_row dir_rows.Blocked = plans.Blocked
+by_home_row (dir_rows.Go state owner sharers sent writes) = plans.Home state owner sharers
+
+abbrev pub home_plan : View → Local → Plan
+home_plan v local =
+    if is_some (channels_at v local).home then by_home_row (dir_row_of v.exclusive (entry_at v local) dir_events.DataHome)
+    else plans.Nothing
+
+-- ---- the caches
+
+-- the event of the cache's table that a forwarded message is, and the core that it names
+abbrev pub event_of_forwarded : ForwardedMessage → CacheEvent
+event_of_forwarded (forwards.FwdGetS requester) = events.FwdGetS
+event_of_forwarded (forwards.FwdGetM requester) = events.FwdGetM
+event_of_forwarded (forwards.Inv requester) = events.Inv
+event_of_forwarded forwards.PutAck = events.PutAck
+
+abbrev pub requester_of : CoreId → ForwardedMessage → CoreId
+requester_of core (forwards.FwdGetS requester) = requester
+requester_of core (forwards.FwdGetM requester) = requester
+requester_of core (forwards.Inv requester) = requester
+requester_of core forwards.PutAck = core
+
+abbrev pub is_put_ack : ForwardedMessage → Bool
+is_put_ack forwards.PutAck = true
+is_put_ack _ = false
+
+-- the core's own request for the line still waits
+abbrev pub asks : View → Local → CoreId → Bool
+asks v local core = is_some (core_at (channels_at v local) core.0).request
+
+-- what follows from the cache's row for a forwarded message: a Put-Ack may not come before the Put was taken
+abbrev pub by_forwarded_row : View → Local → CoreId → ForwardedMessage → Row → Plan
+by_forwarded_row v local core message rows.NoEntry = plans.Broken cells.Entry
+by_forwarded_row v local core message rows.Blocked = plans.Blocked
+by_forwarded_row v local core message (rows.Go next sent) =
+    if not (cache_room (channels_at v local) core (requester_of core message) sent) then plans.Broken cells.Full
+    else if is_put_ack message && asks v local core then plans.Broken cells.Early
+    else plans.Forwarded next sent (requester_of core message)
+
+abbrev pub forwarded_plan : View → Local → CoreId → Plan
+forwarded_plan v local core = by_message (slice_get (core_at (channels_at v local) core.0).forwarded 0)
+  where
+    by_message : Option ForwardedMessage → Plan
+    by_message None = plans.Nothing
+    by_message (Some message) =
+        by_forwarded_row v local core message (row_of (copy_of (side_at v core) local).state (event_of_forwarded message))
+
+-- the event of the cache's table that data are, for a copy and the targets that wait for it
+abbrev pub event_of_data : View → Local → CoreId → DataMessage → CacheEvent
+event_of_data v local core (replies.Data block acks) = events.Data acks (copy_of (side_at v core) local).counted
+event_of_data v local core (replies.DataE block) = events.DataE (list_all is_load (targets_of (side_at v core).misses local.0))
+
+-- what follows from the cache's row for data: they may not come before the request was taken
+abbrev pub by_data_row : View → Local → CoreId → Row → Plan
+by_data_row v local core rows.NoEntry = plans.Broken cells.Entry
+by_data_row v local core rows.Blocked = plans.Blocked
+by_data_row v local core (rows.Go next sent) =
+    if asks v local core then plans.Broken cells.Early else plans.Fill (place_of (side_at v core) local) next
+
+abbrev pub data_plan : View → Local → CoreId → Plan
+data_plan v local core = by_message (core_at (channels_at v local) core.0).data
+  where
+    by_message : Option DataMessage → Plan
+    by_message None = plans.Nothing
+    by_message (Some message) =
+        by_data_row v local core (row_of (copy_of (side_at v core) local).state (event_of_data v local core message))
+
+-- what follows from the cache's row for an acknowledgement
+abbrev pub by_ack_row : View → Local → CoreId → Row → Plan
+by_ack_row v local core rows.NoEntry = plans.Broken cells.Entry
+by_ack_row v local core rows.Blocked = plans.Blocked
+by_ack_row v local core (rows.Go next sent) = plans.Acknowledge (place_of (side_at v core) local) next
+
+abbrev pub ack_plan : View → Local → CoreId → CoreId → Plan
+ack_plan v local to from =
+    let copy : CacheCopy = copy_of (side_at v to) local in
+    if has (core_at (channels_at v local) to.0).acks from.0
+    then by_ack_row v local to (row_of copy.state (events.InvAck copy.wants copy.counted))
+    else plans.Nothing
+
+-- What is to be done at the front of a channel of a line.
+abbrev pub plan_of : View → Local → Channel → Plan
+plan_of v local (channels.Req core) = request_plan v local core
+plan_of v local (channels.Fwd core) = forwarded_plan v local core
+plan_of v local (channels.Data core) = data_plan v local core
+plan_of v local (channels.Ack to from) = ack_plan v local to from
+plan_of v local channels.Home = home_plan v local

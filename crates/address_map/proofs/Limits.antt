@@ -1,5 +1,5 @@
 -- A configuration without a fault is within all limits.
-use Rattle.std.proofs.Common.{◌≡◌, ℕ, ◌<◌, ◌≤◌, Bool, true, List, length, get_or, None, ◌%◌, ◌⊎◌, arith, lit<}
+use Rattle.std.proofs.Common.{◌≡◌, ℕ, ◌<◌, ◌≤◌, Bool, true, List, length, get_or, None, ◌%◌, arith, lit<}
 use Rattle.std.specs.Prelude.{All, nat_lt, not, ◌==◌, ◌||◌, nat_le}
 use Rattle.std.specs.Int.{is_power_of_two}
 use Rattle.std.proofs.lemmas.Bool.{and_parts, leb-true, ltb-true, eqb-true, not-false}
@@ -10,7 +10,7 @@ use Rattle.std.specs.List.{list_all}
 use Rattle.address_map.specs.declared.config.Config.{Config}
 use Rattle.address_map.specs.declared.config.ConfigError.{ConfigError}
 use Rattle.address_map.specs.declared.config.ConfigError.TheVariants as errors
-use Rattle.address_map.specs.Config.{IsAllowed, first_fault, fields, allows, is_within, word_count}
+use Rattle.address_map.specs.Config.{IsAllowed, IsSliceCount, first_fault, fields, allows, is_within, word_count}
 use Rattle.address_map.specs.Words.{is_ascending_by, IsAscendingBy, are_words_below}
 use Rattle.address_map.proofs.Ascending.{IsAscendingBy-from_test}
 use Rattle.address_map.proofs.Find.{All-from_find_none}
@@ -39,10 +39,12 @@ is_within-true least most n within =
     let parts = and_parts (nat_le least n) (nat_le n most) within in
     (leb-true least n parts.0, leb-true n most parts.1)
 
-slices-true : (n : ℕ) → (n == 1 || n == 2 || n == 4) ≡ true → (n ≡ 1) ⊎ (n ≡ 2) ⊎ (n ≡ 4)
+slices-true : (n : ℕ) → (n == 1 || n == 2 || n == 4) ≡ true → IsSliceCount n
+unfolding IsSliceCount
 slices-true n few = grind (arith, nat_tests)
 
-slices-some : (n : ℕ) → (n ≡ 1) ⊎ (n ≡ 2) ⊎ (n ≡ 4) → (1 ≤ n) × (n ≤ 4)
+slices-some : (n : ℕ) → IsSliceCount n → (1 ≤ n) × (n ≤ 4)
+unfolding IsSliceCount
 slices-some n few = (omega (arith, few), omega (arith, few))
 
 words-true : {X : Type 0} (word : X → ℕ) (limit : ℕ) (xs : List X)

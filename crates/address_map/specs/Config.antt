@@ -78,13 +78,17 @@ first_fault c = find (λ field. not (allows c field)) fields
 abbrev pub checked_of : Config → Result Config ConfigError
 checked_of c = option_map_or (λ fault. Err fault) (first_fault c) (Ok c)
 
+-- so many slices a machine may have
+unfoldable pub IsSliceCount : ℕ → Type 0
+IsSliceCount n = (n ≡ 1) ⊎ (n ≡ 2) ⊎ (n ≡ 4)
+
 -- what holds of each configuration that was checked
 pub record IsAllowed (c : Config) : Type 0 where
   pub some_core : 1 ≤ c.cores
   pub few_cores : c.cores ≤ 64
   pub some_slice : 1 ≤ c.slices
   pub few_slices : c.slices ≤ 4
-  pub slice_counts : (c.slices ≡ 1) ⊎ (c.slices ≡ 2) ⊎ (c.slices ≡ 4)
+  pub slice_counts : IsSliceCount c.slices
   pub some_line : 1 ≤ c.lines
   pub few_lines : c.lines ≤ 65536
   pub even : c.lines % c.slices ≡ 0

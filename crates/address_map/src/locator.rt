@@ -27,6 +27,7 @@ impl Model for Locator {
 }
 
 impl Locator {
+    #[tactic(auto, unfolding(crate::specs::Config::IsSliceCount))]
     pub fn of(config: &Checked, slice: SliceId) -> Self
         requires { slice.0 < config.now.slices }
         ensures { result ≡ lines_of config.now slice }

@@ -26,3 +26,8 @@ pub mod Sets
 pub mod Settings
 pub mod Settled
 pub mod Steps
+pub mod ValueAck
+pub mod ValueServe
+pub mod ValueSteps
+pub mod ValueTurn
+pub mod ValueWrite

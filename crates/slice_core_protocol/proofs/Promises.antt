@@ -1,13 +1,16 @@
 -- What is promised of every line that the machine reaches.
 use Rattle.std.proofs.Common.{ℕ, ◌<◌, ◌≤◌, Bool}
 use Rattle.slice_core_protocol.proofs.HasRows.{has_rows}
+use Rattle.address_map.specs.declared.block.Block.{Block}
 use Rattle.slice_core_protocol.proofs.HasRoom.{has_room}
 use Rattle.slice_core_protocol.proofs.OneWriter.{one_writer}
 use Rattle.slice_core_protocol.proofs.Settled.{nothing_early, settled}
 use Rattle.slice_core_protocol.proofs.Steps.{reached_coherent}
+use Rattle.slice_core_protocol.proofs.ValueSteps.{reached_sound}
 use Rattle.slice_core_protocol.specs.Line.{Line}
 use Rattle.slice_core_protocol.specs.Machine.{Reached}
 use Rattle.slice_core_protocol.specs.Promise.{HasOneWriter, HasRoom, HasRows, IsSettled, NothingIsEarly}
+use Rattle.slice_core_protocol.specs.Values.{Blocks, IsCurrent, ReachedWith}
 
 pub reached_one_writer : (exclusive : Bool) (cores : ℕ) (line : Line) → 0 < cores → cores ≤ 64 → Reached exclusive cores line → HasOneWriter cores line
 reached_one_writer exclusive cores line some most reached =
@@ -36,3 +39,8 @@ pub reached_settled : (exclusive : Bool) (cores : ℕ) (line : Line) → 0 < cor
 reached_settled exclusive cores line some most reached =
     let kept = reached_coherent exclusive cores line some most reached in
     settled cores line kept.0 kept.1
+
+pub reached_current : (exclusive : Bool) (cores : ℕ) (line : Line) (blocks : Blocks) (newest : Block) → 0 < cores → cores ≤ 64
+    → ReachedWith exclusive cores line blocks newest → IsCurrent cores line blocks newest
+reached_current exclusive cores line blocks newest some most reached =
+    (reached_sound exclusive cores line blocks newest some most reached).current

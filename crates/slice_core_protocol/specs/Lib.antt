@@ -3,3 +3,4 @@ pub mod Fit
 pub mod Line
 pub mod Machine
 pub mod Promise
+pub mod Values

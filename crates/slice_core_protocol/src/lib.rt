@@ -13,8 +13,10 @@
 
 ghost use Rattle.std.specs.Prelude.{◌≤◌, ◌<◌, ℕ, Bool};
 ghost use Rattle.slice_core_protocol.specs.Line.{Line};
+ghost use Rattle.address_map.specs.declared.block.Block.{Block};
 ghost use Rattle.slice_core_protocol.specs.Machine.{Reached};
 ghost use Rattle.slice_core_protocol.specs.Promise.{HasOneWriter, HasRoom, HasRows, IsSettled, NothingIsEarly};
+ghost use Rattle.slice_core_protocol.specs.Values.{Blocks, IsCurrent, ReachedWith};
 
 /// Whatever a line reaches, a core that may write it is the only one that may read it.
 pub fn one_writer()
@@ -40,4 +42,11 @@ pub fn nothing_comes_early()
 /// waits for nothing.
 pub fn owner_has_the_line()
     ensures settled { (exclusive : Bool) (cores : ℕ) (line : Line) → 0 < cores → cores ≤ 64 → Reached exclusive cores line → IsSettled cores line }
+{}
+
+/// Whatever a line and its blocks reach, each block that a core may read, that is on its way to a core or home, or that
+/// the home copy serves from, is what the last write left.
+pub fn each_block_is_newest()
+    ensures current { (exclusive : Bool) (cores : ℕ) (line : Line) (blocks : Blocks) (newest : Block) → 0 < cores → cores ≤ 64
+        → ReachedWith exclusive cores line blocks newest → IsCurrent cores line blocks newest }
 {}

@@ -1,0 +1,5 @@
+use Rattle.slice_core_protocol.proofs.Promises.{reached_current}
+use Rattle.slice_core_protocol.proofs.each_block_is_newest.Goals as goal
+
+pub returns : goal.returns
+returns c = record { current = reached_current }

@@ -1,5 +1,5 @@
 -- The tests for room, as what they say of a line's channels.
-use Rattle.std.proofs.Common.{◌≡◌, ℕ, ◌^◌, ◌<◌, ◌&&◌, Bool, true, false, List, [], ◌∷◌, length, map, refl, ap, subst, sym, nat_lt, inl, inr}
+use Rattle.std.proofs.Common.{◌≡◌, ◌≢◌, ◌∙◌, None, ℕ, ◌^◌, ◌<◌, ◌&&◌, Bool, true, false, List, [], ◌∷◌, length, map, refl, ap, subst, sym, nat_lt, inl, inr}
 use Rattle.std.specs.List.{AllByRecursion, list_all}
 use Rattle.std.proofs.Math.ListN.{length-set}
 use Rattle.std.proofs.lemmas.Bool.{lt-ltb, ltb-true, cases_eq}
@@ -13,8 +13,13 @@ use Rattle.slice_queues_message.specs.declared.message.ForwardedMessage.{Forward
 use Rattle.slice_queues_message.specs.declared.message.Message.TheVariants as messages
 use Rattle.slice_queues.proofs.InvalidateLaws.{TakesForwarded, TakesInvalidations-from_members}
 use Rattle.slice_queues.proofs.WaitingLaws.{AllByRecursion-members}
-use Rattle.slice_queues.specs.Line.{LineChannels, no_messages, core_at, HasChannel, HasRoom, TakesInvalidations, after_send, messages_at, room_of}
-use Rattle.slice_core_plan.specs.Sends.{has_channel, takes, takes_invalidations}
+use Rattle.slice_queues.specs.Line.{LineChannels, no_messages, core_at, after_take, HasChannel, HasRoom, TakesInvalidations, after_send, messages_at, room_of}
+use Rattle.slice_queues.proofs.LineLaws.{request_alone, forwarded_alone}
+use Rattle.cache_table.specs.declared.row.CacheSends.{CacheSends}
+use Rattle.cache_table.specs.declared.row.CacheSends.TheVariants as cache_sends
+use Rattle.directory_table.specs.declared.row.DirSends.{DirSends}
+use Rattle.directory_table.specs.declared.row.DirSends.TheVariants as dir_sends
+use Rattle.slice_core_plan.specs.Sends.{cache_room, directory_room, has_channel, takes, takes_invalidations}
 
 -- tests that are true together are one test
 pub same_test : (a b : Bool) → (a ≡ true → b ≡ true) → (b ≡ true → a ≡ true) → a ≡ b
@@ -114,3 +119,80 @@ TakesInvalidations-after_data line core message cores takes other there =
     let kept = forwarded-after_data line core message other.0 before.0 in
     let Fits : List ForwardedMessage → Type 0 = λ queued. length (map messages.Forwarded queued) < 2 in
     (rw length-set before.0, subst Fits (sym kept) before.1)
+
+-- a channel that has what it had takes another message as it did
+pub takes-kept : (old new : LineChannels) (channel : Channel) → length new.cores ≡ length old.cores →
+    messages_at new channel ≡ messages_at old channel → takes new channel ≡ takes old channel
+unfolding takes
+takes-kept old new channel same kept =
+    let there : has_channel new channel ≡ has_channel old channel = by_channel channel in
+    rw (there, kept) refl
+  where
+    by_channel : (named : Channel) → has_channel new named ≡ has_channel old named
+    by_channel (channels.Req core) = rw same refl
+    by_channel (channels.Fwd core) = rw same refl
+    by_channel (channels.Data core) = rw same refl
+    by_channel (channels.Ack to from) = rw same refl
+    by_channel channels.Home = refl
+
+list_all-same : (p q : ℕ → Bool) (cores : List ℕ) → ((core : ℕ) → p core ≡ q core) → list_all p cores ≡ list_all q cores
+list_all-same p q [] same = refl
+list_all-same p q (core ∷ cores) same = rw (same core, list_all-same p q cores same) refl
+
+-- so do the forwarded channels of a set
+pub takes_invalidations-kept : (old new : LineChannels) (cores : ℕ) → length new.cores ≡ length old.cores →
+    ((core : CoreId) → messages_at new (channels.Fwd core) ≡ messages_at old (channels.Fwd core)) →
+    takes_invalidations new cores ≡ takes_invalidations old cores
+unfolding takes_invalidations
+takes_invalidations-kept old new cores same kept =
+    list_all-same _ _ (members cores)
+    (λ core. takes-kept old new (channels.Fwd (record { 0 = core })) same (kept (record { 0 = core })))
+
+-- where a request is taken, there is room as before for what the directory's row sends
+pub directory_room-after_request : (line : LineChannels) (core : CoreId) (sends : DirSends) →
+    directory_room line core sends ≡ true → directory_room (after_take line (channels.Req core)) core sends ≡ true
+directory_room-after_request line core sends room = same sends ∙ room
+  where
+    taken : LineChannels
+    taken = after_take line (channels.Req core)
+
+    one : (channel : Channel) → channel ≢ channels.Req core → takes taken channel ≡ takes line channel
+    one channel apart =
+        takes-kept line taken channel (simp length-set) (request_alone line core None channel apart)
+
+    same : (sent : DirSends) → directory_room taken core sent ≡ directory_room line core sent
+    same dir_sends.Nothing = refl
+    same (dir_sends.Data acks) = one (channels.Data core) (λ e. cc)
+    same dir_sends.DataE = one (channels.Data core) (λ e. cc)
+    same (dir_sends.DataAndInv acks invalidated) =
+        rw (
+          one (channels.Data core) (λ e. cc),
+          takes_invalidations-kept line taken invalidated (simp length-set) (λ other. request_alone line core None (channels.Fwd other) (λ e. cc)),
+        ) refl
+    same (dir_sends.FwdGetS owner) = one (channels.Fwd owner) (λ e. cc)
+    same (dir_sends.FwdGetM owner) = one (channels.Fwd owner) (λ e. cc)
+    same dir_sends.PutAck = one (channels.Fwd core) (λ e. cc)
+
+-- where a forwarded message is taken, there is room as before for what the cache's row sends
+pub cache_room-after_forwarded : (line : LineChannels) (core requester : CoreId) (sends : CacheSends) →
+    cache_room line core requester sends ≡ true →
+    cache_room (after_take line (channels.Fwd core)) core requester sends ≡ true
+cache_room-after_forwarded line core requester sends room = same sends ∙ room
+  where
+    taken : LineChannels
+    taken = after_take line (channels.Fwd core)
+
+    one : (channel : Channel) → channel ≢ channels.Fwd core → takes taken channel ≡ takes line channel
+    one channel apart =
+        takes-kept line taken channel (simp length-set) (forwarded_alone line core _ channel apart)
+
+    same : (sent : CacheSends) → cache_room taken core requester sent ≡ cache_room line core requester sent
+    same cache_sends.DataToRequester = one (channels.Data requester) (λ e. cc)
+    same cache_sends.DataToRequesterAndHome =
+        rw (one (channels.Data requester) (λ e. cc), one channels.Home (λ e. cc)) refl
+    same cache_sends.InvAckToRequester = one (channels.Ack requester core) (λ e. cc)
+    same cache_sends.Nothing = refl
+    same cache_sends.GetS = refl
+    same cache_sends.GetM = refl
+    same cache_sends.PutS = refl
+    same cache_sends.PutM = refl

@@ -1,10 +1,13 @@
 -- What is to be done at the front of a channel, as a function of the state.
-use Rattle.std.specs.Prelude.{◌&&◌, Bool, true, false, not, if◌then◌else◌, is_some, slice_get, Option, Some, None}
+use Rattle.std.specs.Prelude.{ℕ, ◌&&◌, position, Bool, true, false, not, if◌then◌else◌, is_some, slice_get, Option, Some, None}
 use Rattle.std.specs.List.{list_all}
 use Rattle.address_map.specs.CoreSet.{has}
 use Rattle.address_map.specs.declared.address.CoreId.{CoreId}
 use Rattle.address_map.specs.declared.address.Local.{Local}
+use Rattle.cache_array.specs.Array.{slots_at}
+use Rattle.cache_array.specs.Set.{holds}
 use Rattle.cache_table.specs.Row.{row_of}
+use Rattle.cache_table.specs.declared.state.CopyState.{CopyState}
 use Rattle.cache_table.specs.declared.row.CacheEvent.{CacheEvent}
 use Rattle.cache_table.specs.declared.row.CacheEvent.TheVariants as events
 use Rattle.cache_table.specs.declared.row.Row.{Row}
@@ -16,7 +19,7 @@ use Rattle.directory_table.specs.declared.row.DirRow.{DirRow}
 use Rattle.directory_table.specs.declared.row.DirRow.TheVariants as dir_rows
 use Rattle.mshr_file.specs.Miss.{targets_of}
 use Rattle.slice_core_answer.specs.declared.answer.Cell.TheVariants as cells
-use Rattle.slice_core_side.specs.Side.{copy_of, place_of}
+use Rattle.slice_core_side.specs.Side.{copy_of}
 use Rattle.slice_core_side.specs.declared.copy.CacheCopy.{CacheCopy}
 use Rattle.slice_core_plan.specs.Sends.{cache_room, directory_room}
 use Rattle.slice_core_plan.specs.View.{View, channels_at, entry_at, side_at}
@@ -114,12 +117,21 @@ abbrev pub event_of_data : View → Local → CoreId → DataMessage → CacheEv
 event_of_data v local core (replies.Data block acks) = events.Data acks (copy_of (side_at v core) local).counted
 event_of_data v local core (replies.DataE block) = events.DataE (list_all is_load (targets_of (side_at v core).misses local.0))
 
+-- where a copy stands in its set, if the core's array holds it: only there data and acknowledgements come for it
+abbrev pub stands_at : View → Local → CoreId → Option ℕ
+stands_at v local core = position (holds local) (slots_at (side_at v core).array local)
+
+-- what data do to a copy that stands there
+abbrev pub fill_at : Option ℕ → CopyState → Plan
+fill_at None next = plans.Broken cells.Entry
+fill_at (Some place) next = plans.Fill place next
+
 -- what follows from the cache's row for data: they may not come before the request was taken
 abbrev pub by_data_row : View → Local → CoreId → Row → Plan
 by_data_row v local core rows.NoEntry = plans.Broken cells.Entry
 by_data_row v local core rows.Blocked = plans.Blocked
 by_data_row v local core (rows.Go next sent) =
-    if asks v local core then plans.Broken cells.Early else plans.Fill (place_of (side_at v core) local) next
+    if asks v local core then plans.Broken cells.Early else fill_at (stands_at v local core) next
 
 abbrev pub data_plan : View → Local → CoreId → Plan
 data_plan v local core = by_message (core_at (channels_at v local) core.0).data
@@ -129,11 +141,16 @@ data_plan v local core = by_message (core_at (channels_at v local) core.0).data
     by_message (Some message) =
         by_data_row v local core (row_of (copy_of (side_at v core) local).state (event_of_data v local core message))
 
+-- what an acknowledgement does to a copy that stands there
+abbrev pub acknowledge_at : Option ℕ → CopyState → Plan
+acknowledge_at None next = plans.Broken cells.Entry
+acknowledge_at (Some place) next = plans.Acknowledge place next
+
 -- what follows from the cache's row for an acknowledgement
 abbrev pub by_ack_row : View → Local → CoreId → Row → Plan
 by_ack_row v local core rows.NoEntry = plans.Broken cells.Entry
 by_ack_row v local core rows.Blocked = plans.Blocked
-by_ack_row v local core (rows.Go next sent) = plans.Acknowledge (place_of (side_at v core) local) next
+by_ack_row v local core (rows.Go next sent) = acknowledge_at (stands_at v local core) next
 
 abbrev pub ack_plan : View → Local → CoreId → CoreId → Plan
 ack_plan v local to from =

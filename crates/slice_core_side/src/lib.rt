@@ -13,7 +13,7 @@
 
 pub use access::{Access, Ask, Way, event_of};
 pub use copy::CacheCopy;
-pub use side::Side;
+pub use side::{Look, Side};
 pub use tags::TagState;
 
 mod access;

@@ -17,6 +17,8 @@ mod issue;
 mod look;
 mod message;
 
+pub use look::Look;
+
 /// What one core has in the slice.
 #[derive(Drop)]
 pub struct Side<F: MissFile> {

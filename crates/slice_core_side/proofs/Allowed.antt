@@ -1,9 +1,9 @@
 -- How many targets of a line a copy performs in its state, and whether some are left.
-use Rattle.std.proofs.Common.{◌≡◌, ℕ, ◌+◌, ◌==◌, ◌<◌, ◌≤◌, Bool, true, false, cond, ◌&&◌, nat_lt, List, [], ◌∷◌, length, take, drop, refl, ap, sym, ◌∙◌, arith, inl, inr}
+use Rattle.std.proofs.Common.{◌≡◌, ℕ, ◌+◌, ◌==◌, Bool, true, false, cond, ◌&&◌, nat_lt, List, [], ◌∷◌, length, take, refl, ap, sym, ◌∙◌, arith, inl, inr}
 use Rattle.std.proofs.lemmas.Bool.{cases_eq, cases_lt, eq-eqb, ne_eqb, lt-ltb, le-ltb}
 use Rattle.std.proofs.lemmas.List.{length-drop, take_all}
 use Rattle.std.proofs.lemmas.List.Folds.{length-prefix_len}
-use Rattle.std.specs.List.{list_all, take_while, prefix_len}
+use Rattle.std.specs.List.{list_all, prefix_len}
 use Rattle.mshr_file.specs.Miss.{is_waited}
 use Rattle.target_list.specs.Target.{is_load, front_loads, behind_loads}
 use Rattle.target_list.specs.declared.target.Target.{Target}

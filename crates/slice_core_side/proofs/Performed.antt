@@ -1,10 +1,10 @@
 -- Performing targets one after another: what is left to perform gives what all of them give from the start.
-use Rattle.std.proofs.Common.{◌≡◌, ℕ, ◌+◌, ◌-◌, ◌<◌, ◌≤◌, zero, suc, List, [], ◌∷◌, ◌++◌, length, take, refl, sym, ◌∙◌, ap, subst, arith, append_assoc, append-nil, set}
+use Rattle.std.proofs.Common.{◌≡◌, ℕ, ◌+◌, ◌-◌, ◌<◌, ◌≤◌, zero, suc, List, [], ◌∷◌, ◌++◌, length, take, sym, ◌∙◌, ap, subst, arith, append_assoc, append-nil, set}
 use Rattle.std.specs.Prelude.{All}
 use Rattle.std.proofs.lemmas.List.{length_push}
 use Rattle.address_map.specs.declared.address.CoreId.{CoreId}
 use Rattle.address_map.specs.declared.block.Block.{Block}
-use Rattle.mshr_file.proofs.Changes.{takes_nothing, takes_then}
+use Rattle.mshr_file.proofs.Changes.{takes_then}
 use Rattle.mshr_file.specs.Miss.{targets_of, TakesTargets}
 use Rattle.mshr_file.specs.declared.registers.Register.{Register}
 use Rattle.slice_core_log.specs.declared.entry.Entry.{Entry}

@@ -1,5 +1,5 @@
 -- A core is quiet where nothing waits, nothing leaves and no reply is left.
-use Rattle.std.proofs.Common.{arith, ◌≡◌, ◌↔◌, ℕ, Bool, List, [], ◌∷◌, length, refl, None}
+use Rattle.std.proofs.Common.{arith, ◌≡◌, ◌↔◌, Bool, List, [], ◌∷◌, length, refl, None}
 use Rattle.std.specs.Prelude.{IsTrue}
 use Rattle.slice_core_side.specs.Side.{SideView, IsSideQuiet}
 use Rattle.slice_core_side.specs.Tags.{IsLeastReply}

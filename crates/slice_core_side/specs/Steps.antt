@@ -1,7 +1,6 @@
 -- What each step leaves of what a core has. A miss file orders its lines as it likes, so the misses that a step leaves
 -- are given to it.
-use Rattle.std.specs.Prelude.{◌≡◌, ℕ, ◌+◌, ◌^◌, min, Bool, if◌then◌else◌, List, [], ◌∷◌, length, slice_set, Option, Some, None, is_some, unwrap_or}
-use Rattle.address_map.specs.declared.address.CoreId.{CoreId}
+use Rattle.std.specs.Prelude.{◌≡◌, ℕ, ◌+◌, min, Bool, if◌then◌else◌, List, [], ◌∷◌, slice_set, Option, Some, None, is_some, unwrap_or}
 use Rattle.address_map.specs.declared.address.Local.{Local}
 use Rattle.address_map.specs.declared.address.Offset.{Offset}
 use Rattle.address_map.specs.declared.block.Block.{Block}
@@ -19,7 +18,6 @@ use Rattle.cache_table.specs.declared.row.CacheSends.TheVariants as sends
 use Rattle.cache_table.specs.declared.row.Row.{Row}
 use Rattle.cache_table.specs.declared.row.Row.TheVariants as rows
 use Rattle.cache_table.specs.declared.state.CopyState.{CopyState}
-use Rattle.cache_table.specs.declared.state.CopyState.TheVariants as states
 use Rattle.mshr_file.specs.Miss.{targets_of}
 use Rattle.mshr_file.specs.declared.registers.Register.{Register}
 use Rattle.rand_xoshiro.specs.Xoshiro256.{plus_plus}
@@ -28,8 +26,6 @@ use Rattle.slice_core_side.specs.Copy.{performed_on, is_gone, missing_copy}
 use Rattle.slice_core_side.specs.Perform.{block_after, tags_after, performed_in, left_in, settled_state}
 use Rattle.slice_core_side.specs.Side.{SideView, array_copy}
 use Rattle.slice_core_side.specs.Tags.{IsLeastReply}
-use Rattle.slice_core_side.specs.declared.access.Way.{Way}
-use Rattle.slice_core_side.specs.declared.access.Way.TheVariants as ways
 use Rattle.slice_core_side.specs.declared.copy.CacheCopy.{CacheCopy}
 use Rattle.slice_core_side.specs.declared.tags.TagState.TheVariants as tags
 use Rattle.slice_queues_message.specs.declared.message.RequestMessage.{RequestMessage}

@@ -1,5 +1,5 @@
 ghost use Rattle.std.specs.Prelude.{◌≡◌, ◌+◌, ◌^◌, ◌<◌, ◌≤◌, ◌++◌, [], ◌∷◌, length, nat_lt, take, vec_capacity, All, slice_set};
-ghost use Rattle.mshr_file.specs.Miss.{is_waited, targets_of, TakesTargets};
+ghost use Rattle.mshr_file.specs.Miss.{IsMissFile, is_waited, targets_of, TakesTargets};
 ghost use Rattle.slice_core_side.specs.Copy.{performed_on};
 ghost use Rattle.slice_core_side.specs.Perform.{block_after, entries_of, entry_of, left_in, performed_in, tags_after};
 ghost use Rattle.slice_core_side.specs.Targets.{IsPerformable};
@@ -42,6 +42,7 @@ pub fn perform<F: MissFile>(
     requires room { length log.old.items + count ≤ vec_capacity log.old }
     requires first { first + 8 ≤ 2 ^ 64 }
     ensures taken { TakesTargets (F.misses file.old) (F.misses file.new) local.0 (take count (targets_of (F.misses file.old) local.0)) }
+    ensures sound { IsMissFile (F.misses file.old) → IsMissFile (F.misses file.new) }
     ensures bound { F.bound file.new ≡ F.bound file.old }
     ensures block { block.new ≡ block_after block.old (take count (targets_of (F.misses file.old) local.0)) }
     ensures tags { tags.new ≡ tags_after tags.old (length log.old.items) (take count (targets_of (F.misses file.old) local.0)) }

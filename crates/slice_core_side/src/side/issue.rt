@@ -1,7 +1,7 @@
 ghost use Rattle.std.specs.Prelude.{◌≡◌, ◌+◌, ◌^◌, ◌<◌, length, true, false, None, Some, IsTrue, position};
 ghost use Rattle.cache_array.specs.Array.{held_at as array_at, slots_at};
 ghost use Rattle.cache_array.specs.Set.{holds};
-ghost use Rattle.mshr_file.specs.Miss.{has_miss, can_open, can_join, AddsTarget};
+ghost use Rattle.mshr_file.specs.Miss.{has_miss, can_open, can_join, AddsTarget, IsMissFile};
 ghost use Rattle.writeback_buffer.specs.Buffer.{held_at as buffer_at};
 ghost use Rattle.slice_core_log.specs.Op.{reply_of};
 ghost use Rattle.slice_core_side.specs.Access.{is_silent};
@@ -148,6 +148,7 @@ impl<F: MissFile> Side<F> {
         requires fits { self.old.accepted + 1 < 2 ^ 64 }
         ensures seq { result ≡ self.old.accepted }
         ensures added { AddsTarget self.old.misses self.new.misses local.0 (target_of self.old request offset since) }
+        ensures sound { IsMissFile self.new.misses }
         ensures after { self.new ≡ after_join self.old request self.new.misses }
     {
         let target = self.next_target(offset, request, since);
@@ -173,6 +174,7 @@ impl<F: MissFile> Side<F> {
         requires fits { self.old.accepted + 1 < 2 ^ 64 }
         ensures seq { result ≡ self.old.accepted }
         ensures added { AddsTarget self.old.misses self.new.misses local.0 (target_of self.old request offset since) }
+        ensures sound { IsMissFile self.new.misses }
         ensures after { self.new ≡ after_open self.old local held next request self.new.misses }
     {
         if held {

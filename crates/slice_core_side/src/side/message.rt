@@ -1,7 +1,7 @@
 ghost use Rattle.std.specs.Prelude.{◌≡◌, ℕ, ◌+◌, ◌^◌, ◌<◌, ◌≤◌, ◌++◌, ◌⊎◌, length, vec_capacity, Some, All, IsSome, position};
 ghost use Rattle.cache_array.specs.Array.{held_at as array_at, slots_at};
 ghost use Rattle.cache_array.specs.Set.{holds};
-ghost use Rattle.mshr_file.specs.Miss.{targets_of, TakesTargets};
+ghost use Rattle.mshr_file.specs.Miss.{targets_of, IsMissFile, TakesTargets};
 ghost use Rattle.slice_core_side.specs.Perform.{entries_of, performed_in, left_in, asks_to_write};
 ghost use Rattle.slice_core_side.specs.Targets.{IsPerformable};
 ghost use Rattle.writeback_buffer.specs.Buffer.{held_at as buffer_at};
@@ -72,6 +72,7 @@ impl<F: MissFile> Side<F> {
         requires first { first + 8 ≤ 2 ^ 64 }
         ensures asks { result ≡ asks_to_write (array_copy self.old local).state (targets_of self.old.misses local.0) }
         ensures taken { TakesTargets self.old.misses self.new.misses local.0 (performed_in (array_copy self.old local).state (targets_of self.old.misses local.0)) }
+        ensures sound { IsMissFile self.old.misses → IsMissFile self.new.misses }
         ensures after { self.new ≡ after_settle self.old local (length log.old.items) self.new.misses }
         ensures log { log.new.items ≡ log.old.items ++ entries_of core first (array_copy self.old local).block (performed_in (array_copy self.old local).state (targets_of self.old.misses local.0)) }
         ensures room { vec_capacity log.new ≡ vec_capacity log.old }

@@ -1,4 +1,4 @@
-use Rattle.std.proofs.Common.{◌≡◌, ℕ, nat_lt, length, ap, ◌∙◌}
+use Rattle.std.proofs.Common.{nat_lt, length, ap, ◌∙◌}
 use Rattle.mshr_file.specs.Miss.{targets_of}
 use Rattle.slice_core_side.proofs.Allowed.{more-front_loads}
 use Rattle.slice_core_side.proofs.perform.count_allowed.Goals as goal

@@ -1,4 +1,4 @@
-use Rattle.std.proofs.Common.{◌≡◌, ◌-◌, ℕ, arith, zero, sym, ◌∙◌, take}
+use Rattle.std.proofs.Common.{arith, ◌∙◌}
 use Rattle.slice_core_side.proofs.Performed.{performed-more, next-performable, all-performed-block, all-performed-tags, all-performed-log}
 use Rattle.slice_core_side.proofs.perform.perform.Goals as goal
 
@@ -11,6 +11,7 @@ loop-done-preserved g c = record {
   performed =
       rw (c.perform_one.ensures.block, c.perform_one.ensures.tags, c.perform_one.ensures.log)
       (performed-more _ _ _ _ _ _ _ _ _ _ _ _ _ _ _ c.loop-done.invariant.performed c.loop-done-test.true c.take_first-target.ensures.taken);
+  sound = λ _. c.take_first-target.ensures.sound;
   bound = c.take_first-target.ensures.bound ∙ c.loop-done.invariant.bound;
   room = c.perform_one.ensures.room ∙ c.loop-done.invariant.room;
 }

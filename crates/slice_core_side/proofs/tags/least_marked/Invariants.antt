@@ -1,4 +1,4 @@
-use Rattle.std.proofs.Common.{ℕ, length}
+use Rattle.std.proofs.Common.{length}
 use Rattle.address_map.specs.CoreSet.{members}
 use Rattle.slice_core_side.proofs.Replies.{IsSearched}
 use Rattle.slice_core_side.proofs.tags.least_marked.Given as goal

@@ -1,4 +1,4 @@
-use Rattle.std.proofs.Common.{◌≡◌, ◌↔◌, ◌∙◌, subst, sym, eqb-true}
+use Rattle.std.proofs.Common.{◌↔◌, ◌∙◌, subst, sym, eqb-true}
 use Rattle.std.specs.Prelude.{IsTrue}
 use Rattle.slice_core_side.specs.Side.{SideView, IsSideQuiet}
 use Rattle.slice_core_side.proofs.Quiet.{quiet_by_tags}

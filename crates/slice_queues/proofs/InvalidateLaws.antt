@@ -1,5 +1,5 @@
 -- One Inv after another to the cores of a set is one change of all these cores.
-use Rattle.std.proofs.Common.{◌≡◌, ◌≢◌, ℕ, ◌+◌, ◌^◌, ◌<◌, ◌≤◌, zero, suc, Bool, true, false, if◌then◌else◌, List, [], ◌∷◌, ◌++◌, length, map, filter, refl, ap, sym, ◌∙◌, arith, Option, get_or, inl, inr}
+use Rattle.std.proofs.Common.{◌≡◌, ◌≢◌, ℕ, ◌+◌, ◌^◌, ◌<◌, ◌≤◌, zero, suc, Bool, true, false, if◌then◌else◌, List, [], ◌∷◌, length, filter, refl, ap, sym, ◌∙◌, arith, Option, inl, inr}
 use Rattle.std.specs.List.{range_with_len, AllByRecursion}
 use Rattle.std.proofs.Math.ListN.{set, length-set}
 use Rattle.std.proofs.lemmas.Bool.{cases_eq, cases_lt}
@@ -32,7 +32,8 @@ after_each requester (core ∷ cores) line = after_each requester cores (after_o
 -- each of them takes it in its turn
 abbrev pub EachTakes : CoreId → List ℕ → LineChannels → Type 0
 EachTakes requester [] line = Unit {0}
-EachTakes requester (core ∷ cores) line = TakesForwarded line core × EachTakes requester cores (after_one requester line core)
+EachTakes requester (core ∷ cores) line =
+    TakesForwarded line core × EachTakes requester cores (after_one requester line core)
 
 -- a core that is behind those that got it has what it had
 core-unreached : (set : ℕ) (requester : CoreId) (n from : ℕ) (line : LineChannels) (core : ℕ) → core < from →
@@ -46,12 +47,14 @@ core-unreached set requester (suc n) from line core before =
   where
     by_test : (there : Bool) →
         ((other : LineChannels) →
-        core_at (after_each requester (filter (has set) (range_with_len (from + 1) n)) other) core ≡ core_at other core) →
+        core_at (after_each requester (filter (has set) (range_with_len (from + 1) n)) other) core
+        ≡ core_at other core) →
         core_at (after_one requester line from) core ≡ core_at line core →
         core_at
         (after_each
         requester
-        (if there then from ∷ filter (has set) (range_with_len (from + 1) n) else filter (has set) (range_with_len (from + 1) n))
+        (if there then from ∷ filter (has set) (range_with_len (from + 1) n) else filter (has set)
+        (range_with_len (from + 1) n))
         line)
         core
         ≡ core_at line core
@@ -63,9 +66,11 @@ abbrev reached : ℕ → CoreId → LineChannels → ℕ → CoreChannels
 reached set requester line core =
     if has set core then with_invalidation requester (core_at line core) else core_at line core
 
-core-reached : (set : ℕ) (requester : CoreId) (n from : ℕ) (line : LineChannels) (core : ℕ) → from ≤ core → core < from + n →
+core-reached : (set : ℕ) (requester : CoreId) (n from : ℕ) (line : LineChannels) (core : ℕ) → from ≤ core →
+    core < from + n →
     core < length line.cores →
-    core_at (after_each requester (filter (has set) (range_with_len from n)) line) core ≡ reached set requester line core
+    core_at (after_each requester (filter (has set) (range_with_len from n)) line) core
+    ≡ reached set requester line core
 core-reached set requester zero from line core behind within there = absurd (omega arith)
 core-reached set requester (suc n) from line core behind within there =
     elim (cases_eq from core) [
@@ -84,11 +89,13 @@ core-reached set requester (suc n) from line core behind within there =
   where
     at_core : from ≡ core → (test : Bool) → has set from ≡ test →
         ((other : LineChannels) →
-        core_at (after_each requester (filter (has set) (range_with_len (from + 1) n)) other) core ≡ core_at other core) →
+        core_at (after_each requester (filter (has set) (range_with_len (from + 1) n)) other) core
+        ≡ core_at other core) →
         core_at
         (after_each
         requester
-        (if test then from ∷ filter (has set) (range_with_len (from + 1) n) else filter (has set) (range_with_len (from + 1) n))
+        (if test then from ∷ filter (has set) (range_with_len (from + 1) n) else filter (has set)
+        (range_with_len (from + 1) n))
         line)
         core
         ≡ reached set requester line core
@@ -109,13 +116,15 @@ core-reached set requester (suc n) from line core behind within there =
         core_at
         (after_each
         requester
-        (if test then from ∷ filter (has set) (range_with_len (from + 1) n) else filter (has set) (range_with_len (from + 1) n))
+        (if test then from ∷ filter (has set) (range_with_len (from + 1) n) else filter (has set)
+        (range_with_len (from + 1) n))
         line)
         core
         ≡ reached set requester line core
     past_core apart true rest =
         let same : core_at (after_one requester line from) core ≡ core_at line core =
-        get_or-set_other line.cores from core (with_invalidation requester (core_at line from)) no_messages (λ e. apart (sym e)) in
+        get_or-set_other line.cores from core (with_invalidation requester (core_at line from)) no_messages
+        (λ e. apart (sym e)) in
         rest (after_one requester line from) (rw length-set there)
         ∙ ap (λ k. if has set core then with_invalidation requester k else k) same
     past_core apart false rest = rest line there
@@ -148,7 +157,8 @@ after_each-members set requester line few =
     (λ core within.
     let there : core < length line.cores = omega (arith, same_length) in
     core-reached set requester 64 0 line core (omega arith) (omega arith) there
-    ∙ sym (get_or-map-range_with_len (reached set requester line) 0 (length line.cores) core core no_messages there (omega arith))))
+    ∙ sym (get_or-map-range_with_len (reached set requester line) 0 (length line.cores) core core no_messages there
+    (omega arith))))
     (home-after_each requester (filter (has set) (range_with_len 0 64)) line)
   where
     same_length : length (after_each requester (filter (has set) (range_with_len 0 64)) line).cores ≡ length line.cores
@@ -156,7 +166,8 @@ after_each-members set requester line few =
 
     same_line : (a b : LineChannels) → a.cores ≡ b.cores → a.home ≡ b.home → a ≡ b
     same_line a b e f =
-        let line : List CoreChannels → Option Block → LineChannels = λ cores home. record { cores = cores; home = home } in
+        let line : List CoreChannels → Option Block →
+        LineChannels = λ cores home. record { cores = cores; home = home } in
         ap (λ cores. line cores a.home) e ∙ ap (line b.cores) f
 
 -- what holds of the members of a set holds of each core
@@ -164,12 +175,14 @@ each-from_range : (P : ℕ → Type 0) (set n from : ℕ) → AllByRecursion P (
     (core : ℕ) → from ≤ core → core < from + n → has set core ≡ true → P core
 each-from_range P set zero from all core behind within there = absurd (omega arith)
 each-from_range P set (suc n) from all core behind within there =
-    by_test (has set from) refl all (λ rest apart. each-from_range P set n (from + 1) rest core (omega arith) (omega arith) there)
+    by_test (has set from) refl all
+    (λ rest apart. each-from_range P set n (from + 1) rest core (omega arith) (omega arith) there)
   where
     by_test : (test : Bool) → has set from ≡ test →
         AllByRecursion
         P
-        (if test then from ∷ filter (has set) (range_with_len (from + 1) n) else filter (has set) (range_with_len (from + 1) n)) →
+        (if test then from ∷ filter (has set) (range_with_len (from + 1) n) else filter (has set)
+        (range_with_len (from + 1) n)) →
         (AllByRecursion P (filter (has set) (range_with_len (from + 1) n)) → from ≢ core → P core) → P core
     by_test true e all later =
         elim (cases_eq from core) [
@@ -195,7 +208,8 @@ EachTakes-range set requester (suc n) from line takes =
         EachTakes requester (filter (has set) (range_with_len (from + 1) n)) other) →
         EachTakes
         requester
-        (if there then from ∷ filter (has set) (range_with_len (from + 1) n) else filter (has set) (range_with_len (from + 1) n))
+        (if there then from ∷ filter (has set) (range_with_len (from + 1) n) else filter (has set)
+        (range_with_len (from + 1) n))
         line
     by_test true e rest = (takes from (omega arith) e, rest (after_one requester line from) still)
       where
@@ -215,11 +229,13 @@ EachTakes-members set requester line takes =
     EachTakes-range set requester 64 0 line (λ core from there. takes (record { 0 = core }) there)
 
 -- a core of the set got the Inv behind what waited, and any other core has what it had
-pub core_at-after_invalidating : (line : LineChannels) (set : ℕ) (requester : CoreId) (core : ℕ) → core < length line.cores →
+pub core_at-after_invalidating : (line : LineChannels) (set : ℕ) (requester : CoreId) (core : ℕ) →
+    core < length line.cores →
     core_at (after_invalidating line set requester) core
     ≡ (if has set core then with_invalidation requester (core_at line core) else core_at line core)
 core_at-after_invalidating line set requester core there =
-    get_or-map-range_with_len (reached set requester line) 0 (length line.cores) core core no_messages there (omega arith)
+    get_or-map-range_with_len (reached set requester line) 0 (length line.cores) core core no_messages there
+    (omega arith)
 
 pub core_at-not_invalidated : (line : LineChannels) (set : ℕ) (requester : CoreId) (core : ℕ) → has set core ≡ false →
     core_at (after_invalidating line set requester) core ≡ core_at line core
@@ -240,4 +256,5 @@ pub TakesInvalidations-from_members : (line : LineChannels) (set : ℕ) → set 
     AllByRecursion (TakesForwarded line) (members set) → TakesInvalidations line set
 unfolding members
 TakesInvalidations-from_members line set fits all core there =
-    each-from_range (TakesForwarded line) set 64 0 all core.0 (omega arith) (omega (arith, has-below set core.0 fits there)) there
+    each-from_range (TakesForwarded line) set 64 0 all core.0 (omega arith)
+    (omega (arith, has-below set core.0 fits there)) there

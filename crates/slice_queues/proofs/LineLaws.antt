@@ -1,5 +1,5 @@
 -- A send and a take change their own channel alone.
-use Rattle.std.proofs.Common.{rules, eq-eqb, eqb-true, ◌≡◌, ◌≢◌, ℕ, ◌<◌, ◌≤◌, Bool, true, false, List, [], ◌∷◌, ◌++◌, length, map, drop, refl, ap, sym, ◌∙◌, subst, arith, Option, Some, None, zero, suc, replicate, get_or, inl, inr, is_some, IsTrue, ◌↔◌, EachIndex}
+use Rattle.std.proofs.Common.{rules, eq-eqb, eqb-true, ◌≡◌, ◌≢◌, ℕ, ◌<◌, ◌≤◌, Bool, true, false, List, [], ◌∷◌, ◌++◌, length, map, drop, refl, ap, sym, ◌∙◌, arith, Option, Some, None, zero, suc, replicate, get_or, inl, inr}
 use Rattle.std.proofs.Math.ListN.{set, length-set}
 use Rattle.std.proofs.lemmas.List.{get_or-set_same, get_or-set_other, get_or_past, set-get_or, length-replicate, map-append}
 use Rattle.std.proofs.lemmas.Bool.{cases_eq}

@@ -1,5 +1,5 @@
 -- The marks of a line follow each send and take.
-use Rattle.std.proofs.Common.{rules, IsTrue, ◌↔◌, ◌≡◌, ◌≢◌, ℕ, ◌<◌, ◌≤◌, ◌==◌, ◌||◌, ◌++◌, not, zero, suc, drop, Bool, true, false, if◌then◌else◌, List, [], ◌∷◌, length, refl, ap, sym, ◌∙◌, arith, Option, Some, None, replicate, get_or, inl, inr, is_some, nat_lt, bit_or, max}
+use Rattle.std.proofs.Common.{rules, IsTrue, ◌↔◌, ◌≡◌, ℕ, ◌<◌, ◌≤◌, ◌==◌, ◌||◌, ◌++◌, not, zero, suc, drop, Bool, true, false, if◌then◌else◌, List, [], ◌∷◌, length, refl, ap, sym, ◌∙◌, arith, Option, Some, None, replicate, get_or, inl, inr, is_some, nat_lt, bit_or, max}
 use Rattle.std.specs.Int.{bit_at}
 use Rattle.std.specs.List.{list_any}
 use Rattle.std.proofs.Math.ListN.{set}
@@ -9,12 +9,14 @@ use Rattle.std.proofs.lemmas.Nat.Bits.{bit_at_or, bit_at-lt}
 use Rattle.address_map.specs.CoreSet.{has, with, without}
 use Rattle.address_map.proofs.CoreSets.{has-zero, has-with_same, has-with_other, has-without_same, has-without_other, without-missing, zero-from_none}
 use Rattle.address_map.specs.declared.block.Block.{Block}
+use Rattle.slice_queues_message.specs.declared.channel.Channel.{Channel}
 use Rattle.slice_queues_message.specs.declared.channel.Channel.TheVariants as channels
+use Rattle.slice_queues_message.specs.declared.message.Message.{Message}
 use Rattle.slice_queues_message.specs.declared.message.RequestMessage.{RequestMessage}
 use Rattle.slice_queues_message.specs.declared.message.ForwardedMessage.{ForwardedMessage}
 use Rattle.slice_queues_message.specs.declared.message.DataMessage.{DataMessage}
 use Rattle.slice_queues.specs.declared.mail.Mail.{Mail}
-use Rattle.slice_queues.specs.Line.{CoreChannels, LineChannels, no_messages, core_at, has_request, has_forwarded, has_data, has_acks, has_messages, has_mail, IsEmptyLine, IsWithinCores}
+use Rattle.slice_queues.specs.Line.{CoreChannels, LineChannels, no_messages, core_at, has_request, has_forwarded, has_data, has_acks, has_messages, has_mail, messages_at, IsEmptyLine, IsWithinCores}
 use Rattle.slice_queues.specs.Mail.{no_marks, all_marked, Marks, IsMarked, IsLine}
 use Rattle.slice_queues.proofs.LineLaws.{IsWithinCores-set, IsWithinCores-with_ack, IsWithinCores-without_ack, IsWithinCores-empty, IsEmptyLine-from_cores, cores-from_IsEmptyLine, None-from_home, read_default, read-replicate}
 
@@ -25,7 +27,8 @@ pub Marks-with : (test : CoreChannels → Bool) (marks : ℕ) (cores : List Core
 Marks-with test marks cores core new few there waits marked other =
     elim (cases_eq other core) [
       | inl same ↦
-          rw same (has-with_same marks core few ∙ sym waits ∙ ap test (sym (get_or-set_same cores core new no_messages there)))
+          rw same (has-with_same marks core few ∙ sym waits
+          ∙ ap test (sym (get_or-set_same cores core new no_messages there)))
       | inr apart ↦
           has-with_other marks core other apart
           ∙ marked other
@@ -33,13 +36,15 @@ Marks-with test marks cores core new few there waits marked other =
     ]
 
 -- a core that has no message any more is not
-pub Marks-without : (test : CoreChannels → Bool) (marks : ℕ) (cores : List CoreChannels) (core : ℕ) (new : CoreChannels) →
+pub Marks-without : (test : CoreChannels →
+    Bool) (marks : ℕ) (cores : List CoreChannels) (core : ℕ) (new : CoreChannels) →
     core < length cores → test new ≡ false →
     Marks test marks cores → Marks test (without marks core) (set cores core new)
 Marks-without test marks cores core new there none marked other =
     elim (cases_eq other core) [
       | inl same ↦
-          rw same (has-without_same marks core ∙ sym none ∙ ap test (sym (get_or-set_same cores core new no_messages there)))
+          rw same (has-without_same marks core ∙ sym none
+          ∙ ap test (sym (get_or-set_same cores core new no_messages there)))
       | inr apart ↦
           has-without_other marks core other apart
           ∙ marked other
@@ -47,7 +52,8 @@ Marks-without test marks cores core new there none marked other =
     ]
 
 -- where the test says the same of the core as before, the marks stay
-pub Marks-kept : (test : CoreChannels → Bool) (marks : ℕ) (cores : List CoreChannels) (core : ℕ) (old new : CoreChannels) →
+pub Marks-kept : (test : CoreChannels →
+    Bool) (marks : ℕ) (cores : List CoreChannels) (core : ℕ) (old new : CoreChannels) →
     core < length cores → old ≡ get_or cores core old → test new ≡ test old →
     Marks test marks cores → Marks test marks (set cores core new)
 Marks-kept test marks cores core old new there read same_test marked other =
@@ -63,7 +69,8 @@ Marks-kept test marks cores core old new there read same_test marked other =
     ]
 
 -- a core stays marked while a message is left
-pub Marks-unless : (test : CoreChannels → Bool) (marks : ℕ) (cores : List CoreChannels) (core : ℕ) (old new : CoreChannels) →
+pub Marks-unless : (test : CoreChannels →
+    Bool) (marks : ℕ) (cores : List CoreChannels) (core : ℕ) (old new : CoreChannels) →
     core < length cores → old ≡ get_or cores core old → (test new ≡ true → test old ≡ true) →
     Marks test marks cores →
     Marks test (if test new then marks else without marks core) (set cores core new)
@@ -105,7 +112,8 @@ some-from_has zero core there = let gone : false ≡ true = sym (has-zero core) 
 some-from_has (suc set) core there = some set
 
 -- a change of a core's request, and so on, and of its marks
-pub IsLine-request : (cores : List CoreChannels) (mail : Mail) (core : ℕ) (old new : CoreChannels) (request : Option RequestMessage) (marks : ℕ) →
+pub IsLine-request : (cores : List CoreChannels) (mail : Mail) (core : ℕ) (old new : CoreChannels)
+    (request : Option RequestMessage) (marks : ℕ) →
     core < length cores → old ≡ get_or cores core old → new ≡ record old { request = request } →
     Marks has_request marks (set cores core new) → IsLine cores mail →
     IsLine (set cores core new) (record mail { requests = marks })
@@ -113,35 +121,43 @@ IsLine-request cores mail core old new request marks there read is marked line =
   within = IsWithinCores-kept cores core old new there read (ap (λ k. k.acks) is) line.within;
   marked = record {
     requests = marked;
-    forwarded = Marks-kept has_forwarded mail.forwarded cores core old new there read (ap has_forwarded is) line.marked.forwarded;
-    data_messages = Marks-kept has_data mail.data_messages cores core old new there read (ap has_data is) line.marked.data_messages;
+    forwarded = Marks-kept has_forwarded mail.forwarded cores core old new there read
+        (ap has_forwarded is) line.marked.forwarded;
+    data_messages = Marks-kept has_data mail.data_messages cores core old new there read
+        (ap has_data is) line.marked.data_messages;
     acks = Marks-kept has_acks mail.acks cores core old new there read (ap has_acks is) line.marked.acks;
   };
 }
 
-pub IsLine-forwarded : (cores : List CoreChannels) (mail : Mail) (core : ℕ) (old new : CoreChannels) (forwarded : List ForwardedMessage) (marks : ℕ) →
+pub IsLine-forwarded : (cores : List CoreChannels) (mail : Mail) (core : ℕ) (old new : CoreChannels)
+    (forwarded : List ForwardedMessage) (marks : ℕ) →
     core < length cores → old ≡ get_or cores core old → new ≡ record old { forwarded = forwarded } →
     Marks has_forwarded marks (set cores core new) → IsLine cores mail →
     IsLine (set cores core new) (record mail { forwarded = marks })
 IsLine-forwarded cores mail core old new forwarded marks there read is marked line = record {
   within = IsWithinCores-kept cores core old new there read (ap (λ k. k.acks) is) line.within;
   marked = record {
-    requests = Marks-kept has_request mail.requests cores core old new there read (ap has_request is) line.marked.requests;
+    requests = Marks-kept has_request mail.requests cores core old new there read
+        (ap has_request is) line.marked.requests;
     forwarded = marked;
-    data_messages = Marks-kept has_data mail.data_messages cores core old new there read (ap has_data is) line.marked.data_messages;
+    data_messages = Marks-kept has_data mail.data_messages cores core old new there read
+        (ap has_data is) line.marked.data_messages;
     acks = Marks-kept has_acks mail.acks cores core old new there read (ap has_acks is) line.marked.acks;
   };
 }
 
-pub IsLine-data : (cores : List CoreChannels) (mail : Mail) (core : ℕ) (old new : CoreChannels) (message : Option DataMessage) (marks : ℕ) →
+pub IsLine-data : (cores : List CoreChannels) (mail : Mail) (core : ℕ) (old new : CoreChannels)
+    (message : Option DataMessage) (marks : ℕ) →
     core < length cores → old ≡ get_or cores core old → new ≡ record old { «data» = message } →
     Marks has_data marks (set cores core new) → IsLine cores mail →
     IsLine (set cores core new) (record mail { data_messages = marks })
 IsLine-data cores mail core old new message marks there read is marked line = record {
   within = IsWithinCores-kept cores core old new there read (ap (λ k. k.acks) is) line.within;
   marked = record {
-    requests = Marks-kept has_request mail.requests cores core old new there read (ap has_request is) line.marked.requests;
-    forwarded = Marks-kept has_forwarded mail.forwarded cores core old new there read (ap has_forwarded is) line.marked.forwarded;
+    requests = Marks-kept has_request mail.requests cores core old new there read
+        (ap has_request is) line.marked.requests;
+    forwarded = Marks-kept has_forwarded mail.forwarded cores core old new there read
+        (ap has_forwarded is) line.marked.forwarded;
     data_messages = marked;
     acks = Marks-kept has_acks mail.acks cores core old new there read (ap has_acks is) line.marked.acks;
   };
@@ -154,15 +170,19 @@ pub IsLine-acks : (cores : List CoreChannels) (mail : Mail) (core : ℕ) (old ne
 IsLine-acks cores mail core old new acks marks there read is within marked line = record {
   within = within;
   marked = record {
-    requests = Marks-kept has_request mail.requests cores core old new there read (ap has_request is) line.marked.requests;
-    forwarded = Marks-kept has_forwarded mail.forwarded cores core old new there read (ap has_forwarded is) line.marked.forwarded;
-    data_messages = Marks-kept has_data mail.data_messages cores core old new there read (ap has_data is) line.marked.data_messages;
+    requests = Marks-kept has_request mail.requests cores core old new there read
+        (ap has_request is) line.marked.requests;
+    forwarded = Marks-kept has_forwarded mail.forwarded cores core old new there read
+        (ap has_forwarded is) line.marked.forwarded;
+    data_messages = Marks-kept has_data mail.data_messages cores core old new there read
+        (ap has_data is) line.marked.data_messages;
     acks = marked;
   };
 }
 
 -- a message that was sent, or taken: its core is marked, or not, and the line is as it should be
-pub IsLine-sent_request : (cores : List CoreChannels) (mail : Mail) (core : ℕ) (old new : CoreChannels) (message : RequestMessage) (marks : ℕ) →
+pub IsLine-sent_request : (cores : List CoreChannels) (mail : Mail) (core : ℕ) (old new : CoreChannels)
+    (message : RequestMessage) (marks : ℕ) →
     core < length cores → old ≡ get_or cores core old → new ≡ record old { request = Some message } →
     marks ≡ with mail.requests core → IsLine cores mail →
     IsLine (set cores core new) (record mail { requests = marks })
@@ -179,7 +199,8 @@ IsLine-sent_request cores mail core old new message marks there read is marks_is
     there
     read
     is
-    (rw marks_is (Marks-with has_request mail.requests cores core new few there (ap has_request is) line.marked.requests))
+    (rw marks_is (Marks-with has_request mail.requests cores core new few there
+    (ap has_request is) line.marked.requests))
     line
 
 pub IsLine-taken_request : (cores : List CoreChannels) (mail : Mail) (core : ℕ) (old new : CoreChannels) (marks : ℕ) →
@@ -198,10 +219,12 @@ IsLine-taken_request cores mail core old new marks there read is marks_is line =
     there
     read
     is
-    (rw marks_is (Marks-without has_request mail.requests cores core new there (ap has_request is) line.marked.requests))
+    (rw marks_is (Marks-without has_request mail.requests cores core new there
+    (ap has_request is) line.marked.requests))
     line
 
-pub IsLine-sent_forwarded : (cores : List CoreChannels) (mail : Mail) (core : ℕ) (old new : CoreChannels) (message : ForwardedMessage) (marks : ℕ) →
+pub IsLine-sent_forwarded : (cores : List CoreChannels) (mail : Mail) (core : ℕ) (old new : CoreChannels)
+    (message : ForwardedMessage) (marks : ℕ) →
     core < length cores → old ≡ get_or cores core old → new ≡ record old { forwarded = old.forwarded ++ message ∷ [] } →
     marks ≡ with mail.forwarded core → IsLine cores mail →
     IsLine (set cores core new) (record mail { forwarded = marks })
@@ -247,11 +270,13 @@ IsLine-taken_forwarded cores mail core old new marks there read is marks_is line
     (rw marks_is (Marks-unless has_forwarded mail.forwarded cores core old new there read waited line.marked.forwarded))
     line
   where
-    some_before : (queue : List ForwardedMessage) → nat_lt 0 (length (drop 1 queue)) ≡ true → nat_lt 0 (length queue) ≡ true
+    some_before : (queue : List ForwardedMessage) → nat_lt 0 (length (drop 1 queue)) ≡ true →
+        nat_lt 0 (length queue) ≡ true
     some_before [] e = e
     some_before (first ∷ queue) e = some _
 
-pub IsLine-sent_data : (cores : List CoreChannels) (mail : Mail) (core : ℕ) (old new : CoreChannels) (message : DataMessage) (marks : ℕ) →
+pub IsLine-sent_data : (cores : List CoreChannels) (mail : Mail) (core : ℕ) (old new : CoreChannels)
+    (message : DataMessage) (marks : ℕ) →
     core < length cores → old ≡ get_or cores core old → new ≡ record old { «data» = Some message } →
     marks ≡ with mail.data_messages core → IsLine cores mail →
     IsLine (set cores core new) (record mail { data_messages = marks })
@@ -268,7 +293,8 @@ IsLine-sent_data cores mail core old new message marks there read is marks_is li
     there
     read
     is
-    (rw marks_is (Marks-with has_data mail.data_messages cores core new few there (ap has_data is) line.marked.data_messages))
+    (rw marks_is (Marks-with has_data mail.data_messages cores core new few there
+    (ap has_data is) line.marked.data_messages))
     line
 
 pub IsLine-taken_data : (cores : List CoreChannels) (mail : Mail) (core : ℕ) (old new : CoreChannels) (marks : ℕ) →
@@ -287,7 +313,8 @@ IsLine-taken_data cores mail core old new marks there read is marks_is line =
     there
     read
     is
-    (rw marks_is (Marks-without has_data mail.data_messages cores core new there (ap has_data is) line.marked.data_messages))
+    (rw marks_is (Marks-without has_data mail.data_messages cores core new there
+    (ap has_data is) line.marked.data_messages))
     line
 
 pub IsLine-sent_ack : (cores : List CoreChannels) (mail : Mail) (to from : ℕ) (old new : CoreChannels) (marks : ℕ) →
@@ -357,7 +384,8 @@ IsLine-empty cores few = record {
 pub has-or : (marks other core : ℕ) → has (bit_or marks other) core ≡ (has marks core || has other core)
 unfolding has
 has-or marks other core =
-    rw (bit_at_or marks other core) (by_bits (bit_at marks core) (bit_at other core) (bit_at-lt marks core) (bit_at-lt other core))
+    rw (bit_at_or marks other core)
+    (by_bits (bit_at marks core) (bit_at other core) (bit_at-lt marks core) (bit_at-lt other core))
   where
     by_bits : (a b : ℕ) → a < 2 → b < 2 → (max a b == 1) ≡ ((a == 1) || (b == 1))
     by_bits zero zero small small_too = refl
@@ -368,7 +396,8 @@ has-or marks other core =
     by_bits a (suc (suc b)) small small_too = absurd (omega arith)
 
 -- the cores that are marked for any kind are those that have a message
-pub Marks-all : (cores : List CoreChannels) (mail : Mail) → IsMarked cores mail → Marks has_messages (all_marked mail) cores
+pub Marks-all : (cores : List CoreChannels) (mail : Mail) → IsMarked cores mail →
+    Marks has_messages (all_marked mail) cores
 Marks-all cores mail marked core =
     has-or (bit_or (bit_or mail.requests mail.forwarded) mail.data_messages) mail.acks core
     ∙ joined
@@ -396,10 +425,14 @@ same_as_none core quiet =
     let all = or_false _ _ quiet in
     let three = or_false _ _ all.0 in
     let two = or_false _ _ three.0 in
-    ap (λ (r : Option RequestMessage). let x : CoreChannels = record core { request = r } in x) (no_request core.request two.0)
-    ∙ ap (λ (q : List ForwardedMessage). let x : CoreChannels = record core { request = None; forwarded = q } in x) (no_forwarded core.forwarded two.1)
-    ∙ ap (λ (m : Option DataMessage). let x : CoreChannels = record core { request = None; forwarded = []; «data» = m } in x) (no_data core.data three.1)
-    ∙ ap (λ (a : ℕ). let x : CoreChannels = record { request = None; forwarded = []; «data» = None; acks = a } in x) (no_acks core.acks all.1)
+    ap (λ (r : Option RequestMessage). let x : CoreChannels = record core { request = r } in
+    x) (no_request core.request two.0)
+    ∙ ap (λ (q : List ForwardedMessage). let x : CoreChannels = record core { request = None; forwarded = q } in
+    x) (no_forwarded core.forwarded two.1)
+    ∙ ap (λ (m : Option DataMessage). let x : CoreChannels =
+    record core { request = None; forwarded = []; «data» = m } in x) (no_data core.data three.1)
+    ∙ ap (λ (a : ℕ). let x : CoreChannels = record { request = None; forwarded = []; «data» = None; acks = a } in
+    x) (no_acks core.acks all.1)
   where
     no_request : (request : Option RequestMessage) → is_some request ≡ false → request ≡ None
     no_request None e = refl
@@ -459,7 +492,8 @@ quiet-from_marks line mail marked gone quiet test = by_mail (list_any has_messag
     by_mail false none true test = rw (gone, none) refl
     by_mail false none false test =
         let clash : false ≡ true =
-        test.1 (zero-from_none _ (λ core. Marks-all line.cores mail marked core ∙ none_pass has_messages line.cores refl none core)) in
+        test.1 (zero-from_none _ (λ core. Marks-all line.cores mail marked core
+        ∙ none_pass has_messages line.cores refl none core)) in
         cc
     by_mail true some false test = rw (gone, some) refl
     by_mail true some true test =
@@ -468,16 +502,30 @@ quiet-from_marks line mail marked gone quiet test = by_mail (list_any has_messag
         none-from_each
         has_messages
         line.cores
-        (λ core. sym (Marks-all line.cores mail marked core) ∙ ap (λ marks. has marks core) zero_marks ∙ has-zero core) in
+        (λ core. sym (Marks-all line.cores mail marked core) ∙ ap (λ marks. has marks core) zero_marks
+        ∙ has-zero core) in
         let clash : false ≡ true = sym none ∙ some in cc
 
 -- a line with no mail is an empty line
-pub IsEmptyLine-from_quiet : (line : LineChannels) (quiet : Bool) → quiet ≡ not (has_mail line) → IsTrue quiet ↔ IsEmptyLine line
+pub IsEmptyLine-from_quiet : (line : LineChannels) (quiet : Bool) → quiet ≡ not (has_mail line) →
+    IsTrue quiet ↔ IsEmptyLine line
 IsEmptyLine-from_quiet line quiet is = by_mail (has_mail line) refl quiet is
   where
     by_mail : (mail : Bool) → has_mail line ≡ mail → (quiet : Bool) → quiet ≡ not mail → IsTrue quiet ↔ IsEmptyLine line
     by_mail false none true is = ((λ t. IsEmptyLine-from_no_mail line none), (λ empty. refl))
     by_mail false none false is = cc
-    by_mail true some false is =
-        ((λ t. absurd (search rules)), (λ empty. let clash : false ≡ true = sym (no_mail-from_IsEmptyLine line empty) ∙ some in cc))
+    by_mail true some false is = (
+      (λ t. absurd (search rules)),
+      (λ empty. let clash : false ≡ true = sym (no_mail-from_IsEmptyLine line empty)
+          ∙ some in cc),
+    )
     by_mail true some true is = cc
+
+-- a line has mail where a message waits in one of its channels
+pub has_mail-from_channel : (line : LineChannels) (channel : Channel) (message : Message) (rest : List Message) →
+    messages_at line channel ≡ message ∷ rest → has_mail line ≡ true
+has_mail-from_channel line channel message rest waits = by_test (has_mail line) refl
+  where
+    by_test : (mail : Bool) → has_mail line ≡ mail → mail ≡ true
+    by_test true e = refl
+    by_test false e = let none : messages_at line channel ≡ [] = IsEmptyLine-from_no_mail line e channel in cc

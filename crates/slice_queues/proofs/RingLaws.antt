@@ -1,5 +1,5 @@
 -- A round of lines as lines come to its end and leave its front.
-use Rattle.std.proofs.Common.{◌≡◌, ◌≢◌, ℕ, zero, suc, ◌-◌, ◌<◌, ◌≤◌, ◌||◌, ◌++◌, if◌then◌else◌, Bool, true, false, List, [], ◌∷◌, length, drop, take, refl, ap, sym, ◌∙◌, subst, arith, Some, None, replicate, get_or, inl, inr, eq-eqb, eqb-true, length-append, append_assoc, add-one, drop-cons, filter, ◌+◌}
+use Rattle.std.proofs.Common.{◌≡◌, ℕ, zero, suc, ◌-◌, ◌<◌, ◌≤◌, ◌||◌, ◌++◌, if◌then◌else◌, Bool, true, false, List, [], ◌∷◌, length, drop, take, refl, ap, sym, ◌∙◌, subst, arith, Some, replicate, get_or, inl, inr, eq-eqb, eqb-true, append_assoc, add-one, drop-cons, filter, ◌+◌}
 use Rattle.std.specs.Prelude.{eqb, slice_get}
 use Rattle.std.specs.List.{list_any, IsDistinct, AllByRecursion}
 use Rattle.std.proofs.Math.ListN.{set, length-set}
@@ -18,7 +18,7 @@ use Rattle.slice_queues_message.specs.declared.channel.Channel.{Channel}
 use Rattle.slice_queues.proofs.LineLaws.{read_default, IsEmptyLine-from_taken}
 use Rattle.slice_queues.proofs.SliceLaws.{IsEmptyLine-empty_line}
 use Rattle.slice_queues.proofs.MailLaws.{or_false, no_mail-from_IsEmptyLine, IsEmptyLine-from_no_mail}
-use Rattle.slice_queues.specs.Ring.{IsQueues, LineOrder, is_listed, with_listed, IsOrder, IsRound}
+use Rattle.slice_queues.specs.Ring.{QueuesView, IsQueues, IsRing, has_mail_at, LineOrder, is_listed, with_listed, IsOrder, IsRound}
 
 -- a line of the round is a line of the slice
 pub listed-below : (order : List ℕ) (listed : List Bool) (capacity local : ℕ) → IsRound order listed capacity →
@@ -32,7 +32,8 @@ listed-below order listed capacity local round there =
     ]
 
 -- what stands at an index stands in the list
-pub listed-at : (order : List ℕ) (index none : ℕ) → index < length order → is_listed order (get_or order index none) ≡ true
+pub listed-at : (order : List ℕ) (index none : ℕ) → index < length order →
+    is_listed order (get_or order index none) ≡ true
 listed-at order index none within =
     list_any_at (eqb (get_or order index none)) order index none within (eq-eqb _ _ refl)
 
@@ -103,11 +104,14 @@ apart-first first order once = none order (IsDistinct-head eqb first order once)
     none (x ∷ xs) all = rw all.0 (none xs all.1)
 
 -- the first line goes to the end
-pub IsRound-turn : (first : ℕ) (order : List ℕ) (listed : List Bool) (capacity : ℕ) → IsRound (first ∷ order) listed capacity →
+pub IsRound-turn : (first : ℕ) (order : List ℕ) (listed : List Bool) (capacity : ℕ) →
+    IsRound (first ∷ order) listed capacity →
     IsRound (order ++ first ∷ []) listed capacity
 IsRound-turn first order listed capacity round = record {
-  once = IsDistinct-push nat_eq_equiv order first (IsDistinct-tail eqb first order round.once) (apart-first first order round.once);
-  flags = λ local. round.flags local ∙ sym (list_any-append (eqb local) order (first ∷ []) ∙ turned (eqb local first) (list_any (eqb local) order));
+  once = IsDistinct-push nat_eq_equiv order first (IsDistinct-tail eqb first order round.once)
+      (apart-first first order round.once);
+  flags = λ local. round.flags local
+      ∙ sym (list_any-append (eqb local) order (first ∷ []) ∙ turned (eqb local first) (list_any (eqb local) order));
   room = round.room;
 }
   where
@@ -118,7 +122,8 @@ IsRound-turn first order listed capacity round = record {
     turned false false = refl
 
 -- the first line leaves
-pub IsRound-leave : (first : ℕ) (order : List ℕ) (listed : List Bool) (capacity : ℕ) → IsRound (first ∷ order) listed capacity →
+pub IsRound-leave : (first : ℕ) (order : List ℕ) (listed : List Bool) (capacity : ℕ) →
+    IsRound (first ∷ order) listed capacity →
     IsRound order (set listed first false) capacity
 IsRound-leave first order listed capacity round = record {
   once = IsDistinct-tail eqb first order round.once;
@@ -132,7 +137,8 @@ IsRound-leave first order listed capacity round = record {
     flags : (other : ℕ) → get_or (set listed first false) other false ≡ is_listed order other
     flags other =
         elim (cases_eq other first) [
-          | inl same ↦ rw same (get_or-set_same listed first false false there ∙ sym (apart-first first order round.once))
+          | inl same ↦ rw same (get_or-set_same listed first false false there
+              ∙ sym (apart-first first order round.once))
           | inr differs ↦
               get_or-set_other listed first other false false differs
               ∙ round.flags other
@@ -167,7 +173,8 @@ listed-view order listed local capacity new is apart =
     ∙ ap (view (order ++ local ∷ [])) (length-set listed local true)
     ∙ ap (λ order. view order (length listed)) (with_new order local apart)
   where
-    with_new : (order : List ℕ) (local : ℕ) → is_listed order local ≡ false → (order ++ local ∷ []) ≡ with_listed order local
+    with_new : (order : List ℕ) (local : ℕ) → is_listed order local ≡ false →
+        (order ++ local ∷ []) ≡ with_listed order local
     with_new order local apart = rw apart refl
 
 -- the first line of a round in front
@@ -178,7 +185,8 @@ in_front order listed capacity first at_front round =
 
 -- the first line of a round taken out, and put to the end
 pub turned-round : (order : List ℕ) (listed : List Bool) (capacity first : ℕ) →
-    slice_get order 0 ≡ Some first → IsRound order listed capacity → IsRound (drop 1 order ++ first ∷ []) listed capacity
+    slice_get order 0 ≡ Some first → IsRound order listed capacity →
+    IsRound (drop 1 order ++ first ∷ []) listed capacity
 turned-round order listed capacity first at_front round =
     IsRound-turn first (drop 1 order) listed capacity (in_front order listed capacity first at_front round)
 
@@ -188,13 +196,15 @@ pub turned-buffer : (order : List ℕ) (listed : List Bool) (capacity first : �
     new ≡ buffer (drop 1 order ++ first ∷ []) capacity
 turned-buffer order listed capacity first middle new at_front round popped pushed =
     let room : middle.capacity ≡ capacity = ap (λ b. b.capacity) popped in
-    let turned : IsRound (drop 1 order ++ first ∷ []) listed middle.capacity = rw room (turned-round order listed capacity first at_front round) in
+    let turned : IsRound (drop 1 order ++ first ∷ []) listed middle.capacity =
+    rw room (turned-round order listed capacity first at_front round) in
     pushed-items (drop 1 order) listed first middle new (ap (λ b. b.items) popped) turned pushed
     ∙ ap (buffer (drop 1 order ++ first ∷ [])) room
 
 -- the first line of a round taken out
 pub left-round : (order : List ℕ) (listed : List Bool) (capacity first : ℕ) →
-    slice_get order 0 ≡ Some first → IsRound order listed capacity → IsRound (drop 1 order) (set listed first false) capacity
+    slice_get order 0 ≡ Some first → IsRound order listed capacity →
+    IsRound (drop 1 order) (set listed first false) capacity
 left-round order listed capacity first at_front round =
     IsRound-leave first (drop 1 order) listed capacity (in_front order listed capacity first at_front round)
 
@@ -247,7 +257,8 @@ turned-quiet mail (first ∷ order) stays local says quiet apart =
     elim (cases_eq local first) [
       | inl same ↦ at_first stays refl same
       | inr differs ↦
-          quiet (rw (ne_eqb local first differs) (or_false (is_listed order local) _ (sym (list_any-append (eqb local) order _) ∙ apart)).0)
+          quiet (rw (ne_eqb local first differs)
+          (or_false (is_listed order local) _ (sym (list_any-append (eqb local) order _) ∙ apart)).0)
     ]
   where
     at_first : (here : Bool) → stays ≡ here → local ≡ first → mail local ≡ false
@@ -260,7 +271,8 @@ turned-quiet mail (first ∷ order) stays local says quiet apart =
         cc
 
 -- after a turn a line that doesn't stand in the ring has no message
-pub IsQueues-turn : (lines : List LineChannels) (ring new : LineOrder) (own : Lines) (first : LineChannels) (stays : Bool) →
+pub IsQueues-turn : (lines : List LineChannels) (ring new : LineOrder) (own : Lines) (first : LineChannels)
+    (stays : Bool) →
     first ≡ get_or lines (get_or ring.order 0 0) (empty_line 0) → stays ≡ has_mail first →
     new ≡ record ring { order = drop 1 ring.order ++ (if stays then take 1 ring.order else []) } →
     IsQueues lines ring own → IsQueues lines new own
@@ -285,7 +297,8 @@ pub quiet-everywhere : (lines : List LineChannels) (ring : LineOrder) (own : Lin
     (local : ℕ) → has_mail (get_or lines local (empty_line 0)) ≡ false
 quiet-everywhere lines ring own queues each local = by_test (is_listed ring.order local) refl
   where
-    by_test : (listed : Bool) → is_listed ring.order local ≡ listed → has_mail (get_or lines local (empty_line 0)) ≡ false
+    by_test : (listed : Bool) → is_listed ring.order local ≡ listed →
+        has_mail (get_or lines local (empty_line 0)) ≡ false
     by_test false apart = queues.quiet local apart
     by_test true there =
         let found = Any-from_list_any (eqb local) ring.order there in
@@ -295,13 +308,15 @@ quiet-everywhere lines ring own queues each local = by_test (is_listed ring.orde
         ap (λ (l : ℕ). has_mail (get_or lines l (empty_line 0))) here ∙ each found.0 found.2
 
 -- a line of a slice in which nothing waits has no message
-pub no_mail-replicate : (lines cores local : ℕ) → has_mail (get_or (replicate lines (empty_line cores)) local (empty_line 0)) ≡ false
+pub no_mail-replicate : (lines cores local : ℕ) →
+    has_mail (get_or (replicate lines (empty_line cores)) local (empty_line 0)) ≡ false
 no_mail-replicate zero cores local = no_mail-from_IsEmptyLine (empty_line 0) (IsEmptyLine-empty_line 0)
 no_mail-replicate (suc lines) cores zero = no_mail-from_IsEmptyLine (empty_line cores) (IsEmptyLine-empty_line cores)
 no_mail-replicate (suc lines) cores (suc local) = no_mail-replicate lines cores local
 
 -- a line whose messages become fewer has none where it had none
-pub IsQueues-take : (lines : List LineChannels) (ring : LineOrder) (own : Lines) (local : ℕ) (old new : LineChannels) (channel : Channel) →
+pub IsQueues-take : (lines : List LineChannels) (ring : LineOrder) (own : Lines) (local : ℕ) (old new : LineChannels)
+    (channel : Channel) →
     local < length lines → old ≡ get_or lines local old → TakesOnly old new channel → IsQueues lines ring own →
     IsQueues (set lines local new) ring own
 IsQueues-take lines ring own local old new channel there read taken queues = record {
@@ -311,12 +326,14 @@ IsQueues-take lines ring own local old new channel there read taken queues = rec
   quiet = quiet;
 }
   where
-    quiet : (other : ℕ) → is_listed ring.order other ≡ false → has_mail (get_or (set lines local new) other (empty_line 0)) ≡ false
+    quiet : (other : ℕ) → is_listed ring.order other ≡ false →
+        has_mail (get_or (set lines local new) other (empty_line 0)) ≡ false
     quiet other apart =
         elim (cases_eq other local) [
           | inl same ↦
               let here : old ≡ get_or lines other (empty_line 0) =
-              read ∙ read_default lines local old (empty_line 0) there ∙ ap (λ (l : ℕ). get_or lines l (empty_line 0)) (sym same) in
+              read ∙ read_default lines local old (empty_line 0) there
+              ∙ ap (λ (l : ℕ). get_or lines l (empty_line 0)) (sym same) in
               let none : IsEmptyLine old = IsEmptyLine-from_no_mail old (ap has_mail here ∙ queues.quiet other apart) in
               ap (λ (l : ℕ). has_mail (get_or (set lines local new) l (empty_line 0))) same
               ∙ ap has_mail (get_or-set_same lines local new (empty_line 0) there)
@@ -324,3 +341,19 @@ IsQueues-take lines ring own local old new channel there read taken queues = rec
           | inr differs ↦
               ap has_mail (get_or-set_other lines local other new (empty_line 0) differs) ∙ queues.quiet other apart
         ]
+
+-- a line of which the ring says nothing has no message: where no line of the ring has one, none has
+pub no_mail-from_ring : (queues : QueuesView) → IsRing queues →
+    ((i : ℕ) → i < length queues.ring → has_mail_at queues.channels (get_or queues.ring i 0) ≡ false) →
+    (local : ℕ) → has_mail_at queues.channels local ≡ false
+no_mail-from_ring queues is each local = by_test (has_mail_at queues.channels local) refl
+  where
+    by_test : (mail : Bool) → has_mail_at queues.channels local ≡ mail → mail ≡ false
+    by_test false e = refl
+    by_test true e =
+        let found = Any-from_list_any (eqb local) queues.ring (is.mail local e) in
+        let same : local ≡ found.1 = eqb-true local found.1 found.4 in
+        let here : local ≡ get_or queues.ring found.0 0 =
+        same ∙ sym found.3 ∙ read_default queues.ring found.0 found.1 0 found.2 in
+        let clash : true ≡ false = sym e ∙ ap (has_mail_at queues.channels) here ∙ each found.0 found.2 in
+        cc

@@ -1,5 +1,5 @@
 -- A send and a take change their own pick alone.
-use Rattle.std.proofs.Common.{◌≡◌, ◌≢◌, ℕ, ◌+◌, ◌*◌, ◌/◌, ◌%◌, ◌<◌, ◌↔◌, Bool, true, false, IsTrue, EachIndex, if◌then◌else◌, List, [], ◌∷◌, ◌++◌, length, drop, refl, ap, sym, ◌∙◌, subst, inl, inr, get_or, eq-eqb, eqb-true}
+use Rattle.std.proofs.Common.{◌≡◌, ◌≢◌, ℕ, ◌+◌, ◌*◌, ◌/◌, ◌%◌, ◌<◌, Bool, true, false, if◌then◌else◌, [], ◌∷◌, ◌++◌, length, drop, refl, ap, sym, ◌∙◌, inl, inr, get_or, eq-eqb, eqb-true}
 use Rattle.std.proofs.Math.ListN.{set}
 use Rattle.std.proofs.Math.Nat.{div-add-mod}
 use Rattle.std.proofs.lemmas.Nat.{mod-mul-add, div-mul-add}
@@ -12,8 +12,8 @@ use Rattle.slice_queues_message.specs.declared.channel.Pick.{Pick}
 use Rattle.slice_queues_message.specs.declared.channel.Pick.TheVariants as picks
 use Rattle.slice_queues_message.specs.declared.message.Message.{Message}
 use Rattle.slice_queues_message.specs.Pick.{line_of, channel_of, pick_at}
-use Rattle.slice_queues.specs.Line.{LineChannels, messages_at, Carries, after_send, empty_line, IsEmptyLine, SendsOnly, TakesOnly}
-use Rattle.slice_queues.specs.Slice.{SliceChannels, is_of_slice, HasLine, local_of, line_at, with_line, messages_in, HasPick, HasRoomIn, after_send_in, SendsOnlyIn, TakesOnlyIn, IsEmptySlice}
+use Rattle.slice_queues.specs.Line.{LineChannels, messages_at, after_send, empty_line, IsEmptyLine, SendsOnly, TakesOnly}
+use Rattle.slice_queues.specs.Slice.{SliceChannels, is_of_slice, HasLine, local_of, line_at, with_line, messages_in, after_send_in, SendsOnlyIn, TakesOnlyIn, IsEmptySlice}
 use Rattle.slice_queues.proofs.LineLaws.{IsEmptyLine-from_cores, read-replicate}
 
 -- a pick is its line and its channel
@@ -74,15 +74,18 @@ messages_in-with_line_other queues pick new there alone other ne = by_slice (is_
   where
     same_messages : is_of_slice queues (line_of other) ≡ true →
         messages_at
-        (get_or (set queues.lines ((line_of pick).0 / queues.slices) new) ((line_of other).0 / queues.slices) (empty_line 0))
+        (get_or (set queues.lines ((line_of pick).0 / queues.slices) new) ((line_of other).0 / queues.slices)
+        (empty_line 0))
         (channel_of other)
         ≡ messages_at (line_at queues (line_of other)) (channel_of other)
     same_messages here =
         elim (cases_eq ((line_of other).0 / queues.slices) ((line_of pick).0 / queues.slices)) [
           | inl place ↦
-              let line : line_of other ≡ line_of pick = same_line queues (line_of other) (line_of pick) here (eq-eqb _ _ there.0) place in
+              let line : line_of other ≡ line_of pick =
+              same_line queues (line_of other) (line_of pick) here (eq-eqb _ _ there.0) place in
               let differs : channel_of other ≢ channel_of pick = λ channel. ne (same_pick other pick line channel) in
-              rw place (ap (λ l. messages_at l (channel_of other)) (get_or-set_same queues.lines _ new (empty_line 0) there.1)
+              rw place (ap (λ l. messages_at l (channel_of other))
+              (get_or-set_same queues.lines _ new (empty_line 0) there.1)
               ∙ alone (channel_of other) differs)
           | inr apart ↦
               ap (λ l. messages_at l (channel_of other)) (get_or-set_other queues.lines _ _ new (empty_line 0) apart)
@@ -127,7 +130,8 @@ pub IsEmptyLine-empty_line : (cores : ℕ) → IsEmptyLine (empty_line cores)
 IsEmptyLine-empty_line cores = IsEmptyLine-from_cores (empty_line cores) (λ c. read-replicate cores c _) refl
 
 -- a slice is empty exactly where its lines are
-pub IsEmptySlice-from_lines : (queues : SliceChannels) → ((i : ℕ) → IsEmptyLine (get_or queues.lines i (empty_line 0))) →
+pub IsEmptySlice-from_lines : (queues : SliceChannels) →
+    ((i : ℕ) → IsEmptyLine (get_or queues.lines i (empty_line 0))) →
     IsEmptySlice queues
 IsEmptySlice-from_lines queues each pick = by_slice (is_of_slice queues (line_of pick))
   where
@@ -152,7 +156,8 @@ lines-from_IsEmptySlice queues one_of_them empty i channel =
     ∙ waits
 
 -- at a line that isn't there no message waits
-pub messages_in-absent : (queues : SliceChannels) (pick : Pick) → (HasLine queues (line_of pick) → ⊥) → messages_in queues pick ≡ []
+pub messages_in-absent : (queues : SliceChannels) (pick : Pick) → (HasLine queues (line_of pick) → ⊥) →
+    messages_in queues pick ≡ []
 messages_in-absent queues pick absent = by_slice (is_of_slice queues (line_of pick)) refl
   where
     by_slice : (here : Bool) → is_of_slice queues (line_of pick) ≡ here →

@@ -1,5 +1,5 @@
 -- What the marks of a line find is what waits in its channels.
-use Rattle.std.proofs.Common.{rules, ◌≡◌, ◌≢◌, ℕ, ◌+◌, ◌<◌, ◌≤◌, ◌&&◌, ◌||◌, zero, suc, Bool, true, false, cond, if◌then◌else◌, List, [], ◌∷◌, ◌++◌, length, map, filter, refl, ap, sym, ◌∙◌, arith, get_or, inl, inr, is_some, nat_lt, count_by, add-zero, zero-add, bit_or}
+use Rattle.std.proofs.Common.{rules, ◌≡◌, ℕ, ◌+◌, ◌<◌, ◌≤◌, ◌&&◌, ◌||◌, zero, suc, Bool, true, false, if◌then◌else◌, List, [], ◌∷◌, ◌++◌, length, map, filter, refl, ap, sym, ◌∙◌, arith, get_or, inl, inr, is_some, nat_lt, count_by, add-zero, zero-add, bit_or}
 use Rattle.std.specs.List.{flat_map, range_with_len, AllByRecursion}
 use Rattle.std.proofs.lemmas.Bool.{cases_lt, lt-ltb}
 use Rattle.std.proofs.lemmas.List.{get_or_past}
@@ -79,7 +79,8 @@ acks_if : (acks : ℕ) (waits : Bool) → waits ≡ nat_lt 0 acks → (if waits 
 acks_if zero true e = refl
 acks_if zero false e = refl
 acks_if (suc acks) true e = refl
-acks_if (suc acks) false e = let more : 0 < suc acks = omega arith in let some : nat_lt 0 (suc acks) ≡ true = lt-ltb 0 (suc acks) more in cc
+acks_if (suc acks) false e = let more : 0 < suc acks = omega arith in
+    let some : nat_lt 0 (suc acks) ≡ true = lt-ltb 0 (suc acks) more in cc
 
 -- what the marks of a class find at a core is what of this class waits there
 core_left-of_class : (class : Class) (cores : List CoreChannels) (mail : Mail) → IsMarked cores mail → (core : ℕ) →
@@ -143,17 +144,23 @@ core_left-unmarked : (mail : Mail) (cores : List CoreChannels) (core : ℕ) → 
 core_left-unmarked mail cores core unmarked =
     rw (no_request, no_forwarded, no_data, no_acks, members-zero) refl
   where
-    three : ((has mail.requests core || has mail.forwarded core) || has mail.data_messages core) || has mail.acks core ≡ false
+    three : ((has mail.requests core || has mail.forwarded core) || has mail.data_messages core) || has mail.acks core
+        ≡ false
     three =
         sym (has-or (bit_or (bit_or mail.requests mail.forwarded) mail.data_messages) mail.acks core
-        ∙ rw (has-or (bit_or mail.requests mail.forwarded) mail.data_messages core, has-or mail.requests mail.forwarded core) refl)
+        ∙ rw (
+          has-or (bit_or mail.requests mail.forwarded) mail.data_messages core,
+          has-or mail.requests mail.forwarded core,
+        ) refl)
         ∙ unmarked
 
     no_acks : has mail.acks core ≡ false
-    no_acks = (or_false ((has mail.requests core || has mail.forwarded core) || has mail.data_messages core) (has mail.acks core) three).1
+    no_acks = (or_false ((has mail.requests core || has mail.forwarded core) || has mail.data_messages core)
+        (has mail.acks core) three).1
 
     two : (has mail.requests core || has mail.forwarded core) || has mail.data_messages core ≡ false
-    two = (or_false ((has mail.requests core || has mail.forwarded core) || has mail.data_messages core) (has mail.acks core) three).0
+    two = (or_false ((has mail.requests core || has mail.forwarded core) || has mail.data_messages core)
+        (has mail.acks core) three).0
 
     no_data : has mail.data_messages core ≡ false
     no_data = (or_false (has mail.requests core || has mail.forwarded core) (has mail.data_messages core) two).1
@@ -168,7 +175,8 @@ core_left-unmarked mail cores core unmarked =
     no_forwarded = (or_false (has mail.requests core) (has mail.forwarded core) one).1
 
 -- what gives nothing may be left out
-flat_map-filter : {A B : Type 0} (f : A → List B) (keeps : A → Bool) → ((x : A) → keeps x ≡ false → f x ≡ []) → (xs : List A) →
+flat_map-filter : {A B : Type 0} (f : A → List B) (keeps : A → Bool) → ((x : A) → keeps x ≡ false → f x ≡ []) →
+    (xs : List A) →
     flat_map f (filter keeps xs) ≡ flat_map f xs
 flat_map-filter f keeps none [] = refl
 flat_map-filter f keeps none (x ∷ xs) = by_test (keeps x) refl (flat_map-filter f keeps none xs)
@@ -179,8 +187,10 @@ flat_map-filter f keeps none (x ∷ xs) = by_test (keeps x) refl (flat_map-filte
     by_test false e rest = rw (none x e) rest
 
 -- core by core, from this number on
-waiting-range : (p : Channel → Bool) (f : ℕ → List Channel) (cores : List CoreChannels) (from n : ℕ) → length cores ≤ n →
-    ((core i : ℕ) → core ≡ from + i → f core ≡ filter p (core_waiting (record { 0 = core }) (get_or cores i no_messages))) →
+waiting-range : (p : Channel → Bool) (f : ℕ → List Channel) (cores : List CoreChannels) (from n : ℕ) →
+    length cores ≤ n →
+    ((core i : ℕ) → core ≡ from + i →
+    f core ≡ filter p (core_waiting (record { 0 = core }) (get_or cores i no_messages))) →
     flat_map f (range_with_len from n) ≡ filter p (cores_waiting from cores)
 waiting-range p f [] from zero few each = refl
 waiting-range p f [] from (suc n) few each =
@@ -228,13 +238,15 @@ line_left-of_class class line mail home few marked at_home =
 AllByRecursion-range : (P : ℕ → Type 0) (set : ℕ) → ((core : ℕ) → has set core ≡ true → P core) → (n from : ℕ) →
     AllByRecursion P (filter (has set) (range_with_len from n))
 AllByRecursion-range P set each zero from = tt
-AllByRecursion-range P set each (suc n) from = by_test (has set from) refl (AllByRecursion-range P set each n (from + 1))
+AllByRecursion-range P set each (suc n) from =
+    by_test (has set from) refl (AllByRecursion-range P set each n (from + 1))
   where
     by_test : (there : Bool) → has set from ≡ there →
         AllByRecursion P (filter (has set) (range_with_len (from + 1) n)) →
         AllByRecursion
         P
-        (if there then from ∷ filter (has set) (range_with_len (from + 1) n) else filter (has set) (range_with_len (from + 1) n))
+        (if there then from ∷ filter (has set) (range_with_len (from + 1) n) else filter (has set)
+        (range_with_len (from + 1) n))
     by_test true e rest = (each from e, rest)
     by_test false e rest = rest
 
@@ -248,7 +260,14 @@ all_unmarked : (mail : Mail) (core : ℕ) → has mail.requests core ≡ false �
     has mail.data_messages core ≡ false → has mail.acks core ≡ false → has (all_marked mail) core ≡ false
 all_unmarked mail core e f g h =
     has-or (bit_or (bit_or mail.requests mail.forwarded) mail.data_messages) mail.acks core
-    ∙ rw (has-or (bit_or mail.requests mail.forwarded) mail.data_messages core, has-or mail.requests mail.forwarded core, e, f, g, h) refl
+    ∙ rw (
+      has-or (bit_or mail.requests mail.forwarded) mail.data_messages core,
+      has-or mail.requests mail.forwarded core,
+      e,
+      f,
+      g,
+      h,
+    ) refl
 
 -- what is marked for a class is a core of the line
 pub marks_of-below : (class : Class) (cores : List CoreChannels) (mail : Mail) → IsMarked cores mail → (core : ℕ) →
@@ -314,12 +333,14 @@ count-filter : {A : Type 0} (counts keeps : A → Bool) (kept : Bool) → ((x : 
     (xs : List A) → count_by counts (filter keeps xs) ≡ (if kept then count_by counts xs else 0)
 count-filter counts keeps true same [] = refl
 count-filter counts keeps false same [] = refl
-count-filter {A} counts keeps kept same (x ∷ xs) = by_test (counts x) (keeps x) refl refl kept same (count-filter counts keeps kept same xs)
+count-filter {A} counts keeps kept same (x ∷ xs) =
+    by_test (counts x) (keeps x) refl refl kept same (count-filter counts keeps kept same xs)
   where
     by_test : (counted held : Bool) → counts x ≡ counted → keeps x ≡ held →
         (kept : Bool) → ((y : A) → counts y ≡ true → keeps y ≡ kept) →
         count_by counts (filter keeps xs) ≡ (if kept then count_by counts xs else 0) →
-        count_by counts (if held then x ∷ filter keeps xs else filter keeps xs) ≡ (if kept then count_by counts (x ∷ xs) else 0)
+        count_by counts (if held then x ∷ filter keeps xs else filter keeps xs)
+        ≡ (if kept then count_by counts (x ∷ xs) else 0)
     by_test true true e f true same rest =
         count-yes counts x (filter keeps xs) e ∙ ap (λ n. 1 + n) rest ∙ sym (count-yes counts x xs e)
     by_test true true e f false same rest = let clash : true ≡ false = sym f ∙ same x e in cc
@@ -339,7 +360,8 @@ same_class class channel name same = search rules
 pub HasEachOnceIn-from_all : (class : Class) (line : LineChannels) (names : List Channel) → HasEachOnce line names →
     HasEachOnceIn class line (filter (is_of_class class) names)
 HasEachOnceIn-from_all class line names once channel =
-    count-filter (is_same_channel channel) (is_of_class class) (is_of_class class channel) (λ name same. same_class class channel name same) names
+    count-filter (is_same_channel channel) (is_of_class class) (is_of_class class channel)
+    (λ name same. same_class class channel name same) names
     ∙ both (is_of_class class channel) (is_waiting line channel) (once channel)
   where
     both : (kept : Bool) {n : ℕ} (waits : Bool) → n ≡ (if waits then 1 else 0) →

@@ -49,4 +49,5 @@ pub record IsQueues (lines : List LineChannels) (ring : LineOrder) (own : Lines)
   pub machine : IsOfMachine own
   pub lines_here : own.lines ≡ length lines
   pub ring_for_all : ring.lines ≡ length lines
-  pub quiet : (local : ℕ) → is_listed ring.order local ≡ false → has_mail (slice_index_or lines local (empty_line 0)) ≡ false
+  pub quiet : (local : ℕ) → is_listed ring.order local ≡ false →
+      has_mail (slice_index_or lines local (empty_line 0)) ≡ false

@@ -21,7 +21,7 @@
 //!   and round (specs/Waiting.antt), and gives each pick with a message once and no other (`HasEachPickOnce`).
 //!
 //! All memory is taken by [`Queues::build`], the only call that can fail: 184 bytes for each core of a line, and 137
-//! for the line, of which 9 are its place in the ring. The largest slice, 65536 lines of 64 cores, takes 783 MB, and its
+//! for the line, of which 9 are for the ring. The largest slice, 65536 lines of 64 cores, takes 781 MB, and its
 //! building 0.6 to 0.8 s, nearly all of it for the first touch of the pages. A send or a take costs the same whatever
 //! the number of lines and cores, and so does [`LineQueues::is_empty`]: four sets say for which cores messages wait.
 //! [`LineQueues::waiting`] looks at no core without a message, [`Queues::is_empty`] at the lines of the ring alone, and

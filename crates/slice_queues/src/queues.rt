@@ -1,4 +1,4 @@
-ghost use Rattle.std.specs.Prelude.{◌≡◌, ◌<◌, ◌≤◌, ◌↔◌, ◌++◌, [], length, take, drop, filter, slice_get, slice_index, Some, IsTrue, IfOk};
+ghost use Rattle.std.specs.Prelude.{◌≡◌, ℕ, ◌<◌, ◌≤◌, ◌↔◌, ◌++◌, [], length, take, drop, filter, slice_get, slice_index, Some, IsTrue, IfOk};
 ghost use Rattle.std.specs.Borrow.{sem};
 ghost use Rattle.slice_queues_message.specs.Pick.{line_of, channel_of};
 
@@ -30,6 +30,7 @@ impl Model for Queues {
 
 /// The lines by their places in the slice, and the ring.
 impl Queues {
+    ghost use Rattle.slice_queues.specs.Line.{IsEmptyLine};
     ghost use Rattle.slice_queues.specs.Slice.{at_local, empty_slice, IsEmptySlice};
     ghost use Rattle.slice_queues.specs.Ring.{has_mail_at, IsRing};
     ghost use Rattle.slice_queues.specs.Lending.{LendsLine};
@@ -110,7 +111,8 @@ impl Queues {
 
     /// Whether no message waits anywhere in the slice.
     pub fn is_empty(&self) -> bool
-        ensures { IsTrue result ↔ IsEmptySlice self.now.channels }
+        ensures slice { IsTrue result ↔ IsEmptySlice self.now.channels }
+        ensures lines { IsTrue result ↔ ((local : ℕ) → IsEmptyLine (at_local self.now.channels local)) }
     {
         for index in 0..self.ring.len() {
             let line = self.ring.at(index);

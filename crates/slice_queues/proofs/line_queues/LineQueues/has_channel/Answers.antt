@@ -1,4 +1,4 @@
-use Rattle.std.proofs.Common.{◌≡◌, ◌≤◌, ◌∙◌, ap, arith, false, length, subst}
+use Rattle.std.proofs.Common.{◌≡◌, ◌≤◌, ap, arith, false, length, subst}
 use Rattle.std.proofs.lemmas.Bool.{ltb-false}
 use Rattle.address_map.specs.CoreSet.{has}
 use Rattle.slice_queues.specs.Line.{LineChannels, core_at}
@@ -17,5 +17,10 @@ returns-then-to-cores-clause-unchanged c = λ absent.
 pub returns-else-to-cores-clause-absent : goal.returns-else-to-cores-clause-absent
 returns-else-to-cores-clause-absent c = λ absent.
     let past : length c.args.self.now.cores ≤ c.in-Ack.to.0 =
-    omega (arith, ap (λ l. length l.cores) c.self.view_is, c.len-cores.ensures, ltb-false c.in-Ack.to.0 c.len-cores.result absent) in
+    omega (
+      arith,
+      ap (λ l. length l.cores) c.self.view_is,
+      c.len-cores.ensures,
+      ltb-false c.in-Ack.to.0 c.len-cores.result absent,
+    ) in
     rw c.in-Ack.is (no_ack-past_end c.args.self.now c.in-Ack.to c.in-Ack.from past)

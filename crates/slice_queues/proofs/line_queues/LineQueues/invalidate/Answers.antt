@@ -1,6 +1,6 @@
 use Rattle.std.proofs.Common.{◌≡◌, ◌≤◌, ◌∙◌, [], ap, arith, length, refl}
 use Rattle.address_map.specs.CoreSet.{members}
-use Rattle.slice_queues.proofs.InvalidateLaws.{after_each, EachTakes-members, after_each-members}
+use Rattle.slice_queues.proofs.InvalidateLaws.{EachTakes-members, after_each-members}
 use Rattle.slice_queues.proofs.line_queues.LineQueues.invalidate.Goals as goal
 
 pub loop-core-init : goal.loop-core-init

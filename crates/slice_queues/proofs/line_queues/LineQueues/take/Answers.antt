@@ -7,4 +7,5 @@ use Rattle.slice_queues.proofs.line_queues.LineQueues.take.Goals as goal
 pub returns-in-Ack-clause-rest : goal.returns-in-Ack-clause-rest
 returns-in-Ack-clause-rest c =
     let there : HasChannel c.args.self.now (channels.Ack c.in-Ack.to c.in-Ack.from) = search rules in
-    rw (c.take_ack.ensures.rest, c.in-Ack.is) (takes_only c.args.self.now (channels.Ack c.in-Ack.to c.in-Ack.from) there)
+    rw (c.take_ack.ensures.rest, c.in-Ack.is)
+    (takes_only c.args.self.now (channels.Ack c.in-Ack.to c.in-Ack.from) there)

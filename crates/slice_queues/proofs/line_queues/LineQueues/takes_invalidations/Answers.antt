@@ -1,4 +1,4 @@
-use Rattle.std.proofs.Common.{◌≡◌, ◌∙◌, ◌^◌, ◌<◌, [], Bool, true, false, refl, sym, arith, rules}
+use Rattle.std.proofs.Common.{◌≡◌, ◌∙◌, ◌^◌, ◌<◌, [], true, false, refl, sym, arith, rules}
 use Rattle.std.specs.List.{AllByRecursion}
 use Rattle.address_map.specs.CoreSet.{members}
 use Rattle.slice_queues.proofs.WaitingLaws.{AllByRecursion-members}
@@ -10,7 +10,9 @@ returns-then-not-has_room c = (
   (λ t. absurd (search rules)),
   (λ takes.
       let all : AllByRecursion (TakesForwarded c.args.self.now) (members c.loop-core.left) =
-      c.loop-core.invariant.1 (AllByRecursion-members (TakesForwarded c.args.self.now) _ (λ core there. takes (record { 0 = core }) there)) in
+      c.loop-core.invariant.1
+      (AllByRecursion-members (TakesForwarded c.args.self.now) _
+      (λ core there. takes (record { 0 = core }) there)) in
       let here : TakesForwarded c.args.self.now c.in-Some.core.0 = (rw c.in-Some.ensures.first at all).0 in
       let room : c.has_room.result ≡ true = c.has_room.ensures.1 here in
       let clash : false ≡ true = sym c.if-not-has_room.true ∙ room in

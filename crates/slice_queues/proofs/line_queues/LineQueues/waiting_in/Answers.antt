@@ -1,4 +1,4 @@
-use Rattle.std.proofs.Common.{ap, rules, ◌≡◌, ◌&&◌, ◌∙◌, subst, filter, is_some, arith}
+use Rattle.std.proofs.Common.{rules, ◌≡◌, ◌&&◌, ◌∙◌, subst, filter, is_some, arith}
 use Rattle.slice_queues_message.specs.declared.channel.Channel.TheVariants as channels
 use Rattle.slice_queues_message.specs.Class.{is_of_class}
 use Rattle.slice_queues.specs.Line.{LineChannels}
@@ -16,7 +16,8 @@ new-requires c =
 pub returns-clause-order : goal.returns-clause-order
 returns-clause-order c =
     let P : LineChannels → Type 0 = λ line. c.new.result ≡ filter (is_of_class c.args.class) (line_waiting line) in
-    let home : c.waits_at_home-home.result ≡ (is_of_class c.args.class channels.Home && is_some c.self.inside.home) = search rules in
+    let home : c.waits_at_home-home.result ≡ (is_of_class c.args.class channels.Home && is_some c.self.inside.home) =
+    search rules in
     subst
     P
     c.self.view_is
@@ -34,10 +35,12 @@ returns-clause-order c =
 
 pub returns-clause-once : goal.returns-clause-once
 returns-clause-once c =
-    let order : c.new.result ≡ filter (is_of_class c.args.class) (line_waiting c.args.self.now) = returns-clause-order c in
+    let order : c.new.result ≡ filter (is_of_class c.args.class) (line_waiting c.args.self.now) =
+    returns-clause-order c in
     let P : LineChannels → Type 0 =
     λ line. HasEachOnceIn c.args.class line (filter (is_of_class c.args.class) (line_waiting line)) in
-    let once : HasEachOnceIn c.args.class c.args.self.now (filter (is_of_class c.args.class) (line_waiting c.args.self.now)) =
+    let once : HasEachOnceIn c.args.class c.args.self.now
+    (filter (is_of_class c.args.class) (line_waiting c.args.self.now)) =
     subst
     P
     c.self.view_is
@@ -47,5 +50,9 @@ returns-clause-once c =
     _
     (line_waiting-once
     _
-    (λ to from there. omega (arith, c.self.invariant.within.senders_are_cores to from there, c.self.invariant.within.at_most_64)))) in
+    (λ to from there. omega (
+      arith,
+      c.self.invariant.within.senders_are_cores to from there,
+      c.self.invariant.within.at_most_64,
+    )))) in
     rw order once

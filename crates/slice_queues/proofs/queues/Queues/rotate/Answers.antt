@@ -1,4 +1,4 @@
-use Rattle.std.proofs.Common.{◌≡◌, ◌<◌, ◌∙◌, ap, arith, sym, length, get_or, ℕ, Bool}
+use Rattle.std.proofs.Common.{◌≡◌, ◌<◌, ◌∙◌, ap, arith, length, get_or, ℕ, Bool}
 use Rattle.slice_queues.specs.Line.{empty_line, has_mail}
 use Rattle.slice_queues.proofs.LineLaws.{read_default}
 use Rattle.slice_queues.proofs.RingLaws.{rotate-step, IsQueues-turn}

@@ -1,4 +1,4 @@
-use Rattle.std.proofs.Common.{◌≡◌, ap, arith, sym, Some, rules}
+use Rattle.std.proofs.Common.{◌≡◌, ap, arith, Some, rules}
 use Rattle.std.specs.Prelude.{slice_get}
 use Rattle.slice_queues.proofs.RingLaws.{listed-below, listed-get}
 use Rattle.slice_queues.proofs.ring.LineRing.at.Goals as goal

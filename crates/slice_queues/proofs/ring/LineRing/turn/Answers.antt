@@ -1,4 +1,4 @@
-use Rattle.std.proofs.Common.{◌≡◌, ◌<◌, ◌++◌, [], Some, arith, rules, subst, drop, take, length, if◌then◌else◌}
+use Rattle.std.proofs.Common.{◌≡◌, ◌++◌, [], Some, arith, rules, subst, drop, take, length, if◌then◌else◌}
 use Rattle.std.specs.Prelude.{slice_get}
 use Rattle.slice_queues.specs.Ring.{LineOrder}
 use Rattle.slice_queues.proofs.RingLaws.{turned-view, turned-buffer, turned-round, left-round, listed-below, listed-get}

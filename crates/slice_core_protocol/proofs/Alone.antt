@@ -1,4 +1,5 @@
--- A core's turn by which nobody else's part changes: an access, an Inv, a Put-Ack, Data-E, or Data that leave the miss open.
+-- A core's turn by which nobody else's part changes: an access, an Inv, a Put-Ack, Data-E, or Data that leave the miss
+-- open.
 use Rattle.std.proofs.Common.{◌≡◌, ℕ, ◌<◌, ◌==◌, ◌&&◌, ◌||◌, Bool, true, false, not, refl, sym, subst, true≢false, inl, inr}
 use Rattle.std.proofs.lemmas.Bool.{or_cases}
 use Rattle.cache_table.specs.CopyState.{is_waiting}
@@ -31,9 +32,11 @@ is_alone few n l event next sent =
 -- That is so of each look that fits and passes the guard. Where few, less is counted than is wanted.
 unfoldable pub is_alone_at : CacheEvent → Bool → (Near → Look → Bool) → Bool
 is_alone_at event few guard =
-    each_fit (λ n l. if_so (guard n l) (λ _. if_go (row_of l.state event) (λ next sent. is_alone few n l event next sent)))
+    each_fit (λ n l. if_so (guard n l) (λ _. if_go (row_of l.state event)
+    (λ next sent. is_alone few n l event next sent)))
 
-pub record Alone (few : Bool) (n : Near) (l : Look) (event : CacheEvent) (next : CopyState) (sent : CacheSends) : Type 0 where
+pub record Alone (few : Bool) (n : Near) (l : Look) (event : CacheEvent) (next : CopyState)
+    (sent : CacheSends) : Type 0 where
   pub no_data : sends_data sent ≡ false
   pub no_home : sends_home sent ≡ false
   pub fit : is_fit n (turned event next sent l) ≡ true
@@ -70,40 +73,53 @@ pub alone_at : (event : CacheEvent) (few : Bool) (guard : Near → Look → Bool
 unfolding is_alone_at
 alone_at event few guard tested n l next sent fit here row =
     alone_from few n l event next sent
-    (if_go-at _ (λ next sent. is_alone few n l event next sent) next sent (if_so-at _ _ (each_fit-at _ tested n l fit) here) row)
+    (if_go-at _ (λ next sent. is_alone few n l event next sent) next sent
+    (if_so-at _ _ (each_fit-at _ tested n l fit) here) row)
 
-pub alone_kept : (few : Bool) (n : Near) (p : Part) (event : CacheEvent) (next : CopyState) (sent : CacheSends) → IsCounted p
+pub alone_kept : (few : Bool) (n : Near) (p : Part) (event : CacheEvent) (next : CopyState) (sent : CacheSends)
+    → IsCounted p
     → (few ≡ true → p.counted < p.wants) → Alone few n p.look event next sent → Kept n p (acted event 0 next sent p)
 alone_kept few n p event next sent counted fewer alone =
     let q = acted event 0 next sent p in
-    let count : q.counted ≡ p.counted = counted_on (is_waiting next) (awaits p.look) p.counted alone.wait counted.none in
+    let count : q.counted ≡ p.counted = counted_on (is_waiting next)
+    (awaits p.look) p.counted alone.wait counted.none in
     let missing : (few || is_counting p.look.state) ≡ true → p.counted < p.wants =
-    λ h. elim (or_cases few (is_counting p.look.state) h) [ inl yes_few ↦ fewer yes_few | inr counts ↦ counted.missing counts ] in
+    λ h. elim (or_cases few (is_counting p.look.state) h) [
+      | inl yes_few ↦ fewer yes_few
+      | inr counts ↦ counted.missing
+          counts
+    ] in
     kept_from n p q alone.fit (seen_from p q alone.seen refl) (record { owes = alone.owing; due = refl }) alone.await
     (wanted_same p q alone.await refl) count
     (λ h. subst (λ k. k < p.wants) (sym count) (missing (alone.count h))) counted
 
 -- The line after a turn that sends no data.
-pub turn_alone : (cores : ℕ) (line : Line) (roles : Roles) (c : ℕ) (event : CacheEvent) (next : CopyState) (sent : CacheSends)
+pub turn_alone : (cores : ℕ) (line : Line) (roles : Roles) (c : ℕ) (event : CacheEvent) (next : CopyState)
+    (sent : CacheSends)
     → IsCoherent cores line roles → sends_data sent ≡ false → sends_home sent ≡ false
     → Kept (near_of line roles c) (line.part c) (acted event 0 next sent (line.part c))
     → IsCoherent cores (after_turn line c event next sent) roles
-turn_alone cores line roles c event next sent coherent no_data no_home kept = go (sends_data sent) (sends_home sent) no_data no_home
+turn_alone cores line roles c event next sent coherent no_data no_home kept = go (sends_data sent)
+    (sends_home sent) no_data no_home
   where
     go : (gives homes : Bool) → gives ≡ false → homes ≡ false
         → IsCoherent cores (record line {
           home = homes || line.home;
-          part = λ x. change_if (gives && x == (line.part c).names) given (change_if (x == c) (acted event 0 next sent) (line.part x));
+          part = λ x. change_if (gives && x == (line.part c).names) given
+              (change_if (x == c) (acted event 0 next sent) (line.part x));
         }) roles
     go true homes e f = absurd (true≢false e)
     go false true e f = absurd (true≢false f)
     go false false e f =
-        lift cores line (record line { part = λ x. change_if (x == c) (acted event 0 next sent) (line.part x) }) roles coherent coherent.entry
-        (λ x below. by_place (λ y q. Kept (near_of line roles y) (line.part y) q) line.part c (acted event 0 next sent) x kept
+        lift cores line (record line { part = λ x. change_if (x == c) (acted event 0 next sent) (line.part x) }) roles
+        coherent coherent.entry
+        (λ x below. by_place (λ y q. Kept (near_of line roles y) (line.part y) q) line.part c
+        (acted event 0 next sent) x kept
         (λ other. still (near_of line roles x) (line.part x) (coherent.fit x below) (coherent.counted x below)))
 
 -- A turn that the tests let through keeps the line coherent.
-pub turn_kept : (cores : ℕ) (line : Line) (roles : Roles) (c : ℕ) (event : CacheEvent) (next : CopyState) (sent : CacheSends)
+pub turn_kept : (cores : ℕ) (line : Line) (roles : Roles) (c : ℕ) (event : CacheEvent) (next : CopyState)
+    (sent : CacheSends)
     (guard : Near → Look → Bool) → is_alone_at event false guard ≡ true → IsCoherent cores line roles → c < cores
     → guard (near_of line roles c) (line.part c).look ≡ true → row_of (line.part c).look.state event ≡ rows.Go next sent
     → IsCoherent cores (after_turn line c event next sent) roles

@@ -13,16 +13,25 @@ use Rattle.slice_core_protocol.specs.Machine.{answered, change_if}
 
 -- The line with this entry.
 abbrev pub line_at : DirState → Option CoreId → ℕ → Bool → (ℕ → Part) → Line
-line_at directory owner sharers home part = record { directory = directory; owner = owner; sharers = sharers; home = home; part = part }
+line_at directory owner sharers home part = record {
+  directory = directory;
+  owner = owner;
+  sharers = sharers;
+  home = home;
+  part = part;
+}
 
 -- The parts once the core is answered.
 abbrev pub told : ℕ → DirSends → (ℕ → Part) → ℕ → Part
 told c sent part x = change_if (x == c) (answered sent) (part x)
 
-pub answer_kept : (cores : ℕ) (roles : Roles) (line : Line) (directory : DirState) (owner : Option CoreId) (sharers : ℕ) (home : Bool)
+pub answer_kept : (cores : ℕ) (roles : Roles) (line : Line) (directory : DirState) (owner : Option CoreId)
+    (sharers : ℕ) (home : Bool)
     (c : ℕ) (sent : DirSends) → IsCoherent cores line roles → IsEntry cores directory owner sharers
-    → Kept (near_of (line_at directory owner sharers home line.part) roles c) (line.part c) (answered sent (line.part c))
-    → ((x : ℕ) → x < cores → (x ≡ c → ⊥) → is_fit (near_of (line_at directory owner sharers home line.part) roles x) (line.part x).look ≡ true)
+    → Kept (near_of (line_at directory owner sharers home line.part) roles c) (line.part c)
+    (answered sent (line.part c))
+    → ((x : ℕ) → x < cores → (x ≡ c → ⊥) → is_fit (near_of (line_at directory owner sharers home line.part) roles x)
+    (line.part x).look ≡ true)
     → IsCoherent cores (line_at directory owner sharers home (told c sent line.part)) roles
 answer_kept cores roles line directory owner sharers home c sent coherent entry kept others =
     let near = near_of (line_at directory owner sharers home line.part) roles in
@@ -37,11 +46,13 @@ acked l = record l { request = no_request; put_ack = true }
 abbrev pub read : Look → Look
 read l = record l { request = no_request; incoming = shared_data }
 
-pub acked_kept : (near : Near) (p : Part) → is_fit near (acked p.look) ≡ true → seen_alike p.look (acked p.look) ≡ true → IsCounted p
+pub acked_kept : (near : Near) (p : Part) → is_fit near (acked p.look) ≡ true → seen_alike p.look (acked p.look) ≡ true
+    → IsCounted p
     → Kept near p (answered answers.PutAck p)
 unfolding owes awaits
 acked_kept near p fit seen counted =
-    kept_from near p (answered answers.PutAck p) fit (seen_from p (answered answers.PutAck p) seen refl) (record { owes = refl; due = refl })
+    kept_from near p (answered answers.PutAck p) fit (seen_from p (answered answers.PutAck p) seen refl)
+    (record { owes = refl; due = refl })
     refl refl refl counted.missing counted
 
 pub read_kept : (near : Near) (p : Part) → is_fit near (read p.look) ≡ true → seen_alike p.look (read p.look) ≡ true
@@ -50,4 +61,5 @@ pub read_kept : (near : Near) (p : Part) → is_fit near (read p.look) ≡ true 
 unfolding owes
 read_kept near p fit seen old new count counted =
     kept_from near p (answered (answers.Data 0) p) fit (seen_from p (answered (answers.Data 0) p) seen refl)
-    (record { owes = refl; due = refl }) (new ∙ sym old) (rw (new, old)) refl (λ h. absurd (true≢false (sym h ∙ count))) counted
+    (record { owes = refl; due = refl }) (new ∙ sym old) (rw (new, old)) refl
+    (λ h. absurd (true≢false (sym h ∙ count))) counted

@@ -4,7 +4,8 @@ use Rattle.std.proofs.lemmas.Bool.{eqb-false, eqb-true}
 use Rattle.slice_core_protocol.specs.Coherent.{count_below}
 
 -- The same tests pass as many cores.
-pub count_below-same : (bound : ℕ) (p q : ℕ → Bool) → ((x : ℕ) → x < bound → p x ≡ q x) → count_below bound p ≡ count_below bound q
+pub count_below-same : (bound : ℕ) (p q : ℕ → Bool) → ((x : ℕ) → x < bound → p x ≡ q x)
+    → count_below bound p ≡ count_below bound q
 unfolding count_below
 count_below-same zero p q same = refl
 count_below-same (suc bound) p q same =
@@ -29,7 +30,8 @@ one_or_none false n e = refl
 pub count_below-zero : (bound : ℕ) (p : ℕ → Bool) → count_below bound p ≡ 0 → (x : ℕ) → x < bound → p x ≡ false
 unfolding count_below
 count_below-zero zero p none x below = absurd (omega arith)
-count_below-zero (suc bound) p none x below = go (λ less. count_below-zero bound p (omega arith) x less) (x == bound) refl
+count_below-zero (suc bound) p none x below = go (λ less. count_below-zero bound p (omega arith) x less)
+    (x == bound) refl
   where
     go : (x < bound → p x ≡ false) → (b : Bool) → (x == bound) ≡ b → p x ≡ false
     go rest true e = rw (eqb-true x bound e) (one_or_none (p bound) (count_below bound p) none)
@@ -41,7 +43,8 @@ pub count_below-less : (bound : ℕ) (p q : ℕ → Bool) (c : ℕ) → c < boun
 unfolding count_below
 count_below-less zero p q c below was is same = absurd (omega arith)
 count_below-less (suc bound) p q c below was is same =
-    go (λ less. count_below-less bound p q c less was is (λ x within other. same x (omega arith) other)) (c == bound) refl
+    go (λ less. count_below-less bound p q c less was is (λ x within other. same x (omega arith) other))
+    (c == bound) refl
   where
     go : (c < bound → count_below bound p ≡ count_below bound q + 1) → (b : Bool) → (c == bound) ≡ b
         → (if p bound then 1 else 0) + count_below bound p ≡ (if q bound then 1 else 0) + count_below bound q + 1
@@ -58,13 +61,15 @@ count_below-less (suc bound) p q c below was is same =
         rw (here, less) (omega arith)
 
 -- Where nobody from a bound on passes, those below it are all.
-pub count_below-wider : (n m : ℕ) (p : ℕ → Bool) → n ≤ m → ((x : ℕ) → n ≤ x → x < m → p x ≡ false) → count_below m p ≡ count_below n p
+pub count_below-wider : (n m : ℕ) (p : ℕ → Bool) → n ≤ m → ((x : ℕ) → n ≤ x → x < m → p x ≡ false)
+    → count_below m p ≡ count_below n p
 unfolding count_below
 count_below-wider n zero p less none = rw (n_zero n less)
   where
     n_zero : (n : ℕ) → n ≤ 0 → n ≡ 0
     n_zero n less = omega arith
-count_below-wider n (suc m) p less none = go (λ below. count_below-wider n m p below (λ x from to. none x from (omega arith))) (suc m == n) refl
+count_below-wider n (suc m) p less none = go (λ below. count_below-wider n m p below
+    (λ x from to. none x from (omega arith))) (suc m == n) refl
   where
     go : (n ≤ m → count_below m p ≡ count_below n p) → (b : Bool) → (suc m == n) ≡ b
         → (if p m then 1 else 0) + count_below m p ≡ count_below n p
@@ -81,7 +86,8 @@ unfolding count_below
 count_below-some zero p c below is = absurd (omega arith)
 count_below-some (suc bound) p c below is = go (λ less. count_below-some bound p c less is) (c == bound) refl
   where
-    go : (c < bound → 1 ≤ count_below bound p) → (b : Bool) → (c == bound) ≡ b → 1 ≤ (if p bound then 1 else 0) + count_below bound p
+    go : (c < bound → 1 ≤ count_below bound p) → (b : Bool) → (c == bound) ≡ b
+        → 1 ≤ (if p bound then 1 else 0) + count_below bound p
     go rest true e =
         let here : p bound ≡ true = rw (eqb-true c bound e) at is in
         rw here (omega arith)

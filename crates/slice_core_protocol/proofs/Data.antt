@@ -94,7 +94,8 @@ ended_kept n p event next sent counted same ended =
       };
       seen = seen_from p q ended.seen refl;
       owing = record { owes = ended.owing; due = refl };
-      balance = balanced (is_waiting next) (awaits p.look) p.counted p.wants ended.wait same counted.none ∙ ap (λ w. w + p.counted) (sym nothing);
+      balance = balanced (is_waiting next) (awaits p.look) p.counted p.wants ended.wait same counted.none
+          ∙ ap (λ w. w + p.counted) (sym nothing);
     }
 
 pub record AtHand (p : Part) (n k : ℕ) : Type 0 where
@@ -124,7 +125,8 @@ data_kept cores line roles c n k next sent coherent within here row = go (k == n
     hand : AtHand p n k
     hand = at_hand p n k here
 
-    go : (all few : Bool) → (k == n) ≡ all → nat_lt k n ≡ few → IsCoherent cores (after_turn line c (events.Data n k) next sent) roles
+    go : (all few : Bool) → (k == n) ≡ all → nat_lt k n ≡ few
+        → IsCoherent cores (after_turn line c (events.Data n k) next sent) roles
     go true few e f =
         let known = sym (data_row p.look.state n k true few e f) ∙ row in
         let ended = ended_from near p.look (events.Data 0 0) next sent
@@ -135,12 +137,15 @@ data_kept cores line roles c n k next sent coherent within here row = go (k == n
         (sym hand.counts ∙ eqb-true k n e ∙ hand.wants) ended)
     go false true e f =
         let known = sym (data_row p.look.state n k false true e f) ∙ row in
-        let alone = alone_at (events.Data 1 0) true (λ n l. is_shared_data l.incoming) few_data near p.look next sent (coherent.fit c within) hand.incoming known in
+        let alone = alone_at (events.Data 1 0) true (λ n l. is_shared_data l.incoming) few_data near p.look next sent
+        (coherent.fit c within) hand.incoming known in
         turn_alone cores line roles c (events.Data n k) next sent coherent alone.no_data alone.no_home
         (alone_kept true near p (events.Data 1 0) next sent (coherent.counted c within)
         (λ h. omega (arith, ltb-true k n f, hand.wants, hand.counts)) alone)
     go false false e f =
         let known = sym (data_row p.look.state n k false false e f) ∙ row in
-        let alone = alone_at (events.Data 0 1) false (λ n l. is_shared_data l.incoming) more_data near p.look next sent (coherent.fit c within) hand.incoming known in
+        let alone = alone_at (events.Data 0 1) false (λ n l. is_shared_data l.incoming) more_data near p.look next sent
+        (coherent.fit c within) hand.incoming known in
         turn_alone cores line roles c (events.Data n k) next sent coherent alone.no_data alone.no_home
-        (alone_kept false near p (events.Data 0 1) next sent (coherent.counted c within) (λ h. absurd (true≢false (sym h))) alone)
+        (alone_kept false near p (events.Data 0 1) next sent (coherent.counted c within)
+        (λ h. absurd (true≢false (sym h))) alone)

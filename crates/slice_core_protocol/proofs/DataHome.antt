@@ -12,7 +12,8 @@ use Rattle.slice_core_protocol.specs.Coherent.{IsCoherent}
 use Rattle.slice_core_protocol.specs.Fit.{is_fit, is_open, owes}
 use Rattle.slice_core_protocol.specs.Line.{Part, Roles, near_of}
 
-shared_again : each_fit (λ n l. if_so (is_awaited n.directory && n.home) (λ _. is_fit (record n { directory = dirs.S; home = false }) l)) ≡ true
+shared_again : each_fit (λ n l. if_so (is_awaited n.directory && n.home)
+    (λ _. is_fit (record n { directory = dirs.S; home = false }) l)) ≡ true
 unfolding all_words
 shared_again = refl
 
@@ -21,7 +22,8 @@ idle_again : each_fit (λ n l. if_so (is_awaited n.directory && n.home && not n.
 unfolding all_words
 idle_again = refl
 
-pub home_shared : (cores : ℕ) (roles : Roles) (s : ℕ) (part : ℕ → Part) → IsCoherent cores (line_at dirs.S_D None s true part) roles
+pub home_shared : (cores : ℕ) (roles : Roles) (s : ℕ) (part : ℕ → Part)
+    → IsCoherent cores (line_at dirs.S_D None s true part) roles
     → IsCoherent cores (line_at dirs.S None s false part) roles
 home_shared cores roles s part coherent =
     let line = line_at dirs.S_D None s true part in
@@ -29,9 +31,11 @@ home_shared cores roles s part coherent =
     lift cores line next roles coherent
     (record { in_m = refl; owner_within = tt; sharers_within = coherent.entry.sharers_within })
     (λ x below. still (near_of next roles x) (part x)
-    (if_so-at _ _ (each_fit-at _ shared_again (near_of line roles x) (part x).look (coherent.fit x below)) refl) (coherent.counted x below))
+    (if_so-at _ _ (each_fit-at _ shared_again (near_of line roles x) (part x).look (coherent.fit x below)) refl)
+    (coherent.counted x below))
 
-pub home_idle : (cores : ℕ) (roles : Roles) (s : ℕ) (part : ℕ → Part) → IsCoherent cores (line_at dirs.S_D None s true part) roles
+pub home_idle : (cores : ℕ) (roles : Roles) (s : ℕ) (part : ℕ → Part)
+    → IsCoherent cores (line_at dirs.S_D None s true part) roles
     → (s == 0) ≡ true → IsCoherent cores (line_at dirs.I None s false part) roles
 unfolding is_open
 home_idle cores roles s part coherent none =

@@ -34,7 +34,8 @@ IsKept cores line = (roles : Roles) × IsCoherent cores line roles
 
 -- The line after the row, where it goes on, is coherent.
 abbrev pub IsKeptBy : ℕ → Line → DirEvent → DirRow → Type 0
-IsKeptBy cores line event row = IfGo row (λ state owner sharers sent writes. IsKept cores (after_service line event state owner sharers sent))
+IsKeptBy cores line event row = IfGo row (λ state owner sharers sent writes. IsKept cores
+    (after_service line event state owner sharers sent))
 
 put_s_is : (r : Request) → is_put_s r ≡ true → is_put r ≡ true
 put_s_is put_s e = refl
@@ -62,7 +63,8 @@ shared_put cores roles s home part c most coherent within asks = go (without s c
     go false e = (roles, sharer_leaves cores roles (line_at dirs.S None s home part) c most coherent within asks refl)
 
 home_comes : (cores : ℕ) (roles : Roles) (s : ℕ) (home : Bool) (part : ℕ → Part)
-    → IsCoherent cores (line_at dirs.S_D None s home part) roles → home ≡ true → IsKept cores (line_at (shared_by s) None s false part)
+    → IsCoherent cores (line_at dirs.S_D None s home part) roles → home ≡ true
+    → IsKept cores (line_at (shared_by s) None s false part)
 home_comes cores roles s false part coherent e = absurd (true≢false (sym e))
 home_comes cores roles s true part coherent e = go (s == 0) refl
   where
@@ -71,7 +73,8 @@ home_comes cores roles s true part coherent e = go (s == 0) refl
     go false e = (roles, home_shared cores roles s part coherent)
 
 -- A row that asks whether the request is the owner's.
-choose : (P : DirRow → Type 0) (b : Bool) (own other : DirRow) → (b ≡ true → P own) → (b ≡ false → P other) → P (if b then own else other)
+choose : (P : DirRow → Type 0) (b : Bool) (own other : DirRow) → (b ≡ true → P own) → (b ≡ false → P other)
+    → P (if b then own else other)
 choose P true own other yes_own yes_other = yes_own refl
 choose P false own other yes_own yes_other = yes_other refl
 
@@ -88,16 +91,26 @@ rows_on : (cores : ℕ) (roles : Roles) (directory : DirState) (owner : Option C
     → IsKeptBy cores (line_at directory owner s home part) event (cell true directory owner s event)
 rows_on cores roles dirs.I None s home part (asks.GetS core) most coherent within wants =
     (record roles { keeper = core.0 }, read_alone cores roles s home part core coherent within wants)
-rows_on cores roles dirs.I (Some owner) s home part event most coherent within asks = absurd (true≢false coherent.entry.in_m)
-rows_on cores roles dirs.S (Some owner) s home part event most coherent within asks = absurd (true≢false coherent.entry.in_m)
-rows_on cores roles dirs.S_D (Some owner) s home part event most coherent within asks = absurd (true≢false coherent.entry.in_m)
-rows_on cores roles dirs.M None s home part event most coherent within asks = absurd (true≢false (sym coherent.entry.in_m))
+rows_on cores roles dirs.I (Some owner) s home part event most coherent within asks = absurd
+    (true≢false coherent.entry.in_m)
+rows_on cores roles dirs.S (Some owner) s home part event most coherent within asks = absurd
+    (true≢false coherent.entry.in_m)
+rows_on cores roles dirs.S_D (Some owner) s home part event most coherent within asks = absurd
+    (true≢false coherent.entry.in_m)
+rows_on cores roles dirs.M None s home part event most coherent within asks = absurd
+    (true≢false (sym coherent.entry.in_m))
 rows_on cores roles dirs.I None s home part (asks.GetM core) most coherent within wants =
     (record roles { keeper = core.0 }, write_idle cores roles s home part core coherent within wants)
-rows_on cores roles dirs.I None s home part (asks.PutS core) most coherent within wants =
-    (roles, late_put cores roles (line_at dirs.I None s home part) core.0 coherent within (put_s_is (part core.0).look.request wants) refl refl)
-rows_on cores roles dirs.I None s home part (asks.PutM core) most coherent within wants =
-    (roles, late_put cores roles (line_at dirs.I None s home part) core.0 coherent within (put_m_is (part core.0).look.request wants) refl refl)
+rows_on cores roles dirs.I None s home part (asks.PutS core) most coherent within wants = (
+  roles,
+  late_put cores roles (line_at dirs.I None s home part) core.0 coherent within
+      (put_s_is (part core.0).look.request wants) refl refl,
+)
+rows_on cores roles dirs.I None s home part (asks.PutM core) most coherent within wants = (
+  roles,
+  late_put cores roles (line_at dirs.I None s home part) core.0 coherent within
+      (put_m_is (part core.0).look.request wants) refl refl,
+)
 rows_on cores roles dirs.I None s home part asks.DataHome most coherent within wants = tt
 rows_on cores roles dirs.S None s home part (asks.GetS core) most coherent within wants =
     (roles, read_shared cores roles s home part core.0 most coherent within wants)
@@ -109,19 +122,23 @@ rows_on cores roles dirs.S None s home part (asks.PutM core) most coherent withi
     shared_put cores roles s home part core.0 most coherent within (put_m_is (part core.0).look.request wants)
 rows_on cores roles dirs.S None s home part asks.DataHome most coherent within wants = tt
 rows_on cores roles dirs.M (Some owner) s home part (asks.GetS core) most coherent within wants =
-    choose (IsKeptBy cores (line_at dirs.M (Some owner) s home part) (asks.GetS core)) (owner.0 == core.0) _ _ (λ own. tt) (λ other. (
+    choose (IsKeptBy cores (line_at dirs.M (Some owner) s home part) (asks.GetS core)) (owner.0 == core.0) _ _
+    (λ own. tt) (λ other. (
       record roles { server = owner.0; asker = core.0 },
       forward_get_s cores roles owner s home part core.0 most coherent within wants (eqb-false owner.0 core.0 other),
     ))
 rows_on cores roles dirs.M (Some owner) s home part (asks.GetM core) most coherent within wants =
-    choose (IsKeptBy cores (line_at dirs.M (Some owner) s home part) (asks.GetM core)) (owner.0 == core.0) _ _ (λ own. tt) (λ other. (
+    choose (IsKeptBy cores (line_at dirs.M (Some owner) s home part) (asks.GetM core)) (owner.0 == core.0) _ _
+    (λ own. tt) (λ other. (
       record roles { by = by_also roles.by core.0 owner.0 },
       forward_get_m cores roles owner core s home part coherent within wants (eqb-false owner.0 core.0 other),
     ))
 rows_on cores roles dirs.M (Some owner) s home part (asks.PutS core) most coherent within wants =
-    choose (IsKeptBy cores (line_at dirs.M (Some owner) s home part) (asks.PutS core)) (owner.0 == core.0) _ _ (λ own. tt) (λ other. (
+    choose (IsKeptBy cores (line_at dirs.M (Some owner) s home part) (asks.PutS core)) (owner.0 == core.0) _ _
+    (λ own. tt) (λ other. (
       roles,
-      late_put cores roles (line_at dirs.M (Some owner) s home part) core.0 coherent within (put_s_is (part core.0).look.request wants)
+      late_put cores roles (line_at dirs.M (Some owner) s home part) core.0 coherent within
+          (put_s_is (part core.0).look.request wants)
           (other_core owner.0 core.0 other) refl,
     ))
 rows_on cores roles dirs.M (Some owner) s home part (asks.PutM core) most coherent within wants =
@@ -139,19 +156,27 @@ rows_on cores roles dirs.M (Some owner) s home part (asks.PutM core) most cohere
 rows_on cores roles dirs.M (Some owner) s home part asks.DataHome most coherent within wants = tt
 rows_on cores roles dirs.S_D None s home part (asks.GetS core) most coherent within wants = tt
 rows_on cores roles dirs.S_D None s home part (asks.GetM core) most coherent within wants = tt
-rows_on cores roles dirs.S_D None s home part (asks.PutS core) most coherent within wants =
-    (roles, sharer_leaves cores roles (line_at dirs.S_D None s home part) core.0 most coherent within (put_s_is (part core.0).look.request wants) refl)
-rows_on cores roles dirs.S_D None s home part (asks.PutM core) most coherent within wants =
-    (roles, sharer_leaves cores roles (line_at dirs.S_D None s home part) core.0 most coherent within (put_m_is (part core.0).look.request wants) refl)
+rows_on cores roles dirs.S_D None s home part (asks.PutS core) most coherent within wants = (
+  roles,
+  sharer_leaves cores roles (line_at dirs.S_D None s home part) core.0 most coherent within
+      (put_s_is (part core.0).look.request wants) refl,
+)
+rows_on cores roles dirs.S_D None s home part (asks.PutM core) most coherent within wants = (
+  roles,
+  sharer_leaves cores roles (line_at dirs.S_D None s home part) core.0 most coherent within
+      (put_m_is (part core.0).look.request wants) refl,
+)
 rows_on cores roles dirs.S_D None s home part asks.DataHome most coherent within wants =
     home_comes cores roles s home part coherent wants
 
 -- The row that the setting changes, without it.
-row_off : (cores : ℕ) (roles : Roles) (owner : Option CoreId) (s : ℕ) (home : Bool) (part : ℕ → Part) (core : CoreId) → cores ≤ 64
+row_off : (cores : ℕ) (roles : Roles) (owner : Option CoreId) (s : ℕ) (home : Bool) (part : ℕ → Part) (core : CoreId)
+    → cores ≤ 64
     → IsCoherent cores (line_at dirs.I owner s home part) roles → core.0 < cores
     → IsTrue (is_asked_for (line_at dirs.I owner s home part) (asks.GetS core))
     → IsKeptBy cores (line_at dirs.I owner s home part) (asks.GetS core) (cell false dirs.I owner s (asks.GetS core))
-row_off cores roles None s home part core most coherent within wants = (roles, read_idle cores roles s home part core.0 most coherent within wants)
+row_off cores roles None s home part core most coherent within
+    wants = (roles, read_idle cores roles s home part core.0 most coherent within wants)
 row_off cores roles (Some owner) s home part core most coherent within wants = absurd (true≢false coherent.entry.in_m)
 
 -- The rows at both settings.
@@ -161,17 +186,22 @@ rows_kept : (cores : ℕ) (roles : Roles) (s : ℕ) (home : Bool) (part : ℕ �
     → IsTrue (is_asked_for (line_at directory owner s home part) event)
     → IsKeptBy cores (line_at directory owner s home part) event (cell exclusive directory owner s event)
 rows_kept cores roles s home part most =
-    by_setting (λ directory owner event row. IsCoherent cores (line_at directory owner s home part) roles → IsWithin cores event
-    → IsTrue (is_asked_for (line_at directory owner s home part) event) → IsKeptBy cores (line_at directory owner s home part) event row) s
-    (λ directory owner event coherent within wants. rows_on cores roles directory owner s home part event most coherent within wants)
+    by_setting (λ directory owner event row. IsCoherent cores (line_at directory owner s home part) roles
+    → IsWithin cores event
+    → IsTrue (is_asked_for (line_at directory owner s home part) event)
+    → IsKeptBy cores (line_at directory owner s home part) event row) s
+    (λ directory owner event coherent within wants. rows_on cores roles directory owner s home part event most coherent
+    within wants)
     (λ owner core coherent within wants. row_off cores roles owner s home part core most coherent within wants)
 
 -- A turn of the directory keeps the line coherent.
-pub serve_kept : (cores : ℕ) (roles : Roles) (line : Line) (exclusive : Bool) (event : DirEvent) (home : Block) (state : DirState)
+pub serve_kept : (cores : ℕ) (roles : Roles) (line : Line) (exclusive : Bool) (event : DirEvent) (home : Block)
+    (state : DirState)
     (owner : Option CoreId) (sharers : ℕ) (sent : DirSends) (writes : Bool) → cores ≤ 64 → IsCoherent cores line roles
     → IsWithin cores event → IsTrue (is_asked_for line event)
     → row_of exclusive (entry_of line home) event ≡ rows.Go state owner sharers sent writes
     → IsKept cores (after_service line event state owner sharers sent)
 serve_kept cores roles line exclusive event home state owner sharers sent writes most coherent within asks row =
     subst (IsKeptBy cores line event) row
-    (rows_kept cores roles line.sharers line.home line.part most exclusive line.directory line.owner event coherent within asks)
+    (rows_kept cores roles line.sharers line.home line.part most exclusive line.directory line.owner event coherent
+    within asks)

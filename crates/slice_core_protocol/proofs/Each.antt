@@ -81,10 +81,14 @@ each_directory-at p e dirs.S_D = right _ _ e
 
 pub each_state-at : (p : CopyState → Bool) → each_state p ≡ true → (s : CopyState) → p s ≡ true
 unfolding each_state
-each_state-at p e states.I = left _ _ (left _ _ (left _ _ (left _ _ (left _ _ (left _ _ (left _ _ (left _ _ (left _ _ (left _ _ (left _ _ e))))))))))
-each_state-at p e states.IS_D = right _ _ (left _ _ (left _ _ (left _ _ (left _ _ (left _ _ (left _ _ (left _ _ (left _ _ (left _ _ (left _ _ e))))))))))
-each_state-at p e states.IM_AD = right _ _ (left _ _ (left _ _ (left _ _ (left _ _ (left _ _ (left _ _ (left _ _ (left _ _ (left _ _ e)))))))))
-each_state-at p e states.IM_A = right _ _ (left _ _ (left _ _ (left _ _ (left _ _ (left _ _ (left _ _ (left _ _ (left _ _ e))))))))
+each_state-at p e states.I = left _ _ (left _ _ (left _ _ (left _ _
+    (left _ _ (left _ _ (left _ _ (left _ _ (left _ _ (left _ _ (left _ _ e))))))))))
+each_state-at p e states.IS_D = right _ _ (left _ _ (left _ _
+    (left _ _ (left _ _ (left _ _ (left _ _ (left _ _ (left _ _ (left _ _ (left _ _ e))))))))))
+each_state-at p e states.IM_AD = right _ _ (left _ _ (left _ _
+    (left _ _ (left _ _ (left _ _ (left _ _ (left _ _ (left _ _ (left _ _ e)))))))))
+each_state-at p e states.IM_A = right _ _ (left _ _ (left _ _
+    (left _ _ (left _ _ (left _ _ (left _ _ (left _ _ (left _ _ e))))))))
 each_state-at p e states.S = right _ _ (left _ _ (left _ _ (left _ _ (left _ _ (left _ _ (left _ _ (left _ _ e)))))))
 each_state-at p e states.SM_AD = right _ _ (left _ _ (left _ _ (left _ _ (left _ _ (left _ _ (left _ _ e))))))
 each_state-at p e states.SM_A = right _ _ (left _ _ (left _ _ (left _ _ (left _ _ (left _ _ e)))))
@@ -100,10 +104,19 @@ each_near p l =
     each_bool (λ owner. if_so (owner_fits l owner) (λ _.
     each_directory (λ directory. each_bool (λ home. if_so (directory_fits directory home owner) (λ _.
     each_bool (λ keeper. if_so (debt_fits l.inv l.sent keeper) (λ _. if_so (holder_fits l directory home keeper) (λ _.
-    each_bool (λ sharer. if_so (sharer_fits l directory home sharer) (λ _. if_so (reader_fits l directory home sharer) (λ _.
+    each_bool (λ sharer. if_so (sharer_fits l directory home sharer)
+    (λ _. if_so (reader_fits l directory home sharer) (λ _.
     each_bool (λ server. if_so (server_fits l directory home server) (λ _.
     each_bool (λ asker. if_so (asker_fits l directory home sharer server asker) (λ _.
-    p (record { directory = directory; home = home; owner = owner; sharer = sharer; keeper = keeper; server = server; asker = asker }))))))))))))))))
+    p (record {
+      directory = directory;
+      home = home;
+      owner = owner;
+      sharer = sharer;
+      keeper = keeper;
+      server = server;
+      asker = asker;
+    }))))))))))))))))
 
 unfoldable pub each_look : (Look → Bool) → Bool
 each_look p =
@@ -112,7 +125,15 @@ each_look p =
     each_bool (λ put_ack. if_so (put_fits state request put_ack) (λ _.
     each_bool (λ inv. if_so (inv_fits state incoming inv) (λ _.
     each_forward (λ forward. each_bool (λ sent.
-    p (record { state = state; request = request; incoming = incoming; inv = inv; forward = forward; put_ack = put_ack; sent = sent }))))))))))))
+    p (record {
+      state = state;
+      request = request;
+      incoming = incoming;
+      inv = inv;
+      forward = forward;
+      put_ack = put_ack;
+      sent = sent;
+    }))))))))))))
 
 unfoldable pub each_fit : (Near → Look → Bool) → Bool
 each_fit p = each_look (λ l. each_near (λ n. p n l) l)
@@ -170,7 +191,8 @@ each_near-at p l e n f =
     let e = if_so-at _ _ (each_bool-at _ e n.server) f.server in
     if_so-at _ _ (each_bool-at _ e n.asker) f.asker
 
-pub each_fit-at : (p : Near → Look → Bool) → each_fit p ≡ true → (n : Near) (l : Look) → is_fit n l ≡ true → p n l ≡ true
+pub each_fit-at : (p : Near → Look → Bool) → each_fit p ≡ true → (n : Near) (l : Look) → is_fit n l ≡ true
+    → p n l ≡ true
 unfolding each_fit each_look
 each_fit-at p e n l fit =
     let f = facts n l fit in
@@ -209,7 +231,10 @@ not-at false e = refl
 
 -- What the tests compute with.
 unfoldable pub all_words : Bool
-unfolding each_fit each_look each_near each_state each_request each_incoming each_forward each_directory each_bool if_so if_go
-    is_fit request_fits data_fits put_fits inv_fits directory_fits owner_fits debt_fits holder_fits sharer_fits reader_fits
-    server_fits asker_fits is_put_ack_first granted holder comes clean waits_to_read waits_to_write awaits owes is_open is_asked
+unfolding each_fit each_look each_near each_state each_request each_incoming each_forward each_directory each_bool
+    if_so if_go
+    is_fit request_fits data_fits put_fits inv_fits directory_fits owner_fits debt_fits holder_fits sharer_fits
+    reader_fits
+    server_fits asker_fits is_put_ack_first granted holder comes clean waits_to_read waits_to_write awaits owes is_open
+    is_asked
 all_words = true

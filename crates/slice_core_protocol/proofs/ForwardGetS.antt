@@ -18,7 +18,13 @@ use Rattle.slice_core_protocol.specs.Machine.{answered, change_if, forwarded}
 
 -- The entry as a core sees it once the request was forwarded.
 abbrev pub sent_on : Near → Bool → Bool → Bool → Near
-sent_on n sharer server asker = record n { directory = dirs.S_D; owner = false; sharer = sharer; server = server; asker = asker }
+sent_on n sharer server asker = record n {
+  directory = dirs.S_D;
+  owner = false;
+  sharer = sharer;
+  server = server;
+  asker = asker;
+}
 
 asked : each_fit (λ n l. if_so (is_modified n.directory && n.owner) (λ _.
     is_fit (sent_on n true true false) (record l { forward = fwd_get_s }))) ≡ true
@@ -27,7 +33,8 @@ asked = refl
 
 asks : each_fit (λ n l. if_so (is_modified n.directory && is_get_s l.request && not n.owner) (λ _.
     is_fit (sent_on n true false true) (record l { request = no_request })
-    && (waits_to_write l implies waits_to_write (record l { request = no_request })) && not (is_fwd_get_s l.forward))) ≡ true
+    && (waits_to_write l implies waits_to_write (record l { request = no_request })) && not (is_fwd_get_s l.forward)))
+    ≡ true
 unfolding all_words
 asks = refl
 
@@ -47,16 +54,19 @@ record After (near : Near) (c : ℕ) (p q : Part) : Type 0 where
   names : is_fwd_get_m q.look.forward ≡ true → q.names ≡ p.names
   reader : is_fwd_get_s q.look.forward ≡ true → q.names ≡ c
 
-fit_at : (n : Near) (l : Look) (sharer server asker shares serves asks : Bool) → shares ≡ sharer → serves ≡ server → asks ≡ asker
+fit_at : (n : Near) (l : Look) (sharer server asker shares serves asks : Bool) → shares ≡ sharer → serves ≡ server
+    → asks ≡ asker
     → is_fit (sent_on n sharer server asker) l ≡ true → is_fit (sent_on n shares serves asks) l ≡ true
 fit_at n l sharer server asker shares serves asks e f g fit = rw (e, f, g) fit
 
-owner_after : (n : Near) (c : ℕ) (owner : CoreId) (p : Part) (sharer server asker : Bool) → sharer ≡ true → server ≡ true → asker ≡ false
+owner_after : (n : Near) (c : ℕ) (owner : CoreId) (p : Part) (sharer server asker : Bool) → sharer ≡ true
+    → server ≡ true → asker ≡ false
     → is_fit n p.look ≡ true → IsCounted p → (is_modified n.directory && n.owner) ≡ true
     → After (sent_on n sharer server asker) c p (forwarded (answers.FwdGetS owner) c p)
 unfolding owes waits_to_write awaits
 owner_after n c owner p sharer server asker e f g fit counted here = record {
-  fit = fit_at n (record p.look { forward = fwd_get_s }) true true false sharer server asker e f g (if_so-at _ _ (each_fit-at _ asked n p.look fit) here);
+  fit = fit_at n (record p.look { forward = fwd_get_s }) true true false sharer server asker e f g
+      (if_so-at _ _ (each_fit-at _ asked n p.look fit) here);
   counted = record { missing = counted.missing; none = counted.none };
   owing = record { owes = refl; due = refl };
   balance = omega arith;
@@ -66,7 +76,8 @@ owner_after n c owner p sharer server asker e f g fit counted here = record {
   reader = λ h. refl;
 }
 
-asker_after : (n : Near) (c : ℕ) (owner : CoreId) (p : Part) (sharer server asker : Bool) → sharer ≡ true → server ≡ false → asker ≡ true
+asker_after : (n : Near) (c : ℕ) (owner : CoreId) (p : Part) (sharer server asker : Bool) → sharer ≡ true
+    → server ≡ false → asker ≡ true
     → is_fit n p.look ≡ true → IsCounted p → (is_modified n.directory && is_get_s p.look.request && not n.owner) ≡ true
     → After (sent_on n sharer server asker) c p (answered (answers.FwdGetS owner) p)
 unfolding owes awaits
@@ -84,8 +95,10 @@ asker_after n c owner p sharer server asker e f g fit counted here =
       reader = λ h. absurd (true≢false (sym h ∙ not-at _ (right _ _ t)));
     }
 
-other_after : (n : Near) (c : ℕ) (p : Part) (sharer server asker : Bool) → sharer ≡ false → server ≡ false → asker ≡ false
-    → is_fit n p.look ≡ true → IsCounted p → (is_modified n.directory && not n.owner) ≡ true → After (sent_on n sharer server asker) c p p
+other_after : (n : Near) (c : ℕ) (p : Part) (sharer server asker : Bool) → sharer ≡ false → server ≡ false
+    → asker ≡ false
+    → is_fit n p.look ≡ true → IsCounted p → (is_modified n.directory && not n.owner) ≡ true
+    → After (sent_on n sharer server asker) c p p
 other_after n c p sharer server asker e f g fit counted here =
     let t = if_so-at _ _ (each_fit-at _ neither n p.look fit) here in
     record {
@@ -101,27 +114,33 @@ other_after n c p sharer server asker e f g fit counted here =
 
 -- The parts after the row.
 abbrev pub passed : ℕ → CoreId → (ℕ → Part) → ℕ → Part
-passed c owner part x = change_if (x == owner.0) (forwarded (answers.FwdGetS owner) c) (told c (answers.FwdGetS owner) part x)
+passed c owner part x = change_if (x == owner.0) (forwarded (answers.FwdGetS owner) c)
+    (told c (answers.FwdGetS owner) part x)
 
 -- The two ends of the forwarded request are the sharers.
 two : (o c x : ℕ) → o < 64 → c < 64 → has (with (only o) c) x ≡ (x == o || x == c)
 two o c x owner asker = in_with (only o) c x asker ∙ ap (λ b. b || x == c) (in_only o x owner)
 
-pub forward_get_s : (cores : ℕ) (roles : Roles) (owner : CoreId) (s : ℕ) (home : Bool) (part : ℕ → Part) (c : ℕ) → cores ≤ 64
-    → IsCoherent cores (line_at dirs.M (Some owner) s home part) roles → c < cores → is_get_s (part c).look.request ≡ true
+pub forward_get_s : (cores : ℕ) (roles : Roles) (owner : CoreId) (s : ℕ) (home : Bool) (part : ℕ → Part) (c : ℕ)
+    → cores ≤ 64
+    → IsCoherent cores (line_at dirs.M (Some owner) s home part) roles → c < cores
+    → is_get_s (part c).look.request ≡ true
     → (owner.0 ≡ c → ⊥)
-    → IsCoherent cores (line_at dirs.S_D None (with (only owner.0) c) home (passed c owner part)) (record roles { server = owner.0; asker = c })
+    → IsCoherent cores (line_at dirs.S_D None (with (only owner.0) c) home (passed c owner part))
+    (record roles { server = owner.0; asker = c })
 forward_get_s cores roles owner s home part c most coherent within wants apart =
     let o = owner.0 in
     let to : o < cores = coherent.entry.owner_within in
     let small : c < 64 = omega arith in
     let low : o < 64 = omega arith in
     let old = near_of (line_at dirs.M (Some owner) s home part) roles in
-    let now = near_of (line_at dirs.S_D None (with (only o) c) home (passed c owner part)) (record roles { server = o; asker = c }) in
+    let now = near_of (line_at dirs.S_D None (with (only o) c) home (passed c owner part))
+    (record roles { server = o; asker = c }) in
     let apart' : (c ≡ o) → ⊥ = λ same. apart (sym same) in
     let not_owner : (c == o) ≡ false = ne_eqb c o apart' in
     let one : (x : ℕ) → x < cores → After (now x) c (part x) (passed c owner part x) = λ x below.
-    by_places (λ y q. After (now y) c (part y) q) part c o (answered (answers.FwdGetS owner)) (forwarded (answers.FwdGetS owner) c) x apart
+    by_places (λ y q. After (now y) c (part y) q) part c o (answered (answers.FwdGetS owner))
+    (forwarded (answers.FwdGetS owner) c) x apart
     (asker_after (old c) c owner (part c) (has (with (only o) c) c) (c == o) (c == c)
     (two o c c low small ∙ ap (λ b. c == o || b) (eq-eqb c c refl) ∙ or-true (c == o)) not_owner (eq-eqb c c refl)
     (coherent.fit c within) (coherent.counted c within) (and_from _ _ wants (ap not not_owner)))
@@ -129,13 +148,15 @@ forward_get_s cores roles owner s home part c most coherent within wants apart =
     (two o c o low small ∙ ap (λ b. b || o == c) (eq-eqb o o refl)) (eq-eqb o o refl) (ne_eqb o c apart)
     (coherent.fit o to) (coherent.counted o to) (eq-eqb o o refl))
     (λ not_c not_o. other_after (old x) c (part x) (has (with (only o) c) x) (x == o) (x == c)
-    (two o c x low small ∙ ap (λ b. b || x == c) (ne_eqb x o not_o) ∙ ne_eqb x c not_c) (ne_eqb x o not_o) (ne_eqb x c not_c)
+    (two o c x low small ∙ ap (λ b. b || x == c) (ne_eqb x o not_o) ∙ ne_eqb x c not_c) (ne_eqb x o not_o)
+    (ne_eqb x c not_c)
     (coherent.fit x below) (coherent.counted x below) (ap not (ne_eqb x o not_o))) in
     record {
       fit = λ x below. (one x below).fit;
       counted = λ x below. (one x below).counted;
       chained = λ x below. chain one x below;
-      balanced = balance_kept cores roles.keeper part (passed c owner part) coherent.balanced (λ x below. (one x below).owing)
+      balanced = balance_kept cores roles.keeper part (passed c owner part) coherent.balanced
+          (λ x below. (one x below).owing)
           (one roles.keeper coherent.roles_within.keeper).balance;
       entry = record {
         in_m = refl;
@@ -148,7 +169,8 @@ forward_get_s cores roles owner s home part c most coherent within wants apart =
       roles_within = record { keeper = coherent.roles_within.keeper; server = to; asker = within };
     }
   where
-    chain : ((x : ℕ) → x < cores → After (near_of (line_at dirs.S_D None (with (only owner.0) c) home (passed c owner part)) (record roles { server = owner.0; asker = c }) x) c (part x) (passed c owner part x))
+    chain : ((x : ℕ) → x < cores → After (near_of (line_at dirs.S_D None (with (only owner.0) c) home
+        (passed c owner part)) (record roles { server = owner.0; asker = c }) x) c (part x) (passed c owner part x))
         → (x : ℕ) → x < cores → IsChained cores c roles.by (passed c owner part) x
     chain one x below =
         let a = one x below in
@@ -156,7 +178,8 @@ forward_get_s cores roles owner s home part c most coherent within wants apart =
         record {
           writer = λ h.
               let was = a.fwd_get_m h in
-              subst (λ y. waits_to_write (passed c owner part y).look ≡ true) (sym (a.names h)) ((one (part x).names (old.within was)).waits (old.writer was));
+              subst (λ y. waits_to_write (passed c owner part y).look ≡ true) (sym (a.names h))
+              ((one (part x).names (old.within was)).waits (old.writer was));
           within = λ h. subst (λ y. y < cores) (sym (a.names h)) (old.within (a.fwd_get_m h));
           only_by = λ h. subst (λ y. roles.by y ≡ x) (sym (a.names h)) (old.only_by (a.fwd_get_m h));
           reader = a.reader;

@@ -1,6 +1,8 @@
 -- The frame of each step: what one core's part owes to the others, and how the facts of all cores follow.
-use Rattle.std.proofs.Common.{◌≡◌, ℕ, ◌+◌, ◌<◌, ◌==◌, Bool, true, false, refl, sym, ◌∙◌, subst, arith, true≢false}
+use Rattle.std.proofs.Common.{Option, ◌≡◌, ℕ, ◌+◌, ◌<◌, ◌==◌, Bool, true, false, refl, sym, ◌∙◌, subst, arith, true≢false}
 use Rattle.std.proofs.lemmas.Bool.{eqb-false, eqb-true}
+use Rattle.address_map.specs.declared.address.CoreId.{CoreId}
+use Rattle.directory_table.specs.declared.state.DirState.{DirState}
 use Rattle.cache_table.specs.declared.row.Row.{Row}
 use Rattle.slice_core_protocol.proofs.Count.{count_below-none, count_below-same}
 use Rattle.slice_core_protocol.specs.Coherent.{IsBalanced, IsChained, IsCoherent, IsCounted, IsEntry, debts, wanted}
@@ -20,7 +22,8 @@ pub record Owing (p q : Part) : Type 0 where
   pub owes : owes q.look ≡ owes p.look
   pub due : q.owes_to ≡ p.owes_to
 
--- A part fits afterwards, others see of it what they saw, and it awaits as many acknowledgements more than it has counted.
+-- A part fits afterwards, others see of it what they saw, and it awaits as many acknowledgements more than it has
+-- counted.
 pub record Kept (near : Near) (p q : Part) : Type 0 where
   pub fit : is_fit near q.look ≡ true
   pub counted : IsCounted q
@@ -47,14 +50,16 @@ by_place P part c change x here there = go (x == c) refl
     go false e = there (eqb-false x c e)
 
 -- A fact after a change under a test.
-pub by_test : (P : Part → Type 0) (b : Bool) (change : Part → Part) (p : Part) → (b ≡ true → P (change p)) → (b ≡ false → P p)
+pub by_test : (P : Part → Type 0) (b : Bool) (change : Part → Part) (p : Part) → (b ≡ true → P (change p))
+    → (b ≡ false → P p)
     → P (change_if b change p)
 by_test P true change p changed same = changed refl
 by_test P false change p changed same = same refl
 
 -- The part that is changed.
 pub at_place : (part : ℕ → Part) (c : ℕ) (change : Part → Part) → change_if (c == c) change (part c) ≡ change (part c)
-at_place part c change = by_place (λ y q. y ≡ c → q ≡ change (part c)) part c change c (λ same. refl) (λ other. absurd (other refl)) refl
+at_place part c change = by_place (λ y q. y ≡ c → q ≡ change (part c)) part c change c (λ same. refl)
+    (λ other. absurd (other refl)) refl
 
 -- The same after a change of two.
 pub by_places : (P : ℕ → Part → Type 0) (part : ℕ → Part) (c d : ℕ) (f g : Part → Part) (x : ℕ) → (d ≡ c → ⊥)
@@ -79,7 +84,8 @@ chain_kept cores asker by p q seen chained x below =
     record {
       writer = λ h.
           let was = s.fwd_get_m h in
-          subst (λ y. waits_to_write (q y).look ≡ true) (sym s.names) ((seen (p x).names (old.within was)).waits (old.writer was));
+          subst (λ y. waits_to_write (q y).look ≡ true) (sym s.names)
+          ((seen (p x).names (old.within was)).waits (old.writer was));
       within = λ h. subst (λ y. y < cores) (sym s.names) (old.within (s.fwd_get_m h));
       only_by = λ h. subst (λ y. by y ≡ x) (sym s.names) (old.only_by (s.fwd_get_m h));
       reader = λ h. s.names ∙ old.reader (s.fwd_get_s h);
@@ -91,34 +97,63 @@ pub due_kept : (cores keeper : ℕ) (p q : ℕ → Part) → ((x : ℕ) → x < 
 due_kept cores keeper p q owing due x below h =
     let s = owing x below in s.due ∙ due x below (sym s.owes ∙ h)
 
-pub debts_kept : (cores : ℕ) (p q : ℕ → Part) → ((x : ℕ) → x < cores → Owing (p x) (q x)) → debts cores p ≡ debts cores q
+pub debts_kept : (cores : ℕ) (p q : ℕ → Part) → ((x : ℕ) → x < cores → Owing (p x) (q x))
+    → debts cores p ≡ debts cores q
 debts_kept cores p q owing =
     count_below-same cores (λ x. owes (p x).look) (λ x. owes (q x).look) (λ x below. sym (owing x below).owes)
 
 -- The acknowledgements stay in balance: each core owes what it owed, and the keeper awaits as many.
-pub balance_kept : (cores keeper : ℕ) (p q : ℕ → Part) → IsBalanced cores keeper p → ((x : ℕ) → x < cores → Owing (p x) (q x))
+pub balance_kept : (cores keeper : ℕ) (p q : ℕ → Part) → IsBalanced cores keeper p
+    → ((x : ℕ) → x < cores → Owing (p x) (q x))
     → (q keeper).counted + wanted (p keeper) ≡ wanted (q keeper) + (p keeper).counted → IsBalanced cores keeper q
 balance_kept cores keeper p q balanced owing balance =
     let same = debts_kept cores p q owing in
     record { due = due_kept cores keeper p q owing balanced.due; sum = omega (arith, same, balance, balanced.sum) }
 
 -- They are in balance where nobody owes, and the keeper awaits none.
-pub balance_none : (cores keeper : ℕ) (q : ℕ → Part) → ((x : ℕ) → x < cores → owes (q x).look ≡ false) → (q keeper).counted ≡ 0
+pub balance_none : (cores keeper : ℕ) (q : ℕ → Part) → ((x : ℕ) → x < cores → owes (q x).look ≡ false)
+    → (q keeper).counted ≡ 0
     → wanted (q keeper) ≡ 0 → IsBalanced cores keeper q
 balance_none cores keeper q owing counted wants =
     let none : debts cores q ≡ 0 = count_below-none cores (λ x. owes (q x).look) owing in
     record { due = λ x below h. absurd (true≢false (sym h ∙ owing x below)); sum = omega (arith, none, counted, wants) }
 
 -- Where each core keeps its facts, the line stays coherent, with the roles as they were.
-pub lift : (cores : ℕ) (line next : Line) (roles : Roles) → IsCoherent cores line roles → IsEntry cores next.directory next.owner next.sharers
+pub lift : (cores : ℕ) (line next : Line) (roles : Roles) → IsCoherent cores line roles
+    → IsEntry cores next.directory next.owner next.sharers
     → ((x : ℕ) → x < cores → Kept (near_of next roles x) (line.part x) (next.part x)) → IsCoherent cores next roles
 lift cores line next roles coherent entry kept =
     record {
       fit = λ x below. (kept x below).fit;
       counted = λ x below. (kept x below).counted;
-      chained = chain_kept cores roles.asker roles.by line.part next.part (λ x below. (kept x below).seen) coherent.chained;
+      chained = chain_kept cores roles.asker roles.by line.part next.part
+          (λ x below. (kept x below).seen) coherent.chained;
       balanced = balance_kept cores roles.keeper line.part next.part coherent.balanced (λ x below. (kept x below).owing)
           (kept roles.keeper coherent.roles_within.keeper).balance;
       entry = entry;
       roles_within = coherent.roles_within;
     }
+
+-- Coherence is of the cores alone: a line with the same entry and the same parts of the cores is coherent too.
+pub coherent-same : (cores : ℕ) (line next : Line) (roles : Roles) → IsCoherent cores line roles
+    → next.directory ≡ line.directory → next.owner ≡ line.owner → next.sharers ≡ line.sharers → next.home ≡ line.home
+    → ((x : ℕ) → x < cores → next.part x ≡ line.part x) → IsCoherent cores next roles
+coherent-same cores line next roles coherent d o s h parts =
+    go line.directory line.owner line.sharers line.home (sym d) (sym o) (sym s) (sym h) coherent
+  where
+    go : (directory : DirState) (owner : Option CoreId) (sharers : ℕ) (home : Bool) → directory ≡ next.directory
+        → owner ≡ next.owner → sharers ≡ next.sharers → home ≡ next.home
+        → IsCoherent cores
+        (record { directory = directory; owner = owner; sharers = sharers; home = home; part = line.part }) roles
+        → IsCoherent cores next roles
+    go directory owner sharers home d o s h old =
+        let entry : IsCoherent cores (record {
+          directory = next.directory;
+          owner = next.owner;
+          sharers = next.sharers;
+          home = next.home;
+          part = line.part;
+        }) roles = rw (← d, ← o, ← s, ← h) old in
+        lift cores (record next { part = line.part }) next roles entry entry.entry (λ x below.
+        subst (λ q. Kept (near_of next roles x) (line.part x) q) (sym (parts x below))
+        (still (near_of next roles x) (line.part x) (entry.fit x below) (entry.counted x below)))

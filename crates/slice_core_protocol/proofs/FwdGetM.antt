@@ -51,7 +51,8 @@ record HandsOn (n : Near) (l : Look) (next : CopyState) (sent : CacheSends) : Ty
   waits : waits_to_write l ≡ false
   held : is_held n.directory n.home ≡ true
 
-hands_on_from : (n : Near) (l : Look) (next : CopyState) (sent : CacheSends) → hands_on n l next sent ≡ true → HandsOn n l next sent
+hands_on_from : (n : Near) (l : Look) (next : CopyState) (sent : CacheSends) → hands_on n l next sent ≡ true
+    → HandsOn n l next sent
 unfolding hands_on
 hands_on_from n l next sent e =
     let e1 = left _ _ e in
@@ -88,7 +89,8 @@ server = refl
 
 -- Who waits to write gets the data, and owes nothing.
 taker : each_fit (λ n l. if_so (waits_to_write l && not (owes l) && is_held n.directory n.home) (λ _.
-    is_fit (record n { keeper = true }) (record l { incoming = shared_data }) && not (awaits l) && not (is_counting l.state)
+    is_fit (record n { keeper = true }) (record l { incoming = shared_data }) && not (awaits l)
+    && not (is_counting l.state)
     && awaits (record l { incoming = shared_data }))) ≡ true
 unfolding all_words
 taker = refl
@@ -106,7 +108,8 @@ record After (near : Near) (c : ℕ) (x : ℕ) (p q : Part) : Type 0 where
 after_server : (n : Near) (c : ℕ) (p : Part) (next : CopyState) (sent : CacheSends) (keeper : Bool) → keeper ≡ false
     → HandsOn n p.look next sent → After (record n { keeper = keeper }) c c p (acted events.FwdGetM 0 next sent p)
 after_server n c p next sent keeper not_keeper s = record {
-  fit = subst (λ b. is_fit (record n { keeper = b }) (turned events.FwdGetM next sent p.look) ≡ true) (sym not_keeper) s.fit;
+  fit = subst (λ b. is_fit (record n { keeper = b }) (turned events.FwdGetM next sent p.look) ≡ true)
+      (sym not_keeper) s.fit;
   counted = record {
     missing = λ h. absurd (true≢false (sym h ∙ s.count));
     none = λ h. ap (λ b. if b then p.counted + 0 else 0) s.wait;
@@ -118,7 +121,8 @@ after_server n c p next sent keeper not_keeper s = record {
   fwd_get_s = λ h. absurd (true≢false (sym h ∙ s.no_fwd_get_s));
 }
 
-after_taker : (n : Near) (c r : ℕ) (p : Part) (keeper : Bool) → keeper ≡ true → (r ≡ c → ⊥) → is_fit n p.look ≡ true → IsCounted p
+after_taker : (n : Near) (c r : ℕ) (p : Part) (keeper : Bool) → keeper ≡ true → (r ≡ c → ⊥) → is_fit n p.look ≡ true
+    → IsCounted p
     → owes p.look ≡ false → waits_to_write p.look ≡ true → is_held n.directory n.home ≡ true
     → After (record n { keeper = keeper }) c r p (given p)
 unfolding owes
@@ -160,7 +164,8 @@ no_wants false n e = refl
 -- The cores after the server has given the line to the core that it names.
 record Moved (cores : ℕ) (line : Line) (roles : Roles) (c r : ℕ) (q : ℕ → Part) : Type 0 where
   after : (x : ℕ) → x < cores → After (record (near_of line roles x) { keeper = x == r }) c x (line.part x) (q x)
-  waits : (x : ℕ) → x < cores → (x ≡ c → ⊥) → (x ≡ r → ⊥) → waits_to_write (line.part x).look ≡ true → waits_to_write (q x).look ≡ true
+  waits : (x : ℕ) → x < cores → (x ≡ c → ⊥) → (x ≡ r → ⊥) → waits_to_write (line.part x).look ≡ true
+      → waits_to_write (q x).look ≡ true
   taker : (q r).counted ≡ 0
   wants : wanted (q r) ≡ 0
 
@@ -190,9 +195,11 @@ moved cores line roles c r q coherent to not_waiting by m =
           writer = λ h.
               let was = a.fwd_get_m h in
               let waits = old.writer was in
-              let not_c : z ≡ c → ⊥ = λ same. true≢false (sym waits ∙ ap (λ y. waits_to_write (line.part y).look) same ∙ not_waiting) in
+              let not_c : z ≡ c → ⊥ = λ same. true≢false (sym waits ∙ ap (λ y. waits_to_write (line.part y).look) same
+              ∙ not_waiting) in
               let not_r : z ≡ r → ⊥ = λ same. a.not_server h (sym (old.only_by was) ∙ ap roles.by same ∙ by) in
-              subst (λ y. waits_to_write (q y).look ≡ true) (sym a.names) (m.waits z (old.within was) not_c not_r waits);
+              subst (λ y. waits_to_write (q y).look ≡ true) (sym a.names)
+              (m.waits z (old.within was) not_c not_r waits);
           within = λ h. subst (λ y. y < cores) (sym a.names) (old.within (a.fwd_get_m h));
           only_by = λ h. subst (λ y. roles.by y ≡ x) (sym a.names) (old.only_by (a.fwd_get_m h));
           reader = λ h. a.names ∙ old.reader (a.fwd_get_s h);
@@ -204,11 +211,14 @@ waiting_awaits = refl
 
 -- The parts after a Fwd-GetM was served.
 abbrev served : Line → ℕ → ℕ → CopyState → CacheSends → ℕ → Part
-served line c r next sent x = change_if (x == r) given (change_if (x == c) (acted events.FwdGetM 0 next sent) (line.part x))
+served line c r next sent x = change_if (x == r) given (change_if (x == c) (acted events.FwdGetM 0 next sent)
+    (line.part x))
 
-taken_by : (part : ℕ → Part) (c r : ℕ) (f : Part → Part) → (r ≡ c → ⊥) → change_if (r == r) given (change_if (r == c) f (part r)) ≡ given (part r)
+taken_by : (part : ℕ → Part) (c r : ℕ) (f : Part → Part) → (r ≡ c → ⊥)
+    → change_if (r == r) given (change_if (r == c) f (part r)) ≡ given (part r)
 taken_by part c r f apart =
-    by_places (λ y q. y ≡ r → q ≡ given (part r)) part c r f given r apart (λ same. absurd (apart (sym same))) (λ same. refl)
+    by_places (λ y q. y ≡ r → q ≡ given (part r)) part c r f given r apart (λ same. absurd (apart (sym same)))
+    (λ same. refl)
     (λ not_c not_r same. absurd (not_r same)) refl
 
 -- Serving a Fwd-GetM keeps the line coherent, and makes who is named the keeper.
@@ -232,7 +242,8 @@ fwd_get_m_kept cores line roles c next sent coherent within here row =
         → (gives homes : Bool) → gives ≡ true → homes ≡ false
         → IsCoherent cores (record line {
           home = homes || line.home;
-          part = λ x. change_if (gives && x == r) given (change_if (x == c) (acted events.FwdGetM 0 next sent) (line.part x));
+          part = λ x. change_if (gives && x == r) given (change_if (x == c) (acted events.FwdGetM 0 next sent)
+              (line.part x));
         }) (record roles { keeper = r })
     go s fwd false homes e f = absurd (true≢false (sym e))
     go s fwd true true e f = absurd (true≢false f)
@@ -240,24 +251,31 @@ fwd_get_m_kept cores line roles c next sent coherent within here row =
         let chained = coherent.chained c within in
         let to = chained.within fwd in
         let waits = chained.writer fwd in
-        let apart : r ≡ c → ⊥ = λ same. true≢false (sym waits ∙ ap (λ y. waits_to_write (line.part y).look) same ∙ s.waits) in
+        let apart : r ≡ c → ⊥ = λ same. true≢false (sym waits ∙ ap (λ y. waits_to_write (line.part y).look) same
+        ∙ s.waits) in
         let quiet = quiet_holder cores line roles c coherent within s.holds s.awaited in
         let keeper = keeper_holds cores line roles c coherent within s.holds in
         let is = taken_by line.part c r (acted events.FwdGetM 0 next sent) apart in
         let none : awaits (line.part r).look ≡ false =
-        not-at _ (if_so-at _ _ (each_fit-at _ waiting_awaits (near_of line roles r) (line.part r).look (coherent.fit r to)) waits) in
+        not-at _ (if_so-at _ _ (each_fit-at _ waiting_awaits (near_of line roles r) (line.part r).look
+        (coherent.fit r to)) waits) in
         moved cores line roles c r (served line c r next sent) coherent to s.waits (chained.only_by fwd) (record {
-          after = λ x below. by_places (λ y q. After (record (near_of line roles y) { keeper = y == r }) c y (line.part y) q) line.part c r
+          after = λ x below. by_places (λ y q. After (record (near_of line roles y) { keeper = y == r }) c y
+              (line.part y) q) line.part c r
               (acted events.FwdGetM 0 next sent) given x apart
-              (after_server (near_of line roles c) c (line.part c) next sent (c == r) (ne_eqb c r (λ same. apart (sym same))) s)
-              (after_taker (near_of line roles r) c r (line.part r) (r == r) (eq-eqb r r refl) apart (coherent.fit r to) (coherent.counted r to)
+              (after_server (near_of line roles c) c (line.part c) next sent (c == r)
+              (ne_eqb c r (λ same. apart (sym same))) s)
+              (after_taker (near_of line roles r) c r (line.part r) (r == r) (eq-eqb r r refl) apart
+              (coherent.fit r to) (coherent.counted r to)
               (quiet.owes r to) waits s.held)
               (λ not_c not_r. after_other (near_of line roles x) c x (line.part x) (x == r)
               (ne_eqb x roles.keeper (λ same. not_c (same ∙ sym keeper)) ∙ sym (ne_eqb x r not_r)) not_c
               (coherent.fit x below) (coherent.counted x below) (quiet.owes x below));
           waits = λ x below not_c not_r h. by_places
-              (λ y q. (y ≡ c → ⊥) → (y ≡ r → ⊥) → waits_to_write (line.part y).look ≡ true → waits_to_write q.look ≡ true) line.part c r
-              (acted events.FwdGetM 0 next sent) given x apart (λ no_c. absurd (no_c refl)) (λ no_c no_r. absurd (no_r refl))
+              (λ y q. (y ≡ c → ⊥) → (y ≡ r → ⊥) → waits_to_write (line.part y).look ≡ true
+              → waits_to_write q.look ≡ true) line.part c r
+              (acted events.FwdGetM 0 next sent) given x apart (λ no_c. absurd (no_c refl))
+              (λ no_c no_r. absurd (no_r refl))
               (λ no_c no_r nc nr w. w) not_c not_r h;
           taker = ap (λ q. q.counted) is ∙ (coherent.counted r to).none none;
           wants = ap (λ q. wanted q) is ∙ no_wants (awaits (given (line.part r)).look) 0 refl;

@@ -37,7 +37,8 @@ record Serves (n : Near) (l : Look) (next : CopyState) (sent : CacheSends) : Typ
   count : is_counting next ≡ false
   wait : (is_waiting next || not (awaits l)) ≡ true
 
-serves_from : (n : Near) (l : Look) (next : CopyState) (sent : CacheSends) → serves n l next sent ≡ true → Serves n l next sent
+serves_from : (n : Near) (l : Look) (next : CopyState) (sent : CacheSends) → serves n l next sent ≡ true
+    → Serves n l next sent
 unfolding serves
 serves_from n l next sent e =
     let e1 = left _ _ e in
@@ -64,7 +65,8 @@ server = refl
 
 -- Who is asked is the server and the keeper, and isn't who asks.
 server_is : each_fit (λ n l. if_so (not l.inv && is_fwd_get_s l.forward) (λ _.
-    if_go (row_of l.state events.FwdGetS) (λ next sent. is_asked n.directory n.home && n.server && n.keeper && not n.asker))) ≡ true
+    if_go (row_of l.state events.FwdGetS) (λ next sent. is_asked n.directory n.home && n.server && n.keeper
+    && not n.asker))) ≡ true
 unfolding all_words
 server_is = refl
 
@@ -87,10 +89,12 @@ server_kept : (n : Near) (p : Part) (next : CopyState) (sent : CacheSends) → I
 server_kept n p next sent counted s =
     let q = acted events.FwdGetS 0 next sent p in
     let count : q.counted ≡ p.counted = counted_on (is_waiting next) (awaits p.look) p.counted s.wait counted.none in
-    kept_from (record n { home = true }) p q s.fit (seen_from p q s.seen refl) (record { owes = s.owing; due = refl }) s.await
+    kept_from (record n { home = true }) p q s.fit (seen_from p q s.seen refl)
+    (record { owes = s.owing; due = refl }) s.await
     (wanted_same p q s.await refl) count (λ h. absurd (true≢false (sym h ∙ s.count))) counted
 
-asker_kept : (n : Near) (p : Part) → is_fit n p.look ≡ true → IsCounted p → (is_asked n.directory n.home && n.asker) ≡ true
+asker_kept : (n : Near) (p : Part) → is_fit n p.look ≡ true → IsCounted p
+    → (is_asked n.directory n.home && n.asker) ≡ true
     → Kept (record n { home = true }) p (given p)
 unfolding owes
 asker_kept n p fit counted here =
@@ -110,7 +114,8 @@ other_kept n p fit counted asked not_server not_keeper not_asker =
     let here : (is_asked n.directory n.home && not n.server && not n.keeper && not n.asker) ≡ true =
     rw (asked, not_server, not_keeper, not_asker) in
     kept_from (record n { home = true }) p p (if_so-at _ _ (each_fit-at _ others n p.look fit) here)
-    (record { waits = λ h. h; fwd_get_m = λ h. h; fwd_get_s = λ h. h; names = refl }) (record { owes = refl; due = refl })
+    (record { waits = λ h. h; fwd_get_m = λ h. h; fwd_get_s = λ h. h; names = refl })
+    (record { owes = refl; due = refl })
     refl refl refl counted.missing counted
 
 -- What is known of the server and the asker.
@@ -121,8 +126,10 @@ pub record Pair (line : Line) (roles : Roles) (c r : ℕ) : Type 0 where
   pub asker : r ≡ roles.asker
   pub apart : r ≡ c → ⊥
 
-pub pair : (cores : ℕ) (line : Line) (roles : Roles) (c : ℕ) (next : CopyState) (sent : CacheSends) → IsCoherent cores line roles
-    → c < cores → IsTrue (stands (line.part c) events.FwdGetS) → row_of (line.part c).look.state events.FwdGetS ≡ rows.Go next sent
+pub pair : (cores : ℕ) (line : Line) (roles : Roles) (c : ℕ) (next : CopyState) (sent : CacheSends)
+    → IsCoherent cores line roles
+    → c < cores → IsTrue (stands (line.part c) events.FwdGetS)
+    → row_of (line.part c).look.state events.FwdGetS ≡ rows.Go next sent
     → Pair line roles c (line.part c).names
 pair cores line roles c next sent coherent within here row =
     let n = near_of line roles c in
@@ -150,17 +157,20 @@ fwd_get_s_kept cores line roles c next sent coherent within here row =
     let s = serves_from n (line.part c).look next sent
     (if_go-at _ (λ next sent. serves n (line.part c).look next sent) next sent
     (if_so-at _ _ (each_fit-at _ server n (line.part c).look (coherent.fit c within)) here) row) in
-    go (pair cores line roles c next sent coherent within here row) (server_kept n (line.part c) next sent (coherent.counted c within) s)
+    go (pair cores line roles c next sent coherent within here row)
+    (server_kept n (line.part c) next sent (coherent.counted c within) s)
     (sends_data sent) (sends_home sent) s.gives s.homes
   where
     r : ℕ
     r = (line.part c).names
 
-    go : Pair line roles c r → Kept (record (near_of line roles c) { home = true }) (line.part c) (acted events.FwdGetS 0 next sent (line.part c))
+    go : Pair line roles c r → Kept (record (near_of line roles c) { home = true }) (line.part c)
+        (acted events.FwdGetS 0 next sent (line.part c))
         → (gives homes : Bool) → gives ≡ true → homes ≡ true
         → IsCoherent cores (record line {
           home = homes || line.home;
-          part = λ x. change_if (gives && x == r) given (change_if (x == c) (acted events.FwdGetS 0 next sent) (line.part x));
+          part = λ x. change_if (gives && x == r) given (change_if (x == c) (acted events.FwdGetS 0 next sent)
+              (line.part x));
         }) roles
     go pair kept false homes e f = absurd (true≢false (sym e))
     go pair kept true false e f = absurd (true≢false (sym f))
@@ -169,11 +179,17 @@ fwd_get_s_kept cores line roles c next sent coherent within here row =
         let asks = asker_kept (near_of line roles r) (line.part r) (coherent.fit r to) (coherent.counted r to)
         (and_from _ _ pair.asked (eq-eqb r roles.asker pair.asker)) in
         lift cores line
-        (record line { home = true; part = λ x. change_if (x == r) given (change_if (x == c) (acted events.FwdGetS 0 next sent) (line.part x)) })
+        (record line {
+          home = true;
+          part = λ x. change_if (x == r) given
+              (change_if (x == c) (acted events.FwdGetS 0 next sent) (line.part x));
+        })
         roles coherent coherent.entry
-        (λ x below. by_places (λ y q. Kept (record (near_of line roles y) { home = true }) (line.part y) q) line.part c r
+        (λ x below. by_places (λ y q. Kept (record (near_of line roles y) { home = true }) (line.part y) q) line.part c
+        r
         (acted events.FwdGetS 0 next sent) given x pair.apart kept asks
-        (λ not_c not_r. other_kept (near_of line roles x) (line.part x) (coherent.fit x below) (coherent.counted x below) pair.asked
+        (λ not_c not_r. other_kept (near_of line roles x) (line.part x) (coherent.fit x below)
+        (coherent.counted x below) pair.asked
         (ne_eqb x roles.server (λ same. not_c (same ∙ sym pair.server)))
         (ne_eqb x roles.keeper (λ same. not_c (same ∙ sym pair.keeper)))
         (ne_eqb x roles.asker (λ same. not_r (same ∙ sym pair.asker)))))

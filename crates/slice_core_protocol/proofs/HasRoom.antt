@@ -46,7 +46,8 @@ is_roomy gives n l sent =
     && (sends_data sent implies gives)
 
 unfoldable is_roomy_at : CacheEvent → Bool → (Look → Bool) → Bool
-is_roomy_at event gives guard = each_fit (λ n l. if_so (guard l) (λ _. if_go (row_of l.state event) (λ next sent. is_roomy gives n l sent)))
+is_roomy_at event gives guard = each_fit (λ n l. if_so (guard l)
+    (λ _. if_go (row_of l.state event) (λ next sent. is_roomy gives n l sent)))
 
 load : is_roomy_at events.Load false (λ l. true) ≡ true
 unfolding all_words is_roomy_at is_roomy
@@ -93,14 +94,16 @@ abbrev Named : ℕ → Line → ℕ → Type 0
 Named cores line r = (r < cores) × IsTrue (is_no_data (line.part r).look.incoming)
 
 room_at : (cores : ℕ) (line : Line) (roles : Roles) (c : ℕ) (event : CacheEvent) (gives : Bool) (guard : Look → Bool)
-    (next : CopyState) (sent : CacheSends) → is_roomy_at event gives guard ≡ true → IsCoherent cores line roles → c < cores
+    (next : CopyState) (sent : CacheSends) → is_roomy_at event gives guard ≡ true → IsCoherent cores line roles
+    → c < cores
     → guard (line.part c).look ≡ true → row_of (line.part c).look.state event ≡ rows.Go next sent
     → (gives ≡ true → Named cores line (line.part c).names) → HasRoomAtTurn cores line c sent
 unfolding is_roomy_at is_roomy
 room_at cores line roles c event gives guard next sent tested coherent within here row named =
     let n = near_of line roles c in
     let l = (line.part c).look in
-    let e = if_go-at _ (λ next sent. is_roomy gives n l sent) next sent (if_so-at _ _ (each_fit-at _ tested n l (coherent.fit c within)) here) row in
+    let e = if_go-at _ (λ next sent. is_roomy gives n l sent) next sent
+    (if_so-at _ _ (each_fit-at _ tested n l (coherent.fit c within)) here) row in
     let e1 = left _ _ e in
     let e2 = left _ _ e1 in
     record {
@@ -119,8 +122,10 @@ writer_free : each_fit (λ n l. if_so (waits_to_write l) (λ _. is_no_data l.inc
 unfolding all_words
 writer_free = refl
 
-named_reader : (cores : ℕ) (line : Line) (roles : Roles) (c : ℕ) (next : CopyState) (sent : CacheSends) → IsCoherent cores line roles
-    → c < cores → IsTrue (stands (line.part c) events.FwdGetS) → row_of (line.part c).look.state events.FwdGetS ≡ rows.Go next sent
+named_reader : (cores : ℕ) (line : Line) (roles : Roles) (c : ℕ) (next : CopyState) (sent : CacheSends)
+    → IsCoherent cores line roles
+    → c < cores → IsTrue (stands (line.part c) events.FwdGetS)
+    → row_of (line.part c).look.state events.FwdGetS ≡ rows.Go next sent
     → Named cores line (line.part c).names
 named_reader cores line roles c next sent coherent within here row =
     let pair = FwdGetS.pair cores line roles c next sent coherent within here row in
@@ -136,13 +141,17 @@ named_writer : (cores : ℕ) (line : Line) (roles : Roles) (c : ℕ) → IsCoher
 named_writer cores line roles c coherent within fwd =
     let chained = coherent.chained c within in
     let to = chained.within fwd in
-    let r = (line.part c).names in
-    (to, if_so-at _ _ (each_fit-at _ writer_free (near_of line roles r) (line.part r).look (coherent.fit r to)) (chained.writer fwd))
+    let r = (line.part c).names in (
+      to,
+      if_so-at _ _ (each_fit-at _ writer_free (near_of line roles r) (line.part r).look (coherent.fit r to))
+          (chained.writer fwd),
+    )
 
 nothing : {A : Type 0} → false ≡ true → A
 nothing e = absurd (true≢false (sym e))
 
-turn_room : (cores : ℕ) (line : Line) (roles : Roles) (c : ℕ) (event : CacheEvent) (next : CopyState) (sent : CacheSends)
+turn_room : (cores : ℕ) (line : Line) (roles : Roles) (c : ℕ) (event : CacheEvent) (next : CopyState)
+    (sent : CacheSends)
     → IsCoherent cores line roles → c < cores → IsTrue (stands (line.part c) event)
     → row_of (line.part c).look.state event ≡ rows.Go next sent → HasRoomAtTurn cores line c sent
 turn_room cores line roles c events.Load next sent coherent within here row =
@@ -154,17 +163,22 @@ turn_room cores line roles c events.Eviction next sent coherent within here row 
 turn_room cores line roles c events.Inv next sent coherent within here row =
     room_at cores line roles c events.Inv false (λ l. l.inv) next sent inv coherent within here row nothing
 turn_room cores line roles c events.FwdGetS next sent coherent within here row =
-    room_at cores line roles c events.FwdGetS true (λ l. not l.inv && is_fwd_get_s l.forward) next sent fwd_get_s coherent within here row
+    room_at cores line roles c events.FwdGetS true (λ l. not l.inv && is_fwd_get_s l.forward) next sent fwd_get_s
+    coherent within here row
     (λ h. named_reader cores line roles c next sent coherent within here row)
 turn_room cores line roles c events.FwdGetM next sent coherent within here row =
-    room_at cores line roles c events.FwdGetM true (λ l. not l.inv && is_fwd_get_m l.forward) next sent fwd_get_m coherent within here row
-    (λ h. named_writer cores line roles c coherent within (and_parts (not (line.part c).look.inv) (is_fwd_get_m (line.part c).look.forward) here).1)
+    room_at cores line roles c events.FwdGetM true (λ l. not l.inv && is_fwd_get_m l.forward) next sent fwd_get_m
+    coherent within here row
+    (λ h. named_writer cores line roles c coherent within (and_parts (not (line.part c).look.inv)
+    (is_fwd_get_m (line.part c).look.forward) here).1)
 turn_room cores line roles c events.PutAck next sent coherent within here row =
     room_at cores line roles c events.PutAck false (λ l. true) next sent put_ack coherent within refl row nothing
 turn_room cores line roles c (events.DataE loads) next sent coherent within here row =
-    room_at cores line roles c (events.DataE loads) false (λ l. true) next sent (data_e loads) coherent within refl row nothing
+    room_at cores line roles c (events.DataE loads) false (λ l. true) next sent
+    (data_e loads) coherent within refl row nothing
 turn_room cores line roles c (events.Data n k) next sent coherent within here row =
-    room_at cores line roles c (data_sample (k == n) (nat_lt k n)) false (λ l. true) next sent (data' (k == n) (nat_lt k n)) coherent within refl
+    room_at cores line roles c (data_sample (k == n) (nat_lt k n)) false (λ l. true) next sent
+    (data' (k == n) (nat_lt k n)) coherent within refl
     (sym (data_row (line.part c).look.state n k (k == n) (nat_lt k n) refl refl) ∙ row) nothing
 turn_room cores line roles c (events.InvAck n k) next sent coherent within here row = nothing here
 
@@ -173,7 +187,8 @@ abbrev is_nothing : CacheSends → Bool
 is_nothing sends.Nothing = true
 is_nothing _ = false
 
-ack_nothing : (all few : Bool) → each_state (λ s. if_go (row_of s (ack_sample all few)) (λ next sent. is_nothing sent)) ≡ true
+ack_nothing : (all few : Bool) → each_state (λ s. if_go (row_of s (ack_sample all few)) (λ next sent. is_nothing sent))
+    ≡ true
 unfolding all_words
 ack_nothing true true = refl
 ack_nothing true false = refl
@@ -190,11 +205,13 @@ is_nothing-at sends.InvAckToRequester e = nothing e
 is_nothing-at sends.DataToRequester e = nothing e
 is_nothing-at sends.DataToRequesterAndHome e = nothing e
 
-ack_sends : (state next : CopyState) (n k : ℕ) (sent : CacheSends) → row_of state (events.InvAck n k) ≡ rows.Go next sent → sent ≡ sends.Nothing
+ack_sends : (state next : CopyState) (n k : ℕ) (sent : CacheSends)
+    → row_of state (events.InvAck n k) ≡ rows.Go next sent → sent ≡ sends.Nothing
 ack_sends state next n k sent row =
     let all = k + 1 == n in
     let few = nat_lt (k + 1) n in
-    is_nothing-at sent (if_go-at _ (λ next sent. is_nothing sent) next sent (each_state-at _ (ack_nothing all few) state)
+    is_nothing-at sent (if_go-at _ (λ next sent. is_nothing sent) next sent
+    (each_state-at _ (ack_nothing all few) state)
     (sym (ack_row state n k all few refl refl) ∙ row))
 
 -- ---- the directory
@@ -211,7 +228,8 @@ owner_free : each_fit (λ n l. if_so n.owner (λ _. has_room_for_forward l)) ≡
 unfolding all_words
 owner_free = refl
 
-sharer_free : each_fit (λ n l. if_so (is_shared n.directory && n.sharer && not (owes l)) (λ _. has_room_for_inv l)) ≡ true
+sharer_free : each_fit (λ n l. if_so (is_shared n.directory && n.sharer && not (owes l)) (λ _. has_room_for_inv l))
+    ≡ true
 unfolding all_words
 sharer_free = refl
 
@@ -220,20 +238,24 @@ abbrev IsRoomy : ℕ → Line → DirEvent → DirRow → Type 0
 IsRoomy cores line event row = IfGo row (λ state owner sharers sent writes. HasRoomAtService cores line event sent)
 
 no_data_for : (cores : ℕ) (line : Line) (roles : Roles) (c : ℕ) → IsCoherent cores line roles → c < cores
-    → (is_get_s (line.part c).look.request || is_get_m (line.part c).look.request) ≡ true → IsTrue (is_no_data (line.part c).look.incoming)
+    → (is_get_s (line.part c).look.request || is_get_m (line.part c).look.request) ≡ true
+    → IsTrue (is_no_data (line.part c).look.incoming)
 no_data_for cores line roles c coherent within wants =
     if_so-at _ _ (each_fit-at _ getter_free (near_of line roles c) (line.part c).look (coherent.fit c within)) wants
 
 room_for_put_ack : (cores : ℕ) (line : Line) (roles : Roles) (c : ℕ) → IsCoherent cores line roles → c < cores
-    → (is_put_s (line.part c).look.request || is_put_m (line.part c).look.request) ≡ true → IsTrue (has_room_for_put_ack (line.part c).look)
+    → (is_put_s (line.part c).look.request || is_put_m (line.part c).look.request) ≡ true
+    → IsTrue (has_room_for_put_ack (line.part c).look)
 room_for_put_ack cores line roles c coherent within wants =
     if_so-at _ _ (each_fit-at _ putter_free (near_of line roles c) (line.part c).look (coherent.fit c within)) wants
 
 room_for_forward : (cores : ℕ) (roles : Roles) (owner : CoreId) (s : ℕ) (home : Bool) (part : ℕ → Part)
-    → IsCoherent cores (line_at dirs.M (Some owner) s home part) roles → IsTrue (has_room_for_forward (part owner.0).look)
+    → IsCoherent cores (line_at dirs.M (Some owner) s home part) roles
+    → IsTrue (has_room_for_forward (part owner.0).look)
 room_for_forward cores roles owner s home part coherent =
     let line = line_at dirs.M (Some owner) s home part in
-    if_so-at _ _ (each_fit-at _ owner_free (near_of line roles owner.0) (part owner.0).look (coherent.fit owner.0 coherent.entry.owner_within))
+    if_so-at _ _ (each_fit-at _ owner_free (near_of line roles owner.0) (part owner.0).look
+    (coherent.fit owner.0 coherent.entry.owner_within))
     (eq-eqb owner.0 owner.0 refl)
 
 room_for_inv : (cores : ℕ) (roles : Roles) (s : ℕ) (home : Bool) (part : ℕ → Part) (c x : ℕ) → cores ≤ 64
@@ -260,7 +282,8 @@ choose P false own other yes_own yes_other = yes_other
 -- Data, Put-Ack, a forwarded request and nothing, each by itself.
 data_room : (cores : ℕ) (line : Line) (event : DirEvent) (sent : DirSends)
     → (Law.acknowledges_put sent ≡ false) → Law.forwarded_to sent ≡ None → ((x : ℕ) → Law.is_sent_inv sent x ≡ false)
-    → IfSome (Law.requester event) (λ core. IsTrue (is_no_data (line.part core.0).look.incoming)) → HasRoomAtService cores line event sent
+    → IfSome (Law.requester event) (λ core. IsTrue (is_no_data (line.part core.0).look.incoming))
+    → HasRoomAtService cores line event sent
 data_room cores line event sent no_ack no_forward no_inv room = record {
   data_channel = λ h. room;
   put_ack = λ h. absurd (true≢false (sym h ∙ no_ack));
@@ -270,7 +293,8 @@ data_room cores line event sent no_ack no_forward no_inv room = record {
 }
 
 ack_room : (cores : ℕ) (line : Line) (event : DirEvent)
-    → IfSome (Law.requester event) (λ core. IsTrue (has_room_for_put_ack (line.part core.0).look)) → HasRoomAtService cores line event answers.PutAck
+    → IfSome (Law.requester event) (λ core. IsTrue (has_room_for_put_ack (line.part core.0).look))
+    → HasRoomAtService cores line event answers.PutAck
 ack_room cores line event room = record {
   data_channel = λ h. nothing h;
   put_ack = λ h. room;
@@ -292,8 +316,10 @@ room_on : (cores : ℕ) (roles : Roles) (directory : DirState) (owner : Option C
     (part : ℕ → Part) (event : DirEvent) → cores ≤ 64 → IsCoherent cores (line_at directory owner s home part) roles
     → IsWithin cores event → IsTrue (is_asked_for (line_at directory owner s home part) event)
     → IsRoomy cores (line_at directory owner s home part) event (Directory.cell true directory owner s event)
-room_on cores roles dirs.M None s home part event most coherent within wants = absurd (true≢false (sym coherent.entry.in_m))
-room_on cores roles dirs.S (Some owner) s home part event most coherent within wants = absurd (true≢false coherent.entry.in_m)
+room_on cores roles dirs.M None s home part event most coherent within wants = absurd
+    (true≢false (sym coherent.entry.in_m))
+room_on cores roles dirs.S (Some owner) s home part event most coherent within wants = absurd
+    (true≢false coherent.entry.in_m)
 room_on cores roles dirs.I owner s home part (asks.GetS core) most coherent within wants =
     data_room cores (line_at dirs.I owner s home part) (asks.GetS core) answers.DataE refl refl (λ x. refl)
     (no_data_for cores (line_at dirs.I owner s home part) roles core.0 coherent within (either_s _ _ wants))
@@ -311,7 +337,8 @@ room_on cores roles dirs.S None s home part (asks.GetS core) most coherent withi
     data_room cores (line_at dirs.S None s home part) (asks.GetS core) (answers.Data 0) refl refl (λ x. refl)
     (no_data_for cores (line_at dirs.S None s home part) roles core.0 coherent within (either_s _ _ wants))
 room_on cores roles dirs.S None s home part (asks.GetM core) most coherent within wants = record {
-  data_channel = λ h. no_data_for cores (line_at dirs.S None s home part) roles core.0 coherent within (either_m _ _ wants);
+  data_channel = λ h. no_data_for cores (line_at dirs.S None s home part) roles core.0 coherent within
+      (either_m _ _ wants);
   put_ack = λ h. nothing h;
   named = tt;
   forward = tt;
@@ -325,7 +352,8 @@ room_on cores roles dirs.S None s home part (asks.PutM core) most coherent withi
     (room_for_put_ack cores (line_at dirs.S None s home part) roles core.0 coherent within (either_m _ _ wants))
 room_on cores roles dirs.S None s home part asks.DataHome most coherent within wants = tt
 room_on cores roles dirs.M (Some owner) s home part (asks.GetS core) most coherent within wants =
-    choose (IsRoomy cores (line_at dirs.M (Some owner) s home part) (asks.GetS core)) (owner.0 == core.0) _ _ tt (record {
+    choose (IsRoomy cores (line_at dirs.M (Some owner) s home part) (asks.GetS core)) (owner.0 == core.0) _ _ tt
+    (record {
       data_channel = λ h. nothing h;
       put_ack = λ h. nothing h;
       named = coherent.entry.owner_within;
@@ -333,7 +361,8 @@ room_on cores roles dirs.M (Some owner) s home part (asks.GetS core) most cohere
       inv = λ x below h. nothing h;
     })
 room_on cores roles dirs.M (Some owner) s home part (asks.GetM core) most coherent within wants =
-    choose (IsRoomy cores (line_at dirs.M (Some owner) s home part) (asks.GetM core)) (owner.0 == core.0) _ _ tt (record {
+    choose (IsRoomy cores (line_at dirs.M (Some owner) s home part) (asks.GetM core)) (owner.0 == core.0) _ _ tt
+    (record {
       data_channel = λ h. nothing h;
       put_ack = λ h. nothing h;
       named = coherent.entry.owner_within;
@@ -343,10 +372,12 @@ room_on cores roles dirs.M (Some owner) s home part (asks.GetM core) most cohere
 room_on cores roles dirs.M (Some owner) s home part (asks.PutS core) most coherent within wants =
     choose (IsRoomy cores (line_at dirs.M (Some owner) s home part) (asks.PutS core)) (owner.0 == core.0) _ _ tt
     (ack_room cores (line_at dirs.M (Some owner) s home part) (asks.PutS core)
-    (room_for_put_ack cores (line_at dirs.M (Some owner) s home part) roles core.0 coherent within (either_s _ _ wants)))
+    (room_for_put_ack cores (line_at dirs.M (Some owner) s home part) roles core.0 coherent within
+    (either_s _ _ wants)))
 room_on cores roles dirs.M (Some owner) s home part (asks.PutM core) most coherent within wants =
     let room = ack_room cores (line_at dirs.M (Some owner) s home part) (asks.PutM core)
-    (room_for_put_ack cores (line_at dirs.M (Some owner) s home part) roles core.0 coherent within (either_m _ _ wants)) in
+    (room_for_put_ack cores (line_at dirs.M (Some owner) s home part) roles core.0 coherent within
+    (either_m _ _ wants)) in
     choose (IsRoomy cores (line_at dirs.M (Some owner) s home part) (asks.PutM core)) (owner.0 == core.0) _ _ room room
 room_on cores roles dirs.M (Some owner) s home part asks.DataHome most coherent within wants = tt
 room_on cores roles dirs.S_D owner s home part (asks.GetS core) most coherent within wants = tt
@@ -360,21 +391,27 @@ room_on cores roles dirs.S_D owner s home part (asks.PutM core) most coherent wi
 room_on cores roles dirs.S_D owner s home part asks.DataHome most coherent within wants =
     none_room cores (line_at dirs.S_D owner s home part) asks.DataHome
 
-serve_room : (exclusive : Bool) (cores : ℕ) (roles : Roles) (line : Line) (event : DirEvent) → cores ≤ 64 → IsCoherent cores line roles
+serve_room : (exclusive : Bool) (cores : ℕ) (roles : Roles) (line : Line) (event : DirEvent) → cores ≤ 64
+    → IsCoherent cores line roles
     → IsWithin cores event → IsTrue (is_asked_for line event)
     → IsRoomy cores line event (Directory.cell exclusive line.directory line.owner line.sharers event)
 serve_room exclusive cores roles line event most coherent within wants =
-    by_setting (λ directory owner event row. IsCoherent cores (line_at directory owner line.sharers line.home line.part) roles
+    by_setting (λ directory owner event row. IsCoherent cores
+    (line_at directory owner line.sharers line.home line.part) roles
     → IsWithin cores event → IsTrue (is_asked_for (line_at directory owner line.sharers line.home line.part) event)
     → IsRoomy cores (line_at directory owner line.sharers line.home line.part) event row) line.sharers
-    (λ directory owner event coherent within wants. room_on cores roles directory owner line.sharers line.home line.part event most coherent within wants)
+    (λ directory owner event coherent within wants. room_on cores roles directory owner line.sharers line.home
+    line.part event most coherent within wants)
     (λ owner core coherent within wants.
-    data_room cores (line_at dirs.I owner line.sharers line.home line.part) (asks.GetS core) (answers.Data 0) refl refl (λ x. refl)
-    (no_data_for cores (line_at dirs.I owner line.sharers line.home line.part) roles core.0 coherent within (either_s _ _ wants)))
+    data_room cores (line_at dirs.I owner line.sharers line.home line.part) (asks.GetS core) (answers.Data 0) refl refl
+    (λ x. refl)
+    (no_data_for cores (line_at dirs.I owner line.sharers line.home line.part) roles core.0 coherent within
+    (either_s _ _ wants)))
     exclusive line.directory line.owner event coherent within wants
 
 -- Each step finds room.
-pub has_room : (exclusive : Bool) (cores : ℕ) (line : Line) (roles : Roles) → cores ≤ 64 → IsCoherent cores line roles → HasRoom exclusive cores line
+pub has_room : (exclusive : Bool) (cores : ℕ) (line : Line) (roles : Roles) → cores ≤ 64 → IsCoherent cores line roles
+    → HasRoom exclusive cores line
 has_room exclusive cores line roles most coherent = record {
   turn = λ c event next sent within here row. turn_room cores line roles c event next sent coherent within here row;
   ack = ack_sends;

@@ -70,11 +70,13 @@ acked_at : (all few : Bool) (n : Near) (l : Look) (next : CopyState) (sent : Cac
 unfolding is_acked_at
 acked_at all few n l next sent fit here row =
     acked_from all few n l next sent
-    (if_go-at _ (λ next sent. is_acked all few n l next sent) next sent (if_so-at _ _ (each_fit-at _ (acked all few) n l fit) here) row)
+    (if_go-at _ (λ next sent. is_acked all few n l next sent) next sent
+    (if_so-at _ _ (each_fit-at _ (acked all few) n l fit) here) row)
 
 -- An Inv-Ack that was taken: the look without it fits, and is seen alike.
 sender : each_fit (λ n l. if_so l.sent (λ _.
-    is_fit n (record l { sent = false }) && seen_alike l (record l { sent = false }) && not (owes (record l { sent = false }))
+    is_fit n (record l { sent = false }) && seen_alike l (record l { sent = false })
+    && not (owes (record l { sent = false }))
     && (awaits (record l { sent = false }) iff awaits l) && owes l)) ≡ true
 unfolding all_words seen_alike
 sender = refl
@@ -100,7 +102,8 @@ one_more true all k n e last = omega arith
 one_more false all k n e last = omega (arith, last e)
 
 taker : (all few : Bool) (near : Near) (keeper c d : ℕ) (p : Part) (next : CopyState) (sent : CacheSends) → (c ≡ d → ⊥)
-    → owes p.look ≡ false → awaits p.look ≡ true → (all ≡ true → p.counted + 1 ≡ p.wants) → (few ≡ true → p.counted + 1 < p.wants)
+    → owes p.look ≡ false → awaits p.look ≡ true → (all ≡ true → p.counted + 1 ≡ p.wants)
+    → (few ≡ true → p.counted + 1 < p.wants)
     → Acked all few near p.look next sent → After near keeper c d c p (acted (events.InvAck 0 0) 1 next sent p)
 taker all few near keeper c d p next sent apart debt await last fewer acked =
     let q = acted (events.InvAck 0 0) 1 next sent p in
@@ -123,7 +126,8 @@ taker all few near keeper c d p next sent apart debt await last fewer acked =
     counted_on true k n less = less
     counted_on false k n less = omega arith
 
-giver : (near : Near) (keeper c d : ℕ) (p : Part) → (d ≡ c → ⊥) → is_fit near p.look ≡ true → IsCounted p → p.look.sent ≡ true
+giver : (near : Near) (keeper c d : ℕ) (p : Part) → (d ≡ c → ⊥) → is_fit near p.look ≡ true → IsCounted p
+    → p.look.sent ≡ true
     → After near keeper c d d p (acknowledged p)
 unfolding seen_alike
 giver near keeper c d p apart fit counted sent =
@@ -142,7 +146,8 @@ giver near keeper c d p apart fit counted sent =
       balance = λ same. absurd (apart same);
     }
 
-bystander : (near : Near) (keeper c d x : ℕ) (p : Part) → (x ≡ c → ⊥) → (x ≡ d → ⊥) → is_fit near p.look ≡ true → IsCounted p
+bystander : (near : Near) (keeper c d x : ℕ) (p : Part) → (x ≡ c → ⊥) → (x ≡ d → ⊥) → is_fit near p.look ≡ true
+    → IsCounted p
     → (owes p.look ≡ true → p.owes_to ≡ keeper) → After near keeper c d x p p
 bystander near keeper c d x p not_c not_d fit counted due = record {
   fit = fit;
@@ -171,9 +176,11 @@ pair cores line roles c d coherent within below here =
     let fit_d = coherent.fit d below in
     let owing : owes (line.part d).look ≡ true =
     right _ _ (if_so-at _ _ (each_fit-at _ sender (near_of line roles d) (line.part d).look fit_d) hand.0) in
-    let keeper : c ≡ roles.keeper = sym (eqb-true (line.part d).owes_to c hand.1) ∙ coherent.balanced.due d below owing in
+    let keeper : c ≡ roles.keeper = sym (eqb-true (line.part d).owes_to c hand.1)
+    ∙ coherent.balanced.due d below owing in
     let settled : owes (line.part c).look ≡ false =
-    not-at _ (if_so-at _ _ (each_fit-at _ keeper_owes (near_of line roles c) (line.part c).look (coherent.fit c within)) (eq-eqb c roles.keeper keeper)) in
+    not-at _ (if_so-at _ _ (each_fit-at _ keeper_owes (near_of line roles c) (line.part c).look
+    (coherent.fit c within)) (eq-eqb c roles.keeper keeper)) in
     record {
       sent = hand.0;
       keeper = keeper;
@@ -200,10 +207,13 @@ ack_kept cores line roles c d next sent coherent within below here row =
     let few = nat_lt (p.counted + 1) p.wants in
     let acked = acked_at all few (near_of line roles c) p.look next sent (coherent.fit c within) pair.await
     (sym (ack_row p.look.state p.wants p.counted all few refl refl) ∙ row) in
-    let taker = taker all few (near_of line roles c) roles.keeper c d p next sent (λ same. pair.apart (sym same)) pair.settled pair.await
+    let taker = taker all few (near_of line roles c) roles.keeper c d p next sent
+    (λ same. pair.apart (sym same)) pair.settled pair.await
     (eqb-true (p.counted + 1) p.wants) (ltb-true (p.counted + 1) p.wants) acked in
-    let giver = giver (near_of line roles d) roles.keeper c d (line.part d) pair.apart (coherent.fit d below) (coherent.counted d below) pair.sent in
-    let one : (x : ℕ) → x < cores → After (near_of line roles x) roles.keeper c d x (line.part x) ((after_ack line c d next sent).part x) =
+    let giver = giver (near_of line roles d) roles.keeper c d (line.part d) pair.apart (coherent.fit d below)
+    (coherent.counted d below) pair.sent in
+    let one : (x : ℕ) → x < cores → After (near_of line roles x) roles.keeper c d x (line.part x)
+    ((after_ack line c d next sent).part x) =
     λ x less. by_places (λ y q. After (near_of line roles y) roles.keeper c d y (line.part y) q) line.part c d
     (acted (events.InvAck 0 0) 1 next sent) acknowledged x pair.apart taker giver
     (λ not_c not_d. bystander (near_of line roles x) roles.keeper c d x (line.part x) not_c not_d
@@ -216,18 +226,23 @@ ack_kept cores line roles c d next sent coherent within below here row =
     q : ℕ → Part
     q = (after_ack line c d next sent).part
 
-    whole : ((x : ℕ) → x < cores → After (near_of line roles x) roles.keeper c d x (line.part x) (q x)) → Pair cores line roles c d
+    whole : ((x : ℕ) → x < cores → After (near_of line roles x) roles.keeper c d x (line.part x) (q x))
+        → Pair cores line roles c d
         → IsCoherent cores (after_ack line c d next sent) roles
     whole one pair =
         let fewer : debts cores line.part ≡ debts cores q + 1 =
-        count_below-less cores (λ x. owes (line.part x).look) (λ x. owes (q x).look) d below pair.owing ((one d below).gone refl)
+        count_below-less cores (λ x. owes (line.part x).look) (λ x. owes (q x).look) d below pair.owing
+        ((one d below).gone refl)
         (λ x less other. (one x less).left_over other) in
         let balance = (one roles.keeper coherent.roles_within.keeper).balance (sym pair.keeper) in
         record {
           fit = λ x less. (one x less).fit;
           counted = λ x less. (one x less).counted;
           chained = chain_kept cores roles.asker roles.by line.part q (λ x less. (one x less).seen) coherent.chained;
-          balanced = record { due = λ x less. (one x less).due; sum = omega (arith, fewer, balance, coherent.balanced.sum) };
+          balanced = record {
+            due = λ x less. (one x less).due;
+            sum = omega (arith, fewer, balance, coherent.balanced.sum);
+          };
           entry = coherent.entry;
           roles_within = coherent.roles_within;
         }

@@ -31,3 +31,4 @@ pub mod ValueServe
 pub mod ValueSteps
 pub mod ValueTurn
 pub mod ValueWrite
+pub mod Runs

@@ -9,7 +9,8 @@ use Rattle.slice_core_protocol.specs.Fit.{awaits, comes, holder, is_open, owes}
 use Rattle.slice_core_protocol.specs.Line.{Line, Roles, near_of}
 use Rattle.slice_core_protocol.specs.Promise.{HasOneWriter}
 
-writer_holds : each_fit (λ n l. if_so (is_writer l.state) (λ _. holder l && not (awaits l) && not (is_open n.directory n.home))) ≡ true
+writer_holds : each_fit (λ n l. if_so (is_writer l.state) (λ _. holder l && not (awaits l)
+    && not (is_open n.directory n.home))) ≡ true
 unfolding all_words
 writer_holds = refl
 
@@ -18,7 +19,8 @@ nobody_comes : each_fit (λ n l. if_so (not n.keeper && not (owes l) && not (is_
 unfolding all_words
 nobody_comes = refl
 
--- What a writer knows: it is the keeper, nobody owes, the home copy isn't read, and nobody else has the line or gets it.
+-- What a writer knows: it is the keeper, nobody owes, the home copy isn't read, and nobody else has the line or gets
+-- it.
 pub record Alone (cores : ℕ) (line : Line) (roles : Roles) (c : ℕ) : Type 0 where
   pub keeper : c ≡ roles.keeper
   pub quiet : Quiet cores line roles
@@ -30,7 +32,8 @@ pub record Alone (cores : ℕ) (line : Line) (roles : Roles) (c : ℕ) : Type 0 
 pub alone : (cores : ℕ) (line : Line) (roles : Roles) (c : ℕ) → IsCoherent cores line roles → c < cores
     → is_writer (line.part c).look.state ≡ true → Alone cores line roles c
 alone cores line roles c coherent within writes =
-    let e = if_so-at _ _ (each_fit-at _ writer_holds (near_of line roles c) (line.part c).look (coherent.fit c within)) writes in
+    let e = if_so-at _ _ (each_fit-at _ writer_holds (near_of line roles c) (line.part c).look (coherent.fit c within))
+    writes in
     let e1 = left _ _ e in
     let holds = left _ _ e1 in
     let quiet = quiet_holder cores line roles c coherent within holds (not-at _ (right _ _ e1)) in
@@ -38,7 +41,8 @@ alone cores line roles c coherent within writes =
     let closed = not-at _ (right _ _ e) in
     let other = λ (d : ℕ) (below : d < cores) (away : d ≡ c → ⊥).
     if_so-at _ _ (each_fit-at _ nobody_comes (near_of line roles d) (line.part d).look (coherent.fit d below))
-    (and_from _ _ (and_from _ _ (ap not (ne_eqb d roles.keeper (λ same. away (same ∙ sym keeper)))) (ap not (quiet.owes d below))) (ap not closed)) in
+    (and_from _ _ (and_from _ _ (ap not (ne_eqb d roles.keeper (λ same. away (same ∙ sym keeper))))
+    (ap not (quiet.owes d below))) (ap not closed)) in
     record {
       keeper = keeper;
       quiet = quiet;

@@ -30,14 +30,17 @@ lent l = record l { request = no_request; incoming = only_data }
 -- The new keeper's look fits, and is seen alike.
 unfoldable pub takes : Look → Look → Near → Bool
 takes l m n =
-    is_fit (record n { directory = dirs.M; owner = true; keeper = true }) m && seen_alike l m && not (owes m) && not (awaits l)
+    is_fit (record n { directory = dirs.M; owner = true; keeper = true }) m && seen_alike l m && not (owes m)
+    && not (awaits l)
     && not (is_counting m.state)
 
-takes_only : each_fit (λ n l. if_so (is_idle n.directory && is_get_s l.request && not (owes l)) (λ _. takes l (lent l) n)) ≡ true
+takes_only : each_fit (λ n l. if_so (is_idle n.directory && is_get_s l.request && not (owes l))
+    (λ _. takes l (lent l) n)) ≡ true
 unfolding all_words takes seen_alike
 takes_only = refl
 
-takes_data : each_fit (λ n l. if_so (is_idle n.directory && is_get_m l.request && not (owes l)) (λ _. takes l (read l) n)) ≡ true
+takes_data : each_fit (λ n l. if_so (is_idle n.directory && is_get_m l.request && not (owes l))
+    (λ _. takes l (read l) n)) ≡ true
 unfolding all_words takes seen_alike
 takes_data = refl
 
@@ -50,14 +53,17 @@ pub no_wants : (b : Bool) (n : ℕ) → n ≡ 0 → (if b then n else 0) ≡ 0
 no_wants true n e = e
 no_wants false n e = refl
 
-taker : (n : Near) (p q : Part) (owner keeper : Bool) → owner ≡ true → keeper ≡ true → takes p.look q.look n ≡ true → IsCounted p
-    → q.names ≡ p.names → q.counted ≡ p.counted → After (record n { directory = dirs.M; owner = owner; keeper = keeper }) p q
+taker : (n : Near) (p q : Part) (owner keeper : Bool) → owner ≡ true → keeper ≡ true → takes p.look q.look n ≡ true
+    → IsCounted p
+    → q.names ≡ p.names → q.counted ≡ p.counted → After (record n
+    { directory = dirs.M; owner = owner; keeper = keeper }) p q
 unfolding takes
 taker n p q owner keeper owns keeps e counted names count =
     let e1 = left _ _ e in
     let e2 = left _ _ e1 in
     let e3 = left _ _ e2 in
-    let fit : is_fit (record n { directory = dirs.M; owner = owner; keeper = keeper }) q.look ≡ true = rw (owns, keeps) (left _ _ e3) in
+    let fit : is_fit (record n { directory = dirs.M; owner = owner; keeper = keeper }) q.look ≡ true = rw (owns, keeps)
+    (left _ _ e3) in
     record {
       fit = fit;
       counted = record {
@@ -77,7 +83,8 @@ bystander : (n : Near) (p : Part) (owner keeper : Bool) → owner ≡ false → 
     → After (record n { directory = dirs.M; owner = owner; keeper = keeper }) p p
 bystander n p owner keeper owns keeps state fit counted settled =
     let there = if_so-at _ _ (each_fit-at _ not_taker n p.look fit) (and_from _ _ state (ap not settled)) in
-    let fit' : is_fit (record n { directory = dirs.M; owner = owner; keeper = keeper }) p.look ≡ true = rw (owns, keeps) there in
+    let fit' : is_fit (record n { directory = dirs.M; owner = owner; keeper = keeper }) p.look ≡ true = rw
+    (owns, keeps) there in
     record {
       fit = fit';
       counted = counted;
@@ -88,8 +95,10 @@ bystander n p owner keeper owns keeps state fit counted settled =
 -- The frame of both rows.
 granted_line : (cores : ℕ) (roles : Roles) (s : ℕ) (home : Bool) (part : ℕ → Part) (core : CoreId) (sent : DirSends)
     → IsCoherent cores (line_at dirs.I None s home part) roles → core.0 < cores
-    → takes (part core.0).look (answered sent (part core.0)).look (near_of (line_at dirs.I None s home part) roles core.0) ≡ true
-    → (answered sent (part core.0)).names ≡ (part core.0).names → (answered sent (part core.0)).counted ≡ (part core.0).counted
+    → takes (part core.0).look (answered sent (part core.0)).look
+    (near_of (line_at dirs.I None s home part) roles core.0) ≡ true
+    → (answered sent (part core.0)).names ≡ (part core.0).names
+    → (answered sent (part core.0)).counted ≡ (part core.0).counted
     → (answered sent (part core.0)).wants ≡ 0
     → IsCoherent cores (line_at dirs.M (Some core) s home (told core.0 sent part)) (record roles { keeper = core.0 })
 granted_line cores roles s home part core sent coherent within taken names count wants =
@@ -98,27 +107,39 @@ granted_line cores roles s home part core sent coherent within taken names count
     let next = line_at dirs.M (Some core) s home (told c sent part) in
     let quiet = quiet_open cores (line_at dirs.I None s home part) roles coherent refl in
     let there = at_place part c (answered sent) in
-    let none : (answered sent (part c)).counted ≡ 0 = count ∙ (coherent.counted c within).none (taker_awaits (old c) (part c).look _ taken) in
-    let one : (x : ℕ) → x < cores → After (near_of next (record roles { keeper = c }) x) (part x) (told c sent part x) = λ x below.
+    let none : (answered sent (part c)).counted ≡ 0 = count ∙ (coherent.counted c within).none
+    (taker_awaits (old c) (part c).look _ taken) in
+    let one : (x : ℕ) → x < cores → After (near_of next (record roles { keeper = c }) x) (part x)
+    (told c sent part x) = λ x below.
     by_place (λ y q. After (near_of next (record roles { keeper = c }) y) (part y) q) part c (answered sent) x
     (taker (old c) (part c) (answered sent (part c)) (c == c) (c == c) (eq-eqb c c refl) (eq-eqb c c refl) taken
     (coherent.counted c within) names count)
-    (λ other. bystander (old x) (part x) (x == c) (x == c) (ne_eqb x c other) (ne_eqb x c other) refl (coherent.fit x below)
+    (λ other. bystander (old x) (part x) (x == c) (x == c) (ne_eqb x c other) (ne_eqb x c other) refl
+    (coherent.fit x below)
     (coherent.counted x below) (quiet.owes x below)) in
     record {
       fit = λ x below. (one x below).fit;
       counted = λ x below. (one x below).counted;
-      chained = chain_kept cores roles.asker roles.by part (told c sent part) (λ x below. (one x below).seen) coherent.chained;
-      balanced = balance_none cores c (told c sent part) (λ x below. (one x below).owing) (ap (λ q. q.counted) there ∙ none)
-          (ap (λ q. wanted q) there ∙ no_wants (awaits (answered sent (part c)).look) (answered sent (part c)).wants wants);
+      chained = chain_kept cores roles.asker roles.by part (told c sent part)
+          (λ x below. (one x below).seen) coherent.chained;
+      balanced = balance_none cores c (told c sent part) (λ x below. (one x below).owing)
+          (ap (λ q. q.counted) there ∙ none)
+          (ap (λ q. wanted q) there ∙ no_wants (awaits (answered sent (part c)).look)
+          (answered sent (part c)).wants wants);
       entry = record { in_m = refl; owner_within = within; sharers_within = coherent.entry.sharers_within };
-      roles_within = record { keeper = within; server = coherent.roles_within.server; asker = coherent.roles_within.asker };
+      roles_within = record {
+        keeper = within;
+        server = coherent.roles_within.server;
+        asker = coherent.roles_within.asker;
+      };
     }
 
 -- With the exclusive state: a reader is given the only copy.
 pub read_alone : (cores : ℕ) (roles : Roles) (s : ℕ) (home : Bool) (part : ℕ → Part) (core : CoreId)
-    → IsCoherent cores (line_at dirs.I None s home part) roles → core.0 < cores → is_get_s (part core.0).look.request ≡ true
-    → IsCoherent cores (line_at dirs.M (Some core) s home (told core.0 answers.DataE part)) (record roles { keeper = core.0 })
+    → IsCoherent cores (line_at dirs.I None s home part) roles → core.0 < cores
+    → is_get_s (part core.0).look.request ≡ true
+    → IsCoherent cores (line_at dirs.M (Some core) s home (told core.0 answers.DataE part))
+    (record roles { keeper = core.0 })
 read_alone cores roles s home part core coherent within asks =
     let line = line_at dirs.I None s home part in
     let quiet = quiet_open cores line roles coherent refl in
@@ -129,8 +150,10 @@ read_alone cores roles s home part core coherent within asks =
 
 -- A writer is given the only copy.
 pub write_idle : (cores : ℕ) (roles : Roles) (s : ℕ) (home : Bool) (part : ℕ → Part) (core : CoreId)
-    → IsCoherent cores (line_at dirs.I None s home part) roles → core.0 < cores → is_get_m (part core.0).look.request ≡ true
-    → IsCoherent cores (line_at dirs.M (Some core) s home (told core.0 (answers.Data 0) part)) (record roles { keeper = core.0 })
+    → IsCoherent cores (line_at dirs.I None s home part) roles → core.0 < cores
+    → is_get_m (part core.0).look.request ≡ true
+    → IsCoherent cores (line_at dirs.M (Some core) s home (told core.0 (answers.Data 0) part))
+    (record roles { keeper = core.0 })
 write_idle cores roles s home part core coherent within asks =
     let line = line_at dirs.I None s home part in
     let quiet = quiet_open cores line roles coherent refl in

@@ -18,7 +18,8 @@ use Rattle.slice_core_protocol.specs.Line.{Line, Part, Roles, near_of}
 
 -- ---- a late Put, and the entry stays
 
-late : each_fit (λ n l. if_so (is_put l.request && not n.owner && (is_idle n.directory || is_modified n.directory)) (λ _.
+late : each_fit (λ n l. if_so (is_put l.request && not n.owner && (is_idle n.directory || is_modified n.directory))
+    (λ _.
     is_fit n (acked l) && seen_alike l (acked l))) ≡ true
 unfolding all_words seen_alike
 late = refl
@@ -26,12 +27,15 @@ late = refl
 pub late_put : (cores : ℕ) (roles : Roles) (line : Line) (c : ℕ) → IsCoherent cores line roles → c < cores
     → is_put (line.part c).look.request ≡ true → (near_of line roles c).owner ≡ false
     → (is_idle line.directory || is_modified line.directory) ≡ true
-    → IsCoherent cores (line_at line.directory line.owner line.sharers line.home (told c answers.PutAck line.part)) roles
+    → IsCoherent cores (line_at line.directory line.owner line.sharers line.home (told c answers.PutAck line.part))
+    roles
 late_put cores roles line c coherent within asks not_owner state =
     let n = near_of line roles c in
     let p = line.part c in
-    let e = if_so-at _ _ (each_fit-at _ late n p.look (coherent.fit c within)) (and_from _ _ (and_from _ _ asks (ap not not_owner)) state) in
-    answer_kept cores roles line line.directory line.owner line.sharers line.home c answers.PutAck coherent coherent.entry
+    let e = if_so-at _ _ (each_fit-at _ late n p.look (coherent.fit c within))
+    (and_from _ _ (and_from _ _ asks (ap not not_owner)) state) in
+    answer_kept cores roles line line.directory line.owner line.sharers line.home c answers.PutAck coherent
+    coherent.entry
     (acked_kept n p (left _ _ e) (right _ _ e) (coherent.counted c within)) (λ x below other. coherent.fit x below)
 
 -- ---- a sharer leaves, and others stay
@@ -50,17 +54,21 @@ stays s c x within below other =
 
 fewer : (cores s c : ℕ) → c < 64 → ((x : ℕ) → x < 64 → has s x ≡ true → x < cores)
     → (x : ℕ) → x < 64 → has (without s c) x ≡ true → x < cores
-fewer cores s c within known x below h = known x below (and_parts (has s x) (not (x == c)) (sym (in_without s c x within below) ∙ h)).0
+fewer cores s c within known x below h = known x below (and_parts (has s x) (not (x == c))
+    (sym (in_without s c x within below) ∙ h)).0
 
-pub sharer_leaves : (cores : ℕ) (roles : Roles) (line : Line) (c : ℕ) → cores ≤ 64 → IsCoherent cores line roles → c < cores
+pub sharer_leaves : (cores : ℕ) (roles : Roles) (line : Line) (c : ℕ) → cores ≤ 64 → IsCoherent cores line roles
+    → c < cores
     → is_put (line.part c).look.request ≡ true → (is_shared line.directory || is_awaited line.directory) ≡ true
-    → IsCoherent cores (line_at line.directory line.owner (without line.sharers c) line.home (told c answers.PutAck line.part)) roles
+    → IsCoherent cores (line_at line.directory line.owner (without line.sharers c) line.home
+    (told c answers.PutAck line.part)) roles
 sharer_leaves cores roles line c most coherent within asks state =
     let small : c < 64 = omega arith in
     let n = near_of line roles c in
     let p = line.part c in
     let e = if_so-at _ _ (each_fit-at _ leaves n p.look (coherent.fit c within)) (and_from _ _ asks state) in
-    let fit = subst (λ b. is_fit (record n { sharer = b }) (acked p.look) ≡ true) (sym (gone line.sharers c small)) (left _ _ e) in
+    let fit = subst (λ b. is_fit (record n { sharer = b }) (acked p.look) ≡ true) (sym (gone line.sharers c small))
+    (left _ _ e) in
     answer_kept cores roles line line.directory line.owner (without line.sharers c) line.home c answers.PutAck coherent
     (record {
       in_m = coherent.entry.in_m;
@@ -78,7 +86,8 @@ last_leaves : each_fit (λ n l. if_so (is_put l.request && is_shared n.directory
 unfolding all_words seen_alike
 last_leaves = refl
 
-no_sharer : each_fit (λ n l. if_so (is_shared n.directory && not n.sharer && not (owes l)) (λ _. is_fit (record n { directory = dirs.I }) l)) ≡ true
+no_sharer : each_fit (λ n l. if_so (is_shared n.directory && not n.sharer && not (owes l))
+    (λ _. is_fit (record n { directory = dirs.I }) l)) ≡ true
 unfolding all_words
 no_sharer = refl
 
@@ -92,11 +101,14 @@ last_sharer_leaves cores roles s home part c most coherent within asks none =
     let line = line_at dirs.S None s home part in
     let quiet = quiet_open cores line roles coherent refl in
     let n = near_of line roles c in
-    let e = if_so-at _ _ (each_fit-at _ last_leaves n (part c).look (coherent.fit c within)) (and_from _ _ (and_from _ _ asks refl) (ap not (quiet.owes c within))) in
-    let fit = subst (λ b. is_fit (record n { directory = dirs.I; sharer = b }) (acked (part c).look) ≡ true) (sym (gone s c small)) (left _ _ e) in
+    let e = if_so-at _ _ (each_fit-at _ last_leaves n (part c).look (coherent.fit c within))
+    (and_from _ _ (and_from _ _ asks refl) (ap not (quiet.owes c within))) in
+    let fit = subst (λ b. is_fit (record n { directory = dirs.I; sharer = b }) (acked (part c).look) ≡ true)
+    (sym (gone s c small)) (left _ _ e) in
     answer_kept cores roles line dirs.I None (without s c) home c answers.PutAck coherent
     (record { in_m = refl; owner_within = tt; sharers_within = fewer cores s c small coherent.entry.sharers_within })
-    (acked_kept (record n { directory = dirs.I; sharer = has (without s c) c }) (part c) fit (right _ _ e) (coherent.counted c within))
+    (acked_kept (record n { directory = dirs.I; sharer = has (without s c) c }) (part c) fit (right _ _ e)
+    (coherent.counted c within))
     (λ x below other.
     let out : has s x ≡ false = sym (stays s c x small (omega arith) other) ∙ in_none (without s c) x none in
     let there = if_so-at _ _ (each_fit-at _ no_sharer (near_of line roles x) (part x).look (coherent.fit x below))
@@ -127,13 +139,16 @@ pub owner_leaves : (cores : ℕ) (roles : Roles) (owner : CoreId) (s : ℕ) (hom
 owner_leaves cores roles owner s home part c coherent within asks owns =
     let line = line_at dirs.M (Some owner) s home part in
     let n = near_of line roles c in
-    let known = if_so-at _ _ (each_fit-at _ owner_is n (part c).look (coherent.fit c within)) (and_from _ _ asks owns) in
+    let known = if_so-at _ _ (each_fit-at _ owner_is n (part c).look (coherent.fit c within))
+    (and_from _ _ asks owns) in
     let holds = left _ _ known in
     let quiet = quiet_holder cores line roles c coherent within holds (not-at _ (right _ _ known)) in
     let keeper = keeper_holds cores line roles c coherent within holds in
     let e = if_so-at _ _ (each_fit-at _ writes_back n (part c).look (coherent.fit c within)) (and_from _ _ asks owns) in
     answer_kept cores roles line dirs.I None s home c answers.PutAck coherent
     (record { in_m = refl; owner_within = tt; sharers_within = coherent.entry.sharers_within })
-    (acked_kept (record n { directory = dirs.I; owner = false }) (part c) (left _ _ e) (right _ _ e) (coherent.counted c within))
-    (λ x below other. if_so-at _ _ (each_fit-at _ not_the_owner (near_of line roles x) (part x).look (coherent.fit x below))
+    (acked_kept (record n { directory = dirs.I; owner = false }) (part c) (left _ _ e) (right _ _ e)
+    (coherent.counted c within))
+    (λ x below other. if_so-at _ _ (each_fit-at _ not_the_owner (near_of line roles x) (part x).look
+    (coherent.fit x below))
     (and_from _ _ (ap not (ne_eqb x roles.keeper (λ same. other (same ∙ sym keeper)))) (ap not (quiet.owes x below))))

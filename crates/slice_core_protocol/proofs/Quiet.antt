@@ -30,7 +30,8 @@ pub quiet_open : (cores : ℕ) (line : Line) (roles : Roles) → IsCoherent core
     → (is_idle line.directory || is_open line.directory line.home) ≡ true → Quiet cores line roles
 quiet_open cores line roles coherent home =
     let fit = coherent.fit roles.keeper coherent.roles_within.keeper in
-    quiet cores line roles coherent (not-at _ (if_so-at _ _ (each_fit-at _ open_awaits (near_of line roles roles.keeper) (line.part roles.keeper).look fit) home))
+    quiet cores line roles coherent (not-at _ (if_so-at _ _ (each_fit-at _ open_awaits
+    (near_of line roles roles.keeper) (line.part roles.keeper).look fit) home))
 
 holder_keeper : each_fit (λ n l. if_so (holder l) (λ _. n.keeper)) ≡ true
 unfolding all_words
@@ -40,7 +41,8 @@ holder_keeper = refl
 pub keeper_holds : (cores : ℕ) (line : Line) (roles : Roles) (c : ℕ) → IsCoherent cores line roles → c < cores
     → holder (line.part c).look ≡ true → c ≡ roles.keeper
 keeper_holds cores line roles c coherent within holds =
-    eqb-true c roles.keeper (if_so-at _ _ (each_fit-at _ holder_keeper (near_of line roles c) (line.part c).look (coherent.fit c within)) holds)
+    eqb-true c roles.keeper (if_so-at _ _ (each_fit-at _ holder_keeper (near_of line roles c) (line.part c).look
+    (coherent.fit c within)) holds)
 
 -- While a holder awaits nothing, nobody owes.
 pub quiet_holder : (cores : ℕ) (line : Line) (roles : Roles) (c : ℕ) → IsCoherent cores line roles → c < cores

@@ -18,12 +18,14 @@ use Rattle.slice_core_protocol.specs.Line.{Near, Part, Roles, near_of}
 use Rattle.slice_core_protocol.specs.Machine.{answered}
 
 reads : each_fit (λ n l. if_so ((is_idle n.directory || is_shared n.directory) && is_get_s l.request) (λ _.
-    is_fit (record n { directory = dirs.S; sharer = true }) (read l) && seen_alike l (read l) && not (awaits l) && not (awaits (read l))
+    is_fit (record n { directory = dirs.S; sharer = true }) (read l) && seen_alike l (read l) && not (awaits l)
+    && not (awaits (read l))
     && not (is_counting l.state))) ≡ true
 unfolding all_words seen_alike
 reads = refl
 
-not_reads : each_fit (λ n l. if_so (is_idle n.directory && not (owes l)) (λ _. is_fit (record n { directory = dirs.S; sharer = false }) l)) ≡ true
+not_reads : each_fit (λ n l. if_so (is_idle n.directory && not (owes l))
+    (λ _. is_fit (record n { directory = dirs.S; sharer = false }) l)) ≡ true
 unfolding all_words
 not_reads = refl
 
@@ -52,11 +54,14 @@ read_idle cores roles s home part c most coherent within asks =
       owner_within = tt;
       sharers_within = λ x below h. subst (λ y. y < cores) (sym (eqb-true x c (sym (in_only c x small) ∙ h))) within;
     })
-    (reader (near_of line roles c) (part c) (has (only c) c) (in_only c c small ∙ eq-eqb c c refl) (coherent.fit c within)
+    (reader (near_of line roles c) (part c) (has (only c) c) (in_only c c small ∙ eq-eqb c c refl)
+    (coherent.fit c within)
     (coherent.counted c within) asks)
-    (λ x below other. subst (λ b. is_fit (record (near_of line roles x) { directory = dirs.S; sharer = b }) (part x).look ≡ true)
+    (λ x below other. subst (λ b. is_fit (record (near_of line roles x) { directory = dirs.S; sharer = b })
+    (part x).look ≡ true)
     (sym (in_only c x small ∙ ne_eqb x c other))
-    (if_so-at _ _ (each_fit-at _ not_reads (near_of line roles x) (part x).look (coherent.fit x below)) (ap not (quiet.owes x below))))
+    (if_so-at _ _ (each_fit-at _ not_reads (near_of line roles x) (part x).look (coherent.fit x below))
+    (ap not (quiet.owes x below))))
 
 pub read_shared : (cores : ℕ) (roles : Roles) (s : ℕ) (home : Bool) (part : ℕ → Part) (c : ℕ) → cores ≤ 64
     → IsCoherent cores (line_at dirs.S None s home part) roles → c < cores → is_get_s (part c).look.request ≡ true

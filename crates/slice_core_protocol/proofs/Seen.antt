@@ -23,8 +23,10 @@ seen_from p q e names = record {
 }
 
 -- The numbers stay: what is awaited is awaited on, and as many are counted.
-pub kept_from : (near : Near) (p q : Part) → is_fit near q.look ≡ true → Seen p q → Owing p q → awaits q.look ≡ awaits p.look
-    → wanted q ≡ wanted p → q.counted ≡ p.counted → (is_counting q.look.state ≡ true → q.counted < q.wants) → IsCounted p
+pub kept_from : (near : Near) (p q : Part) → is_fit near q.look ≡ true → Seen p q → Owing p q
+    → awaits q.look ≡ awaits p.look
+    → wanted q ≡ wanted p → q.counted ≡ p.counted → (is_counting q.look.state ≡ true → q.counted < q.wants)
+    → IsCounted p
     → Kept near p q
 kept_from near p q fit seen owing await want count missing counted = record {
   fit = fit;

@@ -20,7 +20,8 @@ pub in_none : (s x : ℕ) → (s == 0) ≡ true → has s x ≡ false
 in_none s x none = ap (λ set. has set x) (eqb-true s 0 none) ∙ has-zero x
 
 -- Core 0 is counted, and then the others.
-count_below-lowest : (bound : ℕ) (p : ℕ → Bool) → count_below (suc bound) p ≡ (if p 0 then 1 else 0) + count_below bound (λ c. p (suc c))
+count_below-lowest : (bound : ℕ) (p : ℕ → Bool) → count_below
+    (suc bound) p ≡ (if p 0 then 1 else 0) + count_below bound (λ c. p (suc c))
 unfolding count_below
 count_below-lowest zero p = refl
 count_below-lowest (suc bound) p = let rest = count_below-lowest bound p in omega arith
@@ -30,7 +31,8 @@ range_count : (n a : ℕ) (p : ℕ → Bool) → length (filter p (range_with_le
 unfolding count_below
 range_count zero a p = refl
 range_count (suc n) a p =
-    one (p a) (range_count n (a + 1) p ∙ count_below-same n (λ x. p (a + 1 + x)) (λ x. p (a + suc x)) (λ x below. ap p (omega arith)))
+    one (p a) (range_count n (a + 1) p ∙ count_below-same n (λ x. p (a + 1 + x)) (λ x. p (a + suc x))
+    (λ x below. ap p (omega arith)))
     ∙ ap (λ b. (if p b then 1 else 0) + count_below n (λ x. p (a + suc x))) (omega arith)
     ∙ sym (count_below-lowest n (λ x. p (a + x)))
   where
@@ -42,7 +44,8 @@ range_count (suc n) a p =
 
 set_count : (s : ℕ) → count_of s ≡ count_below 64 (has s)
 unfolding count_of members
-set_count s = range_count 64 0 (has s) ∙ count_below-same 64 (λ x. has s (0 + x)) (has s) (λ x below. ap (has s) (omega arith))
+set_count s = range_count 64 0 (has s) ∙ count_below-same 64 (λ x. has s (0 + x)) (has s)
+    (λ x below. ap (has s) (omega arith))
 
 -- The other sharers are as many as cores pass the test.
 pub others_count : (cores s c : ℕ) → cores ≤ 64 → c < 64 → ((x : ℕ) → x < 64 → has s x ≡ true → x < cores)

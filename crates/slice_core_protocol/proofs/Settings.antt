@@ -10,9 +10,12 @@ use Rattle.directory_table.specs.declared.row.DirRow.{DirRow}
 
 -- What holds of each row with the setting, and of that one without it, holds of each row at both settings.
 pub by_setting : (P : DirState → Option CoreId → DirEvent → DirRow → Type 0) (s : ℕ)
-    → ((directory : DirState) (owner : Option CoreId) (event : DirEvent) → P directory owner event (cell true directory owner s event))
-    → ((owner : Option CoreId) (core : CoreId) → P dirs.I owner (asks.GetS core) (cell false dirs.I owner s (asks.GetS core)))
-    → (exclusive : Bool) (directory : DirState) (owner : Option CoreId) (event : DirEvent) → P directory owner event (cell exclusive directory owner s event)
+    → ((directory : DirState) (owner : Option CoreId) (event : DirEvent)
+    → P directory owner event (cell true directory owner s event))
+    → ((owner : Option CoreId) (core : CoreId) → P dirs.I owner (asks.GetS core)
+    (cell false dirs.I owner s (asks.GetS core)))
+    → (exclusive : Bool) (directory : DirState) (owner : Option CoreId) (event : DirEvent)
+    → P directory owner event (cell exclusive directory owner s event)
 by_setting P s on off true directory owner event = on directory owner event
 by_setting P s on off false dirs.I owner (asks.GetS core) = off owner core
 by_setting P s on off false dirs.I owner (asks.GetM core) = on dirs.I owner (asks.GetM core)

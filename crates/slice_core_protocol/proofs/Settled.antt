@@ -10,7 +10,8 @@ use Rattle.slice_core_protocol.specs.Fit.{◌implies◌, is_no_data, is_no_reque
 use Rattle.slice_core_protocol.specs.Line.{Line, Roles, near_of}
 use Rattle.slice_core_protocol.specs.Promise.{IsSettled, NothingIsEarly, is_still}
 
-on_time : each_fit (λ n l. (not (is_no_data l.incoming) implies is_no_request l.request) && (l.put_ack implies is_no_request l.request)) ≡ true
+on_time : each_fit (λ n l. (not (is_no_data l.incoming) implies is_no_request l.request)
+    && (l.put_ack implies is_no_request l.request)) ≡ true
 unfolding all_words
 on_time = refl
 
@@ -32,10 +33,12 @@ server_moves = refl
 
 settled_owner : (cores : ℕ) (line : Line) (roles : Roles) (owner : Option CoreId) → IsCoherent cores line roles
     → IfSome owner (λ core. core.0 < cores) → ((x : ℕ) → is_named owner x ≡ is_named line.owner x)
-    → IfSome owner (λ core. IsTrue (is_still (line.part core.0).look) → IsTrue (is_writer (line.part core.0).look.state))
+    → IfSome owner (λ core. IsTrue (is_still (line.part core.0).look)
+    → IsTrue (is_writer (line.part core.0).look.state))
 settled_owner cores line roles None coherent within same = tt
 settled_owner cores line roles (Some core) coherent within same = λ still.
-    if_so-at _ _ (each_fit-at _ owner_still (near_of line roles core.0) (line.part core.0).look (coherent.fit core.0 within))
+    if_so-at _ _ (each_fit-at _ owner_still (near_of line roles core.0) (line.part core.0).look
+    (coherent.fit core.0 within))
     (and_from _ _ (sym (same core.0) ∙ eq-eqb core.0 core.0 refl) still)
 
 pub settled : (cores : ℕ) (line : Line) (roles : Roles) → IsCoherent cores line roles → IsSettled cores line
@@ -50,6 +53,7 @@ settled cores line roles coherent = record {
     go true e no_home still =
         let server = roles.server in
         let within = coherent.roles_within.server in
-        let moves = if_so-at _ _ (each_fit-at _ server_moves (near_of line roles server) (line.part server).look (coherent.fit server within))
+        let moves = if_so-at _ _ (each_fit-at _ server_moves (near_of line roles server) (line.part server).look
+        (coherent.fit server within))
         (and_from _ _ (and_from _ _ e (ap not no_home)) (eq-eqb server server refl)) in
         absurd (true≢false (sym (still server within) ∙ not-at _ moves))

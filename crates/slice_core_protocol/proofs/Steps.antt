@@ -36,7 +36,9 @@ inv_closed cores line roles c coherent within waits = go (is_open line.directory
   where
     go : (b : Bool) → is_open line.directory line.home ≡ b → not b ≡ true
     go false e = refl
-    go true e = absurd (true≢false (sym (inv_owes (line.part c).look waits) ∙ (quiet_open cores line roles coherent (ap (λ b. is_idle line.directory || b) e ∙ or-true (is_idle line.directory))).owes c within))
+    go true e = absurd (true≢false (sym (inv_owes (line.part c).look waits)
+        ∙ (quiet_open cores line roles coherent (ap (λ b. is_idle line.directory || b) e
+        ∙ or-true (is_idle line.directory))).owes c within))
 
 turns : (cores : ℕ) (line : Line) (roles : Roles) (c : ℕ) (event : CacheEvent) (next : CopyState) (sent : CacheSends)
     → IsCoherent cores line roles → c < cores → IsTrue (stands (line.part c) event)
@@ -49,19 +51,29 @@ turns cores line roles c events.Eviction next sent coherent within here row =
     (roles, turn_kept cores line roles c events.Eviction next sent (λ n l. true) eviction coherent within refl row)
 turns cores line roles c events.Inv next sent coherent within here row = (
   roles,
-  turn_kept cores line roles c events.Inv next sent (λ n l. l.inv && not (is_open n.directory n.home)) inv coherent within
+  turn_kept cores line roles c events.Inv next sent (λ n l. l.inv && not (is_open n.directory n.home)) inv coherent
+      within
       (and_from _ _ here (inv_closed cores line roles c coherent within here)) row,
 )
-turns cores line roles c events.PutAck next sent coherent within here row =
-    (roles, turn_kept cores line roles c events.PutAck next sent (λ n l. is_put_ack_first l) put_ack coherent within here row)
-turns cores line roles c (events.DataE loads) next sent coherent within here row =
-    (roles, turn_kept cores line roles c (events.DataE loads) next sent (λ n l. is_only_data l.incoming) (data_e loads) coherent within here row)
+turns cores line roles c events.PutAck next sent coherent within here row = (
+  roles,
+  turn_kept cores line roles c events.PutAck next sent
+      (λ n l. is_put_ack_first l) put_ack coherent within here row,
+)
+turns cores line roles c (events.DataE loads) next sent coherent within here row = (
+  roles,
+  turn_kept cores line roles c (events.DataE loads) next sent (λ n l. is_only_data l.incoming)
+      (data_e loads) coherent within here row,
+)
 turns cores line roles c (events.Data n k) next sent coherent within here row =
     (roles, data_kept cores line roles c n k next sent coherent within here row)
 turns cores line roles c events.FwdGetS next sent coherent within here row =
     (roles, fwd_get_s_kept cores line roles c next sent coherent within here row)
-turns cores line roles c events.FwdGetM next sent coherent within here row =
-    (record roles { keeper = (line.part c).names }, fwd_get_m_kept cores line roles c next sent coherent within here row)
+turns cores line roles c events.FwdGetM next sent coherent within here row = (
+  record roles { keeper = (line.part c).names },
+  fwd_get_m_kept cores line roles c next sent coherent within here
+      row,
+)
 turns cores line roles c (events.InvAck n k) next sent coherent within here row = absurd (true≢false (sym here))
 
 -- Every step keeps the line coherent.
@@ -75,13 +87,22 @@ step_kept exclusive cores line roles most coherent (serve event home state owner
     serve_kept cores roles line exclusive event home state owner sharers sent writes most coherent within here row
 
 -- An idle core fits, whether it is all three roles or none.
-idle_fits : (role : Bool) → is_fit (record { directory = dirs.I; home = false; owner = false; sharer = false; keeper = role; server = role; asker = role }) idle.look ≡ true
+idle_fits : (role : Bool) → is_fit (record {
+  directory = dirs.I;
+  home = false;
+  owner = false;
+  sharer = false;
+  keeper = role;
+  server = role;
+  asker = role;
+}) idle.look ≡ true
 unfolding all_words
 idle_fits true = refl
 idle_fits false = refl
 
 -- The line begins coherent.
-pub first_coherent : (cores : ℕ) → 0 < cores → IsCoherent cores first (record { keeper = 0; server = 0; asker = 0; by = λ x. x })
+pub first_coherent : (cores : ℕ) → 0 < cores → IsCoherent cores first
+    (record { keeper = 0; server = 0; asker = 0; by = λ x. x })
 unfolding all_words
 first_coherent cores some = record {
   fit = λ x below. subst (λ b. is_fit (record {
@@ -104,13 +125,22 @@ first_coherent cores some = record {
     due = λ x below h. absurd (true≢false (sym h));
     sum = omega (arith, count_below-none cores (λ x. owes idle.look) (λ x below. refl));
   };
-  entry = record { in_m = refl; owner_within = tt; sharers_within = λ x below h. absurd (true≢false (sym h ∙ in_none 0 x refl)) };
+  entry = record {
+    in_m = refl;
+    owner_within = tt;
+    sharers_within = λ x below h. absurd
+        (true≢false (sym h ∙ in_none 0 x refl));
+  };
   roles_within = record { keeper = some; server = some; asker = some };
 }
 
 -- Whatever a line reaches is coherent.
-pub reached_coherent : (exclusive : Bool) (cores : ℕ) (line : Line) → 0 < cores → cores ≤ 64 → Reached exclusive cores line → IsKept cores line
-reached_coherent exclusive cores line some most beginning = (record { keeper = 0; server = 0; asker = 0; by = λ x. x }, first_coherent cores some)
+pub reached_coherent : (exclusive : Bool) (cores : ℕ) (line : Line) → 0 < cores → cores ≤ 64
+    → Reached exclusive cores line → IsKept cores line
+reached_coherent exclusive cores line some most beginning = (
+  record { keeper = 0; server = 0; asker = 0; by = λ x. x },
+  first_coherent cores some,
+)
 reached_coherent exclusive cores line some most (further {line = before} reached step) =
     let kept = reached_coherent exclusive cores before some most reached in
     step_kept exclusive cores before kept.0 most kept.1 step

@@ -21,7 +21,8 @@ claims_less l next sent =
     (has_newest (turned (events.InvAck 0 0) next sent l) implies has_newest l)
     && (is_put_m (turned (events.InvAck 0 0) next sent l).request implies is_put_m l.request)
 
-counts : (all few : Bool) → each_fit (λ n l. if_so (awaits l) (λ _. if_go (row_of l.state (ack_sample all few)) (λ next sent. claims_less l next sent))) ≡ true
+counts : (all few : Bool) → each_fit (λ n l. if_so (awaits l)
+    (λ _. if_go (row_of l.state (ack_sample all few)) (λ next sent. claims_less l next sent))) ≡ true
 unfolding all_words claims_less has_newest
 counts true true = refl
 counts true false = refl
@@ -39,7 +40,8 @@ unfolding has_newest is_put_ack_first
 sender p = record { copy = λ h. h; arriving = refl; put = λ h. h }
 
 -- Taking an Inv-Ack keeps the blocks current.
-pub ack_current : (cores : ℕ) (line : Line) (roles : Roles) (c d : ℕ) (next : CopyState) (sent : CacheSends) (blocks : Blocks) (newest : Block)
+pub ack_current : (cores : ℕ) (line : Line) (roles : Roles) (c d : ℕ) (next : CopyState) (sent : CacheSends)
+    (blocks : Blocks) (newest : Block)
     → IsCoherent cores line roles → c < cores → d < cores → IsTrue (stands_ack (line.part d) c)
     → row_of (line.part c).look.state (events.InvAck (line.part c).wants (line.part c).counted) ≡ rows.Go next sent
     → IsCurrent cores line blocks newest → IsCurrent cores (after_ack line c d next sent) blocks newest
@@ -55,7 +57,8 @@ ack_current cores line roles c d next sent blocks newest coherent within below h
     let taker : Less p (acted (events.InvAck 0 0) 1 next sent p) =
     record { copy = implies-at _ _ (left _ _ e); arriving = refl; put = implies-at _ _ (right _ _ e) } in
     let one : (x : ℕ) → Less (line.part x) ((after_ack line c d next sent).part x) = λ x.
-    by_places (λ y q. Less (line.part y) q) line.part c d (acted (events.InvAck 0 0) 1 next sent) acknowledged x pair.apart taker
+    by_places (λ y q. Less (line.part y) q) line.part c d (acted (events.InvAck 0 0) 1 next sent) acknowledged x
+    pair.apart taker
     (sender (line.part d)) (λ not_c not_d. record { copy = λ h. h; arriving = refl; put = λ h. h }) in
     record {
       copy = λ x less h. current.copy x less ((one x).copy h);

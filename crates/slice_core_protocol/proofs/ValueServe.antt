@@ -29,10 +29,12 @@ use Rattle.slice_core_protocol.specs.Values.{Blocks, IsCurrent, brought, has_new
 -- What a core is sent in all.
 abbrev pub sent_to : DirSends → ℕ → ℕ → Bool → Part → Part
 sent_to sent core x asks p =
-    change_if (is_sent_inv sent x) (invalidated_by core) (change_if (is_named (forwarded_to sent) x) (forwarded sent core) (change_if asks (answered sent) p))
+    change_if (is_sent_inv sent x) (invalidated_by core) (change_if (is_named (forwarded_to sent) x)
+    (forwarded sent core) (change_if asks (answered sent) p))
 
 -- An Inv or a forwarded request makes no block the newest, where no Put-Ack waits.
-inv_newest : (core : ℕ) (p : Part) → p.look.put_ack ≡ false → has_newest (invalidated_by core p).look ≡ true → has_newest p.look ≡ true
+inv_newest : (core : ℕ) (p : Part) → p.look.put_ack ≡ false → has_newest (invalidated_by core p).look ≡ true
+    → has_newest p.look ≡ true
 unfolding has_newest is_put_ack_first
 inv_newest core p none h = rw none (rw none at h)
 
@@ -62,7 +64,8 @@ ack_newest p h =
     last false false c d h = h
 
 pub back_newest : (sent : DirSends) (core x : ℕ) (asks : Bool) (p : Part)
-    → (is_named (forwarded_to sent) x ≡ true → p.look.put_ack ≡ false) → (is_sent_inv sent x ≡ true → p.look.put_ack ≡ false)
+    → (is_named (forwarded_to sent) x ≡ true → p.look.put_ack ≡ false)
+    → (is_sent_inv sent x ≡ true → p.look.put_ack ≡ false)
     → has_newest (sent_to sent core x asks p).look ≡ true → has_newest p.look ≡ true
 unfolding has_newest is_put_ack_first
 back_newest answers.Nothing core x true p f g h = h
@@ -76,7 +79,8 @@ back_newest answers.PutAck core x false p f g h = h
 back_newest (answers.FwdGetS owner) core x asks p f g h = go (x == owner.0) asks f h
   where
     go : (b asks : Bool) → (b ≡ true → p.look.put_ack ≡ false)
-        → has_newest (change_if b (forwarded (answers.FwdGetS owner) core) (change_if asks (answered (answers.FwdGetS owner)) p)).look ≡ true → has_newest p.look ≡ true
+        → has_newest (change_if b (forwarded (answers.FwdGetS owner) core)
+        (change_if asks (answered (answers.FwdGetS owner)) p)).look ≡ true → has_newest p.look ≡ true
     go true true f h = (forward_newest owner core p (f refl)).0 h
     go true false f h = (forward_newest owner core p (f refl)).0 h
     go false true f h = h
@@ -84,7 +88,8 @@ back_newest (answers.FwdGetS owner) core x asks p f g h = go (x == owner.0) asks
 back_newest (answers.FwdGetM owner) core x asks p f g h = go (x == owner.0) asks f h
   where
     go : (b asks : Bool) → (b ≡ true → p.look.put_ack ≡ false)
-        → has_newest (change_if b (forwarded (answers.FwdGetM owner) core) (change_if asks (answered (answers.FwdGetM owner)) p)).look ≡ true → has_newest p.look ≡ true
+        → has_newest (change_if b (forwarded (answers.FwdGetM owner) core)
+        (change_if asks (answered (answers.FwdGetM owner)) p)).look ≡ true → has_newest p.look ≡ true
     go true true f h = (forward_newest owner core p (f refl)).1 h
     go true false f h = (forward_newest owner core p (f refl)).1 h
     go false true f h = h
@@ -92,7 +97,8 @@ back_newest (answers.FwdGetM owner) core x asks p f g h = go (x == owner.0) asks
 back_newest (answers.DataAndInv acks set) core x asks p f g h = go (has set x) asks g h
   where
     go : (b asks : Bool) → (b ≡ true → p.look.put_ack ≡ false)
-        → has_newest (change_if b (invalidated_by core) (change_if asks (answered (answers.DataAndInv acks set)) p)).look ≡ true → has_newest p.look ≡ true
+        → has_newest (change_if b (invalidated_by core) (change_if asks
+        (answered (answers.DataAndInv acks set)) p)).look ≡ true → has_newest p.look ≡ true
     go true true f h = inv_newest core p (f refl) h
     go true false f h = inv_newest core p (f refl) h
     go false true f h = h
@@ -111,7 +117,8 @@ back_arriving answers.PutAck core x true p f h = h
 back_arriving answers.PutAck core x false p f h = h
 back_arriving (answers.FwdGetS owner) core x asks p f h = go (x == owner.0) asks h
   where
-    go : (b asks : Bool) → is_no_data (change_if b (forwarded (answers.FwdGetS owner) core) (change_if asks (answered (answers.FwdGetS owner)) p)).look.incoming ≡ false
+    go : (b asks : Bool) → is_no_data (change_if b (forwarded (answers.FwdGetS owner) core)
+        (change_if asks (answered (answers.FwdGetS owner)) p)).look.incoming ≡ false
         → is_no_data p.look.incoming ≡ false
     go true true h = h
     go true false h = h
@@ -119,7 +126,8 @@ back_arriving (answers.FwdGetS owner) core x asks p f h = go (x == owner.0) asks
     go false false h = h
 back_arriving (answers.FwdGetM owner) core x asks p f h = go (x == owner.0) asks h
   where
-    go : (b asks : Bool) → is_no_data (change_if b (forwarded (answers.FwdGetM owner) core) (change_if asks (answered (answers.FwdGetM owner)) p)).look.incoming ≡ false
+    go : (b asks : Bool) → is_no_data (change_if b (forwarded (answers.FwdGetM owner) core)
+        (change_if asks (answered (answers.FwdGetM owner)) p)).look.incoming ≡ false
         → is_no_data p.look.incoming ≡ false
     go true true h = h
     go true false h = h
@@ -128,12 +136,14 @@ back_arriving (answers.FwdGetM owner) core x asks p f h = go (x == owner.0) asks
 back_arriving (answers.DataAndInv acks set) core x true p f h = absurd (true≢false f)
 back_arriving (answers.DataAndInv acks set) core x false p f h = go (has set x) h
   where
-    go : (b : Bool) → is_no_data (change_if b (invalidated_by core) p).look.incoming ≡ false → is_no_data p.look.incoming ≡ false
+    go : (b : Bool) → is_no_data (change_if b (invalidated_by core) p).look.incoming ≡ false
+        → is_no_data p.look.incoming ≡ false
     go true h = h
     go false h = h
 
 -- A PutM waits because it did, and its core isn't the one that is answered.
-back_put : (sent : DirSends) (core x : ℕ) (asks : Bool) (p : Part) → is_put_m (sent_to sent core x asks p).look.request ≡ true
+back_put : (sent : DirSends) (core x : ℕ) (asks : Bool) (p : Part)
+    → is_put_m (sent_to sent core x asks p).look.request ≡ true
     → (asks ≡ false) × (is_put_m p.look.request ≡ true)
 back_put answers.Nothing core x true p h = absurd (true≢false (sym h))
 back_put answers.Nothing core x false p h = (refl, h)
@@ -145,7 +155,8 @@ back_put answers.PutAck core x true p h = absurd (true≢false (sym h))
 back_put answers.PutAck core x false p h = (refl, h)
 back_put (answers.FwdGetS owner) core x asks p h = go (x == owner.0) asks h
   where
-    go : (b asks : Bool) → is_put_m (change_if b (forwarded (answers.FwdGetS owner) core) (change_if asks (answered (answers.FwdGetS owner)) p)).look.request ≡ true
+    go : (b asks : Bool) → is_put_m (change_if b (forwarded (answers.FwdGetS owner) core)
+        (change_if asks (answered (answers.FwdGetS owner)) p)).look.request ≡ true
         → (asks ≡ false) × (is_put_m p.look.request ≡ true)
     go true true h = absurd (true≢false (sym h))
     go true false h = (refl, h)
@@ -153,7 +164,8 @@ back_put (answers.FwdGetS owner) core x asks p h = go (x == owner.0) asks h
     go false false h = (refl, h)
 back_put (answers.FwdGetM owner) core x asks p h = go (x == owner.0) asks h
   where
-    go : (b asks : Bool) → is_put_m (change_if b (forwarded (answers.FwdGetM owner) core) (change_if asks (answered (answers.FwdGetM owner)) p)).look.request ≡ true
+    go : (b asks : Bool) → is_put_m (change_if b (forwarded (answers.FwdGetM owner) core)
+        (change_if asks (answered (answers.FwdGetM owner)) p)).look.request ≡ true
         → (asks ≡ false) × (is_put_m p.look.request ≡ true)
     go true true h = absurd (true≢false (sym h))
     go true false h = (refl, h)
@@ -161,7 +173,8 @@ back_put (answers.FwdGetM owner) core x asks p h = go (x == owner.0) asks h
     go false false h = (refl, h)
 back_put (answers.DataAndInv acks set) core x asks p h = go (has set x) asks h
   where
-    go : (b asks : Bool) → is_put_m (change_if b (invalidated_by core) (change_if asks (answered (answers.DataAndInv acks set)) p)).look.request ≡ true
+    go : (b asks : Bool) → is_put_m (change_if b (invalidated_by core)
+        (change_if asks (answered (answers.DataAndInv acks set)) p)).look.request ≡ true
         → (asks ≡ false) × (is_put_m p.look.request ≡ true)
     go true true h = absurd (true≢false (sym h))
     go true false h = (refl, h)
@@ -170,16 +183,20 @@ back_put (answers.DataAndInv acks set) core x asks p h = go (has set x) asks h
 
 -- ---- a row
 
--- Data leave the home copy only where it is current; who owns the line afterwards did, or asked; the home copy goes on being
+-- Data leave the home copy only where it is current; who owns the line afterwards did, or asked; the home copy goes on
+-- being
 -- current, or is written with the owner's block or the one that comes home.
-record Moves (directory : DirState) (owner : Option CoreId) (event : DirEvent) (state : DirState) (owns : Option CoreId) (sent : DirSends) (writes : Bool) : Type 0 where
+record Moves (directory : DirState) (owner : Option CoreId) (event : DirEvent) (state : DirState)
+    (owns : Option CoreId) (sent : DirSends) (writes : Bool) : Type 0 where
   gives : sends_data sent ≡ true → is_at_home directory ≡ true
   owner_is : (x : ℕ) → is_named owns x ≡ true → is_named (requester event) x ≡ false → is_named owner x ≡ true
   stays : is_at_home state ≡ true → writes ≡ false → is_at_home directory ≡ true
-  brings : writes ≡ true → (is_data_home event ≡ true) ⊎ ((core : CoreId) × (event ≡ asks.PutM core) × (is_named owner core.0 ≡ true))
+  brings : writes ≡ true → (is_data_home event ≡ true) ⊎ ((core : CoreId) × (event ≡ asks.PutM core)
+      × (is_named owner core.0 ≡ true))
 
 abbrev RowMoves : DirState → Option CoreId → DirEvent → DirRow → Type 0
-RowMoves directory owner event row = IfGo row (λ state owns sharers sent writes. Moves directory owner event state owns sent writes)
+RowMoves directory owner event row = IfGo row (λ state owns sharers sent writes. Moves directory owner event state owns
+    sent writes)
 
 nothing : {A : Type 0} → false ≡ true → A
 nothing e = absurd (true≢false (sym e))
@@ -196,7 +213,8 @@ same_owner directory owner event state sent gives stays = record {
 }
 
 -- A row that makes who asks the owner.
-new_owner : (directory : DirState) (owner : Option CoreId) (event : DirEvent) (core : CoreId) (sent : DirSends) → requester event ≡ Some core
+new_owner : (directory : DirState) (owner : Option CoreId) (event : DirEvent) (core : CoreId) (sent : DirSends)
+    → requester event ≡ Some core
     → (sends_data sent ≡ true → is_at_home directory ≡ true) → Moves directory owner event dirs.M (Some core) sent false
 new_owner directory owner event core sent asked gives = record {
   gives = gives;
@@ -205,21 +223,29 @@ new_owner directory owner event core sent asked gives = record {
   brings = λ h. nothing h;
 }
 
-choose : (P : DirRow → Type 0) (b : Bool) (own other : DirRow) → (b ≡ true → P own) → (b ≡ false → P other) → P (if b then own else other)
+choose : (P : DirRow → Type 0) (b : Bool) (own other : DirRow) → (b ≡ true → P own) → (b ≡ false → P other)
+    → P (if b then own else other)
 choose P true own other yes_own yes_other = yes_own refl
 choose P false own other yes_own yes_other = yes_other refl
 
-row_on : (s : ℕ) (directory : DirState) (owner : Option CoreId) (event : DirEvent) → RowMoves directory owner event (cell true directory owner s event)
+row_on : (s : ℕ) (directory : DirState) (owner : Option CoreId) (event : DirEvent)
+    → RowMoves directory owner event (cell true directory owner s event)
 row_on s dirs.I owner (asks.GetS core) = new_owner dirs.I owner (asks.GetS core) core answers.DataE refl (λ h. refl)
 row_on s dirs.I owner (asks.GetM core) = new_owner dirs.I owner (asks.GetM core) core (answers.Data 0) refl (λ h. refl)
-row_on s dirs.I owner (asks.PutS core) = same_owner dirs.I owner (asks.PutS core) dirs.I answers.PutAck (λ h. refl) (λ h. refl)
-row_on s dirs.I owner (asks.PutM core) = same_owner dirs.I owner (asks.PutM core) dirs.I answers.PutAck (λ h. refl) (λ h. refl)
+row_on s dirs.I owner (asks.PutS core) = same_owner dirs.I owner (asks.PutS core) dirs.I answers.PutAck (λ h. refl)
+    (λ h. refl)
+row_on s dirs.I owner (asks.PutM core) = same_owner dirs.I owner (asks.PutM core) dirs.I answers.PutAck (λ h. refl)
+    (λ h. refl)
 row_on s dirs.I owner asks.DataHome = tt
-row_on s dirs.S owner (asks.GetS core) = same_owner dirs.S owner (asks.GetS core) dirs.S (answers.Data 0) (λ h. refl) (λ h. refl)
+row_on s dirs.S owner (asks.GetS core) = same_owner dirs.S owner (asks.GetS core) dirs.S (answers.Data 0) (λ h. refl)
+    (λ h. refl)
 row_on s dirs.S owner (asks.GetM core) =
-    new_owner dirs.S owner (asks.GetM core) core (answers.DataAndInv (count_of (without s core.0)) (without s core.0)) refl (λ h. refl)
-row_on s dirs.S owner (asks.PutS core) = same_owner dirs.S owner (asks.PutS core) (shared_by (without s core.0)) answers.PutAck (λ h. refl) (λ h. refl)
-row_on s dirs.S owner (asks.PutM core) = same_owner dirs.S owner (asks.PutM core) (shared_by (without s core.0)) answers.PutAck (λ h. refl) (λ h. refl)
+    new_owner dirs.S owner (asks.GetM core) core (answers.DataAndInv (count_of (without s core.0)) (without s core.0))
+    refl (λ h. refl)
+row_on s dirs.S owner (asks.PutS core) = same_owner dirs.S owner (asks.PutS core)
+    (shared_by (without s core.0)) answers.PutAck (λ h. refl) (λ h. refl)
+row_on s dirs.S owner (asks.PutM core) = same_owner dirs.S owner (asks.PutM core)
+    (shared_by (without s core.0)) answers.PutAck (λ h. refl) (λ h. refl)
 row_on s dirs.S owner asks.DataHome = tt
 row_on s dirs.M None (asks.GetS core) = tt
 row_on s dirs.M None (asks.GetM core) = tt
@@ -251,8 +277,10 @@ row_on s dirs.M (Some owner) (asks.PutM core) =
 row_on s dirs.M (Some owner) asks.DataHome = tt
 row_on s dirs.S_D owner (asks.GetS core) = tt
 row_on s dirs.S_D owner (asks.GetM core) = tt
-row_on s dirs.S_D owner (asks.PutS core) = same_owner dirs.S_D owner (asks.PutS core) dirs.S_D answers.PutAck (λ h. nothing h) (λ h. h)
-row_on s dirs.S_D owner (asks.PutM core) = same_owner dirs.S_D owner (asks.PutM core) dirs.S_D answers.PutAck (λ h. nothing h) (λ h. h)
+row_on s dirs.S_D owner (asks.PutS core) = same_owner dirs.S_D owner (asks.PutS core) dirs.S_D answers.PutAck
+    (λ h. nothing h) (λ h. h)
+row_on s dirs.S_D owner (asks.PutM core) = same_owner dirs.S_D owner (asks.PutM core) dirs.S_D answers.PutAck
+    (λ h. nothing h) (λ h. h)
 row_on s dirs.S_D owner asks.DataHome = record {
   gives = λ h. nothing h;
   owner_is = λ x owns away. owns;
@@ -278,15 +306,19 @@ served_blocks event sent writes blocks = record blocks {
 }
 
 -- Where a block is forwarded or an Inv sent, no Put-Ack waits.
-no_put_ack : (cores : ℕ) (line : Line) (event : DirEvent) (sent : DirSends) → HasRoomAtService cores line event sent → (x : ℕ) → x < cores
-    → (is_named (forwarded_to sent) x ≡ true → (line.part x).look.put_ack ≡ false) × (is_sent_inv sent x ≡ true → (line.part x).look.put_ack ≡ false)
+no_put_ack : (cores : ℕ) (line : Line) (event : DirEvent) (sent : DirSends) → HasRoomAtService cores line event sent
+    → (x : ℕ) → x < cores
+    → (is_named (forwarded_to sent) x ≡ true → (line.part x).look.put_ack ≡ false)
+    × (is_sent_inv sent x ≡ true → (line.part x).look.put_ack ≡ false)
 no_put_ack cores line event sent room x below =
     (λ h. go (forwarded_to sent) room.forward h, λ h. not-true (line.part x).look.put_ack (last (room.inv x below h)))
   where
     last : (has_room_for_inv (line.part x).look) ≡ true → not (line.part x).look.put_ack ≡ true
-    last h = (and_parts (not (line.part x).look.inv && is_no_forward (line.part x).look.forward) (not (line.part x).look.put_ack) h).1
+    last h = (and_parts (not (line.part x).look.inv && is_no_forward (line.part x).look.forward)
+        (not (line.part x).look.put_ack) h).1
 
-    go : (o : Option CoreId) → IfSome o (λ owner. IsTrue (has_room_for_forward (line.part owner.0).look)) → is_named o x ≡ true
+    go : (o : Option CoreId) → IfSome o (λ owner. IsTrue (has_room_for_forward (line.part owner.0).look))
+        → is_named o x ≡ true
         → (line.part x).look.put_ack ≡ false
     go None room h = nothing h
     go (Some owner) room h =
@@ -303,18 +335,26 @@ put_m_core (asks.PutM core) = core.0
 put_m_core _ = 0
 
 -- A turn of the directory keeps the blocks current.
-pub serve_current : (exclusive : Bool) (cores : ℕ) (line : Line) (roles : Roles) (event : DirEvent) (home : Block) (state : DirState)
-    (owner : Option CoreId) (sharers : ℕ) (sent : DirSends) (writes : Bool) (blocks : Blocks) (newest : Block) → cores ≤ 64
+pub serve_current : (exclusive : Bool) (cores : ℕ) (line : Line) (roles : Roles) (event : DirEvent) (home : Block)
+    (state : DirState)
+    (owner : Option CoreId) (sharers : ℕ) (sent : DirSends) (writes : Bool) (blocks : Blocks) (newest : Block)
+    → cores ≤ 64
     → IsCoherent cores line roles → IsWithin cores event → IsTrue (is_asked_for line event)
-    → row_of exclusive (entry_of line home) event ≡ rows.Go state owner sharers sent writes → IsCurrent cores line blocks newest
-    → IsCurrent cores (after_service line event state owner sharers sent) (served_blocks event sent writes blocks) newest
-serve_current exclusive cores line roles event home state owner sharers sent writes blocks newest most coherent within wants row current =
-    let room = (has_room exclusive cores line roles most coherent).serve event home state owner sharers sent writes within wants row in
-    let moves : Moves line.directory line.owner event state owner sent writes = subst (RowMoves line.directory line.owner event) row (row_moves exclusive line event) in
+    → row_of exclusive (entry_of line home) event ≡ rows.Go state owner sharers sent writes
+    → IsCurrent cores line blocks newest
+    → IsCurrent cores (after_service line event state owner sharers sent)
+    (served_blocks event sent writes blocks) newest
+serve_current exclusive cores line roles event home state owner sharers sent writes blocks newest most coherent within
+    wants row current =
+    let room = (has_room exclusive cores line roles most coherent).serve event home state owner sharers sent writes
+    within wants row in
+    let moves : Moves line.directory line.owner event state owner sent writes = subst
+    (RowMoves line.directory line.owner event) row (row_moves exclusive line event) in
     record {
       copy = λ x below h.
           let free = no_put_ack cores line event sent room x below in
-          current.copy x below (back_newest sent (who event) x (is_named (requester event) x) (line.part x) free.0 free.1 h);
+          current.copy x below (back_newest sent (who event) x (is_named (requester event) x)
+          (line.part x) free.0 free.1 h);
       arriving = λ x below h. arriving moves x below (sends_data sent && is_named (requester event) x) refl h;
       put = λ x below owns h.
           let back = back_put sent (who event) x (is_named (requester event) x) (line.part x) h in
@@ -327,11 +367,14 @@ serve_current exclusive cores line roles event home state owner sharers sent wri
         → (sends_data sent && is_named (requester event) x) ≡ b
         → is_no_data (sent_to sent (who event) x (is_named (requester event) x) (line.part x)).look.incoming ≡ false
         → (if b then blocks.home else blocks.arriving x) ≡ newest
-    arriving moves x below true e h = current.home (moves.gives (and_parts (sends_data sent) (is_named (requester event) x) e).0)
-    arriving moves x below false e h = current.arriving x below (back_arriving sent (who event) x (is_named (requester event) x) (line.part x) e h)
+    arriving moves x below true e h = current.home (moves.gives
+        (and_parts (sends_data sent) (is_named (requester event) x) e).0)
+    arriving moves x below false e h = current.arriving x below
+        (back_arriving sent (who event) x (is_named (requester event) x) (line.part x) e h)
 
     brought_is : (event : DirEvent) → IsWithin cores event → IsTrue (is_asked_for line event)
-        → (is_data_home event ≡ true) ⊎ ((core : CoreId) × (event ≡ asks.PutM core) × (is_named line.owner core.0 ≡ true)) → brought event blocks ≡ newest
+        → (is_data_home event ≡ true) ⊎ ((core : CoreId) × (event ≡ asks.PutM core)
+        × (is_named line.owner core.0 ≡ true)) → brought event blocks ≡ newest
     brought_is asks.DataHome within wants from = current.mail wants
     brought_is (asks.GetS core) within wants (inl h) = nothing h
     brought_is (asks.GetM core) within wants (inl h) = nothing h
@@ -340,9 +383,11 @@ serve_current exclusive cores line roles event home state owner sharers sent wri
     brought_is (asks.GetS core) within wants (inr h) = absurd (true≢false (sym (ap is_put_m_event h.1)))
     brought_is (asks.GetM core) within wants (inr h) = absurd (true≢false (sym (ap is_put_m_event h.1)))
     brought_is (asks.PutS core) within wants (inr h) = absurd (true≢false (sym (ap is_put_m_event h.1)))
-    brought_is (asks.PutM core) within wants (inr h) = current.put core.0 within (subst (λ y. is_named line.owner y ≡ true) (sym (ap put_m_core h.1)) h.2) wants
+    brought_is (asks.PutM core) within wants (inr h) = current.put core.0 within
+        (subst (λ y. is_named line.owner y ≡ true) (sym (ap put_m_core h.1)) h.2) wants
 
-    home_is : Moves line.directory line.owner event state owner sent writes → (b : Bool) → writes ≡ b → is_at_home state ≡ true
+    home_is : Moves line.directory line.owner event state owner sent writes → (b : Bool) → writes ≡ b
+        → is_at_home state ≡ true
         → (if b then brought event blocks else blocks.home) ≡ newest
     home_is moves true e h = brought_is event within wants (moves.brings e)
     home_is moves false e h = current.home (moves.stays h e)

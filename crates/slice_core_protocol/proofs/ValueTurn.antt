@@ -34,7 +34,8 @@ moves event l next sent =
     && (brings_data event implies not (is_no_data l.incoming))
 
 unfoldable moves_at : CacheEvent → (Look → Bool) → Bool
-moves_at event guard = each_fit (λ n l. if_so (guard l) (λ _. if_go (row_of l.state event) (λ next sent. moves event l next sent)))
+moves_at event guard = each_fit (λ n l. if_so (guard l) (λ _. if_go (row_of l.state event)
+    (λ next sent. moves event l next sent)))
 
 load : moves_at events.Load (λ l. true) ≡ true
 unfolding all_words moves_at moves has_newest
@@ -86,7 +87,8 @@ record Moves (event : CacheEvent) (l : Look) (next : CopyState) (sent : CacheSen
   waits : is_no_data (turned event next sent l).incoming ≡ false → is_no_data l.incoming ≡ false
   data_there : brings_data event ≡ true → is_no_data l.incoming ≡ false
 
-moves_from : (event : CacheEvent) (l : Look) (next : CopyState) (sent : CacheSends) → moves event l next sent ≡ true → Moves event l next sent
+moves_from : (event : CacheEvent) (l : Look) (next : CopyState) (sent : CacheSends) → moves event l next sent ≡ true
+    → Moves event l next sent
 unfolding moves
 moves_from event l next sent e =
     let e1 = left _ _ e in
@@ -104,7 +106,8 @@ moves_from event l next sent e =
       data_there = λ h. not-at _ (implies-at _ _ (right _ _ e) h);
     }
 
-known : (cores : ℕ) (line : Line) (roles : Roles) (c : ℕ) (event : CacheEvent) (guard : Look → Bool) (next : CopyState) (sent : CacheSends)
+known : (cores : ℕ) (line : Line) (roles : Roles) (c : ℕ) (event : CacheEvent) (guard : Look → Bool) (next : CopyState)
+    (sent : CacheSends)
     → moves_at event guard ≡ true → IsCoherent cores line roles → c < cores → guard (line.part c).look ≡ true
     → row_of (line.part c).look.state event ≡ rows.Go next sent → Moves event (line.part c).look next sent
 unfolding moves_at
@@ -115,7 +118,8 @@ known cores line roles c event guard next sent tested coherent within here row =
     (if_so-at _ _ (each_fit-at _ tested (near_of line roles c) l (coherent.fit c within)) here) row)
 
 -- The numbers of Data make no difference to the blocks.
-any_data : (n k m j : ℕ) (l : Look) (next : CopyState) (sent : CacheSends) → Moves (events.Data m j) l next sent → Moves (events.Data n k) l next sent
+any_data : (n k m j : ℕ) (l : Look) (next : CopyState) (sent : CacheSends) → Moves (events.Data m j) l next sent
+    → Moves (events.Data n k) l next sent
 any_data n k m j l next sent moves = record {
   copy = moves.copy;
   gives = moves.gives;
@@ -126,7 +130,8 @@ any_data n k m j l next sent moves = record {
   data_there = moves.data_there;
 }
 
-known_turn : (cores : ℕ) (line : Line) (roles : Roles) (c : ℕ) (event : CacheEvent) (next : CopyState) (sent : CacheSends)
+known_turn : (cores : ℕ) (line : Line) (roles : Roles) (c : ℕ) (event : CacheEvent) (next : CopyState)
+    (sent : CacheSends)
     → IsCoherent cores line roles → c < cores → IsTrue (stands (line.part c) event)
     → row_of (line.part c).look.state event ≡ rows.Go next sent → Moves event (line.part c).look next sent
 known_turn cores line roles c events.Load next sent coherent within here row =
@@ -138,13 +143,16 @@ known_turn cores line roles c events.Eviction next sent coherent within here row
 known_turn cores line roles c events.Inv next sent coherent within here row =
     known cores line roles c events.Inv (λ l. l.inv) next sent inv coherent within here row
 known_turn cores line roles c events.FwdGetS next sent coherent within here row =
-    known cores line roles c events.FwdGetS (λ l. not l.inv && is_fwd_get_s l.forward) next sent fwd_get_s coherent within here row
+    known cores line roles c events.FwdGetS (λ l. not l.inv && is_fwd_get_s l.forward) next sent fwd_get_s coherent
+    within here row
 known_turn cores line roles c events.FwdGetM next sent coherent within here row =
-    known cores line roles c events.FwdGetM (λ l. not l.inv && is_fwd_get_m l.forward) next sent fwd_get_m coherent within here row
+    known cores line roles c events.FwdGetM (λ l. not l.inv && is_fwd_get_m l.forward) next sent fwd_get_m coherent
+    within here row
 known_turn cores line roles c events.PutAck next sent coherent within here row =
     known cores line roles c events.PutAck (λ l. is_put_ack_first l) next sent put_ack coherent within here row
 known_turn cores line roles c (events.DataE loads) next sent coherent within here row =
-    known cores line roles c (events.DataE loads) (λ l. is_only_data l.incoming) next sent (data_e loads) coherent within here row
+    known cores line roles c (events.DataE loads) (λ l. is_only_data l.incoming) next sent
+    (data_e loads) coherent within here row
 known_turn cores line roles c (events.InvAck n k) next sent coherent within here row = absurd (true≢false (sym here))
 known_turn cores line roles c (events.Data n k) next sent coherent within here row =
     go (k == n) (nat_lt k n) refl refl (at_hand (line.part c) n k here).incoming
@@ -152,15 +160,19 @@ known_turn cores line roles c (events.Data n k) next sent coherent within here r
     l : Look
     l = (line.part c).look
 
-    go : (all few : Bool) → (k == n) ≡ all → nat_lt k n ≡ few → is_shared_data l.incoming ≡ true → Moves (events.Data n k) l next sent
+    go : (all few : Bool) → (k == n) ≡ all → nat_lt k n ≡ few → is_shared_data l.incoming ≡ true
+        → Moves (events.Data n k) l next sent
     go true few e f waits = any_data n k 0 0 l next sent
-        (known cores line roles c (events.Data 0 0) (λ l. is_shared_data l.incoming) next sent (data' true true) coherent within waits
+        (known cores line roles c (events.Data 0 0) (λ l. is_shared_data l.incoming) next sent
+        (data' true true) coherent within waits
         (sym (data_row l.state n k true few e f) ∙ row))
     go false true e f waits = any_data n k 1 0 l next sent
-        (known cores line roles c (events.Data 1 0) (λ l. is_shared_data l.incoming) next sent (data' false true) coherent within waits
+        (known cores line roles c (events.Data 1 0) (λ l. is_shared_data l.incoming) next sent
+        (data' false true) coherent within waits
         (sym (data_row l.state n k false true e f) ∙ row))
     go false false e f waits = any_data n k 0 1 l next sent
-        (known cores line roles c (events.Data 0 1) (λ l. is_shared_data l.incoming) next sent (data' false false) coherent within waits
+        (known cores line roles c (events.Data 0 1) (λ l. is_shared_data l.incoming) next sent
+        (data' false false) coherent within waits
         (sym (data_row l.state n k false false e f) ∙ row))
 
 -- ---- the blocks
@@ -177,19 +189,22 @@ given_request false p = refl
 -- The blocks after the turn, where a write is performed or not.
 abbrev pub turned_blocks : Line → ℕ → CacheEvent → CacheSends → Bool → Block → Blocks → Blocks
 turned_blocks line c event sent performed written blocks = record {
-  copy = λ x. if x == c then (if performed then written else if brings_data event then blocks.arriving c else blocks.copy c) else blocks.copy x;
+  copy = λ x. if x == c then (if performed then written else if brings_data event then blocks.arriving
+      c else blocks.copy c) else blocks.copy x;
   arriving = λ x. if sends_data sent && x == (line.part c).names then blocks.copy c else blocks.arriving x;
   put = λ x. if sends_put_m sent && x == c then blocks.copy c else blocks.put x;
   home = blocks.home;
   mail = if sends_home sent then blocks.copy c else blocks.mail;
 }
 
-record Turn (cores : ℕ) (line : Line) (c : ℕ) (event : CacheEvent) (next : CopyState) (sent : CacheSends) (blocks : Blocks) (newest : Block) : Type 0 where
+record Turn (cores : ℕ) (line : Line) (c : ℕ) (event : CacheEvent) (next : CopyState) (sent : CacheSends)
+    (blocks : Blocks) (newest : Block) : Type 0 where
   within : c < cores
   moves : Moves event (line.part c).look next sent
   current : IsCurrent cores line blocks newest
 
-copy_at : (cores : ℕ) (line : Line) (c : ℕ) (event : CacheEvent) (next : CopyState) (sent : CacheSends) (blocks : Blocks) (newest : Block) (x : ℕ)
+copy_at : (cores : ℕ) (line : Line) (c : ℕ) (event : CacheEvent) (next : CopyState) (sent : CacheSends)
+    (blocks : Blocks) (newest : Block) (x : ℕ)
     → Turn cores line c event next sent blocks newest → x < cores → (t : Bool) → (x == c) ≡ t
     → has_newest (change_if t (acted event 0 next sent) (line.part x)).look ≡ true
     → (if t then (if brings_data event then blocks.arriving c else blocks.copy c) else blocks.copy x) ≡ newest
@@ -203,39 +218,49 @@ copy_at cores line c event next sent blocks newest x turn below true e h =
     go true f k = turn.current.arriving c turn.within (turn.moves.data_there f)
     go false f k = turn.current.copy c turn.within k
 
-arriving_at : (cores : ℕ) (line : Line) (c : ℕ) (event : CacheEvent) (next : CopyState) (sent : CacheSends) (blocks : Blocks) (newest : Block) (x : ℕ)
+arriving_at : (cores : ℕ) (line : Line) (c : ℕ) (event : CacheEvent) (next : CopyState) (sent : CacheSends)
+    (blocks : Blocks) (newest : Block) (x : ℕ)
     → Turn cores line c event next sent blocks newest → x < cores → (t : Bool) → (x == c) ≡ t
-    → is_no_data (change_if t (acted event 0 next sent) (line.part x)).look.incoming ≡ false → blocks.arriving x ≡ newest
+    → is_no_data (change_if t (acted event 0 next sent) (line.part x)).look.incoming ≡ false
+    → blocks.arriving x ≡ newest
 arriving_at cores line c event next sent blocks newest x turn below false e h = turn.current.arriving x below h
 arriving_at cores line c event next sent blocks newest x turn below true e h =
     let at : x ≡ c = eqb-true x c e in
     let here = subst (λ y. is_no_data (acted event 0 next sent (line.part y)).look.incoming ≡ false) at h in
     subst (λ y. blocks.arriving y ≡ newest) (sym at) (turn.current.arriving c turn.within (turn.moves.waits here))
 
-put_at : (cores : ℕ) (line : Line) (c : ℕ) (event : CacheEvent) (next : CopyState) (sent : CacheSends) (blocks : Blocks) (newest : Block) (x : ℕ)
-    → Turn cores line c event next sent blocks newest → x < cores → IsTrue (is_named line.owner x) → (t : Bool) → (x == c) ≡ t
-    → (b : Bool) → sends_put_m sent ≡ b → is_put_m (change_if t (acted event 0 next sent) (line.part x)).look.request ≡ true
+put_at : (cores : ℕ) (line : Line) (c : ℕ) (event : CacheEvent) (next : CopyState) (sent : CacheSends)
+    (blocks : Blocks) (newest : Block) (x : ℕ)
+    → Turn cores line c event next sent blocks newest → x < cores → IsTrue (is_named line.owner x) → (t : Bool)
+    → (x == c) ≡ t
+    → (b : Bool) → sends_put_m sent ≡ b → is_put_m (change_if t (acted event 0 next sent) (line.part x)).look.request
+    ≡ true
     → (if b && t then blocks.copy c else blocks.put x) ≡ newest
 put_at cores line c event next sent blocks newest x turn below owns false e true f h = turn.current.put x below owns h
 put_at cores line c event next sent blocks newest x turn below owns false e false f h = turn.current.put x below owns h
-put_at cores line c event next sent blocks newest x turn below owns true e true f h = turn.current.copy c turn.within (turn.moves.puts f)
+put_at cores line c event next sent blocks newest x turn below owns true e true f h = turn.current.copy c turn.within
+    (turn.moves.puts f)
 put_at cores line c event next sent blocks newest x turn below owns true e false f h =
     let at : x ≡ c = eqb-true x c e in
     let here = subst (λ y. is_put_m (acted event 0 next sent (line.part y)).look.request ≡ true) at h in
-    let was : (is_put_m (line.part c).look.request || false) ≡ true = ap (λ b. is_put_m (line.part c).look.request || b) (sym f) ∙ turn.moves.put here in
+    let was : (is_put_m (line.part c).look.request || false) ≡ true = ap
+    (λ b. is_put_m (line.part c).look.request || b) (sym f) ∙ turn.moves.put here in
     let old : is_put_m (line.part c).look.request ≡ true = sym (or-false (is_put_m (line.part c).look.request)) ∙ was in
     subst (λ y. blocks.put y ≡ newest) (sym at)
     (turn.current.put c turn.within (subst (λ y. IsTrue (is_named line.owner y)) at owns) old)
 
-turn_blocks : (cores : ℕ) (line : Line) (c : ℕ) (event : CacheEvent) (next : CopyState) (sent : CacheSends) (blocks : Blocks) (written newest : Block)
+turn_blocks : (cores : ℕ) (line : Line) (c : ℕ) (event : CacheEvent) (next : CopyState) (sent : CacheSends)
+    (blocks : Blocks) (written newest : Block)
     → Turn cores line c event next sent blocks newest
     → IsCurrent cores (after_turn line c event next sent) (turned_blocks line c event sent false written blocks) newest
 turn_blocks cores line c event next sent blocks written newest turn = record {
   copy = λ x below h. copy_at cores line c event next sent blocks newest x turn below (x == c) refl
       (sym (given_newest (sends_data sent && x == r) (change_if (x == c) (acted event 0 next sent) (line.part x))) ∙ h);
   arriving = λ x below h. arrives x below (sends_data sent && x == r) refl h;
-  put = λ x below owns h. put_at cores line c event next sent blocks newest x turn below owns (x == c) refl (sends_put_m sent) refl
-      (sym (ap is_put_m (given_request (sends_data sent && x == r) (change_if (x == c) (acted event 0 next sent) (line.part x)))) ∙ h);
+  put = λ x below owns h. put_at cores line c event next sent blocks newest x turn below owns (x == c) refl
+      (sends_put_m sent) refl
+      (sym (ap is_put_m (given_request (sends_data sent && x == r)
+      (change_if (x == c) (acted event 0 next sent) (line.part x)))) ∙ h);
   home = turn.current.home;
   mail = mail (sends_home sent) refl;
 }
@@ -244,18 +269,23 @@ turn_blocks cores line c event next sent blocks written newest turn = record {
     r = (line.part c).names
 
     arrives : (x : ℕ) → x < cores → (b : Bool) → (sends_data sent && x == r) ≡ b
-        → is_no_data (change_if b given (change_if (x == c) (acted event 0 next sent) (line.part x))).look.incoming ≡ false
+        → is_no_data (change_if b given (change_if (x == c) (acted event 0 next sent) (line.part x))).look.incoming
+        ≡ false
         → (if b then blocks.copy c else blocks.arriving x) ≡ newest
-    arrives x below true e h = turn.current.copy c turn.within (turn.moves.gives (and_parts (sends_data sent) (x == r) e).0)
+    arrives x below true e h = turn.current.copy c turn.within
+        (turn.moves.gives (and_parts (sends_data sent) (x == r) e).0)
     arrives x below false e h = arriving_at cores line c event next sent blocks newest x turn below (x == c) refl h
 
-    mail : (b : Bool) → sends_home sent ≡ b → (b || line.home) ≡ true → (if b then blocks.copy c else blocks.mail) ≡ newest
+    mail : (b : Bool) → sends_home sent ≡ b → (b || line.home) ≡ true
+        → (if b then blocks.copy c else blocks.mail) ≡ newest
     mail true e h = turn.current.copy c turn.within (turn.moves.homes e)
     mail false e h = turn.current.mail h
 
 -- A turn without a write keeps the blocks current.
-pub turn_current : (cores : ℕ) (line : Line) (roles : Roles) (c : ℕ) (event : CacheEvent) (next : CopyState) (sent : CacheSends)
-    (blocks : Blocks) (written newest : Block) → IsCoherent cores line roles → c < cores → IsTrue (stands (line.part c) event)
+pub turn_current : (cores : ℕ) (line : Line) (roles : Roles) (c : ℕ) (event : CacheEvent) (next : CopyState)
+    (sent : CacheSends)
+    (blocks : Blocks) (written newest : Block) → IsCoherent cores line roles → c < cores
+    → IsTrue (stands (line.part c) event)
     → row_of (line.part c).look.state event ≡ rows.Go next sent → IsCurrent cores line blocks newest
     → IsCurrent cores (after_turn line c event next sent) (turned_blocks line c event sent false written blocks) newest
 turn_current cores line roles c event next sent blocks written newest coherent within here row current =

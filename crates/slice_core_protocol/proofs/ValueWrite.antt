@@ -37,7 +37,8 @@ record Performs (n : Near) (l : Look) (next : CopyState) (sent : CacheSends) : T
   away : is_at_home n.directory ≡ false
   no_mail : n.home ≡ false
 
-performs_at : (cores : ℕ) (line : Line) (roles : Roles) (c : ℕ) (next : CopyState) (sent : CacheSends) → IsCoherent cores line roles
+performs_at : (cores : ℕ) (line : Line) (roles : Roles) (c : ℕ) (next : CopyState) (sent : CacheSends)
+    → IsCoherent cores line roles
     → c < cores → row_of (line.part c).look.state events.Write ≡ rows.Go next sent → is_writer next ≡ true
     → Performs (near_of line roles c) (line.part c).look next sent
 performs_at cores line roles c next sent coherent within row may =
@@ -46,7 +47,8 @@ performs_at cores line roles c next sent coherent within row may =
     let e = if_so-at _ _ (if_go-at _ (λ next sent. if_so (is_writer next) (λ _.
     is_writer l.state && not (sends_data sent) && not (sends_home sent) && not (sends_put_m sent)
     && is_no_data (turned events.Write next sent l).incoming && not (is_put_m (turned events.Write next sent l).request)
-    && not (is_at_home n.directory) && not n.home)) next sent (each_fit-at _ performs_alone n l (coherent.fit c within)) row) may in
+    && not (is_at_home n.directory) && not n.home)) next sent
+    (each_fit-at _ performs_alone n l (coherent.fit c within)) row) may in
     let e1 = left _ _ e in
     let e2 = left _ _ e1 in
     let e3 = left _ _ e2 in
@@ -65,7 +67,8 @@ performs_at cores line roles c next sent coherent within row may =
     }
 
 -- Who neither has the line nor gets it claims no block.
-claims_nothing : each_fit (λ n l. if_so (not (comes l) && not (holder l)) (λ _. not (has_newest l) && is_no_data l.incoming && not (n.owner && is_put_m l.request))) ≡ true
+claims_nothing : each_fit (λ n l. if_so (not (comes l) && not (holder l))
+    (λ _. not (has_newest l) && is_no_data l.incoming && not (n.owner && is_put_m l.request))) ≡ true
 unfolding all_words has_newest
 claims_nothing = refl
 
@@ -74,7 +77,8 @@ record Claimless (n : Near) (l : Look) : Type 0 where
   no_data : is_no_data l.incoming ≡ true
   put : (n.owner && is_put_m l.request) ≡ false
 
-claimless : (cores : ℕ) (line : Line) (roles : Roles) (c x : ℕ) → IsCoherent cores line roles → Alone cores line roles c → x < cores
+claimless : (cores : ℕ) (line : Line) (roles : Roles) (c x : ℕ) → IsCoherent cores line roles
+    → Alone cores line roles c → x < cores
     → (x ≡ c → ⊥) → Claimless (near_of line roles x) (line.part x).look
 claimless cores line roles c x coherent alone below away =
     let e = if_so-at _ _ (each_fit-at _ claims_nothing (near_of line roles x) (line.part x).look (coherent.fit x below))
@@ -87,10 +91,13 @@ abbrev written_part : Line → ℕ → CopyState → CacheSends → ℕ → Part
 written_part line c next sent x = change_if (x == c) (acted events.Write 0 next sent) (line.part x)
 
 -- A write that is performed makes its block the newest, and leaves no other that is claimed to be.
-pub write_current : (cores : ℕ) (line : Line) (roles : Roles) (c : ℕ) (next : CopyState) (sent : CacheSends) (blocks : Blocks)
-    (written : Block) → IsCoherent cores line roles → c < cores → row_of (line.part c).look.state events.Write ≡ rows.Go next sent
+pub write_current : (cores : ℕ) (line : Line) (roles : Roles) (c : ℕ) (next : CopyState) (sent : CacheSends)
+    (blocks : Blocks)
+    (written : Block) → IsCoherent cores line roles → c < cores
+    → row_of (line.part c).look.state events.Write ≡ rows.Go next sent
     → is_writer next ≡ true
-    → IsCurrent cores (after_turn line c events.Write next sent) (turned_blocks line c events.Write sent true written blocks) written
+    → IsCurrent cores (after_turn line c events.Write next sent)
+    (turned_blocks line c events.Write sent true written blocks) written
 write_current cores line roles c next sent blocks written coherent within row may =
     let p = performs_at cores line roles c next sent coherent within row may in
     let alone = alone cores line roles c coherent within p.writes in
@@ -103,24 +110,36 @@ write_current cores line roles c next sent blocks written coherent within row ma
     copy alone x below false e h =
         absurd (true≢false (sym h ∙ (claimless cores line roles c x coherent alone below (eqb-false x c e)).copy))
 
-    arriving : Performs (near_of line roles c) (line.part c).look next sent → Alone cores line roles c → (x : ℕ) → x < cores → (b : Bool) → (x == c) ≡ b
-        → is_no_data (change_if b (acted events.Write 0 next sent) (line.part x)).look.incoming ≡ false → blocks.arriving x ≡ written
+    arriving : Performs (near_of line roles c) (line.part c).look next sent → Alone cores line roles c → (x : ℕ)
+        → x < cores → (b : Bool) → (x == c) ≡ b
+        → is_no_data (change_if b (acted events.Write 0 next sent) (line.part x)).look.incoming ≡ false
+        → blocks.arriving x ≡ written
     arriving p alone x below true e h =
-        absurd (true≢false (sym p.no_data ∙ subst (λ y. is_no_data (acted events.Write 0 next sent (line.part y)).look.incoming ≡ false) (eqb-true x c e) h))
+        absurd (true≢false (sym p.no_data ∙ subst (λ y. is_no_data
+        (acted events.Write 0 next sent (line.part y)).look.incoming ≡ false) (eqb-true x c e) h))
     arriving p alone x below false e h =
         absurd (true≢false (sym (claimless cores line roles c x coherent alone below (eqb-false x c e)).no_data ∙ h))
 
-    put : Performs (near_of line roles c) (line.part c).look next sent → Alone cores line roles c → (x : ℕ) → x < cores → is_named line.owner x ≡ true
-        → (b : Bool) → (x == c) ≡ b → is_put_m (change_if b (acted events.Write 0 next sent) (line.part x)).look.request ≡ true → blocks.put x ≡ written
+    put : Performs (near_of line roles c) (line.part c).look next sent → Alone cores line roles c → (x : ℕ) → x < cores
+        → is_named line.owner x ≡ true
+        → (b : Bool) → (x == c) ≡ b → is_put_m (change_if b (acted events.Write 0 next sent)
+        (line.part x)).look.request ≡ true → blocks.put x ≡ written
     put p alone x below owns true e h =
-        absurd (true≢false (sym (subst (λ y. is_put_m (acted events.Write 0 next sent (line.part y)).look.request ≡ true) (eqb-true x c e) h) ∙ p.no_put))
+        absurd (true≢false (sym (subst (λ y. is_put_m (acted events.Write 0 next sent (line.part y)).look.request
+        ≡ true) (eqb-true x c e) h) ∙ p.no_put))
     put p alone x below owns false e h =
-        absurd (true≢false (sym (and_from _ _ owns h) ∙ (claimless cores line roles c x coherent alone below (eqb-false x c e)).put))
+        absurd (true≢false (sym (and_from _ _ owns h) ∙ (claimless cores line roles c x coherent alone below
+        (eqb-false x c e)).put))
 
-    go : Performs (near_of line roles c) (line.part c).look next sent → Alone cores line roles c → (gives homes puts : Bool)
+    go : Performs (near_of line roles c) (line.part c).look next sent → Alone cores line roles c
+        → (gives homes puts : Bool)
         → gives ≡ false → homes ≡ false → puts ≡ false
         → IsCurrent cores
-        (record line { home = homes || line.home; part = λ x. change_if (gives && x == (line.part c).names) given (written_part line c next sent x) })
+        (record line {
+          home = homes || line.home;
+          part = λ x. change_if (gives && x == (line.part c).names) given
+              (written_part line c next sent x);
+        })
         (record {
           copy = λ x. if x == c then written else blocks.copy x;
           arriving = λ x. if gives && x == (line.part c).names then blocks.copy c else blocks.arriving x;

@@ -189,7 +189,8 @@ put_fits state request put_ack =
 -- An Inv finds a row, now or after the data.
 unfoldable pub inv_fits : CopyState → Incoming → Bool → Bool
 inv_fits state incoming inv =
-    inv implies (is_shared_copy state || (is_writing state && is_readable state) || is_dropped state || (is_reading state && is_shared_data incoming))
+    inv implies (is_shared_copy state || (is_writing state && is_readable state) || is_dropped state
+    || (is_reading state && is_shared_data incoming))
 
 -- A core owes one Inv-Ack at most, and the keeper none.
 unfoldable pub debt_fits : Bool → Bool → Bool → Bool
@@ -201,15 +202,18 @@ directory_fits directory home owner = (home implies is_awaited directory) && (ow
 
 -- Who owns the line or is asked for it was granted it, and nobody is asked twice.
 unfoldable pub owner_fits : Look → Bool → Bool
-owner_fits look owner = (owner implies granted look && is_no_forward look.forward) && (not (is_no_forward look.forward) implies granted look)
+owner_fits look owner = (owner implies granted look && is_no_forward look.forward)
+    && (not (is_no_forward look.forward) implies granted look)
 
 -- A holder is the keeper, and while there is one the home copy isn't current.
 unfoldable pub holder_fits : Look → DirState → Bool → Bool → Bool
-holder_fits look directory home keeper = holder look implies (keeper && not home && (is_modified directory || is_awaited directory))
+holder_fits look directory home keeper = holder look implies (keeper && not home
+    && (is_modified directory || is_awaited directory))
 
 -- Who reads is the holder, is about to be invalidated, or is known to the directory.
 unfoldable pub reader_fits : Look → DirState → Bool → Bool → Bool
-reader_fits look directory home sharer = comes look implies (holder look || look.inv || (is_open directory home && sharer))
+reader_fits look directory home sharer = comes look implies (holder look || look.inv
+    || (is_open directory home && sharer))
 
 -- An Inv can be sent to every sharer.
 unfoldable pub sharer_fits : Look → DirState → Bool → Bool → Bool

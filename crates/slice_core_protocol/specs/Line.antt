@@ -50,8 +50,10 @@ pub record Line : Type 0 where
   pub home : Bool
   pub part : ℕ → Part
 
--- Parts that a proof keeps in mind, and no message carries: the one core that may hold the line's data or have them on the
--- way, so that every Inv is due to it; while a block is on its way home, the core that is asked for it and the core that
+-- Parts that a proof keeps in mind, and no message carries: the one core that may hold the line's data or have them on
+-- the
+-- way, so that every Inv is due to it; while a block is on its way home, the core that is asked for it and the core
+-- that
 -- asks; and for each core who forwards to it.
 pub record Roles : Type 0 where
   pub keeper : ℕ

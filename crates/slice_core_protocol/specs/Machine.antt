@@ -1,4 +1,5 @@
--- The machine: one line with any number of cores. A step takes one row of one of the two tables, whose event is at hand.
+-- The machine: one line with any number of cores. A step takes one row of one of the two tables, whose event is at
+-- hand.
 use Rattle.std.specs.Prelude.{◌≡◌, ◌<◌, ℕ, ◌+◌, ◌==◌, ◌&&◌, ◌||◌, Bool, true, false, not, Option, None, if◌then◌else◌, IsTrue}
 use Rattle.address_map.specs.declared.address.CoreId.{CoreId}
 use Rattle.address_map.specs.declared.block.Block.{Block}
@@ -69,7 +70,10 @@ turned event next sent look =
 -- The part after the row. Acknowledgements are counted as long as a miss is outstanding.
 abbrev pub acted : CacheEvent → ℕ → CopyState → CacheSends → Part → Part
 acted event more next sent part =
-    record part { look = turned event next sent part.look; counted = if is_waiting next then part.counted + more else 0 }
+    record part {
+      look = turned event next sent part.look;
+      counted = if is_waiting next then part.counted + more else 0;
+    }
 
 -- The change, where the test holds.
 abbrev pub change_if : Bool → (Part → Part) → Part → Part
@@ -127,17 +131,21 @@ IsWithin cores asks.DataHome = Unit {0}
 
 -- What the requester is sent.
 abbrev pub answered : DirSends → Part → Part
-answered (answers.Data acks) part = record part { look = record part.look { request = no_request; incoming = shared_data }; wants = acks }
+answered (answers.Data acks) part =
+    record part { look = record part.look { request = no_request; incoming = shared_data }; wants = acks }
 answered (answers.DataAndInv acks invalidated) part =
     record part { look = record part.look { request = no_request; incoming = shared_data }; wants = acks }
-answered answers.DataE part = record part { look = record part.look { request = no_request; incoming = only_data }; wants = 0 }
+answered answers.DataE part =
+    record part { look = record part.look { request = no_request; incoming = only_data }; wants = 0 }
 answered answers.PutAck part = record part { look = record part.look { request = no_request; put_ack = true } }
 answered _ part = record part { look = record part.look { request = no_request } }
 
 -- A forwarded request in the core's name.
 abbrev pub forwarded : DirSends → ℕ → Part → Part
-forwarded (answers.FwdGetS owner) core part = record part { look = record part.look { forward = fwd_get_s }; names = core }
-forwarded (answers.FwdGetM owner) core part = record part { look = record part.look { forward = fwd_get_m }; names = core }
+forwarded (answers.FwdGetS owner) core part =
+    record part { look = record part.look { forward = fwd_get_s }; names = core }
+forwarded (answers.FwdGetM owner) core part =
+    record part { look = record part.look { forward = fwd_get_m }; names = core }
 forwarded _ core part = part
 
 -- An Inv in the core's name.
@@ -177,11 +185,12 @@ pub data Step (exclusive : Bool) (cores : ℕ) (line : Line) : Type 0 where
   -- a core takes the Inv-Ack of another
   count : (core from : ℕ) (next : CopyState) (sent : CacheSends) → core < cores → from < cores
       → IsTrue (stands_ack (line.part from) core)
-      → Cache.row_of (line.part core).look.state (events.InvAck (line.part core).wants (line.part core).counted) ≡ rows.Go next sent
+      → Cache.row_of (line.part core).look.state (events.InvAck (line.part core).wants (line.part core).counted)
+      ≡ rows.Go next sent
       → Step exclusive cores line
   -- the directory serves a request, or takes the block that comes home
-  serve : (event : DirEvent) (home : Block) (state : DirState) (owner : Option CoreId) (sharers : ℕ) (sent : DirSends) (writes : Bool)
-      → IsWithin cores event → IsTrue (is_asked_for line event)
+  serve : (event : DirEvent) (home : Block) (state : DirState) (owner : Option CoreId) (sharers : ℕ) (sent : DirSends)
+      (writes : Bool) → IsWithin cores event → IsTrue (is_asked_for line event)
       → Directory.row_of exclusive (entry_of line home) event ≡ replies.Go state owner sharers sent writes
       → Step exclusive cores line
 
@@ -189,14 +198,23 @@ pub data Step (exclusive : Bool) (cores : ℕ) (line : Line) : Type 0 where
 abbrev pub after : {exclusive : Bool} {cores : ℕ} {line : Line} → Step exclusive cores line → Line
 after {line = line} (turn core event next sent within here row) = after_turn line core event next sent
 after {line = line} (count core from next sent within sender here row) = after_ack line core from next sent
-after {line = line} (serve event home state owner sharers sent writes within here row) = after_service line event state owner sharers sent
+after {line = line} (serve event home state owner sharers sent writes within here row) =
+    after_service line event state owner sharers sent
 
 -- ---- runs
 
 -- A core that has nothing of the line, and no message.
 abbrev pub idle : Part
 idle = record {
-  look = record { state = states.I; request = no_request; incoming = no_data; inv = false; forward = no_forward; put_ack = false; sent = false };
+  look = record {
+    state = states.I;
+    request = no_request;
+    incoming = no_data;
+    inv = false;
+    forward = no_forward;
+    put_ack = false;
+    sent = false;
+  };
   owes_to = 0;
   names = 0;
   wants = 0;
@@ -210,4 +228,5 @@ first = record { directory = dirs.I; owner = None; sharers = 0; home = false; pa
 -- What the line can come to, by any steps in any order.
 pub data Reached (exclusive : Bool) (cores : ℕ) : Line → Type 0 where
   beginning : Reached exclusive cores first
-  further : {line : Line} → Reached exclusive cores line → (step : Step exclusive cores line) → Reached exclusive cores (after step)
+  further : {line : Line} → Reached exclusive cores line → (step : Step exclusive cores line)
+      → Reached exclusive cores (after step)

@@ -22,7 +22,7 @@ use Rattle.directory_table.specs.declared.row.DirSends.{DirSends}
 use Rattle.directory_table.specs.declared.state.DirState.{DirState}
 use Rattle.slice_core_protocol.specs.Fit.{is_no_data, is_no_forward, is_no_request}
 use Rattle.slice_core_protocol.specs.Line.{Line, Look}
-use Rattle.slice_core_protocol.specs.Machine.{IsWithin, entry_of, is_asked_for, stands, stands_ack}
+use Rattle.slice_core_protocol.specs.Machine.{IsWithin, Reached, entry_of, is_asked_for, stands, stands_ack}
 
 -- ---- one writer, or only readers
 
@@ -83,20 +83,24 @@ pub record HasRoomAtTurn (cores : ℕ) (line : Line) (core : ℕ) (sent : CacheS
 
 -- Each channel that a row of the directory sends to has room, and what is put there overtakes nothing.
 pub record HasRoomAtService (cores : ℕ) (line : Line) (event : DirEvent) (sent : DirSends) : Type 0 where
-  pub data_channel : IsTrue (DirectoryLaw.sends_data sent) → IfSome (requester event) (λ core. IsTrue (is_no_data (line.part core.0).look.incoming))
-  pub put_ack : IsTrue (acknowledges_put sent) → IfSome (requester event) (λ core. IsTrue (has_room_for_put_ack (line.part core.0).look))
+  pub data_channel : IsTrue (DirectoryLaw.sends_data sent) → IfSome (requester event)
+      (λ core. IsTrue (is_no_data (line.part core.0).look.incoming))
+  pub put_ack : IsTrue (acknowledges_put sent) → IfSome (requester event)
+      (λ core. IsTrue (has_room_for_put_ack (line.part core.0).look))
   pub named : IfSome (forwarded_to sent) (λ owner. owner.0 < cores)
   pub forward : IfSome (forwarded_to sent) (λ owner. IsTrue (has_room_for_forward (line.part owner.0).look))
   pub inv : (core : ℕ) → core < cores → IsTrue (is_sent_inv sent core) → IsTrue (has_room_for_inv (line.part core).look)
 
--- Every step finds room for what it sends: so one place for each kind of message, in this order, is a channel. An Inv-Ack's
--- row sends nothing.
+-- Every step finds room for what it sends: so one place for each kind of message, in this order, is a channel. The row of
+-- an Inv-Ack sends nothing.
 pub record HasRoom (exclusive : Bool) (cores : ℕ) (line : Line) : Type 0 where
-  pub turn : (c : ℕ) (event : CacheEvent) (next : CopyState) (sent : CacheSends) → c < cores → IsTrue (stands (line.part c) event)
+  pub turn : (c : ℕ) (event : CacheEvent) (next : CopyState) (sent : CacheSends) → c < cores
+      → IsTrue (stands (line.part c) event)
       → Cache.row_of (line.part c).look.state event ≡ rows.Go next sent → HasRoomAtTurn cores line c sent
   pub ack : (state next : CopyState) (n k : ℕ) (sent : CacheSends)
       → Cache.row_of state (events.InvAck n k) ≡ rows.Go next sent → sent ≡ sends.Nothing
-  pub serve : (event : DirEvent) (home : Block) (state : DirState) (owner : Option CoreId) (sharers : ℕ) (sent : DirSends) (writes : Bool)
+  pub serve : (event : DirEvent) (home : Block) (state : DirState) (owner : Option CoreId) (sharers : ℕ)
+      (sent : DirSends) (writes : Bool)
       → IsWithin cores event → IsTrue (is_asked_for line event)
       → Directory.row_of exclusive (entry_of line home) event ≡ replies.Go state owner sharers sent writes
       → HasRoomAtService cores line event sent
@@ -116,10 +120,23 @@ NothingIsEarly cores line = (c : ℕ) → c < cores → IsNotEarly (line.part c)
 -- A core waits for nothing, and no message of its own or for it waits.
 abbrev pub is_still : Look → Bool
 is_still look =
-    is_no_request look.request && is_no_data look.incoming && not look.inv && is_no_forward look.forward && not look.put_ack
-    && not look.sent && not (is_waiting look.state) && not (is_leaving look.state)
+    is_no_request look.request && is_no_data look.incoming && not look.inv && is_no_forward look.forward
+    && not look.put_ack && not look.sent && not (is_waiting look.state) && not (is_leaving look.state)
 
 -- Where nothing is in flight, the directory waits for nothing, and who stands as the owner has the only copy.
 pub record IsSettled (cores : ℕ) (line : Line) : Type 0 where
-  pub not_awaited : IsFalse line.home → ((c : ℕ) → c < cores → IsTrue (is_still (line.part c).look)) → IsFalse (is_awaited line.directory)
-  pub owner : IfSome line.owner (λ owner. IsTrue (is_still (line.part owner.0).look) → IsTrue (is_writer (line.part owner.0).look.state))
+  pub not_awaited : IsFalse line.home → ((c : ℕ) → c < cores → IsTrue (is_still (line.part c).look))
+      → IsFalse (is_awaited line.directory)
+  pub owner : IfSome line.owner (λ owner. IsTrue (is_still (line.part owner.0).look)
+      → IsTrue (is_writer (line.part owner.0).look.state))
+
+-- ---- the machine moves
+
+-- Some run of two cores makes one of them a writer.
+abbrev pub CanBeWritten : Bool → Type 0
+CanBeWritten exclusive = (line : Line) × Reached exclusive 2 line × IsTrue (is_writer (line.part 0).look.state)
+
+-- Some run of two cores lets both of them read.
+abbrev pub CanBeRead : Bool → Type 0
+CanBeRead exclusive = (line : Line) × Reached exclusive 2 line × IsTrue (is_readable (line.part 0).look.state)
+    × IsTrue (is_readable (line.part 1).look.state)

@@ -15,7 +15,8 @@ use Rattle.slice_core_protocol.specs.Fit.{is_counting, is_no_data, is_put_ack_fi
 use Rattle.slice_core_protocol.specs.Line.{Line, Look}
 use Rattle.slice_core_protocol.specs.Machine.{Step, after, count, first, serve, turn}
 
--- The block of each core's copy, of the data on their way to it and of its PutM; the home copy, and the block on its way home.
+-- The block of each core's copy, of the data on their way to it and of its PutM; the home copy, and the block on its
+-- way home.
 pub record Blocks : Type 0 where
   pub copy : ℕ → Block
   pub arriving : ℕ → Block
@@ -34,26 +35,36 @@ brought (asks.PutM core) blocks = blocks.put core.0
 brought asks.DataHome blocks = blocks.mail
 brought _ blocks = blocks.home
 
+-- The copy's block after the row: what is written, the data that came, or the block as it was.
+abbrev pub copied : CacheEvent → CopyState → ℕ → Block → Blocks → Block
+copied event next core written blocks =
+    if performs event next then written
+    else if brings_data event then blocks.arriving core
+    else blocks.copy core
+
 -- The blocks after a step, where a write that it performs leaves the written block.
-abbrev pub blocks_after : {exclusive : Bool} {cores : ℕ} {line : Line} → Step exclusive cores line → Block → Blocks → Blocks
+abbrev pub blocks_after : {exclusive : Bool} {cores : ℕ} {line : Line} → Step exclusive cores line → Block → Blocks
+    → Blocks
 blocks_after {line = line} (turn core event next sent within here row) written blocks = record {
-  copy = λ other.
-      if other == core then (if performs event next then written else if brings_data event then blocks.arriving core else blocks.copy core)
-      else blocks.copy other;
-  arriving = λ other. if sends_data sent && other == (line.part core).names then blocks.copy core else blocks.arriving other;
+  copy = λ other. if other == core then copied event next core written blocks else blocks.copy other;
+  arriving = λ other.
+      if sends_data sent && other == (line.part core).names then blocks.copy core else blocks.arriving other;
   put = λ other. if sends_put_m sent && other == core then blocks.copy core else blocks.put other;
   home = blocks.home;
   mail = if sends_home sent then blocks.copy core else blocks.mail;
 }
 blocks_after (count core from next sent within sender here row) written blocks = blocks
 blocks_after (serve event home state owner sharers sent writes within here row) written blocks = record blocks {
-  arriving = λ other. if DirectoryLaw.sends_data sent && is_named (requester event) other then blocks.home else blocks.arriving other;
+  arriving = λ other.
+      if DirectoryLaw.sends_data sent && is_named (requester event) other then blocks.home else blocks.arriving other;
   home = if writes then brought event blocks else blocks.home;
 }
 
 -- The newest block after a step: what the last write left.
-abbrev pub newest_after : {exclusive : Bool} {cores : ℕ} {line : Line} → Step exclusive cores line → Block → Block → Block
-newest_after (turn core event next sent within here row) written newest = if performs event next then written else newest
+abbrev pub newest_after : {exclusive : Bool} {cores : ℕ} {line : Line} → Step exclusive cores line → Block → Block
+    → Block
+newest_after (turn core event next sent within here row) written newest =
+    if performs event next then written else newest
 newest_after (count core from next sent within sender here row) written newest = newest
 newest_after (serve event home state owner sharers sent writes within here row) written newest = newest
 
@@ -64,11 +75,16 @@ pub data ReachedWith (exclusive : Bool) (cores : ℕ) : Line → Blocks → Bloc
       → (step : Step exclusive cores line) → (written : Block)
       → ReachedWith exclusive cores (after step) (blocks_after step written blocks) (newest_after step written newest)
 
+-- The run with some blocks.
+abbrev pub HasBlocks : Bool → ℕ → Line → Type 0
+HasBlocks exclusive cores line = (blocks : Blocks) × (newest : Block) × ReachedWith exclusive cores line blocks newest
+
 -- ---- which blocks are the newest
 
 -- The core has the newest block: it may read it, or has it as the only copy and hasn't given it on.
 unfoldable pub has_newest : Look → Bool
-has_newest look = is_readable look.state || is_counting look.state || (is_written_back look.state && not (is_put_ack_first look))
+has_newest look = is_readable look.state || is_counting look.state
+    || (is_written_back look.state && not (is_put_ack_first look))
 
 -- The home copy is the newest block.
 abbrev pub is_at_home : DirState → Bool
@@ -78,6 +94,7 @@ is_at_home directory = is_idle directory || is_shared directory
 pub record IsCurrent (cores : ℕ) (line : Line) (blocks : Blocks) (newest : Block) : Type 0 where
   pub copy : (c : ℕ) → c < cores → IsTrue (has_newest (line.part c).look) → blocks.copy c ≡ newest
   pub arriving : (c : ℕ) → c < cores → IsFalse (is_no_data (line.part c).look.incoming) → blocks.arriving c ≡ newest
-  pub put : (c : ℕ) → c < cores → IsTrue (is_named line.owner c) → IsTrue (is_put_m (line.part c).look.request) → blocks.put c ≡ newest
+  pub put : (c : ℕ) → c < cores → IsTrue (is_named line.owner c) → IsTrue (is_put_m (line.part c).look.request)
+      → blocks.put c ≡ newest
   pub home : IsTrue (is_at_home line.directory) → blocks.home ≡ newest
   pub mail : IsTrue line.home → blocks.mail ≡ newest

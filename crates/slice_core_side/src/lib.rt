@@ -21,3 +21,5 @@ mod copy;
 mod perform;
 mod side;
 mod tags;
+#[cfg(test)]
+mod tests;

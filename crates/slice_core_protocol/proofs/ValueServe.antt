@@ -184,8 +184,7 @@ back_put (answers.DataAndInv acks set) core x asks p h = go (has set x) asks h
 -- ---- a row
 
 -- Data leave the home copy only where it is current; who owns the line afterwards did, or asked; the home copy goes on
--- being
--- current, or is written with the owner's block or the one that comes home.
+-- being current, or is written with the owner's block or the one that comes home.
 record Moves (directory : DirState) (owner : Option CoreId) (event : DirEvent) (state : DirState)
     (owns : Option CoreId) (sent : DirSends) (writes : Bool) : Type 0 where
   gives : sends_data sent ≡ true → is_at_home directory ≡ true

@@ -49,6 +49,7 @@ pub record AreCores (cores : ℕ) (roles : Roles) : Type 0 where
   pub server : roles.server < cores
   pub asker : roles.asker < cores
 
+-- What every step keeps: each core fits, and counts, names and owes as it should.
 pub record IsCoherent (cores : ℕ) (line : Line) (roles : Roles) : Type 0 where
   pub fit : (core : ℕ) → core < cores → is_fit (near_of line roles core) (line.part core).look ≡ true
   pub counted : (core : ℕ) → core < cores → IsCounted (line.part core)

@@ -21,51 +21,63 @@ abbrev pub ◌iff◌ : Bool → Bool → Bool
 infixr 20 ◌iff◌
 -- ---- requests, data and forwarded requests by kind
 
+-- The request channel is empty.
 abbrev pub is_no_request : Request → Bool
 is_no_request no_request = true
 is_no_request _ = false
 
+-- GetS waits: the core asks to read.
 abbrev pub is_get_s : Request → Bool
 is_get_s get_s = true
 is_get_s _ = false
 
+-- GetM waits: the core asks to write.
 abbrev pub is_get_m : Request → Bool
 is_get_m get_m = true
 is_get_m _ = false
 
+-- PutS waits: a shared copy was evicted.
 abbrev pub is_put_s : Request → Bool
 is_put_s put_s = true
 is_put_s _ = false
 
+-- PutM waits: the only copy was evicted.
 abbrev pub is_put_m : Request → Bool
 is_put_m put_m = true
 is_put_m _ = false
 
+-- A Put waits.
 abbrev pub is_put : Request → Bool
 is_put put_s = true
 is_put put_m = true
 is_put _ = false
 
+-- The data channel is empty.
 abbrev pub is_no_data : Incoming → Bool
 is_no_data no_data = true
 is_no_data _ = false
 
+-- Data wait.
 abbrev pub is_shared_data : Incoming → Bool
 is_shared_data shared_data = true
 is_shared_data _ = false
 
+-- Data-E wait.
 abbrev pub is_only_data : Incoming → Bool
 is_only_data only_data = true
 is_only_data _ = false
 
+-- No forwarded request waits for the core.
 abbrev pub is_no_forward : Forward → Bool
 is_no_forward no_forward = true
 is_no_forward _ = false
 
+-- Fwd-GetS waits: another core reads.
 abbrev pub is_fwd_get_s : Forward → Bool
 is_fwd_get_s fwd_get_s = true
 is_fwd_get_s _ = false
 
+-- Fwd-GetM waits: another core writes.
 abbrev pub is_fwd_get_m : Forward → Bool
 is_fwd_get_m fwd_get_m = true
 is_fwd_get_m _ = false
@@ -140,10 +152,11 @@ clean look =
     || (is_dropped look.state && is_put look.request)
     || (is_reading look.state && is_shared_data look.incoming)
 
--- The core's request was taken, and it waits for data to read; to write.
+-- The core's request to read was taken, and its data are not on their way.
 unfoldable pub waits_to_read : Look → Bool
 waits_to_read look = is_reading look.state && is_no_request look.request && is_no_data look.incoming
 
+-- The core's request to write was taken, and its data are not on their way.
 unfoldable pub waits_to_write : Look → Bool
 waits_to_write look = is_writing look.state && is_no_request look.request && is_no_data look.incoming
 

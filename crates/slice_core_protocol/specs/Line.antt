@@ -46,15 +46,15 @@ pub record Part : Type 0 where
 pub record Line : Type 0 where
   pub directory : DirState
   pub owner : Option CoreId
+  -- the set of sharers, as the directory's table holds it
   pub sharers : ℕ
+  -- a block waits in the home channel
   pub home : Bool
   pub part : ℕ → Part
 
 -- Parts that a proof keeps in mind, and no message carries: the one core that may hold the line's data or have them on
--- the
--- way, so that every Inv is due to it; while a block is on its way home, the core that is asked for it and the core
--- that
--- asks; and for each core who forwards to it.
+-- the way, so that every Inv is due to it; while a block is on its way home, the core that is asked for it and the
+-- core that asks; and for each core who forwards to it.
 pub record Roles : Type 0 where
   pub keeper : ℕ
   pub server : ℕ
@@ -71,6 +71,7 @@ pub record Near : Type 0 where
   pub server : Bool
   pub asker : Bool
 
+-- The line's directory as this core sees it, with its own roles.
 abbrev pub near_of : Line → Roles → ℕ → Near
 near_of line roles core = record {
   directory = line.directory;

@@ -38,6 +38,7 @@ abbrev pub is_entry : Row → Bool
 is_entry rows.NoEntry = false
 is_entry _ = true
 
+-- The same of the directory's table.
 abbrev pub is_directory_entry : DirRow → Bool
 is_directory_entry replies.NoEntry = false
 is_directory_entry _ = true
@@ -54,7 +55,8 @@ pub record HasRows (exclusive : Bool) (cores : ℕ) (line : Line) : Type 0 where
   pub turn : (c : ℕ) (event : CacheEvent) → c < cores → IsTrue (is_message event) → IsTrue (stands (line.part c) event)
       → IsTrue (is_entry (Cache.row_of (line.part c).look.state event))
   pub ack : (c d : ℕ) → c < cores → d < cores → IsTrue (stands_ack (line.part d) c)
-      → IsTrue (is_entry (Cache.row_of (line.part c).look.state (events.InvAck (line.part c).wants (line.part c).counted)))
+      → IsTrue (is_entry
+      (Cache.row_of (line.part c).look.state (events.InvAck (line.part c).wants (line.part c).counted)))
   pub ack_for_core : (d : ℕ) → d < cores → IsTrue (line.part d).look.sent → (line.part d).owes_to < cores
   pub serve : (event : DirEvent) (home : Block) → IsWithin cores event → IsTrue (is_asked_for line event)
       → IsTrue (is_directory_entry (Directory.row_of exclusive (entry_of line home) event))
@@ -91,8 +93,8 @@ pub record HasRoomAtService (cores : ℕ) (line : Line) (event : DirEvent) (sent
   pub forward : IfSome (forwarded_to sent) (λ owner. IsTrue (has_room_for_forward (line.part owner.0).look))
   pub inv : (core : ℕ) → core < cores → IsTrue (is_sent_inv sent core) → IsTrue (has_room_for_inv (line.part core).look)
 
--- Every step finds room for what it sends: so one place for each kind of message, in this order, is a channel. The row of
--- an Inv-Ack sends nothing.
+-- Every step finds room for what it sends: so one place for each kind of message, in this order, is a channel. The row
+-- of an Inv-Ack sends nothing.
 pub record HasRoom (exclusive : Bool) (cores : ℕ) (line : Line) : Type 0 where
   pub turn : (c : ℕ) (event : CacheEvent) (next : CopyState) (sent : CacheSends) → c < cores
       → IsTrue (stands (line.part c) event)
@@ -112,6 +114,7 @@ pub record IsNotEarly (look : Look) : Type 0 where
   pub data_taken : IsFalse (is_no_data look.incoming) → IsTrue (is_no_request look.request)
   pub put_taken : IsTrue look.put_ack → IsTrue (is_no_request look.request)
 
+-- That is so of every core.
 abbrev pub NothingIsEarly : ℕ → Line → Type 0
 NothingIsEarly cores line = (c : ℕ) → c < cores → IsNotEarly (line.part c).look
 

@@ -5,8 +5,8 @@
 //! each core the state of its copy, its channels and its count of acknowledgements. A step (`specs/Machine.antt`) takes
 //! one row of one of the two tables, `cache_table`'s or `directory_table`'s, whose event is at hand: it sets the state
 //! that the row says, takes the message, and puts what the row sends into its channels. The machine starts with nothing
-//! cached, and takes any steps in any order. `specs/Values.antt` moves the blocks along. What is promised of all that the
-//! machine reaches stands in `specs/Promise.antt`.
+//! cached, and takes any steps in any order. `specs/Values.antt` moves the blocks along. What is promised of all that
+//! the machine reaches stands in `specs/Promise.antt`.
 //!
 //! The functions here do nothing and cost nothing: each has a theorem for its contract. The proofs rest on what
 //! `specs/Coherent.antt` says of a line and `specs/Fit.antt` of each core, which every step keeps.

@@ -25,8 +25,10 @@ more-front_loads targets =
     let long = length-drop front targets in
     ap (λ n. nat_lt n (length targets)) (length-prefix_len is_load targets)
     ∙ elim (cases_lt front (length targets)) [
-      | inl more ↦ lt-ltb front (length targets) more ∙ sym (lt-ltb 0 (length (behind_loads targets)) (omega (arith, long)))
-      | inr all ↦ le-ltb front (length targets) all ∙ sym (le-ltb 0 (length (behind_loads targets)) (omega (arith, long)))
+      | inl more ↦ lt-ltb front (length targets) more
+          ∙ sym (lt-ltb 0 (length (behind_loads targets)) (omega (arith, long)))
+      | inr all ↦ le-ltb front (length targets) all
+          ∙ sym (le-ltb 0 (length (behind_loads targets)) (omega (arith, long)))
     ]
     ∙ is_waited-some (behind_loads targets)
 
@@ -52,9 +54,11 @@ passing (target ∷ targets) = by (is_load target) (passing targets)
   where
     by : (b : Bool) → (prefix_len is_load targets == length targets) ≡ list_all is_load targets →
         (cond b (1 + prefix_len is_load targets) 0 == length (target ∷ targets)) ≡ (b && list_all is_load targets)
-    by true rest = one_more _ (length (target ∷ targets)) (prefix_len is_load targets) (length targets) refl (omega arith) ∙ rest
+    by true rest = one_more _ (length (target ∷ targets)) (prefix_len is_load targets)
+        (length targets) refl (omega arith) ∙ rest
     by false rest = ne_eqb 0 (length (target ∷ targets)) (omega arith)
 
 -- all targets are loads exactly where as many loads stand in front as there are targets
-pub all-front_loads : (targets : List Target) → (length (front_loads targets) == length targets) ≡ list_all is_load targets
+pub all-front_loads : (targets : List Target) →
+    (length (front_loads targets) == length targets) ≡ list_all is_load targets
 all-front_loads targets = ap (λ n. n == length targets) (length-prefix_len is_load targets) ∙ passing targets

@@ -26,7 +26,7 @@ use Rattle.slice_core_side.specs.Copy.{found_in, no_copy, missing_copy, leaving_
 use Rattle.slice_core_side.specs.Kept.{IsKept, stands_in_array}
 use Rattle.slice_core_side.specs.Perform.{block_after, performed_in, left_in, settled_state}
 use Rattle.slice_core_side.specs.Side.{SideView, copy_of, array_copy, new_side}
-use Rattle.slice_core_side.specs.Steps.{with_copy, without_line_in, used_by, settled_copy, next_by, victim_for, after_hit, after_join, after_open, after_evict, after_draw, after_replace, after_advance, after_change, after_settle, after_hand}
+use Rattle.slice_core_side.specs.Steps.{with_copy, without_line_in, used_by, settled, settled_copy, evicted, next_by, victim_for, after_hit, after_join, after_open, after_evict, after_draw, after_replace, after_advance, after_change, after_settle, after_hand}
 use Rattle.slice_core_side.specs.declared.copy.CacheCopy.{CacheCopy}
 use Rattle.target_list.specs.Target.{no_target}
 use Rattle.target_list.specs.declared.target.Target.{Target}
@@ -45,7 +45,8 @@ some_passes test None passes = absurd passes
 some_passes test (Some x) passes = refl
 
 -- what passes is what is there
-passes_is : {X : Type 0} (test : X → Bool) (o : Option X) (d : X) → IsSomeAnd o (λ x. test x ≡ true) → test (unwrap_or o d) ≡ true
+passes_is : {X : Type 0} (test : X → Bool) (o : Option X) (d : X) → IsSomeAnd o (λ x. test x ≡ true) →
+    test (unwrap_or o d) ≡ true
 passes_is test None d passes = absurd passes
 passes_is test (Some x) d passes = passes
 
@@ -63,7 +64,8 @@ used_by-sound (target ∷ targets) array local sound = used_sound array local so
 -- ---- the states
 
 -- a line that may leave goes to a state in which it leaves
-leaves-by_eviction : (state : CopyState) → may_leave state ≡ true → is_leaving (next_by state (row_of state events.Eviction)) ≡ true
+leaves-by_eviction : (state : CopyState) → may_leave state ≡ true →
+    is_leaving (next_by state (row_of state events.Eviction)) ≡ true
 leaves-by_eviction states.S may = refl
 leaves-by_eviction states.M may = refl
 leaves-by_eviction states.E may = refl
@@ -78,7 +80,8 @@ leaves-by_eviction states.SI_A may = absurd (cc may)
 leaves-by_eviction states.II_A may = absurd (cc may)
 
 -- a copy that has settled stands in the array as before
-settled-stands : (state : CopyState) (left : List Target) → stands_in_array state ≡ true → stands_in_array (settled_state state left) ≡ true
+settled-stands : (state : CopyState) (left : List Target) → stands_in_array state ≡ true →
+    stands_in_array (settled_state state left) ≡ true
 settled-stands states.S [] stands = refl
 settled-stands states.S (target ∷ left) stands = refl
 settled-stands states.M left stands = refl
@@ -92,13 +95,6 @@ settled-stands states.SM_A left stands = refl
 settled-stands states.MI_A left stands = stands
 settled-stands states.SI_A left stands = stands
 settled-stands states.II_A left stands = stands
-
--- a copy that has settled: it performed what it allows of these targets
-abbrev pub settled : List Target → CacheCopy → CacheCopy
-settled targets copy =
-    let taken = performed_in copy.state targets in
-    let left = left_in copy.state targets in
-    settled_copy copy (block_after copy.block taken) (settled_state copy.state left)
 
 -- ---- steps that leave array and buffer alone
 
@@ -124,7 +120,8 @@ module _ (side : SideView) where
     leaving = λ other. rw same_buffer (kept.leaving other);
   }
 
-  pub kept-after_join : (request : Request) (misses : List Register) → IsKept side → IsKept (after_join side request misses)
+  pub kept-after_join : (request : Request) (misses : List Register) → IsKept side →
+      IsKept (after_join side request misses)
   kept-after_join request misses kept = kept_as (after_join side request misses) kept refl refl
 
   pub kept-after_draw : IsKept side → IsKept (after_draw side)
@@ -138,7 +135,8 @@ module _ (side : SideView) where
 module _ (side : SideView) (local : Local) (kept : IsKept side) (held : IsSome (array_at side.array local)) where
   -- the copy is the one in the array
   pub copy_of-held : copy_of side local ≡ array_copy side local
-  copy_of-held = ap (λ o. found_in o (buffer_at side.buffer.entries local.0)) (some_is (array_at side.array local) no_copy held)
+  copy_of-held = ap (λ o. found_in o (buffer_at side.buffer.entries local.0))
+      (some_is (array_at side.array local) no_copy held)
 
   -- the array holds another copy of the line
   pub changes-change : (copy : CacheCopy) → ChangesLine side (after_change side local copy) local (Some copy) None
@@ -186,7 +184,11 @@ module _ (side : SideView) (local : Local) (kept : IsKept side) (held : IsSome (
 
   pub changes-hit : (offset : ℕ) (op : Op) (next : CopyState) →
       ChangesLine side (after_hit side local offset op next) local
-      (Some (record (array_copy side local) { block = performed_on (array_copy side local).block offset op; state = next })) None
+      (Some (record (array_copy side local) {
+        block = performed_on (array_copy side local).block offset op;
+        state =
+            next;
+      })) None
   changes-hit offset op next =
       let copy : CacheCopy =
       record (array_copy side local) { block = performed_on (array_copy side local).block offset op; state = next } in
@@ -197,7 +199,11 @@ module _ (side : SideView) (local : Local) (kept : IsKept side) (held : IsSome (
       ≡ record (copy_of side local) { block = performed_on (copy_of side local).block offset op; state = next }
   copy_of-after_hit offset op next =
       copy_here side _ local _ _ (changes-hit offset op next)
-      ∙ ap (λ (copy : CacheCopy). record copy { block = performed_on copy.block offset op; state = next }) (sym copy_of-held)
+      ∙ ap (λ (copy : CacheCopy). record copy {
+        block = performed_on copy.block offset op;
+        state =
+            next;
+      }) (sym copy_of-held)
 
   pub copy_of-after_hit_other : (offset : ℕ) (op : Op) (next : CopyState) (other : Local) → other.0 ≢ local.0 →
       copy_of (after_hit side local offset op next) other ≡ copy_of side other
@@ -237,15 +243,19 @@ module _ (side : SideView) (local : Local) (kept : IsKept side) (held : IsSome (
   -- ---- it has come to its state, and what it allows was performed
 
   pub changes-settle : (number : ℕ) (misses : List Register) →
-      ChangesLine side (after_settle side local number misses) local (Some (settled (targets_of side.misses local.0) (array_copy side local))) None
+      ChangesLine side (after_settle side local number misses) local (Some (settled (targets_of side.misses local.0)
+      (array_copy side local))) None
   changes-settle number misses =
       changes_used (performed_in (array_copy side local).state (targets_of side.misses local.0))
-      (settled (targets_of side.misses local.0) (array_copy side local)) (after_settle side local number misses) refl refl
+      (settled (targets_of side.misses local.0) (array_copy side local))
+      (after_settle side local number misses) refl refl
 
   pub copy_of-after_settle : (number : ℕ) (misses : List Register) →
-      copy_of (after_settle side local number misses) local ≡ settled (targets_of side.misses local.0) (copy_of side local)
+      copy_of (after_settle side local number misses) local
+      ≡ settled (targets_of side.misses local.0) (copy_of side local)
   copy_of-after_settle number misses =
-      copy_here side _ local _ _ (changes-settle number misses) ∙ ap (settled (targets_of side.misses local.0)) (sym copy_of-held)
+      copy_here side _ local _ _ (changes-settle number misses)
+      ∙ ap (settled (targets_of side.misses local.0)) (sym copy_of-held)
 
   pub copy_of-after_settle_other : (number : ℕ) (misses : List Register) (other : Local) → other.0 ≢ local.0 →
       copy_of (after_settle side local number misses) other ≡ copy_of side other
@@ -304,10 +314,6 @@ module _ (side : SideView) (local : Local) (kept : IsKept side) (absent : array_
 
 -- ---- a line that leaves
 
--- what an eviction makes of a copy
-abbrev pub evicted : CacheCopy → Leaving
-evicted copy = record { block = copy.block; state = next_by copy.state (row_of copy.state events.Eviction) }
-
 module _ (side : SideView) (local : Local) (kept : IsKept side) (leaves : CanLeave side local) where
   pub changes-evict : ChangesLine side (after_evict side local) local None (Some (evicted (array_copy side local)))
   changes-evict =
@@ -326,7 +332,8 @@ module _ (side : SideView) (local : Local) (kept : IsKept side) (leaves : CanLea
       copy_here side _ local _ _ changes-evict
       ∙ ap (λ (copy : CacheCopy). leaving_copy (evicted copy)) (sym (copy_of-held side local kept held))
 
-  pub copy_of-after_evict_other : (other : Local) → other.0 ≢ local.0 → copy_of (after_evict side local) other ≡ copy_of side other
+  pub copy_of-after_evict_other : (other : Local) → other.0 ≢ local.0 →
+      copy_of (after_evict side local) other ≡ copy_of side other
   copy_of-after_evict_other other apart = copy_other side _ local _ _ changes-evict other apart
 
   pub kept-after_evict : IsKept (after_evict side local)
@@ -483,7 +490,8 @@ module _ (side : SideView) (local : Local) (kept : IsKept side) where
 
 -- ---- a core that has asked for nothing
 
-no_slots : (sets ways index : ℕ) → (get_or (replicate sets (empty_set {V = CacheCopy} ways)) index (empty_set 0)).slots ≡ []
+no_slots : (sets ways index : ℕ) →
+    (get_or (replicate sets (empty_set {V = CacheCopy} ways)) index (empty_set 0)).slots ≡ []
 no_slots sets ways index =
     elim (cases_lt index sets) [
       | inl within ↦

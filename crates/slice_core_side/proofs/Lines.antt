@@ -12,7 +12,8 @@ use Rattle.writeback_buffer.specs.Buffer.{IsBuffer, held_at as buffer_at}
 use Rattle.writeback_buffer.specs.declared.entry.Leaving.{Leaving}
 
 -- the array holds this of the line now, and the buffer this; of every other line both hold what they held
-pub record ChangesLine (old new : SideView) (local : Local) (copy : Option CacheCopy) (leaving : Option Leaving) : Type 0 where
+pub record ChangesLine (old new : SideView) (local : Local) (copy : Option CacheCopy)
+    (leaving : Option Leaving) : Type 0 where
   pub in_array : array_at new.array local ≡ copy
   pub in_buffer : buffer_at new.buffer.entries local.0 ≡ leaving
   pub array_others : (other : Local) → other.0 ≢ local.0 → array_at new.array other ≡ array_at old.array other
@@ -33,7 +34,8 @@ module _ (old new : SideView) (local : Local) (copy : Option CacheCopy) (leaving
   -- the line's copy is the one that array and buffer hold, and every other is as it was
   pub copy_here : copy_of new local ≡ found_in copy leaving
   copy_here =
-      ap (λ o. found_in o (buffer_at new.buffer.entries local.0)) changes.in_array ∙ ap (found_in copy) changes.in_buffer
+      ap (λ o. found_in o (buffer_at new.buffer.entries local.0)) changes.in_array
+      ∙ ap (found_in copy) changes.in_buffer
 
   pub copy_other : (other : Local) → other.0 ≢ local.0 → copy_of new other ≡ copy_of old other
   copy_other other apart =
@@ -71,7 +73,8 @@ module _ (old new : SideView) (local : Local) (copy : Option CacheCopy) (leaving
                 (subst (P (array_at old.array other)) (sym (changes.buffer_others other apart)) (before other))
           ]
 
-      apart_in : (copy : Option CacheCopy) (leaving : Option Leaving) → FitsIn copy leaving → IsSome copy → leaving ≡ None
+      apart_in : (copy : Option CacheCopy) (leaving : Option Leaving) → FitsIn copy leaving → IsSome copy →
+          leaving ≡ None
       apart_in (Some c) (Some l) fits some = absurd fits
       apart_in (Some c) None fits some = refl
       apart_in None (Some l) fits some = absurd (cc some)

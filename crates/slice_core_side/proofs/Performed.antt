@@ -16,13 +16,17 @@ use Rattle.slice_core_side.specs.declared.tags.TagState.TheVariants as tags
 use Rattle.target_list.specs.declared.target.Target.{Target}
 
 -- what performing so many of a line's targets gives, as far as it is done
-pub record IsPerformed (first : ℕ) (core : CoreId) (line count done : ℕ) (old now : List Register) (block0 block : Block) (tags0 tags : List TagState) (log0 log : List Entry) : Type 0 where
+pub record IsPerformed (first : ℕ) (core : CoreId) (line count done : ℕ) (old now : List Register)
+    (block0 block : Block) (tags0 tags : List TagState) (log0 log : List Entry) : Type 0 where
   pub taken : TakesTargets old now line (take done (targets_of old line))
   pub enough : count ≤ done + length (targets_of now line)
   pub performable : All IsPerformable (targets_of now line)
-  pub block_is : block_after block (take (count - done) (targets_of now line)) ≡ block_after block0 (take count (targets_of old line))
-  pub tags_is : tags_after tags (length log) (take (count - done) (targets_of now line)) ≡ tags_after tags0 (length log0) (take count (targets_of old line))
-  pub log_is : log ++ entries_of core first block (take (count - done) (targets_of now line)) ≡ log0 ++ entries_of core first block0 (take count (targets_of old line))
+  pub block_is : block_after block (take (count - done) (targets_of now line))
+      ≡ block_after block0 (take count (targets_of old line))
+  pub tags_is : tags_after tags (length log) (take (count - done) (targets_of now line))
+      ≡ tags_after tags0 (length log0) (take count (targets_of old line))
+  pub log_is : log ++ entries_of core first block (take (count - done) (targets_of now line))
+      ≡ log0 ++ entries_of core first block0 (take count (targets_of old line))
   pub logged : length log ≡ length log0 + done
 
 -- what holds of all targets holds of the first and of the others
@@ -36,7 +40,8 @@ append-none : (log : List Entry) → log ++ [] ≡ log
 append-none log = append-nil log
 
 -- one more element of a list whose rest begins with it
-take-next : (xs : List Target) (d : ℕ) (x : Target) (rest : List Target) → xs ≡ take d xs ++ x ∷ rest → take (suc d) xs ≡ take d xs ++ x ∷ []
+take-next : (xs : List Target) (d : ℕ) (x : Target) (rest : List Target) → xs ≡ take d xs ++ x ∷ rest →
+    take (suc d) xs ≡ take d xs ++ x ∷ []
 take-next [] zero x rest h = cc
 take-next (y ∷ ys) zero x rest h = cc
 take-next [] (suc n) x rest h = cc
@@ -45,7 +50,8 @@ take-next (y ∷ ys) (suc n) x rest h =
     ap (λ zs. y ∷ zs) (take-next ys n x rest tail)
 
 -- one more target is performed
-pub performed-more : (first : ℕ) (core : CoreId) (line count done : ℕ) (old now new : List Register) (block0 block : Block)
+pub performed-more : (first : ℕ) (core : CoreId) (line count done : ℕ) (old now new : List Register)
+    (block0 block : Block)
     (tags0 states : List TagState) (log0 log : List Entry) (target : Target)
     → IsPerformed first core line count done old now block0 block tags0 states log0 log → done < count
     → TakesTargets now new line (target ∷ [])
@@ -58,9 +64,14 @@ performed-more first core line count done old now new block0 block tags0 states 
     let left : count - done ≡ suc n = omega arith in
     let begins : targets_of now line ≡ target ∷ rest = taken.here in
     let one : done + 1 ≡ suc done = omega arith in
-    let longer : length (log ++ entry_of core first block target ∷ []) ≡ length log + 1 = length_push log (entry_of core first block target) in
+    let longer : length (log ++ entry_of core first block target ∷ []) ≡ length log + 1 =
+    length_push log (entry_of core first block target) in
     record {
-      taken = rw (one, take-next (targets_of old line) done target rest (so_far.taken.here ∙ ap (λ ts. take done (targets_of old line) ++ ts) begins))
+      taken = rw (
+        one,
+        take-next (targets_of old line) done target rest (so_far.taken.here
+            ∙ ap (λ ts. take done (targets_of old line) ++ ts) begins),
+      )
           (takes_then old now new line (take done (targets_of old line)) (target ∷ []) so_far.taken taken);
       enough = let before = so_far.enough in let long = ap length begins in omega (arith, before, long);
       performable = All-tail _ _ (subst (All IsPerformable) begins so_far.performable);
@@ -75,7 +86,8 @@ pub next-performable : (now new : List Register) (line : ℕ) (target : Target) 
     → TakesTargets now new line (target ∷ []) → IsPerformable target
 next-performable now new line target all taken = All-head _ _ (subst (All IsPerformable) taken.here all)
 
-pub all-performed-block : (first : ℕ) (core : CoreId) (line count done : ℕ) (old now : List Register) (block0 block : Block)
+pub all-performed-block : (first : ℕ) (core : CoreId) (line count done : ℕ) (old now : List Register)
+    (block0 block : Block)
     (tags0 states : List TagState) (log0 log : List Entry)
     → IsPerformed first core line count done old now block0 block tags0 states log0 log → count ≤ done
     → block ≡ block_after block0 (take count (targets_of old line))
@@ -84,7 +96,8 @@ all-performed-block first core line count done old now block0 block tags0 states
     let none : count - done ≡ 0 = omega arith in
     rw none at so_far.block_is
 
-pub all-performed-tags : (first : ℕ) (core : CoreId) (line count done : ℕ) (old now : List Register) (block0 block : Block)
+pub all-performed-tags : (first : ℕ) (core : CoreId) (line count done : ℕ) (old now : List Register)
+    (block0 block : Block)
     (tags0 states : List TagState) (log0 log : List Entry)
     → IsPerformed first core line count done old now block0 block tags0 states log0 log → count ≤ done
     → states ≡ tags_after tags0 (length log0) (take count (targets_of old line))
@@ -93,7 +106,8 @@ all-performed-tags first core line count done old now block0 block tags0 states 
     let none : count - done ≡ 0 = omega arith in
     rw none at so_far.tags_is
 
-pub all-performed-log : (first : ℕ) (core : CoreId) (line count done : ℕ) (old now : List Register) (block0 block : Block)
+pub all-performed-log : (first : ℕ) (core : CoreId) (line count done : ℕ) (old now : List Register)
+    (block0 block : Block)
     (tags0 states : List TagState) (log0 log : List Entry)
     → IsPerformed first core line count done old now block0 block tags0 states log0 log → count ≤ done
     → log ≡ log0 ++ entries_of core first block0 (take count (targets_of old line))

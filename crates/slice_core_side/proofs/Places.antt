@@ -14,7 +14,8 @@ use Rattle.cache_array.specs.Victim.{ShareSet, NoneMayGo, IsVictim}
 use Rattle.cache_array.proofs.Held.{removed_other, removed_way}
 
 -- the place that a search answers is the first that passes
-placed : {X : Type 0} (p : X → Bool) (xs : List X) (place : ℕ) → position p xs ≡ Some place → position_or_len p xs ≡ place
+placed : {X : Type 0} (p : X → Bool) (xs : List X) (place : ℕ) → position p xs ≡ Some place →
+    position_or_len p xs ≡ place
 placed p xs place found = by (nat_lt (position_or_len p xs) (length xs)) found
   where
     by : (b : Bool) → cond b (Some (position_or_len p xs)) None ≡ Some place → position_or_len p xs ≡ place
@@ -40,7 +41,8 @@ set_within {V = V} array line place found =
     elim (cases_lt (set_index array line) (length array.sets)) [
       | inl within ↦ within
       | inr past ↦
-          let none : set_of array line ≡ empty_set 0 = get_or_past array.sets (set_index array line) (empty_set 0) past in
+          let none : set_of array line ≡ empty_set 0 =
+          get_or_past array.sets (set_index array line) (empty_set 0) past in
           let nowhere : None ≡ Some place = ap (λ (s : SetView V). position (holds line) s.slots) (sym none) ∙ found in
           cc
     ]
@@ -48,7 +50,8 @@ set_within {V = V} array line place found =
 -- a line that was found stands there still, once its value was changed
 pub written_there : {V P : Type 0} (array : ArrayView V P) (line : Local) (place : ℕ) (value : V) →
     position (holds line) (slots_at array line) ≡ Some place →
-    position (holds line) (slots_at (with_slots array line (after_write (slots_at array line) line value)) line) ≡ Some place
+    position (holds line) (slots_at (with_slots array line (after_write (slots_at array line) line value)) line)
+    ≡ Some place
 written_there {V = V} array line place value found =
     let slot : Slot V = record { line = line; value = value } in
     let left : SetView V = record (set_of array line) { slots = after_write (slots_at array line) line value } in
@@ -69,7 +72,8 @@ apart_by_held array line other absent held same =
 
 -- once a line of its set has left, a line that isn't held has a way
 pub stands_after : {V P : Type 0} (array : ArrayView V P) (line victim : Local) (test : V → Bool) → IsArray array →
-    held_at array line ≡ None → IsSomeAnd (held_at array victim) (λ value. test value ≡ true) → ShareSet array line victim →
+    held_at array line ≡ None → IsSomeAnd (held_at array victim) (λ value. test value ≡ true) →
+    ShareSet array line victim →
     (held_at (with_slots array victim (after_remove (slots_at array victim) victim)) line ≡ None)
     × HasWay (with_slots array victim (after_remove (slots_at array victim) victim)) line
 stands_after array line victim test sound absent goes shares =

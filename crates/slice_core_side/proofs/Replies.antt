@@ -25,7 +25,8 @@ marks-none = record {
         ]
 
 -- the tag names something else now, and the set has it or hasn't
-pub marks-put : (states : List TagState) (old new : ℕ) (tag : ℕ) (state : TagState) → MarksReplies states old → tag < 64 →
+pub marks-put : (states : List TagState) (old new : ℕ) (tag : ℕ) (state : TagState) → MarksReplies states old →
+    tag < 64 →
     has new tag ≡ is_performed state → ((other : ℕ) → other ≢ tag → has new other ≡ has old other) →
     MarksReplies (set states tag state) new
 marks-put states old new tag state marked below here others = record {
@@ -34,29 +35,34 @@ marks-put states old new tag state marked below here others = record {
       elim (cases_eq other tag) [
         | inl same ↦
             rw (same, get_or-set_same states tag state tags.Free (let long = marked.long in omega (arith, long))) here
-        | inr apart ↦ rw (get_or-set_other states tag other state tags.Free apart) (others other apart ∙ marked.marks other)
+        | inr apart ↦ rw (get_or-set_other states tag other state tags.Free apart) (others other apart
+            ∙ marked.marks other)
       ];
 }
 
-pub marks-with : (states : List TagState) (replies tag : ℕ) (state : TagState) → MarksReplies states replies → tag < 64 →
+pub marks-with : (states : List TagState) (replies tag : ℕ) (state : TagState) → MarksReplies states replies →
+    tag < 64 →
     is_performed state ≡ true → MarksReplies (set states tag state) (with replies tag)
 marks-with states replies tag state marked below performed =
     marks-put states replies (with replies tag) tag state marked below (has-with_same replies tag below ∙ sym performed)
     (λ other apart. has-with_other replies tag other apart)
 
-pub marks-without : (states : List TagState) (replies tag : ℕ) (state : TagState) → MarksReplies states replies → tag < 64 →
+pub marks-without : (states : List TagState) (replies tag : ℕ) (state : TagState) → MarksReplies states replies →
+    tag < 64 →
     is_performed state ≡ false → MarksReplies (set states tag state) (without replies tag)
 marks-without states replies tag state marked below none =
     marks-put states replies (without replies tag) tag state marked below (has-without_same replies tag ∙ sym none)
     (λ other apart. has-without_other replies tag other apart)
 
 -- a tag that names a reply is one of the 64
-pub tag-within : (states : List TagState) (replies tag : ℕ) → MarksReplies states replies → has replies tag ≡ true → tag < 64
+pub tag-within : (states : List TagState) (replies tag : ℕ) → MarksReplies states replies → has replies tag ≡ true →
+    tag < 64
 tag-within states replies tag marked there =
     elim (cases_lt tag (length states)) [
       | inl within ↦ let long = marked.long in omega (arith, long, within)
       | inr past ↦
-          let none : false ≡ true = sym (ap is_performed (get_or_past states tag tags.Free past)) ∙ sym (marked.marks tag) ∙ there in
+          let none : false ≡ true = sym (ap is_performed (get_or_past states tag tags.Free past))
+          ∙ sym (marked.marks tag) ∙ there in
           absurd (cc none)
     ]
 
@@ -68,7 +74,8 @@ silent states replies tag number marked missing names =
     cc clash
 
 -- no tag is marked exactly where none names a reply
-pub none-marked : (states : List TagState) (replies : ℕ) → MarksReplies states replies → (replies ≡ 0) ↔ IsLeastReply states None
+pub none-marked : (states : List TagState) (replies : ℕ) → MarksReplies states replies →
+    (replies ≡ 0) ↔ IsLeastReply states None
 none-marked states replies marked = (
   (λ empty tag number. silent states replies tag number marked (rw empty (has-zero tag))),
   (λ none. zero-from_none replies (λ tag. marked.marks tag ∙ unnamed (tag_in states tag) (none tag))),
@@ -123,7 +130,8 @@ search-goes_on states replies rest tag least so_far there =
     kept : (other : ℕ) → has (without rest tag) other ≡ true → has replies other ≡ true
     kept other e =
         elim (cases_eq other tag) [
-          | inl same ↦ let clash : false ≡ true = sym (has-without_same rest tag) ∙ ap (has (without rest tag)) (sym same) ∙ e in absurd (cc clash)
+          | inl same ↦ let clash : false ≡ true = sym (has-without_same rest tag)
+              ∙ ap (has (without rest tag)) (sym same) ∙ e in absurd (cc clash)
           | inr apart ↦ so_far.left other (sym (has-without_other rest tag other apart) ∙ e)
         ]
 
@@ -144,7 +152,8 @@ search-goes_on states replies rest tag least so_far there =
           λ other n missing names.
               elim (cases_eq other tag) [
                 | inl same ↦
-                    let number = number_of-Performed m n (sym is ∙ ap (tag_in states) (sym same) ∙ names) in omega (arith, number)
+                    let number = number_of-Performed m n (sym is ∙ ap (tag_in states) (sym same)
+                    ∙ names) in omega (arith, number)
                 | inr apart ↦ absurd (h other n (before other apart missing) names)
               ],
         )
@@ -160,8 +169,10 @@ search-goes_on states replies rest tag least so_far there =
               λ other n missing names.
                   elim (cases_eq other tag) [
                     | inl same ↦
-                        let number = number_of-Performed m n (sym is ∙ ap (tag_in states) (sym same) ∙ names) in omega (arith, number)
-                    | inr apart ↦ let least = h.1 other n (before other apart missing) names in omega (arith, least, less)
+                        let number = number_of-Performed m n (sym is ∙ ap (tag_in states) (sym same)
+                        ∙ names) in omega (arith, number)
+                    | inr apart ↦ let least = h.1 other n (before other apart missing) names in
+                        omega (arith, least, less)
                   ],
             )
             below

@@ -70,7 +70,8 @@ with_register room access = if room then access else accesses.Stall stalls.NoReg
 
 -- what the row of the cache's table asks of a copy that is held; one that waits has a register, and never comes here
 abbrev pub held_by : SideView → Local → Bool → CopyState → Row → Access
-held_by side local room state (rows.Go next sends.Nothing) = accesses.Hit (place_of side local) next (is_silent state next)
+held_by side local room state (rows.Go next sends.Nothing) =
+    accesses.Hit (place_of side local) next (is_silent state next)
 held_by side local room state (rows.Go next sends.GetS) = with_register room (accesses.Open next asks.GetS ways.Held)
 held_by side local room state (rows.Go next sends.GetM) = with_register room (accesses.Open next asks.GetM ways.Held)
 held_by side local room state _ = accesses.Stall stalls.NoTarget
@@ -158,7 +159,8 @@ HasWayFor side local ways.Victim = CanReplace side local
 -- what is known of an access to a line without a register, where one can be opened or not
 abbrev pub IsAlone : SideView → Local → Bool → Access → Type 0
 IsAlone side local room accesses.Join = ⊥
-IsAlone side local room (accesses.Hit place next silent) = position (holds local) (slots_at side.array local) ≡ Some place
+IsAlone side local room (accesses.Hit place next silent) =
+    position (holds local) (slots_at side.array local) ≡ Some place
 IsAlone side local room (accesses.Open next ask way) = (room ≡ true) × HasWayFor side local way
 IsAlone side local room (accesses.Stall stall) = Unit {0}
 
@@ -166,7 +168,8 @@ IsAlone side local room (accesses.Stall stall) = Unit {0}
 abbrev pub IsWithin : SideView → Local → ℕ → Access → Type 0
 IsWithin side local tag accesses.Join =
     (has_miss side.misses local.0 ≡ true) × (can_join side.bound side.misses local.0 tag ≡ true)
-IsWithin side local tag (accesses.Hit place next silent) = position (holds local) (slots_at side.array local) ≡ Some place
+IsWithin side local tag (accesses.Hit place next silent) =
+    position (holds local) (slots_at side.array local) ≡ Some place
 IsWithin side local tag (accesses.Open next ask way) =
     (has_miss side.misses local.0 ≡ false) × (can_open side.bound side.misses tag ≡ true) × HasWayFor side local way
 IsWithin side local tag (accesses.Stall stall) = Unit {0}

@@ -22,4 +22,5 @@ pub record IsKept (side : SideView) : Type 0 where
   pub buffer : IsBuffer side.buffer
   pub apart : (local : Local) → IsSome (array_at side.array local) → buffer_at side.buffer.entries local.0 ≡ None
   pub held : (local : Local) → IfSome (array_at side.array local) (λ copy. stands_in_array copy.state ≡ true)
-  pub leaving : (local : Local) → IfSome (buffer_at side.buffer.entries local.0) (λ leaving. is_leaving leaving.state ≡ true)
+  pub leaving : (local : Local) →
+      IfSome (buffer_at side.buffer.entries local.0) (λ leaving. is_leaving leaving.state ≡ true)

@@ -1,14 +1,15 @@
-//! What one core has in a slice: its array, its miss registers, its write-back buffer, its tags and the generator of its
-//! random victims, and the exact steps on them.
+//! What one core has in a slice: its array, its miss registers, its write-back buffer, its tags and the generator of
+//! its random victims, and the exact steps on them.
 //!
-//! A copy of a line stands in the array, or in the write-back buffer once it was evicted, or nowhere. [`Side::decide`]
-//! says what an access does (`access_of` of specs/Access.antt); [`Side::hit`], [`Side::join`], [`Side::open`] and
-//! [`Side::evict`] do it. [`Side::advance`], [`Side::fill`] and [`Side::acknowledge`] are what messages do to a copy, and
-//! perform the targets that it then allows (specs/Perform.antt). Each contract gives the whole core after the call
-//! (specs/Steps.antt).
+//! A copy of a line stands in the array, or in the write-back buffer once it was evicted, or nowhere.
+//! [`Side::decide`] says what an access does (`access_of` of specs/Access.antt); [`Side::hit`], [`Side::join`],
+//! [`Side::open`] and [`Side::evict`] do it. [`Side::advance`], [`Side::fill`] and [`Side::acknowledge`] are what
+//! messages do to a copy; [`Side::settle`] performs the targets that it then allows (specs/Perform.antt). Each contract
+//! gives the whole core after the call (specs/Steps.antt), and proofs/Found.antt what that makes of each line's copy.
 //!
 //! All memory is taken by [`Side::make`]. A call looks at the one set of its line, at the lines that are waited for and
-//! at those that leave, and copies no block but the one that comes.
+//! at those that leave, and copies no block but the one that comes. The next reply is found among the tags that name
+//! one.
 #![tactic(auto)]
 
 pub use access::{Access, Ask, Way, event_of};

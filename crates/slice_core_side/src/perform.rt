@@ -15,8 +15,10 @@ use target_list::Target;
 /// How many of the line's targets a copy in this state performs.
 pub fn count_allowed<F: MissFile>(file: &F, local: Local, state: CopyState) -> usize
     ensures few { result ≤ length (targets_of (F.misses file.now) local.0) }
-    ensures allowed { take result (targets_of (F.misses file.now) local.0) ≡ performed_in state (targets_of (F.misses file.now) local.0) }
-    ensures left { nat_lt result (length (targets_of (F.misses file.now) local.0)) ≡ is_waited (left_in state (targets_of (F.misses file.now) local.0)) }
+    ensures allowed { take result (targets_of (F.misses file.now) local.0)
+        ≡ performed_in state (targets_of (F.misses file.now) local.0) }
+    ensures left { nat_lt result (length (targets_of (F.misses file.now) local.0))
+        ≡ is_waited (left_in state (targets_of (F.misses file.now) local.0)) }
 {
     match state {
         CopyState::S => file.front_loads(local),
@@ -41,12 +43,15 @@ pub fn perform<F: MissFile>(
     requires performable { All IsPerformable (targets_of (F.misses file.old) local.0) }
     requires room { length log.old.items + count ≤ vec_capacity log.old }
     requires first { first + 8 ≤ 2 ^ 64 }
-    ensures taken { TakesTargets (F.misses file.old) (F.misses file.new) local.0 (take count (targets_of (F.misses file.old) local.0)) }
+    ensures taken { TakesTargets (F.misses file.old) (F.misses file.new) local.0
+        (take count (targets_of (F.misses file.old) local.0)) }
     ensures sound { IsMissFile (F.misses file.old) → IsMissFile (F.misses file.new) }
     ensures bound { F.bound file.new ≡ F.bound file.old }
     ensures block { block.new ≡ block_after block.old (take count (targets_of (F.misses file.old) local.0)) }
-    ensures tags { tags.new ≡ tags_after tags.old (length log.old.items) (take count (targets_of (F.misses file.old) local.0)) }
-    ensures log { log.new.items ≡ log.old.items ++ entries_of core first block.old (take count (targets_of (F.misses file.old) local.0)) }
+    ensures tags { tags.new ≡ tags_after tags.old (length log.old.items)
+        (take count (targets_of (F.misses file.old) local.0)) }
+    ensures log { log.new.items ≡ log.old.items ++ entries_of core first block.old
+        (take count (targets_of (F.misses file.old) local.0)) }
     ensures room { vec_capacity log.new ≡ vec_capacity log.old }
 {
     for done in 0..count {

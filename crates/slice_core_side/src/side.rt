@@ -35,7 +35,15 @@ impl<F: MissFile> Model for Side<F> {
 
     ghost Value = { SideView };
 
-    ghost view = { λ s. record { array = s.array; buffer = s.buffer; misses = F.misses s.file; bound = F.bound s.file; tags = s.tags; accepted = s.accepted; generator = s.generator } };
+    ghost view = { λ s. record {
+      array = s.array;
+      buffer = s.buffer;
+      misses = F.misses s.file;
+      bound = F.bound s.file;
+      tags = s.tags;
+      accepted = s.accepted;
+      generator = s.generator;
+    } };
 }
 
 impl<F: MissFile> Side<F> {

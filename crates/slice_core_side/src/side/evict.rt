@@ -37,7 +37,8 @@ impl<F: MissFile> Side<F> {
     /// Makes a way for the line: a victim of its set leaves. Answers the victim, and what the directory is sent for it.
     pub fn replace(&mut self, local: Local) -> (Local, RequestMessage)
         requires replaces { CanReplace self.old local }
-        requires apart { (line : Local) → IsSome (array_at self.old.array line) → buffer_at self.old.buffer.entries line.0 ≡ None }
+        requires apart { (line : Local) → IsSome (array_at self.old.array line)
+            → buffer_at self.old.buffer.entries line.0 ≡ None }
         ensures victim { result.0 ≡ victim_for self.old local }
         ensures put { result.1 ≡ put_of (array_copy self.old result.0) }
         ensures held { IsSomeAnd (array_at self.old.array result.0) (λ copy. may_leave copy.state ≡ true) }
@@ -79,7 +80,8 @@ impl<F: MissFile> Side<F> {
     fn victim(&self, local: Local, word: u64) -> Option<Local>
         ensures victim { result ≡ victim_of self.now local word }
         ensures some { is_some result ≡ has_victim self.now local }
-        ensures goes { IfSome result (λ victim. IsSomeAnd (array_at self.now.array victim) (λ copy. may_leave copy.state ≡ true)) }
+        ensures goes { IfSome result (λ victim. IsSomeAnd (array_at self.now.array victim)
+            (λ copy. may_leave copy.state ≡ true)) }
         ensures set { IfSome result (λ victim. ShareSet self.now.array local victim) }
         ensures arranged { IsArray self.now.array }
     {

@@ -156,8 +156,8 @@ impl<F: MissFile> Side<F> {
         target.seq
     }
 
-    /// Opens a miss register for the access. Its copy goes to a state that waits, in the way that it holds (`held`) or in
-    /// a free one. Answers its `seq`.
+    /// Opens a miss register for the access. Its copy goes to a state that waits, in the way that it holds (`held`) or
+    /// in a free one. Answers its `seq`.
     pub fn open(
         &mut self,
         local: Local,

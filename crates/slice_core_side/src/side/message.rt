@@ -56,8 +56,8 @@ impl<F: MissFile> Side<F> {
         copy.state = next;
     }
 
-    /// Performs and logs the targets that the copy now allows: the loads in front where it may be read, all where it may be
-    /// written. Answers whether a write is left, for which the right to write has to be asked. The log has room.
+    /// Performs and logs the targets that the copy now allows: the loads in front where it may be read, all where it
+    /// may be written. Answers whether a write is left, for which the right to write has to be asked. The log has room.
     pub fn settle(
         &mut self,
         core: CoreId,
@@ -74,7 +74,8 @@ impl<F: MissFile> Side<F> {
         ensures taken { TakesTargets self.old.misses self.new.misses local.0 (performed_in (array_copy self.old local).state (targets_of self.old.misses local.0)) }
         ensures sound { IsMissFile self.old.misses → IsMissFile self.new.misses }
         ensures after { self.new ≡ after_settle self.old local (length log.old.items) self.new.misses }
-        ensures log { log.new.items ≡ log.old.items ++ entries_of core first (array_copy self.old local).block (performed_in (array_copy self.old local).state (targets_of self.old.misses local.0)) }
+        ensures log { log.new.items ≡ log.old.items ++ entries_of core first (array_copy self.old local).block
+            (performed_in (array_copy self.old local).state (targets_of self.old.misses local.0)) }
         ensures room { vec_capacity log.new ≡ vec_capacity log.old }
     {
         let waiting = self.file.waiting(local);

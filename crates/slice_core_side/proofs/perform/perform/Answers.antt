@@ -10,7 +10,8 @@ pub loop-done-preserved : goal.loop-done-preserved
 loop-done-preserved g c = record {
   performed =
       rw (c.perform_one.ensures.block, c.perform_one.ensures.tags, c.perform_one.ensures.log)
-      (performed-more _ _ _ _ _ _ _ _ _ _ _ _ _ _ _ c.loop-done.invariant.performed c.loop-done-test.true c.take_first-target.ensures.taken);
+      (performed-more _ _ _ _ _ _ _ _ _ _ _ _ _ _ _ c.loop-done.invariant.performed c.loop-done-test.true
+      c.take_first-target.ensures.taken);
   sound = λ _. c.take_first-target.ensures.sound;
   bound = c.take_first-target.ensures.bound ∙ c.loop-done.invariant.bound;
   room = c.perform_one.ensures.room ∙ c.loop-done.invariant.room;

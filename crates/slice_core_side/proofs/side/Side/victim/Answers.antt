@@ -19,7 +19,8 @@ returns-clause-some g c =
 pub returns-clause-goes : goal.returns-clause-goes
 returns-clause-goes g c =
     let test = λ (copy : CacheCopy). may_leave copy.state in
-    subst (λ (side : SideView). IfSome c.victim.result (λ victim. IsSomeAnd (array_at side.array victim) (λ copy. test copy ≡ true)))
+    subst (λ (side : SideView). IfSome c.victim.result (λ victim. IsSomeAnd (array_at side.array victim)
+    (λ copy. test copy ≡ true)))
     c.self.view_is
     (victim_goes c.self.inside.array c.args.local test _ _ c.victim.result
     (c.victim.ensures.victim test

@@ -55,11 +55,11 @@ taken _ look = look
 
 -- The request channel once a row has sent this.
 abbrev pub asks_for : CacheSends → Request → Request
-asks_for sends.GetS request = get_s
-asks_for sends.GetM request = get_m
-asks_for sends.PutS request = put_s
-asks_for sends.PutM request = put_m
-asks_for _ request = request
+asks_for sends.GetS _ = get_s
+asks_for sends.GetM _ = get_m
+asks_for sends.PutS _ = put_s
+asks_for sends.PutM _ = put_m
+asks_for _ waits = waits
 
 -- The look after the row: the next state, and what is sent on the core's own channels.
 abbrev pub turned : CacheEvent → CopyState → CacheSends → Look → Look

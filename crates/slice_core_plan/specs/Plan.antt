@@ -25,7 +25,7 @@ use Rattle.slice_core_plan.specs.Sends.{cache_room, directory_room}
 use Rattle.slice_core_plan.specs.View.{View, channels_at, entry_at, side_at}
 use Rattle.slice_core_plan.specs.declared.decide.Plan.{Plan}
 use Rattle.slice_core_plan.specs.declared.decide.Plan.TheVariants as plans
-use Rattle.slice_queues.specs.Line.{core_at}
+use Rattle.slice_queues.specs.Line.{LineChannels, core_at}
 use Rattle.slice_queues_message.specs.declared.channel.Channel.{Channel}
 use Rattle.slice_queues_message.specs.declared.channel.Channel.TheVariants as channels
 use Rattle.slice_queues_message.specs.declared.message.DataMessage.{DataMessage}
@@ -46,11 +46,11 @@ event_of_request core requests.PutS = dir_events.PutS core
 event_of_request core (requests.PutM block) = dir_events.PutM core
 
 -- what follows from the directory's row for a core's request
-abbrev pub by_directory_row : View → Local → CoreId → DirRow → Plan
-by_directory_row v local core dir_rows.NoEntry = plans.Broken cells.Entry
-by_directory_row v local core dir_rows.Blocked = plans.Blocked
-by_directory_row v local core (dir_rows.Go state owner sharers sent writes) =
-    if directory_room (channels_at v local) core sent then plans.Directory state owner sharers sent writes
+abbrev pub by_directory_row : LineChannels → CoreId → DirRow → Plan
+by_directory_row line core dir_rows.NoEntry = plans.Broken cells.Entry
+by_directory_row line core dir_rows.Blocked = plans.Blocked
+by_directory_row line core (dir_rows.Go state owner sharers sent writes) =
+    if directory_room line core sent then plans.Directory state owner sharers sent writes
     else plans.Broken cells.Full
 
 abbrev pub request_plan : View → Local → CoreId → Plan
@@ -59,7 +59,8 @@ request_plan v local core = by_message (core_at (channels_at v local) core.0).re
     by_message : Option RequestMessage → Plan
     by_message None = plans.Nothing
     by_message (Some message) =
-        by_directory_row v local core (dir_row_of v.exclusive (entry_at v local) (event_of_request core message))
+        by_directory_row (channels_at v local) core
+        (dir_row_of v.exclusive (entry_at v local) (event_of_request core message))
 
 -- what follows from the directory's row for a block that comes home, which sends nothing
 abbrev pub by_home_row : DirRow → Plan

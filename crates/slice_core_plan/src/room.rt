@@ -23,19 +23,18 @@ fn takes_invalidations(line: &LineQueues, cores: CoreSet) -> bool
 }
 
 /// Whether each channel has room that a row of the directory's table sends to, for this core's request.
-pub fn directory_room(line: &LineQueues, core: CoreId, sends: DirSends) -> bool
-    ensures { result ≡ directory_room line.now core sends }
+pub fn directory_room(line: &LineQueues, core: CoreId, sends: &DirSends) -> bool
+    ensures { result ≡ directory_room line.now core sends.now }
 {
     match sends {
         DirSends::Nothing => true,
         DirSends::Data { .. } | DirSends::DataE => takes(line, Channel::Data(core)),
         DirSends::DataAndInv { invalidated, .. } => {
-            takes(line, Channel::Data(core)) && takes_invalidations(line, invalidated)
+            takes(line, Channel::Data(core)) && takes_invalidations(line, *invalidated)
         }
-        DirSends::FwdGetS { owner } | DirSends::FwdGetM { owner } => takes(
-            line,
-            Channel::Fwd(owner),
-        ),
+        DirSends::FwdGetS { owner } | DirSends::FwdGetM { owner } => {
+            takes(line, Channel::Fwd(*owner))
+        }
         DirSends::PutAck => takes(line, Channel::Fwd(core)),
     }
 }

@@ -58,7 +58,9 @@ one_more_hit silent counts =
 -- a core with one more stall of this kind
 abbrev pub one_more_stall : Stall → CoreStats → CoreStats
 one_more_stall stall counts =
-    record counts { stalls = slice_set counts.stalls (place_of stall) (counted (slice_index counts.stalls (place_of stall))) }
+    record counts {
+      stalls = slice_set counts.stalls (place_of stall) (counted (slice_index counts.stalls (place_of stall)));
+    }
 
 -- one more message taken from a channel of this kind
 abbrev pub one_more_message : Channel → MessageCounts → MessageCounts

@@ -3,8 +3,8 @@
 //! - [`Issue`] and [`Refused`] answer a request, [`Evicted`] an eviction that was asked for, [`Delivered`] and
 //!   [`DeliveredNext`] a delivery. What each of them prints is told by its `output` (specs/Text.antt).
 //! - [`Stats`] counts, for each core, its hits, its misses, its stalls and its evictions, and the messages that were
-//!   taken, by the kind of their channel. Contracts see it as `StatsView` of specs/Stats.antt. Each count goes up by one
-//!   and stays at 2^64 - 1 (`counted`), and a counting call changes nothing else (`after_hit` and the others).
+//!   taken, by the kind of their channel. Contracts see it as `StatsView` of specs/Stats.antt. Each count goes up by
+//!   one and stays at 2^64 - 1 (`counted`), and a counting call changes nothing else (`after_hit` and the others).
 //!
 //! Only [`Stats::new`] takes memory: 80 bytes for each core. A counting call writes one or two numbers in place.
 #![tactic(auto)]

@@ -65,7 +65,7 @@ impl Model for Stats {
 
     ghost Value = { StatsView };
 
-    ghost view = { λ stats. record { cores = stats.cores.items; messages = stats.messages; exclusive = stats.exclusive } };
+    ghost view = { λ own. record { cores = own.cores.items; messages = own.messages; exclusive = own.exclusive } };
 }
 
 impl Stats {
@@ -79,7 +79,8 @@ impl Stats {
       after_message,
     };
 
-    /// The counts of a slice that has done nothing, with so many cores, where the machine has the exclusive state or not.
+    /// The counts of a slice that has done nothing, with so many cores, of a machine with the exclusive state or
+    /// without it.
     pub fn new(alloc: Global, cores: usize, exclusive: bool) -> Result<Self, AllocError>
         ensures { IfOk result (λ stats. stats ≡ no_stats cores exclusive) }
     {

@@ -15,8 +15,9 @@ range-more a zero j e = ap (λ x. x ∷ []) (omega (arith, e))
 range-more a (suc n) j e = ap (λ xs. a ∷ xs) (range-more (a + 1) n j (omega (arith, e)))
 
 -- the lines so far and one more
-pub lines_more : (line : ℕ → List ℕ) (before now new : List ℕ) (n : ℕ) → now ≡ before ++ flat_map line (range_with_len 0 n)
-    → new ≡ now ++ line n → new ≡ before ++ flat_map line (range_with_len 0 (n + 1))
+pub lines_more : (line : ℕ → List ℕ) (before now new : List ℕ) (n : ℕ)
+    → now ≡ before ++ flat_map line (range_with_len 0 n) → new ≡ now ++ line n
+    → new ≡ before ++ flat_map line (range_with_len 0 (n + 1))
 lines_more line before now new n so_far grown =
     let more : range_with_len 0 (n + 1) ≡ range_with_len 0 n ++ n ∷ [] =
     ap (range_with_len 0) (add-one n) ∙ range-more 0 n n (omega arith) in

@@ -27,7 +27,8 @@ number_right n =
     let same : pad ≡ 10 - length (decimal n) = omega arith in
     padded_front pad (decimal n) ∙ ap (λ k. replicate k 32 ++ decimal n) same
 
-pub name_right : (column : Column) → styled_text (format_spec 32 3 0 10 (2 ^ 64 - 1)) (name_of column) ≡ right_in_10 (name_of column)
+pub name_right : (column : Column)
+    → styled_text (format_spec 32 3 0 10 (2 ^ 64 - 1)) (name_of column) ≡ right_in_10 (name_of column)
 unfolding padded char_count take_chars encode
 name_right Hits = refl
 name_right Primary = refl

@@ -5,7 +5,7 @@ use Rattle.std.proofs.lemmas.List.{map_more, get_or-map, length-map}
 use Rattle.std.proofs.lemmas.List.Elements.{All-get_or}
 use Rattle.std.proofs.lemmas.List.Sums.{sum_by_push}
 use Rattle.slice_core_answer.specs.Stats.{StatsView}
-use Rattle.stats_report.specs.Report.{total_by}
+use Rattle.stats_report.specs.Report.{capped, total_by}
 
 -- a sum that has stopped stays there
 min-again : (a b : ℕ) → min (min a (2 ^ 64 - 1) + b) (2 ^ 64 - 1) ≡ min (a + b) (2 ^ 64 - 1)
@@ -14,7 +14,7 @@ min-again a b = omega arith
 -- with one more slice the sum goes on from the sum before
 pub total_more : {X : Type 0} (view : X → StatsView) (count : StatsView → ℕ) (xs : List X) (i : ℕ) (x : X)
     → i < length xs → x ≡ get_or xs i x
-    → total_by count (map view (take (i + 1) xs)) ≡ min (total_by count (map view (take i xs)) + count (view x)) (2 ^ 64 - 1)
+    → total_by count (map view (take (i + 1) xs)) ≡ capped (total_by count (map view (take i xs)) + count (view x))
 total_more view count xs i x within here =
     let before = map view (take i xs) in
     let last : sum_by count (map view (take (i + 1) xs)) ≡ sum_by count before + count (view x) =
@@ -27,4 +27,5 @@ pub All-at : {X : Type 0} (P : StatsView → Type 0) (view : X → StatsView) (x
     → i < length xs → x ≡ get_or xs i x → All P (map view xs) → P (view x)
 All-at P view xs i x within here all =
     let fits : i < length (map view xs) = omega (arith, within, length-map xs view) in
-    subst P (get_or-map view xs i x (view x) within ∙ ap view (sym here)) (All-get_or P (map view xs) i (view x) fits all)
+    let same : get_or (map view xs) i (view x) ≡ view x = get_or-map view xs i x (view x) within ∙ ap view (sym here) in
+    subst P same (All-get_or P (map view xs) i (view x) fits all)

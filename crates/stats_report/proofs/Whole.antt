@@ -18,12 +18,13 @@ pub whole_report : {X : Type 0} (view : X → StatsView) (xs : List X) (first : 
     → columns ≡ columns_of (view first).exclusive → cores ≡ length (view first).cores
     → heading_text ≡ [] ++ heading_of columns → lines_text ≡ heading_text ++ core_lines columns (map view xs) cores
     → text ≡ lines_text ++ message_line (message_totals (map view xs)) → text ≡ report_of (map view xs)
-whole_report view [] first text heading_text lines_text columns cores alike here same_columns same_cores one two last = absurd alike
-whole_report view (x ∷ xs) first text heading_text lines_text columns cores alike here same_columns same_cores one two last =
-    let there : columns ≡ columns_of (view x).exclusive = same_columns ∙ ap (λ y. columns_of (view y).exclusive) here in
-    let many : cores ≡ length (view x).cores = same_cores ∙ ap (λ y. length (view y).cores) here in
+whole_report view [] first text heading_text lines_text columns cores alike here shown many one two last =
+    absurd alike
+whole_report view (x ∷ xs) first text heading_text lines_text columns cores alike here shown many one two last =
+    let these : columns ≡ columns_of (view x).exclusive = shown ∙ ap (λ y. columns_of (view y).exclusive) here in
+    let all : cores ≡ length (view x).cores = many ∙ ap (λ y. length (view y).cores) here in
     three _ _ _ text heading_text lines_text
-    (one ∙ ap (λ shown. [] ++ heading_of shown) there)
-    (two ∙ ap (λ shown. heading_text ++ core_lines shown (map view (x ∷ xs)) cores) there
-    ∙ ap (λ n. heading_text ++ core_lines (columns_of (view x).exclusive) (map view (x ∷ xs)) n) many)
+    (one ∙ ap (λ cs. [] ++ heading_of cs) these)
+    (two ∙ ap (λ cs. heading_text ++ core_lines cs (map view (x ∷ xs)) cores) these
+    ∙ ap (λ n. heading_text ++ core_lines (columns_of (view x).exclusive) (map view (x ∷ xs)) n) all)
     last

@@ -1,14 +1,11 @@
 -- The report: a heading, a line for each core with the sums over the slices, and a line with the messages.
-use Rattle.std.specs.Prelude.{◌≡◌, ℕ, ◌-◌, ◌^◌, ◌<◌, min, ◌+◌, List, [], ◌∷◌, ◌++◌, length, map, replicate, take, sum_by, codes, slice_index_or, All, Option}
+use Rattle.std.specs.Prelude.{◌≡◌, ℕ, ◌-◌, ◌^◌, ◌<◌, min, ◌+◌, List, [], ◌∷◌, ◌++◌, length, map, replicate, sum_by, codes, slice_index_or, All}
 use Rattle.std.specs.List.{concat, flat_map, range_with_len}
 use Rattle.std.specs.Fmt.{decimal}
-use Rattle.std.specs.Io.KnownBytes.{Appends, Keeps}
 use Rattle.std.specs.Borrow.{Bor}
 use Rattle.slice_core_answer.specs.declared.stats.MessageCounts.{MessageCounts}
 use Rattle.slice_core_answer.specs.Stats.{StatsView, no_counts}
 use Rattle.stats_report.specs.declared.column.Column.{Column}
-use Rattle.stats_report.specs.declared.report.ReportError.{ReportError}
-use Rattle.stats_report.specs.declared.report.ReportError.TheVariants.{Memory, Cut}
 use Rattle.stats_report.specs.Column.{columns_of, name_of, count_in}
 
 -- what the slices have counted
@@ -105,8 +102,3 @@ report_of (first ∷ rest) = concat (
     heading_of (columns_of first.exclusive)
     ∷ core_lines (columns_of first.exclusive) (first ∷ rest) (length first.cores)
     ∷ message_line (message_totals (first ∷ rest)) ∷ [])
-
--- what a report that wasn't written whole leaves: nothing where there was no memory, and else so many of its first bytes
-abbrev pub LeavesOnly : Option (List ℕ) → Option (List ℕ) → List ℕ → ReportError → Type 0
-LeavesOnly old new text Memory = Keeps old new
-LeavesOnly old new text (Cut cut) = (cut.taken < length text) × Appends old new (take cut.taken text)

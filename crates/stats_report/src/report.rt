@@ -2,6 +2,7 @@ ghost use Rattle.std.specs.Prelude.{◌≡◌, ◌++◌, All, OnOk, IfOk, IfErr}
 ghost use Rattle.std.specs.String.{string_bytes};
 ghost use Rattle.std.specs.Fmt.{decimal};
 ghost use Rattle.std.specs.Io.KnownBytes.{Appends};
+ghost use Rattle.stats_report.specs.Text.{LeavesOnly};
 ghost use Rattle.stats_report.specs.Column.{name_of};
 ghost use Rattle.stats_report.specs.Report.{
   views_of,
@@ -9,7 +10,6 @@ ghost use Rattle.stats_report.specs.Report.{
   HasCore,
   HasCores,
   AreAlike,
-  LeavesOnly,
   heading_of,
   cell_of,
   core_line,
@@ -56,16 +56,16 @@ impl Error for ReportError {}
 pub fn write_report<W: Write>(
     alloc: Global,
     stats: &[&Stats],
-    writer: &mut W,
+    out: &mut W,
 ) -> Result<(), ReportError>
     requires { AreAlike (views_of stats.now) }
-    ensures ok { OnOk result (Appends (W.contents writer.old) (W.contents writer.new) (report_of (views_of stats.now))) }
-    ensures err { IfErr result (LeavesOnly (W.contents writer.old) (W.contents writer.new) (report_of (views_of stats.now))) }
+    ensures ok { OnOk result (Appends (W.contents out.old) (W.contents out.new) (report_of (views_of stats.now))) }
+    ensures err { IfErr result (LeavesOnly (W.contents out.old) (W.contents out.new) (report_of (views_of stats.now))) }
 {
     let Ok(text) = report(alloc, stats) else {
         return Err(ReportError::Memory);
     };
-    match write_text(writer, text.as_bytes()) {
+    match write_text(out, text.as_bytes()) {
         Ok(()) => Ok(()),
         Err(cut) => Err(ReportError::Cut(cut)),
     }
@@ -109,7 +109,8 @@ fn push_core_lines(
     cores: usize,
 ) -> Result<(), AllocError>
     requires { All (HasCores cores) (views_of stats.now) }
-    ensures { OnOk result (string_bytes text.new ≡ string_bytes text.old ++ core_lines columns.now (views_of stats.now) cores) }
+    ensures { OnOk result
+        (string_bytes text.new ≡ string_bytes text.old ++ core_lines columns.now (views_of stats.now) cores) }
 {
     for core in 0..cores {
         push_core_line(text, stats, columns, core)?;
@@ -124,7 +125,8 @@ fn push_core_line(
     core: usize,
 ) -> Result<(), AllocError>
     requires { All (HasCore core) (views_of stats.now) }
-    ensures { OnOk result (string_bytes text.new ≡ string_bytes text.old ++ core_line columns.now (views_of stats.now) core) }
+    ensures { OnOk result
+        (string_bytes text.new ≡ string_bytes text.old ++ core_line columns.now (views_of stats.now) core) }
 {
     push_number(text, core as u64)?;
     for column in columns {

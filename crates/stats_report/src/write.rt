@@ -1,5 +1,6 @@
-ghost use Rattle.std.specs.Prelude.{◌<◌, length, take, OnOk, IfErr};
+ghost use Rattle.std.specs.Prelude.{OnOk, IfErr};
 ghost use Rattle.std.specs.Io.KnownBytes.{Appends};
+ghost use Rattle.stats_report.specs.Text.{AppendsFirst};
 
 use std::error::Error;
 use std::fmt;
@@ -27,8 +28,7 @@ impl Error for Cut {}
 /// was interrupted, or takes none of the bytes that are left.
 pub fn write_text<W: Write>(writer: &mut W, text: &[u8]) -> Result<(), Cut>
     ensures ok { OnOk result (Appends (W.contents writer.old) (W.contents writer.new) text.now) }
-    ensures cut { IfErr result (λ cut. Appends (W.contents writer.old) (W.contents writer.new) (take cut.taken text.now)) }
-    ensures short { IfErr result (λ cut. cut.taken < length text.now) }
+    ensures cut { IfErr result (AppendsFirst (W.contents writer.old) (W.contents writer.new) text.now) }
 {
     let mut taken = 0;
     while taken < text.len() {

@@ -10,8 +10,9 @@ shown-requires c =
 
 pub loop-slice-preserved : goal.loop-slice-preserved
 loop-slice-preserved c =
-    let more = total_more (λ slice. slice.now) (shown_of c.args.core c.args.column) c.args.stats.now c.loop-slice.slice-index
-    c.slice-item.result c.loop-slice-test.true c.slice-item.is in
+    let slice = c.slice-item.result in
+    let count = shown_of c.args.core c.args.column in
+    let more = total_more (λ s. s.now) count c.args.stats.now c.loop-slice.slice-index slice c.loop-slice-test.true
+    c.slice-item.is in
     c.saturating_add-total.ensures ∙ ap (λ n. min (c.loop-slice.total + n) (2 ^ 64 - 1)) c.shown.ensures
-    ∙ ap (λ n. min (n + shown_of c.args.core c.args.column c.slice-item.result.now) (2 ^ 64 - 1)) c.loop-slice.invariant
-    ∙ sym more
+    ∙ ap (λ n. min (n + count slice.now) (2 ^ 64 - 1)) c.loop-slice.invariant ∙ sym more

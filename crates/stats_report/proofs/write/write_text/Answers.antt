@@ -17,7 +17,8 @@ appends_more : (old mid new : Option (List ℕ)) (text : List ℕ) (taken count 
     → Appends mid new (take count (take (length text - taken) (drop taken text)))
     → Appends old new (take (taken + count) text)
 appends_more old mid new text taken count before after =
-    let first : take taken text ++ take count (take (length text - taken) (drop taken text)) ≡ take (taken + count) text =
+    let rest : List ℕ = take (length text - taken) (drop taken text) in
+    let first : take taken text ++ take count rest ≡ take (taken + count) text =
     ap (λ rest. take taken text ++ take count rest) (take_rest text taken) ∙ sym (take-add taken count text) in
     subst (Appends old new) first (Appends-trans old mid new _ _ before after)
 

@@ -15,13 +15,14 @@ use Rattle.mshr_file.specs.Miss.{AddsTarget, has_miss, targets_of}
 use Rattle.mshr_file.specs.declared.registers.Register.{Register}
 use Rattle.slice_core_plan.specs.Steps.{after_evict, after_hand, after_hit, after_join, after_open, after_opening, after_request, request_of, with_way}
 use Rattle.slice_core_plan.specs.View.{View, channels_at, entry_at, no_side, side_at, with_side, IsShaped}
-use Rattle.slice_core_side.proofs.Found.{changes-evict, changes-hit, changes-open_free, changes-open_held, evicted, kept-after_draw, kept-after_hand}
+use Rattle.slice_core_side.proofs.Found.{changes-evict, changes-hit, changes-open_free, changes-open_held, kept-after_draw, kept-after_hand}
 use Rattle.slice_core_side.proofs.Lines.{ChangesLine, FitsIn}
 use Rattle.slice_core_side.specs.Access.{access_of, is_idle, CanLeave, CanReplace, HasWayFor}
 use Rattle.slice_core_side.specs.Copy.{found_in, may_leave, missing_copy, no_copy, performed_on}
 use Rattle.slice_core_side.specs.Kept.{IsKept, stands_in_array}
 use Rattle.slice_core_side.specs.Side.{SideView, array_copy, state_of}
 use Rattle.slice_core_side.specs.Steps as sides
+use Rattle.slice_core_side.specs.Steps.{evicted}
 use Rattle.slice_core_side.specs.declared.access.Access.TheVariants as accesses
 use Rattle.slice_core_side.specs.declared.access.Ask.{Ask}
 use Rattle.slice_core_side.specs.declared.access.Way.{Way}

@@ -13,8 +13,7 @@ use Rattle.directory_table.specs.declared.row.DirSends.{DirSends}
 use Rattle.directory_table.specs.declared.state.DirEntry.{DirEntry}
 use Rattle.directory_table.specs.declared.state.DirState.{DirState}
 use Rattle.directory_table.specs.declared.state.DirState.TheVariants as states
-use Rattle.slice_core_answer.specs.declared.answer.Cell.TheVariants as cells
-use Rattle.slice_core_plan.specs.Plan.{by_directory_row, by_home_row, event_of_request, home_plan, plan_of, request_plan}
+use Rattle.slice_core_plan.specs.Plan.{by_home_row, event_of_request, home_plan, plan_of}
 use Rattle.slice_core_plan.specs.Sends.{directory_room, directory_sent}
 use Rattle.slice_core_plan.specs.Steps.{after_directory, after_home, block_in}
 use Rattle.slice_core_plan.specs.View.{View, channels_at, entry_at, no_entry, side_at, with_channels, with_entry, IsShaped}
@@ -122,37 +121,35 @@ IsOwnedPlan v (plans.Home state owner sharers) = IfSome owner (λ core. core.0 <
 IsOwnedPlan v plan = Unit {0}
 
 module _ (v : View) (local : Local) (links : HasLinks v) (within : local.0 < v.lines.lines) where
-  owned_row : (row : DirRow) (core : CoreId) → OwnerOf (λ owner. owner.0 < length v.sides) row →
-      IsOwnedPlan v (by_directory_row v local core row)
-  owned_row (rows.Go state owner sharers sent writes) core owned = by (directory_room (channels_at v local) core sent)
-    where
-      by : (room : Bool) → IsOwnedPlan v
-          (if room then plans.Directory state owner sharers sent writes else plans.Broken cells.Full)
-      by true = owned
-      by false = tt
-  owned_row rows.Blocked core owned = tt
-  owned_row rows.NoEntry core owned = tt
-
-  owned_request : (core : CoreId) → core.0 < length v.sides → IsOwnedPlan v (request_plan v local core)
+  owned_request : (core : CoreId) → core.0 < length v.sides → IsOwnedPlan v (plan_of v local (channels.Req core))
   owned_request core there = by (asked (channels_at v local) core.0) refl
     where
-      entry : DirEntry
-      entry = entry_at v local
-
       named : (message : RequestMessage) → NamedBy (λ owner. owner.0 < length v.sides) (event_of_request core message)
       named requests.GetS = there
       named requests.GetM = there
       named requests.PutS = there
       named (requests.PutM block) = there
 
+      by_row : (message : RequestMessage) → asked (channels_at v local) core.0 ≡ Some message → (row : DirRow) →
+          dir_row_of v.exclusive (entry_at v local) (event_of_request core message) ≡ row →
+          OwnerOf (λ owner. owner.0 < length v.sides) row → IsOwnedPlan v (plan_of v local (channels.Req core))
+      by_row message is rows.Blocked e owned = rw (is, e) tt
+      by_row message is rows.NoEntry e owned = rw (is, e) tt
+      by_row message is (rows.Go state owner sharers sent writes) e owned =
+          by_room (directory_room (channels_at v local) core sent) refl
+        where
+          by_room : (room : Bool) → directory_room (channels_at v local) core sent ≡ room →
+              IsOwnedPlan v (plan_of v local (channels.Req core))
+          by_room true has_room = rw (is, e, has_room) owned
+          by_room false has_room = rw (is, e, has_room) tt
+
       by : (request : Option RequestMessage) → asked (channels_at v local) core.0 ≡ request →
-          IsOwnedPlan v (request_plan v local core)
+          IsOwnedPlan v (plan_of v local (channels.Req core))
       by None is = rw is tt
       by (Some message) is =
-          rw is
-          (owned_row (dir_row_of v.exclusive (entry_at v local) (event_of_request core message)) core
+          by_row message is (dir_row_of v.exclusive (entry_at v local) (event_of_request core message)) refl
           (cell-owner (λ owner. owner.0 < length v.sides) v.exclusive (entry_at v local).state (entry_at v local).owner
-          (entry_at v local).sharers (event_of_request core message) (links.owned local within) (named message)))
+          (entry_at v local).sharers (event_of_request core message) (links.owned local within) (named message))
 
   owned_home : IsOwnedPlan v (home_plan v local)
   owned_home = by (is_some (channels_at v local).home)

@@ -25,13 +25,13 @@ use Rattle.slice_core_plan.specs.Steps.{after_settling, asked_by}
 use Rattle.slice_core_plan.specs.View.{View, channels_at, side_at, IsShaped}
 use Rattle.slice_core_plan.specs.declared.decide.Plan.{Plan}
 use Rattle.slice_core_plan.specs.declared.decide.Plan.TheVariants as plans
-use Rattle.slice_core_side.proofs.Found.{changes-change, changes-settle, kept-after_change, settled}
+use Rattle.slice_core_side.proofs.Found.{changes-change, changes-settle, kept-after_change}
 use Rattle.slice_core_side.proofs.Lines.{ChangesLine}
 use Rattle.slice_core_side.specs.Copy.{found_in, no_copy}
 use Rattle.slice_core_side.specs.Kept.{IsKept, stands_in_array}
 use Rattle.slice_core_side.specs.Perform.{asks_to_write, block_after, left_in, performed_in, settled_state}
 use Rattle.slice_core_side.specs.Side.{SideView, array_copy, copy_of, state_of}
-use Rattle.slice_core_side.specs.Steps.{after_change, after_settle, settled_copy}
+use Rattle.slice_core_side.specs.Steps.{after_change, after_settle, settled_copy, settled}
 use Rattle.slice_core_side.specs.declared.copy.CacheCopy.{CacheCopy}
 use Rattle.slice_core_state.proofs.LinksFrame.{links_logged, links_step}
 use Rattle.slice_core_state.proofs.LinksRequests.{asked, asked-ack_taken, asked-asked_by, asked-asked_by_other, asked-data_taken}

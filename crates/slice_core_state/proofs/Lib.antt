@@ -6,3 +6,4 @@ pub mod LinksAccesses
 pub mod LinksDirectory
 pub mod LinksForwarded
 pub mod LinksSettling
+pub mod LinksFacts

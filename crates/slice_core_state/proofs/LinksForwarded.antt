@@ -1,5 +1,5 @@
 -- A forwarded message that a core takes keeps what copies, registers and requests owe each other.
-use Rattle.std.proofs.Common.{◌≡◌, ◌⊎◌, ℕ, ◌<◌, Bool, true, false, not, ◌&&◌, if◌then◌else◌, length, Option, Some, None, IsSome, is_some, option_map, slice_get, inl, inr, refl, sym, ap, ◌∙◌, subst}
+use Rattle.std.proofs.Common.{◌≡◌, ◌⊎◌, ℕ, ◌<◌, Bool, true, false, ◌&&◌, if◌then◌else◌, length, Option, Some, None, IsSome, is_some, option_map, slice_get, inl, inr, refl, sym, ap, ◌∙◌, subst}
 use Rattle.address_map.specs.declared.address.CoreId.{CoreId}
 use Rattle.address_map.specs.declared.address.Local.{Local}
 use Rattle.cache_array.specs.Array.{held_at as array_at}
@@ -11,8 +11,7 @@ use Rattle.cache_table.specs.declared.row.Row.TheVariants as rows
 use Rattle.cache_table.specs.declared.state.CopyState.{CopyState}
 use Rattle.cache_table.specs.declared.state.CopyState.TheVariants as states
 use Rattle.mshr_file.specs.Miss.{has_miss, targets_of}
-use Rattle.slice_core_answer.specs.declared.answer.Cell.TheVariants as cells
-use Rattle.slice_core_plan.specs.Plan.{asks, by_forwarded_row, event_of_forwarded, forwarded_plan, is_put_ack, plan_of, requester_of}
+use Rattle.slice_core_plan.specs.Plan.{event_of_forwarded, is_put_ack, plan_of, requester_of}
 use Rattle.slice_core_plan.specs.Sends.{cache_room, cache_sent}
 use Rattle.slice_core_plan.specs.Steps.{after_forwarded}
 use Rattle.slice_core_plan.specs.View.{View, channels_at, side_at, IsShaped}
@@ -45,34 +44,35 @@ IsAnswer v local core (plans.Forwarded next sent requester) =
     GoesOn (state_of (side_at v core) local) next (asked (channels_at v local) core.0)
 IsAnswer v local core plan = Unit {0}
 
-module _ (v : View) (local : Local) (core : CoreId) where
-  answer-row : (message : ForwardedMessage) (row : Row) →
-      row_of (state_of (side_at v core) local) (event_of_forwarded message) ≡ row →
-      IsAnswer v local core (by_forwarded_row v local core message row)
-  answer-row message rows.NoEntry is = tt
-  answer-row message rows.Blocked is = tt
-  answer-row message (rows.Go next sent) is =
-      by (cache_room (channels_at v local) core (requester_of core message) sent)
-      (is_put_ack message && asks v local core) refl
-    where
-      by : (room early : Bool) → (is_put_ack message && asks v local core) ≡ early →
-          IsAnswer v local core
-          (if not room then plans.Broken cells.Full
-          else if early then plans.Broken cells.Early
-          else plans.Forwarded next sent (requester_of core message))
-      by false early e = tt
-      by true true e = tt
-      by true false e =
-          goes_on_by message (state_of (side_at v core) local) next sent (asked (channels_at v local) core.0) is e
+answer-planned : (v : View) (local : Local) (core : CoreId) →
+    IsAnswer v local core (plan_of v local (channels.Fwd core))
+answer-planned v local core = by (slice_get (core_at (channels_at v local) core.0).forwarded 0) refl
+  where
+    by_row : (message : ForwardedMessage) → slice_get (core_at (channels_at v local) core.0).forwarded 0
+        ≡ Some message →
+        (row : Row) → row_of (state_of (side_at v core) local) (event_of_forwarded message) ≡ row →
+        IsAnswer v local core (plan_of v local (channels.Fwd core))
+    by_row message is rows.NoEntry e = rw (is, e) tt
+    by_row message is rows.Blocked e = rw (is, e) tt
+    by_row message is (rows.Go next sent) e =
+        by_room (cache_room (channels_at v local) core (requester_of core message) sent) refl
+        (is_put_ack message && is_some (asked (channels_at v local) core.0)) refl
+      where
+        by_room : (room : Bool) → cache_room (channels_at v local) core (requester_of core message) sent ≡ room →
+            (early : Bool) → (is_put_ack message && is_some (asked (channels_at v local) core.0)) ≡ early →
+            IsAnswer v local core (plan_of v local (channels.Fwd core))
+        by_room false has_room early is_early = rw (is, e, has_room) tt
+        by_room true has_room true is_early = rw (is, e, has_room, is_early) tt
+        by_room true has_room false is_early =
+            rw (is, e, has_room, is_early)
+            (goes_on_by message (state_of (side_at v core) local) next sent (asked (channels_at v local) core.0) e
+            is_early)
 
-  answer-planned : IsAnswer v local core (forwarded_plan v local core)
-  answer-planned = by (slice_get (core_at (channels_at v local) core.0).forwarded 0) refl
-    where
-      by : (front : Option ForwardedMessage) → slice_get (core_at (channels_at v local) core.0).forwarded 0 ≡ front →
-          IsAnswer v local core (forwarded_plan v local core)
-      by None is = rw is tt
-      by (Some message) is =
-          rw is (answer-row message (row_of (state_of (side_at v core) local) (event_of_forwarded message)) refl)
+    by : (front : Option ForwardedMessage) → slice_get (core_at (channels_at v local) core.0).forwarded 0 ≡ front →
+        IsAnswer v local core (plan_of v local (channels.Fwd core))
+    by None is = rw is tt
+    by (Some message) is =
+        by_row message is (row_of (state_of (side_at v core) local) (event_of_forwarded message)) refl
 
 -- ---- the copy
 

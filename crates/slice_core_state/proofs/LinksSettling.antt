@@ -12,15 +12,15 @@ use Rattle.cache_array.specs.Array.{held_at as array_at}
 use Rattle.cache_table.specs.CopyState.{is_leaving, is_waiting}
 use Rattle.cache_table.specs.Row.{row_of}
 use Rattle.cache_table.specs.declared.row.CacheEvent.TheVariants as events
+use Rattle.cache_table.specs.declared.row.CacheSends.{CacheSends}
 use Rattle.cache_table.specs.declared.row.Row.{Row}
 use Rattle.cache_table.specs.declared.row.Row.TheVariants as rows
 use Rattle.cache_table.specs.declared.state.CopyState.{CopyState}
 use Rattle.cache_table.specs.declared.state.CopyState.TheVariants as states
 use Rattle.mshr_file.specs.Miss.{is_waited, targets_of, TakesTargets}
 use Rattle.mshr_file.specs.declared.registers.Register.{Register}
-use Rattle.slice_core_answer.specs.declared.answer.Cell.TheVariants as cells
 use Rattle.slice_core_plan.specs.Parts.{filled_by}
-use Rattle.slice_core_plan.specs.Plan.{ack_plan, acknowledge_at, by_ack_row, by_data_row, data_plan, event_of_data, fill_at, plan_of, stands_at}
+use Rattle.slice_core_plan.specs.Plan.{event_of_data, plan_of, stands_at}
 use Rattle.slice_core_plan.specs.Steps.{after_settling, asked_by}
 use Rattle.slice_core_plan.specs.View.{View, channels_at, side_at, IsShaped}
 use Rattle.slice_core_plan.specs.declared.decide.Plan.{Plan}
@@ -171,67 +171,65 @@ IsCounting v local core (plans.Acknowledge place next) =
 IsCounting v local core plan = Unit {0}
 
 module _ (v : View) (local : Local) (core : CoreId) where
-  data-comes : (message : DataMessage) (row : Row) → row_of (state_of (side_at v core) local)
-      (event_of_data v local core message) ≡ row →
-      IsFilling v local core (by_data_row v local core row)
-  data-comes message rows.NoEntry is = tt
-  data-comes message rows.Blocked is = tt
-  data-comes message (rows.Go next sent) is = by (asked (channels_at v local) core.0) refl
+  data-planned : IsFilling v local core (plan_of v local (channels.Data core))
+  data-planned = by (core_at (channels_at v local) core.0).data refl
     where
-      comes : (m : DataMessage) → row_of (state_of (side_at v core) local) (event_of_data v local core m)
-          ≡ rows.Go next sent →
+      comes : (message : DataMessage) (next : CopyState) (sent : CacheSends) →
+          row_of (state_of (side_at v core) local) (event_of_data v local core message) ≡ rows.Go next sent →
           ComesTo (state_of (side_at v core) local) next None
-      comes (replies.Data block acks) e =
+      comes (replies.Data block acks) next sent e =
           comes_by_data acks (copy_of (side_at v core) local).counted (state_of (side_at v core) local) next sent e
-      comes (replies.DataE block) e =
+      comes (replies.DataE block) next sent e =
           comes_by_exclusive (list_all is_load (targets_of (side_at v core).misses local.0))
           (state_of (side_at v core) local) next sent e
 
-      by : (request : Option RequestMessage) → asked (channels_at v local) core.0 ≡ request →
-          IsFilling v local core
-          (if is_some request then plans.Broken cells.Early else fill_at (stands_at v local core) next)
-      by (Some request) e = tt
-      by None e = at (stands_at v local core)
+      by_row : (message : DataMessage) → (core_at (channels_at v local) core.0).data ≡ Some message → (row : Row) →
+          row_of (state_of (side_at v core) local) (event_of_data v local core message) ≡ row →
+          IsFilling v local core (plan_of v local (channels.Data core))
+      by_row message is rows.NoEntry e = rw (is, e) tt
+      by_row message is rows.Blocked e = rw (is, e) tt
+      by_row message is (rows.Go next sent) e =
+          by_place (asked (channels_at v local) core.0) refl (stands_at v local core) refl
         where
-          at : (place : Option ℕ) → IsFilling v local core (fill_at place next)
-          at None = tt
-          at (Some place) = (comes message is, e)
+          by_place : (request : Option RequestMessage) → asked (channels_at v local) core.0 ≡ request →
+              (place : Option ℕ) → stands_at v local core ≡ place →
+              IsFilling v local core (plan_of v local (channels.Data core))
+          by_place (Some request) waits place stands = rw (is, e, waits) tt
+          by_place None none None stands = rw (is, e, none, stands) tt
+          by_place None none (Some place) stands = rw (is, e, none, stands) (comes message next sent e, none)
 
-  data-planned : IsFilling v local core (data_plan v local core)
-  data-planned = by (core_at (channels_at v local) core.0).data refl
-    where
-      by : (waits : Option DataMessage) → (core_at (channels_at v local) core.0).data ≡ waits →
-          IsFilling v local core (data_plan v local core)
+      by : (front : Option DataMessage) → (core_at (channels_at v local) core.0).data ≡ front →
+          IsFilling v local core (plan_of v local (channels.Data core))
       by None is = rw is tt
       by (Some message) is =
-          rw is (data-comes message (row_of (state_of (side_at v core) local) (event_of_data v local core message))
-          refl)
+          by_row message is (row_of (state_of (side_at v core) local) (event_of_data v local core message)) refl
 
-  ack-planned : (from : CoreId) → IsCounting v local core (ack_plan v local core from)
-  ack-planned from = by (has (core_at (channels_at v local) core.0).acks from.0)
+  ack-planned : (from : CoreId) → IsCounting v local core (plan_of v local (channels.Ack core from))
+  ack-planned from = by (has (core_at (channels_at v local) core.0).acks from.0) refl
     where
-      counts : (row : Row) →
+      by_row : has (core_at (channels_at v local) core.0).acks from.0 ≡ true → (row : Row) →
           row_of (state_of (side_at v core) local)
           (events.InvAck (copy_of (side_at v core) local).wants (copy_of (side_at v core) local).counted) ≡ row →
-          IsCounting v local core (by_ack_row v local core row)
-      counts rows.NoEntry is = tt
-      counts rows.Blocked is = tt
-      counts (rows.Go next sent) is = at (stands_at v local core)
+          IsCounting v local core (plan_of v local (channels.Ack core from))
+      by_row is rows.NoEntry e = rw (is, e) tt
+      by_row is rows.Blocked e = rw (is, e) tt
+      by_row is (rows.Go next sent) e = by_place (stands_at v local core) refl
         where
-          at : (place : Option ℕ) → IsCounting v local core (acknowledge_at place next)
-          at None = tt
-          at (Some place) =
-              comes_by_ack (copy_of (side_at v core) local).wants (copy_of (side_at v core) local).counted
-              (state_of (side_at v core) local) next sent (asked (channels_at v local) core.0) is
+          by_place : (place : Option ℕ) → stands_at v local core ≡ place →
+              IsCounting v local core (plan_of v local (channels.Ack core from))
+          by_place None stands = rw (is, e, stands) tt
+          by_place (Some place) stands =
+              rw (is, e, stands)
+              (comes_by_ack (copy_of (side_at v core) local).wants (copy_of (side_at v core) local).counted
+              (state_of (side_at v core) local) next sent (asked (channels_at v local) core.0) e)
 
-      by : (waits : Bool) →
-          IsCounting v local core
-          (if waits then by_ack_row v local core
+      by : (waits : Bool) → has (core_at (channels_at v local) core.0).acks from.0 ≡ waits →
+          IsCounting v local core (plan_of v local (channels.Ack core from))
+      by true is =
+          by_row is
           (row_of (state_of (side_at v core) local)
-          (events.InvAck (copy_of (side_at v core) local).wants (copy_of (side_at v core) local).counted))
-          else plans.Nothing)
-      by true = counts _ refl
-      by false = tt
+          (events.InvAck (copy_of (side_at v core) local).wants (copy_of (side_at v core) local).counted)) refl
+      by false is = rw is tt
 
 -- ---- the messages
 

@@ -18,7 +18,7 @@ use Rattle.cache_table.specs.declared.state.CopyState.TheVariants as states
 use Rattle.mshr_file.specs.Miss.{is_waited}
 use Rattle.slice_core_plan.specs.Plan.{event_of_forwarded, is_put_ack}
 use Rattle.slice_core_plan.specs.Steps.{request_of}
-use Rattle.slice_core_side.specs.Access.{event_of}
+use Rattle.slice_core_side.specs.Access.{event_of, is_idle}
 use Rattle.slice_core_side.specs.Copy.{is_gone, may_leave}
 use Rattle.slice_core_side.specs.Kept.{stands_in_array}
 use Rattle.slice_core_side.specs.Perform.{asks_to_write, left_in, settled_state}
@@ -539,3 +539,28 @@ waits-or_leaves state leaves =
     not-false (is_waiting state)
     (implies-at (is_leaving state) (not (is_waiting state))
     (each_state-at (λ s. implies (is_leaving s) (not (is_waiting s))) refl state) leaves)
+
+clash : (b : Bool) → not b ≡ true → b ≡ true → ⊥
+clash true e f = cc
+clash false e f = cc
+
+-- a copy that is idle has sent nothing that waits
+unfoldable idles : Option RequestMessage → CopyState → Bool
+idles request state = implies (is_idle state) (not (has_sent state request))
+
+pub idle-none : (state : CopyState) (request : Option RequestMessage) → is_idle state ≡ true →
+    has_sent state request ≡ true → request ≡ None
+unfolding each_state idles implies
+idle-none state None idle sent = refl
+idle-none state (Some requests.GetS) idle sent =
+    let tested = implies-at _ _ (each_state-at (idles (Some requests.GetS)) refl state) idle in
+    absurd (clash (has_sent state (Some requests.GetS)) tested sent)
+idle-none state (Some requests.GetM) idle sent =
+    let tested = implies-at _ _ (each_state-at (idles (Some requests.GetM)) refl state) idle in
+    absurd (clash (has_sent state (Some requests.GetM)) tested sent)
+idle-none state (Some requests.PutS) idle sent =
+    let tested = implies-at _ _ (each_state-at (idles (Some requests.PutS)) refl state) idle in
+    absurd (clash (has_sent state (Some requests.PutS)) tested sent)
+idle-none state (Some (requests.PutM block)) idle sent =
+    let tested = implies-at _ _ (each_state-at (idles (Some (requests.PutM block))) refl state) idle in
+    absurd (clash (has_sent state (Some (requests.PutM block))) tested sent)

@@ -7,3 +7,4 @@ pub mod LinksDirectory
 pub mod LinksForwarded
 pub mod LinksSettling
 pub mod LinksFacts
+pub mod LinksBeginning

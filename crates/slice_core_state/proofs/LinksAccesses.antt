@@ -283,12 +283,6 @@ module _ (v : View) (core : CoreId) (local : Local) (shaped : IsShaped v) (links
     (there : core.0 < length v.sides) (within : local.0 < v.lines.lines) where
   -- a victim that leaves for the line keeps the links, and is a line of the slice
   module _ (replaces : CanReplace (side_at v core) local) (victim : HasVictim (side_at v core) local) where
-    victim_line : Local
-    victim_line = sides.victim_for (side_at v core) local
-
-    left : SideView
-    left = sides.after_replace (side_at v core) local
-
     victim-inside : (sides.victim_for (side_at v core) local).0 < v.lines.lines
     victim-inside =
         let kept = links.kept core there in

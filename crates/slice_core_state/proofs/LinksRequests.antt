@@ -1,7 +1,7 @@
 -- What a message that is sent or taken leaves of the requests of a line: each is as it was, but for the request itself.
 use Rattle.std.proofs.Common.{◌≡◌, ◌≢◌, ℕ, ◌<◌, Bool, true, false, if◌then◌else◌, length, set, Option, Some, None, inl, inr, refl, sym, ap, ◌∙◌}
 use Rattle.std.proofs.lemmas.Bool.{cases_Bool, cases_lt}
-use Rattle.std.proofs.lemmas.List.{get_or_past, get_or-set_same, get_or-set_other, length-set}
+use Rattle.std.proofs.lemmas.List.{get_or_past, get_or-set_same, get_or-set_other}
 use Rattle.std.proofs.lemmas.List.FromFn.{length-map-range_with_len}
 use Rattle.address_map.specs.CoreSet.{has}
 use Rattle.address_map.specs.declared.address.CoreId.{CoreId}
@@ -141,10 +141,3 @@ pub asked-asked_by_other : (write : Bool) (line : LineChannels) (core : CoreId) 
     asked (asked_by write line core) other ≡ asked line other
 asked-asked_by_other true line core other apart = asked-sent_other line core other apart requests.GetM
 asked-asked_by_other false line core other apart = refl
-
--- ---- lengths
-
--- a line keeps its cores where a message is taken from one of their channels
-pub cores-with_core : (line : LineChannels) (core : ℕ) (now : CoreChannels) →
-    length (with_core line core now).cores ≡ length line.cores
-cores-with_core line core now = length-set line.cores core now

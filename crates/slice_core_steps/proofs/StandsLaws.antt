@@ -1,0 +1,50 @@
+-- A copy for which a message is taken stands in the array or the write-back buffer.
+use Rattle.std.proofs.Common.{ℕ, zero, suc, ◌<◌, List, [], ◌∷◌, length, get_or, arith, ◌≡◌, ◌⊎◌, ◌∙◌, sym, ap, inl, inr, Option, Some, None, IsSome, refl}
+use Rattle.address_map.specs.declared.address.Local.{Local}
+use Rattle.cache_array.specs.Array.{held_at as array_at}
+use Rattle.cache_table.specs.Row.{row_of}
+use Rattle.cache_table.specs.declared.row.CacheSends.{CacheSends}
+use Rattle.cache_table.specs.declared.row.Row.TheVariants as rows
+use Rattle.cache_table.specs.declared.state.CopyState.{CopyState}
+use Rattle.cache_table.specs.declared.state.CopyState.TheVariants as states
+use Rattle.slice_core_plan.specs.Plan.{event_of_forwarded}
+use Rattle.slice_core_plan.specs.View.{no_side}
+use Rattle.slice_core_plan.specs.Within.{Stands}
+use Rattle.slice_core_side.specs.Copy.{found_in}
+use Rattle.slice_core_side.specs.Side.{SideView, copy_of}
+use Rattle.slice_core_side.specs.declared.copy.CacheCopy.{CacheCopy}
+use Rattle.slice_queues_message.specs.declared.message.ForwardedMessage.{ForwardedMessage}
+use Rattle.slice_queues_message.specs.declared.message.ForwardedMessage.TheVariants as forwards
+use Rattle.writeback_buffer.specs.Buffer.{held_at as buffer_at}
+use Rattle.writeback_buffer.specs.declared.entry.Leaving.{Leaving}
+
+-- the side that was read is the core's
+pub read_side : (sides all : List SideView) (core : ℕ) (side : SideView) → side ≡ get_or sides core side → sides ≡ all →
+    core < length all → side ≡ get_or all core no_side
+read_side sides all core side read same there =
+    read ∙ ap (λ list. get_or list core side) same ∙ default all core there
+  where
+    default : (list : List SideView) (at : ℕ) → at < length list → get_or list at side ≡ get_or list at no_side
+    default [] at within = absurd (omega arith)
+    default (first ∷ rest) zero within = refl
+    default (first ∷ rest) (suc at) within = default rest at (omega arith)
+
+-- no forwarded message has a row where there is no copy
+none_forwarded : (message : ForwardedMessage) (next : CopyState) (sends : CacheSends) →
+    row_of states.I (event_of_forwarded message) ≡ rows.Go next sends → ⊥
+none_forwarded (forwards.FwdGetS requester) next sends e = cc
+none_forwarded (forwards.FwdGetM requester) next sends e = cc
+none_forwarded (forwards.Inv requester) next sends e = cc
+none_forwarded forwards.PutAck next sends e = cc
+
+pub stands_forwarded : (side : SideView) (local : Local) (message : ForwardedMessage) (next : CopyState) (sends : CacheSends) →
+    row_of (copy_of side local).state (event_of_forwarded message) ≡ rows.Go next sends → Stands side local
+stands_forwarded side local message next sends =
+    found (array_at side.array local) (buffer_at side.buffer.entries local.0)
+  where
+    found : (held : Option CacheCopy) (leaving : Option Leaving) →
+        row_of (found_in held leaving).state (event_of_forwarded message) ≡ rows.Go next sends →
+        IsSome held ⊎ IsSome leaving
+    found (Some copy) leaving e = inl refl
+    found None (Some left) e = inr refl
+    found None None e = absurd (none_forwarded message next sends e)

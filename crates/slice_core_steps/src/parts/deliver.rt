@@ -1,0 +1,282 @@
+ghost use Rattle.std.specs.Prelude.{◌≡◌, ◌+◌, ◌-◌, ◌^◌, ◌++◌, ◌<◌, ◌≤◌, All, vec_capacity, if◌then◌else◌, length, true, false, IsSome, Some, None};
+ghost use Rattle.mshr_file.specs.Miss.{targets_of, IsMissFile, TakesTargets};
+ghost use Rattle.slice_core_side.specs.Perform.{asks_to_write, entries_of, performed_in};
+ghost use Rattle.slice_core_side.specs.Side.{array_copy};
+ghost use Rattle.slice_core_side.specs.Steps.{acknowledged, after_change, after_settle};
+ghost use Rattle.slice_core_side.specs.Targets.{IsPerformable};
+ghost use Rattle.slice_core_plan.specs.Parts.{AfterDelivery, AfterPlan, CanDeliver, Moves, Settles, core_of, filled_by};
+ghost use Rattle.slice_core_plan.specs.Plan.{plan_of};
+ghost use Rattle.slice_core_plan.specs.Sends.{cache_room, directory_room, directory_sent};
+ghost use Rattle.slice_core_plan.specs.Steps.{after_directory, after_forwarded, after_home, asked_by, block_in};
+ghost use Rattle.slice_core_plan.specs.View.{channels_at, side_at, IsShaped};
+ghost use Rattle.slice_core_plan.specs.Within.{Stands, StandsAt, is_shared};
+ghost use Rattle.slice_queues.specs.Line.{after_take, core_at};
+ghost use Rattle.slice_queues_message.specs.declared.channel.Channel.TheVariants as channels;
+
+use super::Parts;
+use slice_core_plan::Plan;
+use slice_core_plan::{send_from_core, send_from_directory};
+use address_map::{Block, CoreId, CoreSet, Local, Offset};
+use cache_table::{CacheSends, CopyState};
+use directory_table::{DirSends, DirState};
+use mshr_file::MissFile;
+use slice_core_answer::Delivered;
+use slice_core_log::Entry;
+use slice_core_side::Side;
+use slice_queues::{Channel, DataMessage, LineQueues, Pick, RequestMessage};
+
+impl<F: MissFile> Parts<F> {
+    /// Takes the front message of a channel and does its row, where the table has one.
+    pub fn deliver(&mut self, pick: Pick) -> Delivered
+        requires { CanDeliver self.old }
+        ensures { AfterDelivery self.old pick result self.new }
+    {
+        match self.lines.local_of(pick.line()) {
+            Some(local) => self.deliver_at(local, pick.channel()),
+            None => Delivered::Nothing,
+        }
+    }
+
+    /// Takes the front message of a channel of a line and does its row, where the table has one.
+    pub(super) fn deliver_at(&mut self, local: Local, channel: Channel) -> Delivered
+        requires line { local.0 < self.old.view.lines.lines }
+        requires delivers { CanDeliver self.old }
+        ensures { AfterPlan (plan_of self.old.view local channel) self.old local channel result self.new }
+    {
+        match self.plan(local, channel) {
+            Plan::Nothing => return Delivered::Nothing,
+            Plan::Blocked => return Delivered::Blocked,
+            Plan::Broken(cell) => return Delivered::Broken(cell),
+            Plan::Directory {
+                state,
+                owner,
+                sharers,
+                sends,
+                writes_home,
+            } => {
+                let core = channel_core(channel);
+                self.serve(local, core, state, owner, sharers, sends, writes_home);
+            }
+            Plan::Home {
+                state,
+                owner,
+                sharers,
+            } => self.take_home(local, state, owner, sharers),
+            Plan::Forwarded {
+                next,
+                sends,
+                requester,
+            } => self.forward(local, channel_core(channel), next, sends, requester),
+            Plan::Fill { place, next } => self.fill(local, channel_core(channel), place, next),
+            Plan::Acknowledge { place, next } => {
+                let Channel::Ack { to, from } = channel else {
+                    unreachable!();
+                };
+                self.acknowledge(local, to, from, place, next);
+            }
+        }
+        Delivered::Moved
+    }
+
+    // The directory takes a core's request, and does its row.
+    fn serve(
+        &mut self,
+        local: Local,
+        core: CoreId,
+        state: DirState,
+        owner: Option<CoreId>,
+        sharers: CoreSet,
+        sends: DirSends,
+        writes_home: bool,
+    )
+        requires line { local.0 < self.old.view.lines.lines }
+        requires core { core.0 < length self.old.view.sides }
+        requires shaped { IsShaped self.old.view }
+        requires room { directory_room (channels_at self.old.view local) core sends ≡ true }
+        ensures { Moves self.old (channels.Req core) (after_directory self.old.view local core state owner sharers sends writes_home) self.new }
+    {
+        self.stats.count_message(Channel::Req(core));
+        let entry = &mut self.entries[local.0];
+        let line = self.queues.line_mut(local);
+        entry.state = state;
+        entry.owner = owner;
+        entry.sharers = sharers;
+        serve_request(line, &mut entry.home, core, sends, writes_home);
+    }
+
+    // The directory takes the block that comes home.
+    fn take_home(&mut self, local: Local, state: DirState, owner: Option<CoreId>, sharers: CoreSet)
+        requires line { local.0 < self.old.view.lines.lines }
+        requires shaped { IsShaped self.old.view }
+        requires comes { IsSome (channels_at self.old.view local).home }
+        ensures { Moves self.old channels.Home (after_home self.old.view local state owner sharers) self.new }
+    {
+        self.stats.count_message(Channel::Home);
+        let entry = &mut self.entries[local.0];
+        let line = self.queues.line_mut(local);
+        if let Some(block) = line.front_home() {
+            entry.home = *block;
+        }
+        entry.state = state;
+        entry.owner = owner;
+        entry.sharers = sharers;
+        line.drop_home();
+    }
+
+    // A core takes a forwarded message, and does its row for the requester.
+    fn forward(&mut self, local: Local, core: CoreId, next: CopyState, sends: CacheSends, requester: CoreId)
+        requires line { local.0 < self.old.view.lines.lines }
+        requires core { core.0 < length self.old.view.sides }
+        requires shaped { IsShaped self.old.view }
+        requires stands { Stands (side_at self.old.view core) local }
+        requires room { cache_room (channels_at self.old.view local) core requester sends ≡ true }
+        ensures { Moves self.old (channels.Fwd core) (after_forwarded self.old.view local core next sends requester) self.new }
+    {
+        self.stats.count_message(Channel::Fwd(core));
+        let side = &mut self.sides[core.0 as usize];
+        let line = self.queues.line_mut(local);
+        let _ = line.take_forwarded(core);
+        send_from_core(line, core, requester, side.block(local), sends);
+        side.advance(local, next);
+    }
+
+    // A core takes its data. What its copy then allows is performed.
+    fn fill(&mut self, local: Local, core: CoreId, place: usize, next: CopyState)
+        requires line { local.0 < self.old.view.lines.lines }
+        requires core { core.0 < length self.old.view.sides }
+        requires delivers { CanDeliver self.old }
+        requires stands { StandsAt (side_at self.old.view core) local place }
+        requires comes { IsSome (core_at (channels_at self.old.view local) core.0).data }
+        requires idle { (core_at (channels_at self.old.view local) core.0).request ≡ None }
+        ensures { Settles self.old local core (channels.Data core)
+            (filled_by (array_copy (side_at self.old.view core) local) (core_at (channels_at self.old.view local) core.0).data next) self.new }
+    {
+        self.stats.count_message(Channel::Data(core));
+        let side = &mut self.sides[core.0 as usize];
+        let line = self.queues.line_mut(local);
+        match line.front_data(core) {
+            Some(message) => fill_copy(side, local, place, message, next),
+            None => unreachable!(),
+        }
+        line.drop_data(core);
+        let first = self.lines.word_at(local, Offset(0)).0;
+        let log = &mut self.log;
+        let asks = settle_copy(side, log, &mut self.pending, core, local, place, first);
+        ask_to_write(line, core, asks);
+    }
+
+    // A core counts an acknowledgement. What its copy then allows is performed.
+    fn acknowledge(&mut self, local: Local, to: CoreId, from: CoreId, place: usize, next: CopyState)
+        requires line { local.0 < self.old.view.lines.lines }
+        requires to { to.0 < length self.old.view.sides }
+        requires from { from.0 < length self.old.view.sides }
+        requires delivers { CanDeliver self.old }
+        requires stands { StandsAt (side_at self.old.view to) local place }
+        requires waits { is_shared next ≡ false }
+        ensures { Settles self.old local to (channels.Ack to from) (acknowledged (array_copy (side_at self.old.view to) local) next) self.new }
+    {
+        self.stats.count_message(Channel::Ack { to, from });
+        let side = &mut self.sides[to.0 as usize];
+        side.acknowledge(local, place, next);
+        let _ = self.queues.line_mut(local).take_ack(to, from);
+        let first = self.lines.word_at(local, Offset(0)).0;
+        let log = &mut self.log;
+        let _ = settle_copy(side, log, &mut self.pending, to, local, place, first);
+    }
+}
+
+// The core at a channel of a core.
+fn channel_core(channel: Channel) -> CoreId
+    ensures { result ≡ core_of channel }
+{
+    match channel {
+        Channel::Req(core) | Channel::Fwd(core) | Channel::Data(core) => core,
+        Channel::Ack { to, .. } => to,
+        Channel::Home => CoreId(0),
+    }
+}
+
+// The directory takes a core's request. Its block becomes the home copy where the row writes that; what is sent carries
+// the home copy as it was.
+fn serve_request(
+    line: &mut LineQueues,
+    home: &mut Block,
+    core: CoreId,
+    sends: DirSends,
+    writes_home: bool,
+)
+    requires core { core.0 < length line.old.cores }
+    requires room { directory_room line.old core sends ≡ true }
+    ensures line { line.new ≡ directory_sent (after_take line.old (channels.Req core)) core home.old sends }
+    ensures home { home.new ≡ (if writes_home then block_in home.old (core_at line.old core.0).request else home.old) }
+{
+    if !writes_home {
+        line.drop_request(core);
+        send_from_directory(line, core, home, sends);
+        return;
+    }
+    let before = *home;
+    if let Some(RequestMessage::PutM(block)) = line.front_request(core) {
+        *home = *block;
+    }
+    line.drop_request(core);
+    send_from_directory(line, core, &before, sends);
+}
+
+// The copy gets the data that came, and goes to the next state.
+fn fill_copy<F: MissFile>(
+    side: &mut Side<F>,
+    local: Local,
+    place: usize,
+    message: &DataMessage,
+    next: CopyState,
+)
+    requires { StandsAt side.old local place }
+    ensures { side.new ≡ after_change side.old local (filled_by (array_copy side.old local) (Some message.now) next) }
+{
+    match message {
+        DataMessage::Data { block, acks } => side.fill(local, place, block, *acks, next),
+        DataMessage::DataE(block) => side.fill(local, place, block, 0, next),
+    }
+}
+
+// The targets that the copy now allows are performed and logged, and wait no more. Answers whether a write is left, for
+// which the right to write has to be asked.
+fn settle_copy<F: MissFile>(
+    side: &mut Side<F>,
+    log: &mut Vec<Entry>,
+    pending: &mut usize,
+    core: CoreId,
+    local: Local,
+    place: usize,
+    first: u64,
+) -> bool
+    requires held { StandsAt side.old local place }
+    requires performable { All IsPerformable (targets_of side.old.misses local.0) }
+    requires room { length log.old.items + length (targets_of side.old.misses local.0) ≤ vec_capacity log.old }
+    requires pending { length (targets_of side.old.misses local.0) ≤ pending.old }
+    requires first { first + 8 ≤ 2 ^ 64 }
+    ensures asks { result ≡ asks_to_write (array_copy side.old local).state (targets_of side.old.misses local.0) }
+    ensures taken { TakesTargets side.old.misses side.new.misses local.0 (performed_in (array_copy side.old local).state (targets_of side.old.misses local.0)) }
+    ensures sound { IsMissFile side.old.misses → IsMissFile side.new.misses }
+    ensures after { side.new ≡ after_settle side.old local (length log.old.items) side.new.misses }
+    ensures log { log.new.items ≡ log.old.items ++ entries_of core first (array_copy side.old local).block (performed_in (array_copy side.old local).state (targets_of side.old.misses local.0)) }
+    ensures room { vec_capacity log.new ≡ vec_capacity log.old }
+    ensures pending { pending.new ≡ pending.old - length (performed_in (array_copy side.old local).state (targets_of side.old.misses local.0)) }
+{
+    let before = log.len();
+    let asks = side.settle(core, local, place, first, log);
+    *pending -= log.len() - before;
+    asks
+}
+
+// The core asks for the right to write, where a write is left.
+fn ask_to_write(line: &mut LineQueues, core: CoreId, asks: bool)
+    requires core { core.0 < length line.old.cores }
+    requires idle { asks ≡ true → (core_at line.old core.0).request ≡ None }
+    ensures { line.new ≡ asked_by asks line.old core }
+{
+    if asks {
+        line.send_request(core, RequestMessage::GetM);
+    }
+}

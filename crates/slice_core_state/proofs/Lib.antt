@@ -8,3 +8,17 @@ pub mod LinksForwarded
 pub mod LinksSettling
 pub mod LinksFacts
 pub mod LinksBeginning
+pub mod CountedSteps
+pub mod CountedLines
+pub mod CountedStats
+pub mod AccountsSteps
+pub mod AccountsKept
+pub mod AccountsDecision
+pub mod AccountsIssue
+pub mod AccountsEvict
+pub mod AccountsHand
+pub mod AccountsPlanned
+pub mod AccountsDelivery
+pub mod AccountsBegin
+pub mod AccountsFacts
+pub mod AccountsCan

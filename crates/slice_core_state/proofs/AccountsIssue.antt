@@ -93,7 +93,8 @@ module _ (p : PartsView) (core : CoreId) (request : Request) (local : Local) (ro
       fits bound (counts-hit p core before.0 (side_at p.view core).accepted before.1 silent small) keeps
 
   join : (misses : List Register) (target : Target)
-      → AddsTarget (side_at p.view core).misses misses local.0 target → IsMissFile misses → IsTarget p core request target
+      → AddsTarget (side_at p.view core).misses misses local.0 target → IsMissFile misses
+      → IsTarget p core request target
       → request.tag < 64 → tag_at (side_at p.view core) request.tag ≡ tags.Free
       → Keeps (record p {
         view = after_join p.view core request misses;
@@ -110,7 +111,8 @@ module _ (p : PartsView) (core : CoreId) (request : Request) (local : Local) (ro
       (counts-secondary p core before.0 (side_at p.view core).accepted before.1 least) keeps
 
   opening : (held : Bool) (next : CopyState) (ask : Ask) (misses : List Register) (target : Target)
-      → AddsTarget (side_at p.view core).misses misses local.0 target → IsMissFile misses → IsTarget p core request target
+      → AddsTarget (side_at p.view core).misses misses local.0 target → IsMissFile misses
+      → IsTarget p core request target
       → request.tag < 64 → tag_at (side_at p.view core) request.tag ≡ tags.Free
       → Keeps (record p {
         view = after_opening p.view core request local held next ask misses;

@@ -50,6 +50,7 @@ fn serve<F: MissFile>(rt: &impl Abort, side: &mut Side<F>, log: &mut Vec<Entry>)
     let Some(place) = side.place(LINE) else {
         panic!(rt; "it stands nowhere");
     };
+    assert_eq!(rt; side.block(LINE).words[0], 0);
     side.settle(CoreId(0), LINE, place, 24, log)
 }
 
@@ -70,7 +71,7 @@ fn load<F: MissFile>(rt: &impl Abort, side: &mut Side<F>) -> u64 {
 fn leave<F: MissFile>(rt: &impl Abort, side: &mut Side<F>) {
     assert_eq!(rt; side.decide_evict(LINE), Evicted::Evicting);
     side.evict(LINE);
-    assert_eq!(rt; side.copy(LINE).state, CopyState::MI_A);
+    assert_eq!(rt; side.look(LINE).state, CopyState::MI_A);
     assert_eq!(rt; side.decide_evict(LINE), Evicted::Busy);
     side.advance(LINE, CopyState::I);
     assert_eq!(rt; side.copy(LINE).state, CopyState::I);

@@ -1,7 +1,7 @@
 -- How many targets of a line a copy performs in its state, and whether some are left.
 use Rattle.std.proofs.Common.{◌≡◌, ℕ, ◌+◌, ◌==◌, Bool, true, false, cond, ◌&&◌, nat_lt, List, [], ◌∷◌, length, take, refl, ap, sym, ◌∙◌, arith, inl, inr}
 use Rattle.std.proofs.lemmas.Bool.{cases_eq, cases_lt, eq-eqb, ne_eqb, lt-ltb, le-ltb}
-use Rattle.std.proofs.lemmas.List.{length-drop, take_all}
+use Rattle.std.proofs.lemmas.List.{length-drop}
 use Rattle.std.proofs.lemmas.List.Folds.{length-prefix_len}
 use Rattle.std.specs.List.{list_all, prefix_len}
 use Rattle.mshr_file.specs.Miss.{is_waited}
@@ -31,13 +31,6 @@ more-front_loads targets =
           ∙ sym (le-ltb 0 (length (behind_loads targets)) (omega (arith, long)))
     ]
     ∙ is_waited-some (behind_loads targets)
-
--- all are as many as there are
-pub take-all : (targets : List Target) → take (length targets) targets ≡ targets
-take-all targets = take_all (length targets) targets (omega arith)
-
-pub none_more : (targets : List Target) → nat_lt (length targets) (length targets) ≡ false
-none_more targets = le-ltb (length targets) (length targets) (omega arith)
 
 -- ---- a line for which no write waits
 

@@ -24,7 +24,7 @@ use Rattle.slice_core_side.proofs.Lines.{ChangesLine, FitsIn, copy_here, copy_ot
 use Rattle.slice_core_side.specs.Access.{CanLeave}
 use Rattle.slice_core_side.specs.Copy.{found_in, no_copy, missing_copy, leaving_copy, performed_on, is_gone, may_leave}
 use Rattle.slice_core_side.specs.Kept.{IsKept, stands_in_array}
-use Rattle.slice_core_side.specs.Perform.{block_after, performed_in, left_in, settled_state}
+use Rattle.slice_core_side.specs.Perform.{performed_in, settled_state}
 use Rattle.slice_core_side.specs.Side.{SideView, copy_of, array_copy, new_side}
 use Rattle.slice_core_side.specs.Steps.{with_copy, without_line_in, used_by, settled, settled_copy, evicted, next_by, victim_for, after_hit, after_join, after_open, after_evict, after_draw, after_replace, after_advance, after_change, after_settle, after_hand}
 use Rattle.slice_core_side.specs.declared.copy.CacheCopy.{CacheCopy}

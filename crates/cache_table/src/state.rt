@@ -74,6 +74,18 @@ impl CopyState {
     }
 }
 
+impl Default for CopyState {
+    ghost use Rattle.std.specs.Prelude.{◌≡◌};
+    ghost use Rattle.cache_table.specs.declared.state.CopyState.TheVariants as states;
+
+    ghost is_default = { λ state. state ≡ states.I };
+
+    /// A line that isn't held.
+    fn default() -> Self {
+        CopyState::I
+    }
+}
+
 impl fmt::Display for CopyState {
     fn fmt<W: fmt::Write>(&self, f: &mut fmt::Formatter<W>) -> fmt::Result {
         f.write_str(match self {

@@ -11,7 +11,7 @@ use Rattle.address_map.specs.declared.config.Config.{Config}
 use Rattle.address_map.specs.declared.request.Request.{Request}
 use Rattle.cache_array.specs.Array.{held_at as array_at}
 use Rattle.cache_table.specs.declared.state.CopyState.{CopyState}
-use Rattle.mshr_file.specs.Miss.{Bound, targets_of, AddsTarget, TakesTargets}
+use Rattle.mshr_file.specs.Miss.{Bound, targets_of, AddsTarget, IsMissFile, TakesTargets}
 use Rattle.mshr_file.specs.declared.registers.Register.{Register}
 use Rattle.slice_core_answer.specs.Stats.{StatsView, no_stats, after_eviction, after_hit as hit_counted, after_message, after_primary, after_secondary, after_stall}
 use Rattle.slice_core_answer.specs.declared.answer.Delivered.{Delivered}
@@ -138,11 +138,13 @@ AfterAccepting (accesses.Hit place next silent) old core request local answer ne
 AfterAccepting accesses.Join old core request local answer new =
     (misses : List Register)
     × AddsTarget (side_at old.view core).misses misses local.0 (target_for old core request)
+    × IsMissFile misses
     × Accepts old (after_join old.view core request misses) (after_secondary old.stats core) (old.pending + 1)
     (issues.Pending (side_at old.view core).accepted) answer new
 AfterAccepting (accesses.Open next ask way) old core request local answer new =
     (misses : List Register)
     × AddsTarget (side_at old.view core).misses misses local.0 (target_for old core request)
+    × IsMissFile misses
     × Accepts old (after_open old.view core request local way next ask misses) (opened_stats old.stats core way) (old.pending + 1)
     (issues.Pending (side_at old.view core).accepted) answer new
 
@@ -202,6 +204,7 @@ Settles old local core channel copy new =
     let taken = performed_in copy.state targets in
     (misses : List Register)
     × TakesTargets (side_at old.view core).misses misses local.0 taken
+    × (IsMissFile (side_at old.view core).misses → IsMissFile misses)
     × (new ≡ record old {
       view = after_settling old.view local core channel copy misses;
       stats = after_message old.stats channel;
@@ -251,13 +254,21 @@ AfterDelivery old pick answer new = by_line (local_at old.view.lines (line_of pi
     by_line None = (answer ≡ delivered.Nothing) × (new ≡ old)
     by_line (Some local) = AfterPlan (plan_of old.view local (channel_of pick)) old local (channel_of pick) answer new
 
--- what a delivery of the pick would answer
-abbrev pub planned : View → Pick → Plan
-planned v pick = by_line (local_at v.lines (line_of pick).0)
-  where
-    by_line : Option Local → Plan
-    by_line None = plans.Nothing
-    by_line (Some local) = plan_of v local (channel_of pick)
+-- nothing is moved by this plan
+abbrev pub IsStuck : Plan → Type 0
+IsStuck plans.Nothing = Unit {0}
+IsStuck plans.Blocked = Unit {0}
+IsStuck (plans.Broken cell) = Unit {0}
+IsStuck _ = ⊥
+
+-- at each channel of the class, of each line of the slice, the plan has this property
+abbrev pub AllPlans : View → Class → (Plan → Type 0) → Type 0
+AllPlans v class P = (local : Local) (channel : Channel) → local.0 < v.lines.lines → IsTrue (is_of_class class channel) → P (plan_of v local channel)
+
+-- at some channel of the class, of some line of the slice, the plan is this one
+abbrev pub SomePlan : View → Class → Plan → Type 0
+SomePlan v class plan =
+    (local : Local) × (channel : Channel) × (local.0 < v.lines.lines) × IsTrue (is_of_class class channel) × (plan_of v local channel ≡ plan)
 
 -- What the next delivery of a class answers and leaves: one that can be made is made; nothing moves only where the row of
 -- each message in front of a channel of the class is blocked or broken; and nothing waits only where no channel of the
@@ -265,22 +276,11 @@ planned v pick = by_line (local_at v.lines (line_of pick).0)
 abbrev pub AfterDeliverNext : PartsView → Class → DeliveredNext → PartsView → Type 0
 AfterDeliverNext old class (delivered_next.Moved pick) new =
     IsTrue (is_of_class class (channel_of pick)) × AfterDelivery old pick delivered.Moved new
-AfterDeliverNext old class delivered_next.Nothing new =
-    (new ≡ old) × ((pick : Pick) → IsTrue (is_of_class class (channel_of pick)) → planned old.view pick ≡ plans.Nothing)
+AfterDeliverNext old class delivered_next.Nothing new = (new ≡ old) × AllPlans old.view class (λ plan. plan ≡ plans.Nothing)
 AfterDeliverNext old class delivered_next.Blocked new =
-    (new ≡ old)
-    × ((pick : Pick) → IsTrue (is_of_class class (channel_of pick)) → (planned old.view pick ≡ plans.Nothing) ⊎ (planned old.view pick ≡ plans.Blocked))
-    × ((pick : Pick) × IsTrue (is_of_class class (channel_of pick)) × (planned old.view pick ≡ plans.Blocked))
+    (new ≡ old) × AllPlans old.view class (λ plan. (plan ≡ plans.Nothing) ⊎ (plan ≡ plans.Blocked)) × SomePlan old.view class plans.Blocked
 AfterDeliverNext old class (delivered_next.Broken cell) new =
-    (new ≡ old)
-    × ((pick : Pick) × IsTrue (is_of_class class (channel_of pick)) × (planned old.view pick ≡ plans.Broken cell))
-    × ((pick : Pick) → IsTrue (is_of_class class (channel_of pick)) → IsStuck (planned old.view pick))
-  where
-    IsStuck : Plan → Type 0
-    IsStuck plans.Nothing = Unit {0}
-    IsStuck plans.Blocked = Unit {0}
-    IsStuck (plans.Broken cell) = Unit {0}
-    IsStuck _ = ⊥
+    (new ≡ old) × AllPlans old.view class IsStuck × SomePlan old.view class (plans.Broken cell)
 
 -- ---- hand
 

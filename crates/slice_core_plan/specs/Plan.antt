@@ -53,14 +53,13 @@ by_directory_row line core (dir_rows.Go state owner sharers sent writes) =
     if directory_room line core sent then plans.Directory state owner sharers sent writes
     else plans.Broken cells.Full
 
+abbrev pub request_by : View → Local → CoreId → Option RequestMessage → Plan
+request_by v local core None = plans.Nothing
+request_by v local core (Some message) =
+    by_directory_row (channels_at v local) core (dir_row_of v.exclusive (entry_at v local) (event_of_request core message))
+
 abbrev pub request_plan : View → Local → CoreId → Plan
-request_plan v local core = by_message (core_at (channels_at v local) core.0).request
-  where
-    by_message : Option RequestMessage → Plan
-    by_message None = plans.Nothing
-    by_message (Some message) =
-        by_directory_row (channels_at v local) core
-        (dir_row_of v.exclusive (entry_at v local) (event_of_request core message))
+request_plan v local core = request_by v local core (core_at (channels_at v local) core.0).request
 
 -- what follows from the directory's row for a block that comes home, which sends nothing
 abbrev pub by_home_row : DirRow → Plan
@@ -105,13 +104,13 @@ by_forwarded_row v local core message (rows.Go next sent) =
     else if is_put_ack message && asks v local core then plans.Broken cells.Early
     else plans.Forwarded next sent (requester_of core message)
 
+abbrev pub forwarded_by : View → Local → CoreId → Option ForwardedMessage → Plan
+forwarded_by v local core None = plans.Nothing
+forwarded_by v local core (Some message) =
+    by_forwarded_row v local core message (row_of (copy_of (side_at v core) local).state (event_of_forwarded message))
+
 abbrev pub forwarded_plan : View → Local → CoreId → Plan
-forwarded_plan v local core = by_message (slice_get (core_at (channels_at v local) core.0).forwarded 0)
-  where
-    by_message : Option ForwardedMessage → Plan
-    by_message None = plans.Nothing
-    by_message (Some message) =
-        by_forwarded_row v local core message (row_of (copy_of (side_at v core) local).state (event_of_forwarded message))
+forwarded_plan v local core = forwarded_by v local core (slice_get (core_at (channels_at v local) core.0).forwarded 0)
 
 -- the event of the cache's table that data are, for a copy and the targets that wait for it
 abbrev pub event_of_data : View → Local → CoreId → DataMessage → CacheEvent
@@ -134,13 +133,13 @@ by_data_row v local core rows.Blocked = plans.Blocked
 by_data_row v local core (rows.Go next sent) =
     if asks v local core then plans.Broken cells.Early else fill_at (stands_at v local core) next
 
+abbrev pub data_by : View → Local → CoreId → Option DataMessage → Plan
+data_by v local core None = plans.Nothing
+data_by v local core (Some message) =
+    by_data_row v local core (row_of (copy_of (side_at v core) local).state (event_of_data v local core message))
+
 abbrev pub data_plan : View → Local → CoreId → Plan
-data_plan v local core = by_message (core_at (channels_at v local) core.0).data
-  where
-    by_message : Option DataMessage → Plan
-    by_message None = plans.Nothing
-    by_message (Some message) =
-        by_data_row v local core (row_of (copy_of (side_at v core) local).state (event_of_data v local core message))
+data_plan v local core = data_by v local core (core_at (channels_at v local) core.0).data
 
 -- what an acknowledgement does to a copy that stands there
 abbrev pub acknowledge_at : Option ℕ → CopyState → Plan

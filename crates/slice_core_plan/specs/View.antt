@@ -79,7 +79,7 @@ pub record IsShaped (v : View) : Type 0 where
 
 -- no message, no access that waits, no line that leaves and no reply that isn't handed out
 pub record IsQuiet (v : View) : Type 0 where
-  pub messages : (local : Local) → local.0 < v.lines.lines → IsEmptyLine (channels_at v local)
+  pub messages : (local : Local) → IsEmptyLine (channels_at v local)
   pub sides : All IsSideQuiet v.sides
 
 -- the block with the line's newest data where the slice is quiet: the owner's copy where there is one, or else the home

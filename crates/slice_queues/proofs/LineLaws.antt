@@ -345,14 +345,14 @@ no_ack-past_end line to from past =
     ∙ ap ack_messages (has-zero from.0)
 
 -- channels have one name exactly where they are the same
-same_itself : (channel : Channel) → is_same_channel channel channel ≡ true
+pub same_itself : (channel : Channel) → is_same_channel channel channel ≡ true
 same_itself (channels.Req core) = eq-eqb core.0 core.0 refl
 same_itself (channels.Fwd core) = eq-eqb core.0 core.0 refl
 same_itself (channels.Data core) = eq-eqb core.0 core.0 refl
 same_itself (channels.Ack to from) = rw (eq-eqb to.0 to.0 refl, eq-eqb from.0 from.0 refl) refl
 same_itself channels.Home = refl
 
-same-from_name : (channel other : Channel) → is_same_channel channel other ≡ true → channel ≡ other
+pub same-from_name : (channel other : Channel) → is_same_channel channel other ≡ true → channel ≡ other
 same-from_name channel other e = search (rules, same_core, eqb-true)
 
 -- an empty line stays empty when a message is taken

@@ -1,0 +1,50 @@
+-- How a slice's first values, lines and cores are made, one after another.
+use Rattle.std.proofs.Common.{◌≡◌, ◌≢◌, ◌<◌, ◌+◌, ℕ, List, [], ◌∷◌, ◌++◌, length, get_or, set, inl, inr, sym, ◌∙◌, arith, below_more}
+use Rattle.std.proofs.lemmas.List.{get_or-set_same, get_or-set_other, get_or_append_left, get_or_push, length_push}
+use Rattle.std.proofs.lemmas.Bool.{cases_lt}
+use Rattle.address_map.specs.Locator.{Lines}
+use Rattle.address_map.specs.declared.block.Block.{Block}
+use Rattle.address_map.specs.declared.config.Config.{Config}
+use Rattle.directory_table.specs.declared.state.DirEntry.{DirEntry}
+use Rattle.mshr_file.specs.Miss.{Bound}
+use Rattle.slice_core_plan.specs.Initial.{IsInitialBlock, AreInitialEntries, AreNewSides, unowned}
+use Rattle.slice_core_plan.specs.View.{no_entry, no_side}
+use Rattle.slice_core_side.specs.Side.{SideView, new_side}
+
+-- one more word of a block
+pub words-more : (words : List ℕ) (i v : ℕ) (f : ℕ → ℕ) → i < length words → ((k : ℕ) → k < i → get_or words k 0 ≡ f k) → v ≡ f i
+    → (k : ℕ) → k < i + 1 → get_or (set words i v) k 0 ≡ f k
+words-more words i v f within before is =
+    below_more _ _ (λ k less. let other : k ≢ i = omega arith in get_or-set_other words i k v 0 other ∙ before k less)
+    (get_or-set_same words i v 0 within ∙ is)
+
+-- one more line of a slice
+pub entries-more : (c : Config) (own : Lines) (n : ℕ) (entries : List DirEntry) (block : Block) → AreInitialEntries c own n entries
+    → IsInitialBlock c own (record { 0 = n }) block → AreInitialEntries c own (n + 1) (entries ++ unowned block ∷ [])
+entries-more c own n entries block before next = record {
+  count_is = let longer = length_push entries (unowned block) in let n_is = before.count_is in omega (arith, longer, n_is);
+  each = λ local within. elim (cases_lt local n) [
+    | inl less ↦
+        let found = before.each local less in
+        let inside : local < length entries = let n_is = before.count_is in omega (arith, n_is, less) in
+        (found.0, found.1, get_or_append_left entries (unowned block ∷ []) no_entry local inside ∙ found.2)
+    | inr last ↦
+        let same : local ≡ n = omega arith in
+        (block, rw same next, get_or_push entries (unowned block) no_entry local (before.count_is ∙ sym same))
+  ];
+}
+
+-- one more core
+pub sides-more : (c : Config) (bound : Bound) (slice n : ℕ) (sides : List SideView) → AreNewSides c bound slice n sides
+    → AreNewSides c bound slice (n + 1) (sides ++ new_side c bound slice n ∷ [])
+sides-more c bound slice n sides before = record {
+  count_is = let longer = length_push sides (new_side c bound slice n) in let n_is = before.count_is in omega (arith, longer, n_is);
+  each = λ core within. elim (cases_lt core n) [
+    | inl less ↦
+        let inside : core < length sides = let n_is = before.count_is in omega (arith, n_is, less) in
+        get_or_append_left sides (new_side c bound slice n ∷ []) no_side core inside ∙ before.each core less
+    | inr last ↦
+        let same : core ≡ n = omega arith in
+        rw same (get_or_push sides (new_side c bound slice n) no_side n before.count_is)
+  ];
+}

@@ -1,0 +1,10 @@
+pub mod Begins
+pub mod Handed
+pub mod Issued
+pub mod Quiet
+pub mod StandsLaws
+pub mod PlannedLaws
+pub mod ChangedLaws
+pub mod SettledLaws
+pub mod NextLaws
+pub mod NextAnswers

@@ -1,0 +1,181 @@
+-- What the next delivery of a class answers, by what is best to be done.
+use Rattle.std.proofs.Common.{◌≡◌, ℕ, ◌<◌, ◌⊎◌, true, refl, sym, ◌∙◌, ap, subst, inl, inr}
+use Rattle.std.specs.Prelude.{IsTrue, Some}
+use Rattle.address_map.specs.Locator.{line_at, local_at}
+use Rattle.address_map.specs.declared.address.LineAddr.{LineAddr}
+use Rattle.address_map.specs.declared.address.Local.{Local}
+use Rattle.slice_core_answer.specs.declared.answer.Cell.{Cell}
+use Rattle.slice_core_answer.specs.declared.answer.Delivered.{Delivered}
+use Rattle.slice_core_answer.specs.declared.answer.Delivered.TheVariants as delivered
+use Rattle.slice_core_answer.specs.declared.answer.DeliveredNext.TheVariants as delivered_next
+use Rattle.slice_core_plan.specs.Next.{next_by, next_or, IsNextIn, IsNoBetter}
+use Rattle.slice_core_plan.specs.Parts.{PartsView, AfterDeliverNext, AfterDelivery, AfterPlan, AllPlans, SomePlan, IsStuck}
+use Rattle.slice_core_plan.specs.Plan.{plan_of}
+use Rattle.slice_core_plan.specs.View.{View}
+use Rattle.slice_core_plan.specs.declared.decide.Next.TheVariants as nexts
+use Rattle.slice_core_plan.specs.declared.decide.Plan.{Plan}
+use Rattle.slice_core_plan.specs.declared.decide.Plan.TheVariants as plans
+use Rattle.slice_queues_message.specs.Class.{is_of_class}
+use Rattle.slice_queues_message.specs.Pick.{channel_of, line_of, pick_at}
+use Rattle.slice_queues_message.specs.declared.channel.Channel.{Channel}
+use Rattle.slice_queues_message.specs.declared.channel.Channel.TheVariants as channels
+use Rattle.slice_queues_message.specs.declared.channel.Class.{Class}
+
+-- where nothing is best, nothing is planned
+none-planned : (local : Local) (channel : Channel) (plan : Plan) → IsNoBetter nexts.Nothing (next_by local channel plan) → plan ≡ plans.Nothing
+none-planned local channel plans.Nothing h = refl
+none-planned local channel plans.Blocked h = cc
+none-planned local channel (plans.Broken cell) h = cc
+none-planned local channel (plans.Directory a b c d e) h = cc
+none-planned local channel (plans.Home a b c) h = cc
+none-planned local channel (plans.Forwarded a b c) h = cc
+none-planned local channel (plans.Fill a b) h = cc
+none-planned local channel (plans.Acknowledge a b) h = cc
+
+-- where a blocked message is best, nothing is planned elsewhere, or it is blocked
+blocked-planned : (local : Local) (channel : Channel) (plan : Plan) → IsNoBetter nexts.Blocked (next_by local channel plan)
+    → (plan ≡ plans.Nothing) ⊎ (plan ≡ plans.Blocked)
+blocked-planned local channel plans.Nothing h = inl refl
+blocked-planned local channel plans.Blocked h = inr refl
+blocked-planned local channel (plans.Broken cell) h = cc
+blocked-planned local channel (plans.Directory a b c d e) h = cc
+blocked-planned local channel (plans.Home a b c) h = cc
+blocked-planned local channel (plans.Forwarded a b c) h = cc
+blocked-planned local channel (plans.Fill a b) h = cc
+blocked-planned local channel (plans.Acknowledge a b) h = cc
+
+-- where a broken message is best, nothing moves
+stuck-planned : (local : Local) (channel : Channel) (cell : Cell) (plan : Plan) → IsNoBetter (nexts.Broken cell) (next_by local channel plan)
+    → IsStuck plan
+stuck-planned local channel cell plans.Nothing h = tt
+stuck-planned local channel cell plans.Blocked h = tt
+stuck-planned local channel cell (plans.Broken other) h = tt
+stuck-planned local channel cell (plans.Directory a b c d e) h = cc
+stuck-planned local channel cell (plans.Home a b c) h = cc
+stuck-planned local channel cell (plans.Forwarded a b c) h = cc
+stuck-planned local channel cell (plans.Fill a b) h = cc
+stuck-planned local channel cell (plans.Acknowledge a b) h = cc
+
+-- a blocked message that was met, and a broken one
+blocked-met : (local : Local) (channel : Channel) (plan : Plan) → nexts.Blocked ≡ next_by local channel plan → plan ≡ plans.Blocked
+blocked-met local channel plans.Nothing h = cc
+blocked-met local channel plans.Blocked h = refl
+blocked-met local channel (plans.Broken cell) h = cc
+blocked-met local channel (plans.Directory a b c d e) h = cc
+blocked-met local channel (plans.Home a b c) h = cc
+blocked-met local channel (plans.Forwarded a b c) h = cc
+blocked-met local channel (plans.Fill a b) h = cc
+blocked-met local channel (plans.Acknowledge a b) h = cc
+
+broken-met : (local : Local) (channel : Channel) (cell : Cell) (plan : Plan) → nexts.Broken cell ≡ next_by local channel plan → plan ≡ plans.Broken cell
+broken-met local channel cell plans.Nothing h = cc
+broken-met local channel cell plans.Blocked h = cc
+broken-met local channel cell (plans.Broken other) h = ap plans.Broken (let e : other ≡ cell = cc in e)
+broken-met local channel cell (plans.Directory a b c d e) h = cc
+broken-met local channel cell (plans.Home a b c) h = cc
+broken-met local channel cell (plans.Forwarded a b c) h = cc
+broken-met local channel cell (plans.Fill a b) h = cc
+broken-met local channel cell (plans.Acknowledge a b) h = cc
+
+-- what can be moved is planned there
+moved-there : (local at : Local) (channel other : Channel) (plan : Plan) → nexts.Move local channel ≡ next_by at other plan
+    → (local ≡ at) × (channel ≡ other)
+moved-there local at channel other plans.Nothing h = cc
+moved-there local at channel other plans.Blocked h = cc
+moved-there local at channel other (plans.Broken cell) h = cc
+moved-there local at channel other (plans.Directory a b c d e) h = (cc, cc)
+moved-there local at channel other (plans.Home a b c) h = (cc, cc)
+moved-there local at channel other (plans.Forwarded a b c) h = (cc, cc)
+moved-there local at channel other (plans.Fill a b) h = (cc, cc)
+moved-there local at channel other (plans.Acknowledge a b) h = (cc, cc)
+
+-- what can be moved is moved by its delivery
+moved-by : (local at : Local) (channel other : Channel) (plan : Plan) (old new : PartsView) (answer : Delivered)
+    → nexts.Move local channel ≡ next_by at other plan → AfterPlan plan old local channel answer new
+    → AfterPlan plan old local channel delivered.Moved new
+moved-by local at channel other plans.Nothing old new answer h after = cc
+moved-by local at channel other plans.Blocked old new answer h after = cc
+moved-by local at channel other (plans.Broken cell) old new answer h after = cc
+moved-by local at channel other (plans.Directory a b c d e) old new answer h after = (refl, after.1)
+moved-by local at channel other (plans.Home a b c) old new answer h after = (refl, after.1)
+moved-by local at channel other (plans.Forwarded a b c) old new answer h after = (refl, after.1)
+moved-by local at channel other (plans.Fill a b) old new answer h after = (refl, after.1)
+moved-by local at channel other (plans.Acknowledge a b) old new answer h after = (refl, after.1)
+
+pub next-nothing : (old new : PartsView) (class : Class) → new ≡ old → IsNextIn old.view class nexts.Nothing
+    → AfterDeliverNext old class delivered_next.Nothing new
+next-nothing old new class same next = (same, λ local channel there of_class. none-planned local channel _ (next.0 local channel there of_class))
+
+pub next-blocked : (old new : PartsView) (class : Class) → new ≡ old → IsNextIn old.view class nexts.Blocked
+    → AfterDeliverNext old class delivered_next.Blocked new
+next-blocked old new class same next =
+    (same, (λ local channel there of_class. blocked-planned local channel _ (next.0 local channel there of_class)), met next.1)
+  where
+    met : (nexts.Blocked ≡ nexts.Nothing)
+        ⊎ ((local : Local) × (channel : Channel) × (local.0 < old.view.lines.lines) × IsTrue (is_of_class class channel)
+          × (nexts.Blocked ≡ next_by local channel (plan_of old.view local channel)))
+        → SomePlan old.view class plans.Blocked
+    met (inl none) = cc
+    met (inr some) = (some.0, some.1, some.2, some.3, blocked-met some.0 some.1 _ some.4)
+
+pub next-broken : (old new : PartsView) (class : Class) (cell : Cell) → new ≡ old → IsNextIn old.view class (nexts.Broken cell)
+    → AfterDeliverNext old class (delivered_next.Broken cell) new
+next-broken old new class cell same next =
+    (same, (λ local channel there of_class. stuck-planned local channel cell _ (next.0 local channel there of_class)), met next.1)
+  where
+    met : (nexts.Broken cell ≡ nexts.Nothing)
+        ⊎ ((local : Local) × (channel : Channel) × (local.0 < old.view.lines.lines) × IsTrue (is_of_class class channel)
+          × (nexts.Broken cell ≡ next_by local channel (plan_of old.view local channel)))
+        → SomePlan old.view class (plans.Broken cell)
+    met (inl none) = cc
+    met (inr some) = (some.0, some.1, some.2, some.3, broken-met some.0 some.1 cell _ some.4)
+
+-- where a message can be moved, its line is one of the slice's, and its channel of the class
+pub record CanMove (v : View) (class : Class) (local : Local) (channel : Channel) : Type 0 where
+  pub there : local.0 < v.lines.lines
+  pub of_class : IsTrue (is_of_class class channel)
+  pub planned : nexts.Move local channel ≡ next_by local channel (plan_of v local channel)
+
+pub can-move : (v : View) (class : Class) (local : Local) (channel : Channel) → IsNextIn v class (nexts.Move local channel)
+    → CanMove v class local channel
+can-move v class local channel next = met next.1
+  where
+    at_same : (at : Local) (other : Channel) → local ≡ at → channel ≡ other → at.0 < v.lines.lines → IsTrue (is_of_class class other)
+        → nexts.Move local channel ≡ next_by at other (plan_of v at other) → CanMove v class local channel
+    at_same at other here same there of_class planned =
+        let P : Local → Type 0 = λ l. l.0 < v.lines.lines in
+        let Q : Channel → Type 0 = λ c. IsTrue (is_of_class class c) in
+        let R : Local → Channel → Type 0 = λ l c. nexts.Move local channel ≡ next_by l c (plan_of v l c) in
+        record {
+          there = subst P (sym here) there;
+          of_class = subst Q (sym same) of_class;
+          planned = subst (λ (l : Local). R l channel) (sym here) (subst (λ (c : Channel). R at c) (sym same) planned);
+        }
+    met : (nexts.Move local channel ≡ nexts.Nothing)
+        ⊎ ((at : Local) × (other : Channel) × (at.0 < v.lines.lines) × IsTrue (is_of_class class other)
+          × (nexts.Move local channel ≡ next_by at other (plan_of v at other)))
+        → CanMove v class local channel
+    met (inl none) = cc
+    met (inr some) =
+        let same = moved-there local some.0 channel some.1 (plan_of v some.0 some.1) some.4 in
+        at_same some.0 some.1 same.0 same.1 some.2 some.3 some.4
+
+-- a message that was moved was delivered
+moved-at : (old new : PartsView) (class : Class) (local : Local) (channel : Channel) (line : LineAddr)
+    → IsTrue (is_of_class class channel) → local_at old.view.lines line.0 ≡ Some local
+    → AfterPlan (plan_of old.view local channel) old local channel delivered.Moved new
+    → AfterDeliverNext old class (delivered_next.Moved (pick_at line channel)) new
+moved-at old new class local (channels.Req core) line of_class found after = (of_class, rw found after)
+moved-at old new class local (channels.Fwd core) line of_class found after = (of_class, rw found after)
+moved-at old new class local (channels.Data core) line of_class found after = (of_class, rw found after)
+moved-at old new class local (channels.Ack to from) line of_class found after = (of_class, rw found after)
+moved-at old new class local channels.Home line of_class found after = (of_class, rw found after)
+
+-- a message that could be moved was moved
+pub next-moved : (old new : PartsView) (class : Class) (local : Local) (channel : Channel) (line : LineAddr) (answer : Delivered)
+    → CanMove old.view class local channel → local_at old.view.lines line.0 ≡ Some local
+    → AfterPlan (plan_of old.view local channel) old local channel answer new
+    → AfterDeliverNext old class (delivered_next.Moved (pick_at line channel)) new
+next-moved old new class local channel line answer can found after =
+    moved-at old new class local channel line can.of_class found
+        (moved-by local local channel channel (plan_of old.view local channel) old new answer can.planned after)

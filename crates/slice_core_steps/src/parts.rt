@@ -1,0 +1,94 @@
+ghost use Rattle.std.specs.Prelude.{◌≡◌, length};
+
+use address_map::{Locator, WordAddr};
+use directory_table::DirEntry;
+use mshr_file::MissFile;
+use slice_core_answer::Stats;
+use slice_core_log::Entry;
+use slice_core_side::Side;
+use slice_queues::Queues;
+use std::marker::Model;
+
+mod build;
+mod deliver;
+mod evict;
+mod hand;
+mod issue;
+mod look;
+mod next;
+mod plan;
+
+/// One slice: its directory, its channels, each core's side and the log.
+#[derive(Drop)]
+pub struct Parts<F: MissFile> {
+    entries: Vec<DirEntry>,
+    queues: Queues,
+    sides: Vec<Side<F>>,
+    log: Vec<Entry>,
+    stats: Stats,
+    /// The configured initial values and counters of this slice.
+    init: Vec<(WordAddr, u64)>,
+    counters: Vec<WordAddr>,
+    lines: Locator,
+    /// How many targets wait.
+    pending: usize,
+    exclusive: bool,
+}
+
+impl<F: MissFile> Model for Parts<F> {
+    ghost use Rattle.std.specs.Prelude.{vec_capacity};
+    ghost use Rattle.slice_core_plan.specs.Parts.{PartsView};
+
+    ghost Value = { PartsView };
+
+    ghost view = { λ p. record {
+      view = record { entries = p.entries.items; channels = p.queues.channels.lines; sides = p.sides.items; log = p.log.items; init = p.init.items; counters = p.counters.items; lines = p.lines; exclusive = p.exclusive };
+      stats = p.stats;
+      pending = p.pending;
+      room = vec_capacity p.log;
+    } };
+}
+
+impl<F: MissFile> Parts<F> {
+    ghost use Rattle.slice_core_plan.specs.Parts.{PartsView};
+
+    pub fn log(&self) -> &[Entry]
+        ensures { result.now ≡ self.now.view.log }
+    {
+        &self.log
+    }
+
+    /// Each core's side.
+    pub fn sides(&self) -> &[Side<F>]
+        ensures { result.now ≡ self.now.view.sides }
+    {
+        &self.sides
+    }
+
+    /// The directory's entries, by local line.
+    pub fn entries(&self) -> &[DirEntry]
+        ensures { result.now ≡ self.now.view.entries }
+    {
+        &self.entries
+    }
+
+    /// The configured initial values of the slice's words.
+    pub fn init(&self) -> &[(WordAddr, u64)]
+        ensures { result.now ≡ self.now.view.init }
+    {
+        &self.init
+    }
+
+    pub fn stats(&self) -> &Stats
+        ensures { result.now ≡ self.now.stats }
+    {
+        &self.stats
+    }
+
+    /// Which lines of the memory are the slice's.
+    pub fn lines(&self) -> Locator
+        ensures { result ≡ self.now.view.lines }
+    {
+        self.lines
+    }
+}

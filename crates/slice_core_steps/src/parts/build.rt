@@ -1,0 +1,106 @@
+ghost use Rattle.std.specs.Prelude.{◌≡◌, ◌%◌, ◌/◌, ◌<◌, ◌==◌, IfOk, filter};
+ghost use Rattle.slice_core_plan.specs.Initial.{IsInitialBlock, AreInitialEntries, AreNewSides, is_of_slice};
+ghost use Rattle.slice_core_plan.specs.Parts.{PartsView, IsNew};
+
+use super::Parts;
+use address_map::{Block, Checked, CoreId, CoreSet, Local, Locator, Offset, SliceId, WordAddr};
+use directory_table::{DirEntry, DirState};
+use mshr_file::MissFile;
+use slice_core_answer::Stats;
+use slice_core_side::Side;
+use slice_queues::Queues;
+use std::alloc::{AllocError, Global};
+
+impl<F: MissFile> Parts<F> {
+    /// A slice of the configured machine in which nothing was asked for yet.
+    pub fn new(alloc: Global, config: &Checked, slice: SliceId) -> Result<Self, AllocError>
+        requires { slice.0 < config.now.slices }
+        ensures { IfOk result (IsNew config.now (F.bound_by config.now) slice) }
+    {
+        let lines = Locator::of(config, slice);
+        Ok(Parts {
+            entries: new_entries(alloc, config, lines)?,
+            queues: Queues::build(alloc, config.cores(), lines)?,
+            sides: new_sides(alloc, config, slice)?,
+            log: Vec::new(alloc),
+            stats: Stats::new(alloc, config.cores(), config.exclusive())?,
+            init: init_of_slice(alloc, config, slice)?,
+            counters: counters_of_slice(alloc, config, slice)?,
+            lines,
+            pending: 0,
+            exclusive: config.exclusive(),
+        })
+    }
+}
+
+fn new_entries(alloc: Global, config: &Checked, lines: Locator) -> Result<Vec<DirEntry>, AllocError>
+    ensures { IfOk result (λ v. AreInitialEntries config.now lines lines.lines v.items) }
+{
+    let mut all = Vec::with_capacity(alloc, lines.lines())?;
+    for local in 0..lines.lines() {
+        all.push(DirEntry {
+            home: initial_block(config, lines, Local(local)),
+            sharers: CoreSet::none(),
+            owner: None,
+            state: DirState::I,
+        })?;
+    }
+    Ok(all)
+}
+
+// The home copy that a line begins with.
+fn initial_block(config: &Checked, lines: Locator, local: Local) -> Block
+    requires line { local.0 < lines.lines }
+    ensures { IsInitialBlock config.now lines local result }
+{
+    let mut words = [0; 8];
+    for offset in 0..8u8 {
+        words[offset as usize] = config.initial_word(lines.word_at(local, Offset(offset)));
+    }
+    Block { words }
+}
+
+fn new_sides<F: MissFile>(alloc: Global, config: &Checked, slice: SliceId) -> Result<Vec<Side<F>>, AllocError>
+    requires { slice.0 < config.now.slices }
+    ensures { IfOk result (λ v. AreNewSides config.now (F.bound_by config.now) slice.0 config.now.cores v.items) }
+{
+    let mut all = Vec::with_capacity(alloc, config.cores())?;
+    for core in 0..config.cores() {
+        all.push(Side::make(alloc, config, slice, CoreId(core as u8))?)?;
+    }
+    Ok(all)
+}
+
+fn init_of_slice(
+    alloc: Global,
+    config: &Checked,
+    slice: SliceId,
+) -> Result<Vec<(WordAddr, u64)>, AllocError>
+    requires { slice.0 < config.now.slices }
+    ensures { IfOk result (λ v. v.items ≡ filter (λ pair. is_of_slice config.now slice.0 pair.0) config.now.init) }
+{
+    let slices = config.slices() as u64;
+    config
+        .init()
+        .iter()
+        .copied()
+        .filter(|pair| pair.0.0 / 8 % slices == u64::from(slice.0))
+        .collect(alloc)
+}
+
+fn counters_of_slice(
+    alloc: Global,
+    config: &Checked,
+    slice: SliceId,
+) -> Result<Vec<WordAddr>, AllocError>
+    requires { slice.0 < config.now.slices }
+    ensures { IfOk result (λ v. v.items ≡ filter (is_of_slice config.now slice.0) config.now.counters) }
+{
+    let slices = config.slices() as u64;
+    config
+        .counters()
+        .iter()
+        .copied()
+        .filter(|word| word.0 / 8 % slices == u64::from(slice.0))
+        .collect(alloc)
+}

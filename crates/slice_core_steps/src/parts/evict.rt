@@ -1,0 +1,44 @@
+ghost use Rattle.std.specs.Prelude.{◌≡◌, ◌<◌, length, None};
+ghost use Rattle.slice_core_answer.specs.Stats.{after_eviction};
+ghost use Rattle.slice_core_plan.specs.Parts.{PartsView, AfterEvict, CanIssue};
+ghost use Rattle.slice_core_plan.specs.Steps.{after_evict};
+ghost use Rattle.slice_core_plan.specs.View.{View, channels_at, side_at, IsShaped};
+ghost use Rattle.slice_core_side.specs.Access.{CanLeave};
+ghost use Rattle.slice_queues.specs.Line.{core_at};
+
+use super::Parts;
+use address_map::{CoreId, LineAddr, Local};
+use mshr_file::MissFile;
+use slice_core_answer::Evicted;
+
+impl<F: MissFile> Parts<F> {
+    /// Moves the core's copy of a line to its write-back buffer and tells the directory, or says why not.
+    pub fn evict(&mut self, core: CoreId, line: LineAddr) -> Evicted
+        requires { CanIssue self.old core }
+        ensures { AfterEvict self.old core line result self.new }
+    {
+        let Some(local) = self.lines.local_of(line) else {
+            return Evicted::NotHeld;
+        };
+        let answer = self.sides[core.0 as usize].decide_evict(local);
+        if answer == Evicted::Evicting {
+            self.leave(core, local);
+        }
+        answer
+    }
+
+    // The core's copy of a line leaves, and the directory is told.
+    fn leave(&mut self, core: CoreId, local: Local)
+        requires core { core.0 < length self.old.view.sides }
+        requires line { local.0 < self.old.view.lines.lines }
+        requires shaped { IsShaped self.old.view }
+        requires stats { length self.old.stats.cores ≡ length self.old.view.sides }
+        requires leaves { CanLeave (side_at self.old.view core) local }
+        requires idle { (core_at (channels_at self.old.view local) core.0).request ≡ None }
+        ensures { self.new ≡ record self.old { view = after_evict self.old.view core local; stats = after_eviction self.old.stats core } }
+    {
+        self.stats.count_eviction(core);
+        let put = self.sides[core.0 as usize].evict(local);
+        self.queues.line_mut(local).send_request(core, put);
+    }
+}

@@ -1,0 +1,243 @@
+ghost use Rattle.std.specs.Prelude.{◌≡◌, ◌+◌, ◌^◌, ◌<◌, ◌≤◌, length, true, false, None, OnOk, OnErr, IfErr};
+ghost use Rattle.mshr_file.specs.Miss.{has_miss, can_open, can_join, AddsTarget, IsMissFile};
+ghost use Rattle.slice_core_answer.specs.Stats.{after_hit as hit_counted, after_eviction, after_primary, after_secondary};
+ghost use Rattle.slice_core_side.specs.Access.{CanReplace, CanStand, IsWithin};
+ghost use Rattle.slice_core_plan.specs.Decision.{decision_of};
+ghost use Rattle.slice_core_plan.specs.Parts.{PartsView, AfterAccepting, AfterIssue, CanIssue, IsDecided, opened_stats, target_for};
+ghost use Rattle.slice_core_plan.specs.Steps.{after_hit, after_join, after_open, after_opening, with_way};
+ghost use Rattle.slice_core_plan.specs.View.{View, channels_at, side_at, IsShaped};
+ghost use Rattle.slice_core_plan.specs.Within.{StandsAt};
+ghost use Rattle.slice_queues.specs.Line.{core_at};
+
+use super::Parts;
+use slice_core_plan::{Decision, overwrites};
+use address_map::{CoreId, Local, Request};
+use cache_table::CopyState;
+use mshr_file::MissFile;
+use slice_core_answer::{Issue, Refused};
+use slice_core_log::Entry;
+use slice_core_side::{Access, Ask, TagState, Way};
+use slice_queues_message::RequestMessage;
+
+impl<F: MissFile> Parts<F> {
+    /// Accepts a request, or says why not. The log grows before anything changes, so that nothing later takes memory.
+    pub fn issue(&mut self, core: CoreId, request: Request) -> Result<Issue, Refused>
+        requires { CanIssue self.old core }
+        ensures step { AfterIssue self.old core request result self.new }
+        ensures bounded { self.new.room < 2 ^ 63 }
+    {
+        match self.decide(core, request) {
+            Decision::Refuse(refused) => Err(refused),
+            Decision::Access(_, Access::Stall(stall)) => {
+                self.stats.count_stall(core, stall);
+                Ok(Issue::Stall(stall))
+            }
+            Decision::Access(local, access) => match self.reserve() {
+                Ok(()) => Ok(self.accept(core, request, local, access)),
+                Err(refused) => Err(refused),
+            },
+        }
+    }
+
+    // What is to be done with the request, in the order in which it is judged.
+    fn decide(&self, core: CoreId, request: Request) -> Decision
+        requires { core.0 < length self.now.view.sides }
+        ensures decided { result ≡ decision_of self.now.view core request }
+        ensures within { IsDecided self.now.view core request result }
+    {
+        if self.lines.is_past(request.word) {
+            return Decision::Refuse(Refused::OutOfRange);
+        }
+        let Some(local) = self.lines.local_of(request.word.line()) else {
+            return Decision::Refuse(Refused::WrongSlice);
+        };
+        if request.tag > 63 {
+            return Decision::Refuse(Refused::TagRange);
+        }
+        let side = &self.sides[core.0 as usize];
+        if side.tag(request.tag) != TagState::Free {
+            return Decision::Refuse(Refused::TagBusy);
+        }
+        if overwrites(request.op) && self.counters.contains(&request.word) {
+            return Decision::Refuse(Refused::CounterStore);
+        }
+        Decision::Access(local, side.decide(local, request.tag, request.op))
+    }
+
+    // Makes room in the log for all that waits and one entry more.
+    fn reserve(&mut self) -> Result<(), Refused>
+        requires pending { self.old.pending + 1 < 2 ^ 64 }
+        requires bounded { self.old.room < 2 ^ 63 }
+        ensures ok { OnOk result (self.new ≡ record self.old { room = self.new.room }) }
+        ensures room { OnOk result (length self.old.view.log + self.old.pending + 1 ≤ self.new.room) }
+        ensures err { OnErr result (self.new ≡ self.old) }
+        ensures full { OnErr result (self.old.room < length self.old.view.log + self.old.pending + 1) }
+        ensures refused { IfErr result (λ e. e ≡ Refused.Memory) }
+        ensures bounded { self.new.room < 2 ^ 63 }
+        ensures kept { self.old.room ≤ self.new.room }
+    {
+        match self.log.reserve(self.pending + 1) {
+            Ok(()) => Ok(()),
+            Err(_) => Err(Refused::Memory),
+        }
+    }
+
+    // Does what was decided of an access, for which the log has room.
+    fn accept(&mut self, core: CoreId, request: Request, local: Local, access: Access) -> Issue
+        requires can { CanIssue self.old core }
+        requires line { local.0 < self.old.view.lines.lines }
+        requires tag { request.tag < 64 }
+        requires within { IsWithin (side_at self.old.view core) local request.tag access }
+        requires room { length self.old.view.log + self.old.pending + 1 ≤ self.old.room }
+        ensures done { AfterAccepting access self.old core request local result self.new }
+        ensures room { self.new.room ≡ self.old.room }
+    {
+        match access {
+            Access::Hit {
+                place,
+                next,
+                silent,
+            } => Issue::Done(self.hit(core, request, local, place, next, silent)),
+            Access::Join => Issue::Pending(self.join(core, request, local)),
+            Access::Open { next, ask, way } => {
+                Issue::Pending(self.open(core, request, local, way, next, ask))
+            }
+            Access::Stall(stall) => Issue::Stall(stall),
+        }
+    }
+
+    // Performs the access on the core's copy, and logs it. Answers its number.
+    fn hit(
+        &mut self,
+        core: CoreId,
+        request: Request,
+        local: Local,
+        place: usize,
+        next: CopyState,
+        silent: bool,
+    ) -> u64
+        requires core { core.0 < length self.old.view.sides }
+        requires stats { length self.old.stats.cores ≡ length self.old.view.sides }
+        requires stands { StandsAt (side_at self.old.view core) local place }
+        requires counted { (side_at self.old.view core).accepted + 1 < 2 ^ 64 }
+        requires room { length self.old.view.log < self.old.room }
+        ensures number { result ≡ length self.old.view.log }
+        ensures after { self.new ≡ record self.old { view = after_hit self.old.view core request local next; stats = hit_counted self.old.stats core silent } }
+    {
+        self.stats.count_hit(core, silent);
+        let number = self.log.len() as u64;
+        let side = &mut self.sides[core.0 as usize];
+        let seq = side.accepted();
+        let reply = side.hit(local, place, request.word.offset(), request.op, next);
+        self.log.push_reserved(Entry {
+            op: request.op,
+            word: request.word,
+            seq,
+            reply,
+            since: number,
+            core,
+            tag: request.tag,
+        });
+        number
+    }
+
+    // Adds the access to the line's miss register. Answers its `seq`.
+    fn join(&mut self, core: CoreId, request: Request, local: Local) -> u64
+        requires can { CanIssue self.old core }
+        requires tag { request.tag < 64 }
+        requires found { has_miss (side_at self.old.view core).misses local.0 ≡ true }
+        requires room { can_join (side_at self.old.view core).bound (side_at self.old.view core).misses local.0 request.tag ≡ true }
+        ensures seq { result ≡ (side_at self.old.view core).accepted }
+        ensures added { AddsTarget (side_at self.old.view core).misses (side_at self.new.view core).misses local.0 (target_for self.old core request) }
+        ensures sound { IsMissFile (side_at self.new.view core).misses }
+        ensures after { self.new ≡ record self.old { view = after_join self.old.view core request (side_at self.new.view core).misses; stats = after_secondary self.old.stats core; pending = self.old.pending + 1 } }
+    {
+        let since = self.log.len() as u64;
+        self.pending += 1;
+        self.stats.count_secondary(core);
+        let side = &mut self.sides[core.0 as usize];
+        side.join(local, request.word.offset(), request, since)
+    }
+
+    // Opens a miss register for the access, once a victim has left where one has to. Answers its `seq`.
+    fn open(
+        &mut self,
+        core: CoreId,
+        request: Request,
+        local: Local,
+        way: Way,
+        next: CopyState,
+        ask: Ask,
+    ) -> u64
+        requires can { CanIssue self.old core }
+        requires line { local.0 < self.old.view.lines.lines }
+        requires tag { request.tag < 64 }
+        requires within { IsWithin (side_at self.old.view core) local request.tag (Access.Open next ask way) }
+        ensures seq { result ≡ (side_at self.old.view core).accepted }
+        ensures added { AddsTarget (side_at self.old.view core).misses (side_at self.new.view core).misses local.0 (target_for self.old core request) }
+        ensures sound { IsMissFile (side_at self.new.view core).misses }
+        ensures after { self.new ≡ record self.old { view = after_open self.old.view core request local way next ask (side_at self.new.view core).misses; stats = opened_stats self.old.stats core way; pending = self.old.pending + 1 } }
+    {
+        match way {
+            Way::Held => self.open_way(core, request, local, true, next, ask),
+            Way::Free => self.open_way(core, request, local, false, next, ask),
+            Way::Victim => {
+                self.replace(core, local);
+                self.open_way(core, request, local, false, next, ask)
+            }
+        }
+    }
+
+    // A victim of the line's set leaves for it, and the directory is told.
+    fn replace(&mut self, core: CoreId, local: Local)
+        requires can { CanIssue self.old core }
+        requires line { local.0 < self.old.view.lines.lines }
+        requires replaces { CanReplace (side_at self.old.view core) local }
+        ensures after { self.new ≡ record self.old { view = with_way self.old.view core local Way.Victim; stats = after_eviction self.old.stats core } }
+        ensures stands { CanStand (side_at self.new.view core) local false }
+        ensures idle { (core_at (channels_at self.new.view local) core.0).request ≡ None }
+    {
+        self.stats.count_eviction(core);
+        let side = &mut self.sides[core.0 as usize];
+        let (victim, put) = side.replace(local);
+        self.queues.line_mut(victim).send_request(core, put);
+    }
+
+    // Opens a miss register for the access, whose copy stands in the array (`held`) or has a way, and asks the directory.
+    fn open_way(
+        &mut self,
+        core: CoreId,
+        request: Request,
+        local: Local,
+        held: bool,
+        next: CopyState,
+        ask: Ask,
+    ) -> u64
+        requires core { core.0 < length self.old.view.sides }
+        requires line { local.0 < self.old.view.lines.lines }
+        requires shaped { IsShaped self.old.view }
+        requires stats { length self.old.stats.cores ≡ length self.old.view.sides }
+        requires tag { request.tag < 64 }
+        requires free { has_miss (side_at self.old.view core).misses local.0 ≡ false }
+        requires room { can_open (side_at self.old.view core).bound (side_at self.old.view core).misses request.tag ≡ true }
+        requires stands { CanStand (side_at self.old.view core) local held }
+        requires idle { (core_at (channels_at self.old.view local) core.0).request ≡ None }
+        requires counted { (side_at self.old.view core).accepted + 1 < 2 ^ 64 }
+        requires pending { self.old.pending + 1 < 2 ^ 64 }
+        ensures seq { result ≡ (side_at self.old.view core).accepted }
+        ensures added { AddsTarget (side_at self.old.view core).misses (side_at self.new.view core).misses local.0 (target_for self.old core request) }
+        ensures sound { IsMissFile (side_at self.new.view core).misses }
+        ensures after { self.new ≡ record self.old { view = after_opening self.old.view core request local held next ask (side_at self.new.view core).misses; stats = after_primary self.old.stats core; pending = self.old.pending + 1 } }
+    {
+        let since = self.log.len() as u64;
+        self.pending += 1;
+        self.stats.count_primary(core);
+        let message = match ask {
+            Ask::GetS => RequestMessage::GetS,
+            Ask::GetM => RequestMessage::GetM,
+        };
+        self.queues.line_mut(local).send_request(core, message);
+        let side = &mut self.sides[core.0 as usize];
+        side.open(local, held, next, request.word.offset(), request, since)
+    }
+}

@@ -1,0 +1,46 @@
+ghost use Rattle.std.specs.Prelude.{◌≡◌, ◌<◌, ◌≤◌, length, map};
+ghost use Rattle.slice_core_plan.specs.View.{View, entry_at};
+ghost use Rattle.slice_core_side.specs.Side.{SideView, state_of};
+
+use super::Parts;
+use crate::line_view::LineView;
+use address_map::Local;
+use arrayvec::ArrayVec;
+use cache_table::CopyState;
+use mshr_file::MissFile;
+use slice_core_side::Side;
+
+impl<F: MissFile> Parts<F> {
+    /// What the slice has of a line.
+    pub fn line_view(&self, local: Local) -> LineView
+        requires line { local.0 < length self.now.view.entries }
+        requires cores { length self.now.view.sides ≤ 64 }
+        ensures dir { result.dir ≡ (entry_at self.now.view local).state }
+        ensures owner { result.owner ≡ (entry_at self.now.view local).owner }
+        ensures sharers { result.sharers ≡ (entry_at self.now.view local).sharers }
+        ensures home { result.home ≡ (entry_at self.now.view local).home.words }
+        ensures copies { result.copies.items ≡ map (λ side. state_of side local) self.now.view.sides }
+    {
+        let entry = &self.entries[local.0];
+        let block = entry.home;
+        let home = block.words;
+        LineView {
+            dir: entry.state,
+            owner: entry.owner,
+            sharers: entry.sharers.bits(),
+            home,
+            copies: states_of(&self.sides, local),
+        }
+    }
+}
+
+fn states_of<F: MissFile>(sides: &[Side<F>], local: Local) -> ArrayVec<CopyState, 64>
+    requires { length sides.now ≤ 64 }
+    ensures { result.items ≡ map (λ side. state_of side local) sides.now }
+{
+    let mut states = ArrayVec::new();
+    for side in sides {
+        states.push(side.copy(local).state);
+    }
+    states
+}

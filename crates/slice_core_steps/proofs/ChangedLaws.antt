@@ -1,12 +1,12 @@
 -- A copy that was changed in its slot is the copy that the array holds, and stands where it stood.
-use Rattle.std.proofs.Common.{◌≡◌, ◌∙◌, ℕ, ◌+◌, zero, suc, Bool, true, false, not, cond, nat_lt, eq-eqb, arith, List, [], ◌∷◌, ◌%◌, ◌<◌, length, get_or, set, refl, ap, sym, inl, inr, Option, Some, None, IsSome, is_some, position, unwrap_or}
+use Rattle.std.proofs.Common.{◌≡◌, ◌∙◌, ℕ, ◌+◌, suc, Bool, true, false, not, cond, nat_lt, eq-eqb, arith, List, [], ◌∷◌, ◌%◌, ◌<◌, length, get_or, set, refl, ap, sym, inl, inr, Some, None, position, unwrap_or}
 use Rattle.std.specs.List.{position_or_len}
 use Rattle.std.proofs.lemmas.Bool.{cases_lt, ltb-true}
 use Rattle.std.proofs.lemmas.List.{get_or-set_same, get_or_past, length-set}
 use Rattle.address_map.specs.declared.address.Local.{Local}
 use Rattle.address_map.specs.declared.config.PolicyKind.{PolicyKind}
 use Rattle.cache_array.specs.declared.set.Slot.{Slot}
-use Rattle.cache_array.specs.Array.{ArrayView, held_at as array_at, set_index, set_of, slots_at, with_slots}
+use Rattle.cache_array.specs.Array.{ArrayView, held_at as array_at, set_index, set_of, slots_at}
 use Rattle.cache_array.specs.Set.{SetView, empty_set, holds, after_write, value_in}
 use Rattle.slice_core_plan.specs.Within.{StandsAt}
 use Rattle.slice_core_side.proofs.Places.{written_there}
@@ -22,7 +22,8 @@ set_within array line place found =
     elim (cases_lt (set_index array line) (length array.sets)) [
       | inl within ↦ within
       | inr past ↦
-          let none : set_of array line ≡ empty_set 0 = get_or_past array.sets (set_index array line) (empty_set 0) past in
+          let none : set_of array line ≡ empty_set 0 =
+          get_or_past array.sets (set_index array line) (empty_set 0) past in
           let nowhere : None ≡ Some place =
           ap (λ (s : SetView CacheCopy). position (holds line) s.slots) (sym none) ∙ found in
           cc
@@ -37,7 +38,8 @@ value_written (slot ∷ slots) line copy within =
   where
     by_test : (here : Bool) (at : ℕ) → holds line slot ≡ here → cond (not here) (1 + at) 0 < length (slot ∷ slots) →
         (at < length slots → value_in (set slots at (record { line = line; value = copy })) line ≡ Some copy) →
-        value_in (set (slot ∷ slots) (cond (not here) (1 + at) 0) (record { line = line; value = copy })) line ≡ Some copy
+        value_in (set (slot ∷ slots) (cond (not here) (1 + at) 0) (record { line = line; value = copy })) line
+        ≡ Some copy
     by_test true at is there rest = rw (eq-eqb line.0 line.0 refl) refl
     by_test false at is there rest =
         let next : 1 + at ≡ suc at = omega arith in rw (next, is) (rest (omega arith))

@@ -1,5 +1,5 @@
 -- How many targets are performed: as many as entries are logged, and no more than wait.
-use Rattle.std.proofs.Common.{◌≡◌, ◌∙◌, ℕ, ◌+◌, ◌-◌, ◌≤◌, ◌++◌, Bool, false, subst, sym, suc, List, [], ◌∷◌, length, refl, ap, arith}
+use Rattle.std.proofs.Common.{◌≡◌, ◌∙◌, ℕ, ◌-◌, ◌≤◌, ◌++◌, Bool, false, subst, List, [], ◌∷◌, length, refl, ap, arith}
 use Rattle.std.proofs.lemmas.List.{length-take}
 use Rattle.slice_core_side.proofs.Allowed.{take-front_loads}
 use Rattle.address_map.specs.declared.address.CoreId.{CoreId}
@@ -23,7 +23,7 @@ use Rattle.slice_core_side.specs.declared.copy.CacheCopy.{CacheCopy}
 use Rattle.slice_core_steps.proofs.ChangedLaws.{changed_copy}
 use Rattle.slice_queues.specs.Line.{LineChannels, after_take}
 use Rattle.slice_queues_message.specs.declared.channel.Channel.{Channel}
-use Rattle.target_list.specs.Target.{front_loads, is_load}
+use Rattle.target_list.specs.Target.{front_loads}
 use Rattle.target_list.specs.declared.target.Target.{Target}
 
 -- each target that is performed has an entry
@@ -36,7 +36,8 @@ length-entries_of core first block (target ∷ targets) =
     omega (arith, rest)
 
 -- no more are performed than wait
-pub length-performed_in : (state : CopyState) (targets : List Target) → length (performed_in state targets) ≤ length targets
+pub length-performed_in : (state : CopyState) (targets : List Target) →
+    length (performed_in state targets) ≤ length targets
 length-performed_in states.S targets =
     let front = length (front_loads targets) in
     omega (arith, ap length (take-front_loads targets), length-take front targets)
@@ -53,7 +54,8 @@ length-performed_in states.SI_A targets = omega arith
 length-performed_in states.II_A targets = omega arith
 
 -- a copy that isn't shared asks for nothing
-pub asks-unshared : (state : CopyState) (targets : List Target) → is_shared state ≡ false → asks_to_write state targets ≡ false
+pub asks-unshared : (state : CopyState) (targets : List Target) → is_shared state ≡ false →
+    asks_to_write state targets ≡ false
 asks-unshared states.S targets e = absurd (cc e)
 asks-unshared states.M targets e = refl
 asks-unshared states.E targets e = refl
@@ -93,21 +95,24 @@ settles old new local core channel place copy changed side asks line log stats p
     let here : array_copy changed local ≡ copy =
     ap (λ (s : SideView). array_copy s local) is ∙ changed_copy (side_at old.view core) local place copy stands in
     let kept : changed.misses ≡ (side_at old.view core).misses = ap (λ (s : SideView). s.misses) is in
-    let settled : side ≡ after_settle (after_change (side_at old.view core) local copy) local (length old.view.log) side.misses =
+    let settled : side
+    ≡ after_settle (after_change (side_at old.view core) local copy) local (length old.view.log) side.misses =
     after ∙ ap (λ (s : SideView). after_settle s local (length old.view.log) side.misses) is in
     let targets : List Register → List Target = λ misses. targets_of misses local.0 in
     let both_in : (P : CacheCopy → List Register → Type 0) → P (array_copy changed local) changed.misses →
-        P copy (side_at old.view core).misses =
+    P copy (side_at old.view core).misses =
     λ P old_fact. subst (λ (m : List Register). P copy m) kept
     (subst (λ (k : CacheCopy). P k changed.misses) here old_fact) in
     let waiting = targets (side_at old.view core).misses in
     let taken_now = performed_in copy.state waiting in
-    let side_now = after_settle (after_change (side_at old.view core) local copy) local (length old.view.log) side.misses in
+    let side_now =
+    after_settle (after_change (side_at old.view core) local copy) local (length old.view.log) side.misses in
     let asks_at_last = asks_to_write copy.state waiting in
     let log_now = old.view.log ++ entries_of core (first_word old.view local) copy.block taken_now in
     let all : SideView → Bool → List Entry → ℕ → PartsView = λ s a l p. record old {
       view = record
-          (with_channels (with_side old.view core s) local (asked_by a (after_take (channels_at old.view local) channel) core))
+          (with_channels (with_side old.view core s) local
+          (asked_by a (after_take (channels_at old.view local) channel) core))
           { log = l };
       stats = after_message old.stats channel;
       pending = p;
@@ -119,16 +124,18 @@ settles old new local core channel place copy changed side asks line log stats p
     } in
     let asked_now = both_in (λ k m. asks ≡ asks_to_write k.state (targets m)) asked in
     let logged_now = both_in
-    (λ k m. log ≡ old.view.log ++ entries_of core (first_word old.view local) k.block (performed_in k.state (targets m)))
+    (λ k m. log
+    ≡ old.view.log ++ entries_of core (first_word old.view local) k.block (performed_in k.state (targets m)))
     logged in
-    let left_now = both_in (λ k m. pending ≡ old.pending - length (performed_in k.state (targets m))) left in
-    (side.misses,
-    both_in (λ k m. TakesTargets m side.misses local.0 (performed_in k.state (targets m))) taken,
-    both_in (λ k m. IsMissFile m → IsMissFile side.misses) sound,
-    made
-    ∙ ap (λ l. plain l stats) sent
-    ∙ ap (plain (asked_by asks (after_take (channels_at old.view local) channel) core)) counted
-    ∙ ap (λ s. all s asks log pending) settled
-    ∙ ap (λ a. all side_now a log pending) asked_now
-    ∙ ap (λ l. all side_now asks_at_last l pending) logged_now
-    ∙ ap (all side_now asks_at_last log_now) left_now)
+    let left_now = both_in (λ k m. pending ≡ old.pending - length (performed_in k.state (targets m))) left in (
+      side.misses,
+      both_in (λ k m. TakesTargets m side.misses local.0 (performed_in k.state (targets m))) taken,
+      both_in (λ k m. IsMissFile m → IsMissFile side.misses) sound,
+      made
+          ∙ ap (λ l. plain l stats) sent
+          ∙ ap (plain (asked_by asks (after_take (channels_at old.view local) channel) core)) counted
+          ∙ ap (λ s. all s asks log pending) settled
+          ∙ ap (λ a. all side_now a log pending) asked_now
+          ∙ ap (λ l. all side_now asks_at_last l pending) logged_now
+          ∙ ap (all side_now asks_at_last log_now) left_now,
+    )

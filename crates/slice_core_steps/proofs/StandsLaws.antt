@@ -1,5 +1,5 @@
 -- A copy for which a message is taken stands in the array or the write-back buffer.
-use Rattle.std.proofs.Common.{ℕ, zero, suc, ◌<◌, List, [], ◌∷◌, length, get_or, arith, ◌≡◌, ◌⊎◌, ◌∙◌, sym, ap, inl, inr, Option, Some, None, IsSome, refl}
+use Rattle.std.proofs.Common.{ℕ, zero, suc, ◌<◌, List, [], ◌∷◌, length, get_or, arith, ◌≡◌, ◌⊎◌, ◌∙◌, ap, inl, inr, Option, Some, None, IsSome, refl}
 use Rattle.address_map.specs.declared.address.Local.{Local}
 use Rattle.cache_array.specs.Array.{held_at as array_at}
 use Rattle.cache_table.specs.Row.{row_of}
@@ -37,7 +37,8 @@ none_forwarded (forwards.FwdGetM requester) next sends e = cc
 none_forwarded (forwards.Inv requester) next sends e = cc
 none_forwarded forwards.PutAck next sends e = cc
 
-pub stands_forwarded : (side : SideView) (local : Local) (message : ForwardedMessage) (next : CopyState) (sends : CacheSends) →
+pub stands_forwarded : (side : SideView) (local : Local) (message : ForwardedMessage) (next : CopyState)
+    (sends : CacheSends) →
     row_of (copy_of side local).state (event_of_forwarded message) ≡ rows.Go next sends → Stands side local
 stands_forwarded side local message next sends =
     found (array_at side.array local) (buffer_at side.buffer.entries local.0)

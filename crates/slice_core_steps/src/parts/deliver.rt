@@ -14,14 +14,13 @@ ghost use Rattle.slice_queues.specs.Line.{after_take, core_at};
 ghost use Rattle.slice_queues_message.specs.declared.channel.Channel.TheVariants as channels;
 
 use super::Parts;
-use slice_core_plan::Plan;
-use slice_core_plan::{send_from_core, send_from_directory};
 use address_map::{Block, CoreId, CoreSet, Local, Offset};
 use cache_table::{CacheSends, CopyState};
 use directory_table::{DirSends, DirState};
 use mshr_file::MissFile;
 use slice_core_answer::Delivered;
 use slice_core_log::Entry;
+use slice_core_plan::{Plan, send_from_core, send_from_directory};
 use slice_core_side::Side;
 use slice_queues::{Channel, DataMessage, LineQueues, Pick, RequestMessage};
 
@@ -93,7 +92,8 @@ impl<F: MissFile> Parts<F> {
         requires core { core.0 < length self.old.view.sides }
         requires shaped { IsShaped self.old.view }
         requires room { directory_room (channels_at self.old.view local) core sends ≡ true }
-        ensures { Moves self.old (channels.Req core) (after_directory self.old.view local core state owner sharers sends writes_home) self.new }
+        ensures { Moves self.old (channels.Req core)
+            (after_directory self.old.view local core state owner sharers sends writes_home) self.new }
     {
         self.stats.count_message(Channel::Req(core));
         let entry = &mut self.entries[local.0];
@@ -124,13 +124,21 @@ impl<F: MissFile> Parts<F> {
     }
 
     // A core takes a forwarded message, and does its row for the requester.
-    fn forward(&mut self, local: Local, core: CoreId, next: CopyState, sends: CacheSends, requester: CoreId)
+    fn forward(
+        &mut self,
+        local: Local,
+        core: CoreId,
+        next: CopyState,
+        sends: CacheSends,
+        requester: CoreId,
+    )
         requires line { local.0 < self.old.view.lines.lines }
         requires core { core.0 < length self.old.view.sides }
         requires shaped { IsShaped self.old.view }
         requires stands { Stands (side_at self.old.view core) local }
         requires room { cache_room (channels_at self.old.view local) core requester sends ≡ true }
-        ensures { Moves self.old (channels.Fwd core) (after_forwarded self.old.view local core next sends requester) self.new }
+        ensures { Moves self.old (channels.Fwd core)
+            (after_forwarded self.old.view local core next sends requester) self.new }
     {
         self.stats.count_message(Channel::Fwd(core));
         let side = &mut self.sides[core.0 as usize];
@@ -149,7 +157,9 @@ impl<F: MissFile> Parts<F> {
         requires comes { IsSome (core_at (channels_at self.old.view local) core.0).data }
         requires idle { (core_at (channels_at self.old.view local) core.0).request ≡ None }
         ensures { Settles self.old local core (channels.Data core)
-            (filled_by (array_copy (side_at self.old.view core) local) (core_at (channels_at self.old.view local) core.0).data next) self.new }
+            (filled_by (array_copy (side_at self.old.view core) local)
+            (core_at (channels_at self.old.view local) core.0).data next)
+            self.new }
     {
         self.stats.count_message(Channel::Data(core));
         let side = &mut self.sides[core.0 as usize];
@@ -173,7 +183,8 @@ impl<F: MissFile> Parts<F> {
         requires delivers { CanDeliver self.old }
         requires stands { StandsAt (side_at self.old.view to) local place }
         requires waits { is_shared next ≡ false }
-        ensures { Settles self.old local to (channels.Ack to from) (acknowledged (array_copy (side_at self.old.view to) local) next) self.new }
+        ensures { Settles self.old local to (channels.Ack to from)
+            (acknowledged (array_copy (side_at self.old.view to) local) next) self.new }
     {
         self.stats.count_message(Channel::Ack { to, from });
         let side = &mut self.sides[to.0 as usize];
@@ -257,12 +268,15 @@ fn settle_copy<F: MissFile>(
     requires pending { length (targets_of side.old.misses local.0) ≤ pending.old }
     requires first { first + 8 ≤ 2 ^ 64 }
     ensures asks { result ≡ asks_to_write (array_copy side.old local).state (targets_of side.old.misses local.0) }
-    ensures taken { TakesTargets side.old.misses side.new.misses local.0 (performed_in (array_copy side.old local).state (targets_of side.old.misses local.0)) }
+    ensures taken { TakesTargets side.old.misses side.new.misses local.0
+        (performed_in (array_copy side.old local).state (targets_of side.old.misses local.0)) }
     ensures sound { IsMissFile side.old.misses → IsMissFile side.new.misses }
     ensures after { side.new ≡ after_settle side.old local (length log.old.items) side.new.misses }
-    ensures log { log.new.items ≡ log.old.items ++ entries_of core first (array_copy side.old local).block (performed_in (array_copy side.old local).state (targets_of side.old.misses local.0)) }
+    ensures log { log.new.items ≡ log.old.items ++ entries_of core first (array_copy side.old local).block
+        (performed_in (array_copy side.old local).state (targets_of side.old.misses local.0)) }
     ensures room { vec_capacity log.new ≡ vec_capacity log.old }
-    ensures pending { pending.new ≡ pending.old - length (performed_in (array_copy side.old local).state (targets_of side.old.misses local.0)) }
+    ensures pending { pending.new ≡ pending.old
+        - length (performed_in (array_copy side.old local).state (targets_of side.old.misses local.0)) }
 {
     let before = log.len();
     let asks = side.settle(core, local, place, first, log);

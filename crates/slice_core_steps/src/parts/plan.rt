@@ -5,13 +5,15 @@ ghost use Rattle.slice_core_plan.specs.Within.{IsPlanned};
 ghost use Rattle.slice_queues_message.specs.declared.channel.Channel.TheVariants as channels;
 
 use super::Parts;
-use slice_core_plan::{Plan, event_of_forwarded, event_of_request, is_put_ack, requester_of};
-use slice_core_plan::{cache_room, directory_room};
 use address_map::{CoreId, Local};
 use cache_table::{CacheEvent, Row, cache_row};
 use directory_table::{DirEvent, DirRow, dir_row};
 use mshr_file::MissFile;
 use slice_core_answer::Cell;
+use slice_core_plan::{
+    Plan, cache_room, directory_room, event_of_forwarded, event_of_request, is_put_ack,
+    requester_of,
+};
 use slice_queues::{Channel, DataMessage, LineQueues};
 
 impl<F: MissFile> Parts<F> {
@@ -47,7 +49,11 @@ impl<F: MissFile> Parts<F> {
             return Plan::Nothing;
         };
         let event = event_of_request(core, request);
-        plan_row(line, core, dir_row(self.exclusive, &self.entries[local.0], event))
+        plan_row(
+            line,
+            core,
+            dir_row(self.exclusive, &self.entries[local.0], event),
+        )
     }
 
     // The directory's row for the block that comes home.

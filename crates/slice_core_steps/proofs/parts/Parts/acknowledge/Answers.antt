@@ -1,7 +1,6 @@
-use Rattle.std.proofs.Common.{◌≡◌, ◌∙◌, Bool, false, ap, sym, subst, rules, length}
+use Rattle.std.proofs.Common.{◌≡◌, ◌∙◌, false, ap, sym, subst, rules, length}
 use Rattle.mshr_file.specs.Miss.{targets_of}
-use Rattle.slice_core_plan.specs.Steps.{asked_by}
-use Rattle.slice_core_plan.specs.View.{channels_at, side_at}
+use Rattle.slice_core_plan.specs.View.{side_at}
 use Rattle.slice_core_side.specs.Perform.{asks_to_write}
 use Rattle.slice_core_side.specs.Side.{SideView, array_copy}
 use Rattle.slice_core_side.specs.Steps.{acknowledged, after_change, after_settle}
@@ -9,7 +8,6 @@ use Rattle.slice_core_steps.proofs.ChangedLaws.{changed_copy, changed_stands}
 use Rattle.slice_core_steps.proofs.SettledLaws.{asks-unshared, settles}
 use Rattle.slice_core_steps.proofs.StandsLaws.{read_side}
 use Rattle.slice_core_steps.proofs.parts.Parts.acknowledge.Goals as goal
-use Rattle.slice_queues.specs.Line.{after_take}
 use Rattle.slice_queues_message.specs.declared.channel.Channel.TheVariants as channels
 
 pub settle_copy-requires-clause-held : goal.settle_copy-requires-clause-held
@@ -33,12 +31,15 @@ returns g c =
     side c.acknowledge.ensures in
     let here : array_copy c.acknowledge.new.self local ≡ copy =
     ap (λ (s : SideView). array_copy s local) is ∙ changed_copy old local c.args.place copy c.requires.stands in
-    let none : asks_to_write (array_copy c.acknowledge.new.self local).state (targets_of c.acknowledge.new.self.misses local.0) ≡ false =
+    let none : asks_to_write (array_copy c.acknowledge.new.self local).state
+    (targets_of c.acknowledge.new.self.misses local.0) ≡ false =
     ap (λ k. asks_to_write k.state (targets_of c.acknowledge.new.self.misses local.0)) here
     ∙ asks-unshared c.args.next (targets_of c.acknowledge.new.self.misses local.0) c.requires.waits in
-    let after : c.settle_copy.new.side ≡ after_settle c.acknowledge.new.self local (length v.log) c.settle_copy.new.side.misses =
+    let after : c.settle_copy.new.side
+    ≡ after_settle c.acknowledge.new.self local (length v.log) c.settle_copy.new.side.misses =
     search rules in
-    settles c.args.self.now _ local core (channels.Ack core c.args.from) c.args.place _ c.acknowledge.new.self c.settle_copy.new.side
+    settles c.args.self.now _ local core
+    (channels.Ack core c.args.from) c.args.place _ c.acknowledge.new.self c.settle_copy.new.side
     false c.take_ack.new.self c.settle_copy.new.log.items c.count_message.new.self
     c.settle_copy.new.pending c.requires.stands is (sym none)
     c.settle_copy.ensures.taken c.settle_copy.ensures.sound after

@@ -1,10 +1,9 @@
-use Rattle.std.proofs.Common.{◌≡◌, sym, ap, subst}
+use Rattle.std.proofs.Common.{subst}
 use Rattle.slice_core_answer.specs.declared.answer.Delivered.TheVariants as delivered
 use Rattle.slice_core_plan.specs.Parts.{AfterPlan}
 use Rattle.slice_core_plan.specs.declared.decide.Plan.{Plan}
 use Rattle.slice_core_steps.proofs.PlannedLaws.{after_acknowledge, after_fill}
 use Rattle.slice_core_steps.proofs.parts.Parts.deliver_at.Goals as goal
-use Rattle.slice_queues_message.specs.declared.channel.Channel.{Channel}
 
 pub returns-in-Fill : goal.returns-in-Fill
 returns-in-Fill g c =

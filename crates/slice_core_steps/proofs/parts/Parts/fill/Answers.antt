@@ -1,4 +1,4 @@
-use Rattle.std.proofs.Common.{◌≡◌, ◌∙◌, ap, subst, rules, refl, length, Option, Some}
+use Rattle.std.proofs.Common.{◌≡◌, ◌∙◌, ap, subst, rules, length, Option, Some}
 use Rattle.slice_core_plan.specs.Parts.{filled_by}
 use Rattle.slice_core_plan.specs.View.{channels_at, side_at}
 use Rattle.slice_core_side.specs.Side.{SideView, array_copy}
@@ -28,14 +28,19 @@ returns g c =
     let line : c.line_mut-line.result.now ≡ channels_at v local = search rules in
     let message : Some c.in-Some.message.now ≡ (core_at (channels_at v local) core.0).data = search rules in
     let is = subst
-    (λ (s : SideView). c.fill_copy.new.side ≡ after_change s local (filled_by (array_copy s local) (Some c.in-Some.message.now) c.args.next))
+    (λ (s : SideView). c.fill_copy.new.side
+    ≡ after_change s local (filled_by (array_copy s local) (Some c.in-Some.message.now) c.args.next))
     side c.fill_copy.ensures in
-    let copy : Option DataMessage → SideView = λ d. after_change (side_at v core) local (filled_by (array_copy (side_at v core) local) d c.args.next) in
+    let copy : Option DataMessage →
+    SideView = λ d. after_change (side_at v core) local
+    (filled_by (array_copy (side_at v core) local) d c.args.next) in
     let number = ap (λ p. length p.view.log) c.self.view_is in
-    let after : c.settle_copy-asks.new.side ≡ after_settle c.fill_copy.new.side local (length v.log) c.settle_copy-asks.new.side.misses =
+    let after : c.settle_copy-asks.new.side
+    ≡ after_settle c.fill_copy.new.side local (length v.log) c.settle_copy-asks.new.side.misses =
     search rules in
     let logged = c.settle_copy-asks.ensures.log in
-    settles c.args.self.now _ local core (channels.Data core) c.args.place _ c.fill_copy.new.side c.settle_copy-asks.new.side
+    settles c.args.self.now _ local core
+    (channels.Data core) c.args.place _ c.fill_copy.new.side c.settle_copy-asks.new.side
     c.settle_copy-asks.result c.ask_to_write.new.line c.settle_copy-asks.new.log.items c.count_message.new.self
     c.settle_copy-asks.new.pending c.requires.stands (is ∙ ap copy message) c.settle_copy-asks.ensures.asks
     c.settle_copy-asks.ensures.taken c.settle_copy-asks.ensures.sound after

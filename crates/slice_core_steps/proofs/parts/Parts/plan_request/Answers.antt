@@ -8,4 +8,5 @@ pub returns-clause-within : goal.returns-clause-within
 returns-clause-within g c =
     let line : c.line-line.result.now ≡ channels_at c.args.self.now.view c.args.local = search rules in
     let waits : IsSome (core_at (channels_at c.args.self.now.view c.args.local) c.args.core.0).request = search rules in
-    rw c.plan_row.ensures (rw line (planned_request c.args.self.now.view c.args.local c.args.core _ c.requires.core waits))
+    rw c.plan_row.ensures
+    (rw line (planned_request c.args.self.now.view c.args.local c.args.core _ c.requires.core waits))

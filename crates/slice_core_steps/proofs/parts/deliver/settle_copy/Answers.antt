@@ -1,7 +1,7 @@
-use Rattle.std.proofs.Common.{◌≡◌, ◌+◌, ◌-◌, ◌≤◌, ◌++◌, ap, length, length-append, arith}
+use Rattle.std.proofs.Common.{ap, length, length-append, arith}
 use Rattle.slice_core_log.specs.declared.entry.Entry.{Entry}
 use Rattle.mshr_file.specs.Miss.{targets_of}
-use Rattle.slice_core_side.specs.Perform.{entries_of, performed_in}
+use Rattle.slice_core_side.specs.Perform.{performed_in}
 use Rattle.slice_core_side.specs.Side.{array_copy}
 use Rattle.slice_core_steps.proofs.SettledLaws.{length-entries_of, length-performed_in}
 use Rattle.slice_core_steps.proofs.parts.deliver.settle_copy.Goals as goal
@@ -10,14 +10,26 @@ pub overflow_sub-pending-2 : goal.overflow_sub-pending-2
 overflow_sub-pending-2 g c =
     let copy = array_copy c.args.side.now c.args.local in
     let targets = targets_of c.args.side.now.misses c.args.local.0 in
-    omega (arith, ap length c.settle-asks.ensures.log, length-append {A = Entry},
-    length-entries_of c.args.core c.args.first copy.block (performed_in copy.state targets),
-    length-performed_in copy.state targets, c.len.ensures, c.len-before.ensures)
+    omega (
+      arith,
+      ap length c.settle-asks.ensures.log,
+      length-append {A = Entry},
+      length-entries_of c.args.core c.args.first copy.block (performed_in copy.state targets),
+      length-performed_in copy.state targets,
+      c.len.ensures,
+      c.len-before.ensures,
+    )
 
 pub returns-clause-pending : goal.returns-clause-pending
 returns-clause-pending g c =
     let copy = array_copy c.args.side.now c.args.local in
     let targets = targets_of c.args.side.now.misses c.args.local.0 in
-    omega (arith, ap length c.settle-asks.ensures.log, length-append {A = Entry},
-    length-entries_of c.args.core c.args.first copy.block (performed_in copy.state targets),
-    length-performed_in copy.state targets, c.len.ensures, c.len-before.ensures)
+    omega (
+      arith,
+      ap length c.settle-asks.ensures.log,
+      length-append {A = Entry},
+      length-entries_of c.args.core c.args.first copy.block (performed_in copy.state targets),
+      length-performed_in copy.state targets,
+      c.len.ensures,
+      c.len-before.ensures,
+    )

@@ -1,10 +1,10 @@
-mod Powers
-mod Choices
+pub mod Powers
+pub mod Choices
 mod Places
 mod Orders
 mod Ages
 mod Slots
 mod Sets
 mod Loans
-mod Victims
+pub mod Victims
 pub mod Held

@@ -22,3 +22,7 @@ pub mod AccountsDelivery
 pub mod AccountsBegin
 pub mod AccountsFacts
 pub mod AccountsCan
+pub mod LinksVictims
+pub mod LinksWays
+pub mod SoundIssue
+pub mod SoundEvict

@@ -70,7 +70,7 @@ module _ (v : View) (local : Local) (shaped : IsShaped v) where
       (cases_lt local.0 v.lines.lines)
 
   -- So nothing waits for it.
-  nothing-past : (core : CoreId) → length v.sides ≤ core.0 → core_at (channels_at v local) core.0 ≡ no_messages
+  pub nothing-past : (core : CoreId) → length v.sides ≤ core.0 → core_at (channels_at v local) core.0 ≡ no_messages
   nothing-past core past =
       let few = few-cores in
       get_or_past (channels_at v local).cores core.0 no_messages (omega (arith, past, few))

@@ -26,3 +26,5 @@ pub mod LinksVictims
 pub mod LinksWays
 pub mod SoundIssue
 pub mod SoundEvict
+pub mod SoundDelivery
+pub mod SoundBegin

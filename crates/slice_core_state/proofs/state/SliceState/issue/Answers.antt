@@ -1,0 +1,33 @@
+use Rattle.std.proofs.Common.{arith, ap, length}
+use Rattle.slice_core_plan.specs.Parts.{PartsView}
+use Rattle.slice_core_state.specs.Sound.{IsSound}
+use Rattle.slice_core_state.proofs.AccountsFacts as facts
+use Rattle.slice_core_state.proofs.SoundIssue.{sound-issue}
+use Rattle.slice_core_state.proofs.state.SliceState.issue.Given.{Over}
+use Rattle.slice_core_state.proofs.state.SliceState.issue.Goals as goal
+
+-- the slice that the step leaves
+sound : (g : Over) (c : goal.After-issue g) → IsSound c.issue.new.self
+sound g c =
+    let cores = ap (λ (p : PartsView). length p.view.sides) c.self.view_is in
+    let known = c.requires in
+    sound-issue c.self.inside.parts c.args.core c.args.request c.issue.result c.issue.new.self c.self.invariant
+    (omega (arith, cores, known)) c.issue.ensures.bounded c.issue.ensures.step
+
+pub invariant_of-self : goal.invariant_of-self
+invariant_of-self g c = sound g c
+
+pub returns-clause-standing : goal.returns-clause-standing
+returns-clause-standing g c = facts.standing c.issue.new.self (sound g c)
+
+pub returns-clause-ordered : goal.returns-clause-ordered
+returns-clause-ordered g c = facts.ordered c.issue.new.self (sound g c)
+
+pub returns-clause-registers : goal.returns-clause-registers
+returns-clause-registers g c = facts.registers c.issue.new.self (sound g c)
+
+pub returns-clause-tags : goal.returns-clause-tags
+returns-clause-tags g c = facts.tags c.issue.new.self (sound g c)
+
+pub returns-clause-counted : goal.returns-clause-counted
+returns-clause-counted g c = facts.counted c.issue.new.self (sound g c)

@@ -60,7 +60,7 @@ use Rattle.writeback_buffer.specs.declared.entry.Leaving.{Leaving}
 -- the core has a copy, or the table has no row for the message
 stands-by : (copy : Option CacheCopy) (leaving : Option Leaving) (message : ForwardedMessage)
     → (IsSome copy ⊎ IsSome leaving)
-      ⊎ (row_of (found_in copy leaving).state (event_of_forwarded message) ≡ rows.NoEntry)
+    ⊎ (row_of (found_in copy leaving).state (event_of_forwarded message) ≡ rows.NoEntry)
 stands-by (Some copy) leaving message = inl (inl refl)
 stands-by None (Some leaving) message = inl (inr refl)
 stands-by None None (forwards.FwdGetS requester) = inr refl

@@ -8,7 +8,9 @@
 #![tactic(auto)]
 
 pub use address_map::{Block, CoreId, LineAddr, Op, Request, SliceId, WordAddr};
-pub use slice_core_answer::{Cell, Delivered, DeliveredNext, Evicted, Issue, Refused, Stall, Stats};
+pub use slice_core_answer::{
+    Cell, Delivered, DeliveredNext, Evicted, Issue, Refused, Stall, Stats,
+};
 pub use slice_core_log::{Entry, Numbered};
 pub use slice_queues_message::{Class, Pick};
 pub use state::SliceState;

@@ -113,7 +113,7 @@ next-blocked old new class same next =
   where
     met : (nexts.Blocked ≡ nexts.Nothing)
         ⊎ ((local : Local) × (channel : Channel) × (local.0 < old.view.lines.lines) × IsTrue (is_of_class class channel)
-          × (nexts.Blocked ≡ next_by local channel (plan_of old.view local channel)))
+        × (nexts.Blocked ≡ next_by local channel (plan_of old.view local channel)))
         → SomePlan old.view class plans.Blocked
     met (inl none) = cc
     met (inr some) = (some.0, some.1, some.2, some.3, blocked-met some.0 some.1 _ some.4)
@@ -125,7 +125,7 @@ next-broken old new class cell same next =
   where
     met : (nexts.Broken cell ≡ nexts.Nothing)
         ⊎ ((local : Local) × (channel : Channel) × (local.0 < old.view.lines.lines) × IsTrue (is_of_class class channel)
-          × (nexts.Broken cell ≡ next_by local channel (plan_of old.view local channel)))
+        × (nexts.Broken cell ≡ next_by local channel (plan_of old.view local channel)))
         → SomePlan old.view class (plans.Broken cell)
     met (inl none) = cc
     met (inr some) = (some.0, some.1, some.2, some.3, broken-met some.0 some.1 cell _ some.4)
@@ -151,9 +151,10 @@ can-move v class local channel next = met next.1
           of_class = subst Q (sym same) of_class;
           planned = subst (λ (l : Local). R l channel) (sym here) (subst (λ (c : Channel). R at c) (sym same) planned);
         }
+
     met : (nexts.Move local channel ≡ nexts.Nothing)
         ⊎ ((at : Local) × (other : Channel) × (at.0 < v.lines.lines) × IsTrue (is_of_class class other)
-          × (nexts.Move local channel ≡ next_by at other (plan_of v at other)))
+        × (nexts.Move local channel ≡ next_by at other (plan_of v at other)))
         → CanMove v class local channel
     met (inl none) = cc
     met (inr some) =
@@ -178,4 +179,4 @@ pub next-moved : (old new : PartsView) (class : Class) (local : Local) (channel 
     → AfterDeliverNext old class (delivered_next.Moved (pick_at line channel)) new
 next-moved old new class local channel line answer can found after =
     moved-at old new class local channel line can.of_class found
-        (moved-by local local channel channel (plan_of old.view local channel) old new answer can.planned after)
+    (moved-by local local channel channel (plan_of old.view local channel) old new answer can.planned after)

@@ -148,8 +148,8 @@ plan-idle v local (channels.Fwd core) none = ap (λ forwarded. forwarded_by v lo
 plan-idle v local (channels.Data core) none = ap (data_by v local core) (no_data _ none)
 plan-idle v local (channels.Ack to from) none =
     ap (λ there. if there then by_ack_row v local to
-        (row_of (copy_of (side_at v to) local).state (events.InvAck (copy_of (side_at v to) local).wants (copy_of (side_at v to) local).counted))
-        else plans.Nothing) (no_ack _ none)
+    (row_of (copy_of (side_at v to) local).state (events.InvAck (copy_of (side_at v to) local).wants (copy_of (side_at v to) local).counted))
+    else plans.Nothing) (no_ack _ none)
 plan-idle v local channels.Home none =
     ap (λ home. if is_some home then by_home_row (dir_row_of v.exclusive (entry_at v local) dir_events.DataHome) else plans.Nothing)
     (no_home _ none)
@@ -184,7 +184,7 @@ pub next-begins : (v : View) (local : Local) (class : Class) (names : List Chann
 next-begins v local class names once = record {
   covered = λ channel of_class none.
       let idle : is_waiting (channels_at v local) channel ≡ false =
-          idle-from_count _ (is_of_class class channel) _ of_class (once channel) none in
+      idle-from_count _ (is_of_class class channel) _ of_class (once channel) none in
       rw (plan-idle v local channel (none-waits _ idle)) refl;
   met = inl refl;
   part = λ channel. let e = once channel in omega arith;
@@ -219,13 +219,15 @@ next-more v local class next first rest so_far = record {
     by_channel channel of_class none false e =
         no_better-first next (next_by local first (plan_of v local first)) (next_by local channel (plan_of v local channel))
         (so_far.covered channel of_class (let more = count-head channel first rest false e in omega (arith, more, none)))
+
     is_there : 0 < count_by (is_same_channel first) (first ∷ rest)
     is_there = let more = count-head first first rest true (same_itself first) in omega arith
+
     by_better : (next_or next (next_by local first (plan_of v local first)) ≡ next)
         ⊎ (next_or next (next_by local first (plan_of v local first)) ≡ next_by local first (plan_of v local first))
         → (next_or next (next_by local first (plan_of v local first)) ≡ nexts.Nothing)
         ⊎ ((channel : Channel) × IsTrue (is_of_class class channel)
-          × (next_or next (next_by local first (plan_of v local first)) ≡ next_by local channel (plan_of v local channel)))
+        × (next_or next (next_by local first (plan_of v local first)) ≡ next_by local channel (plan_of v local channel)))
     by_better (inl e) = elim so_far.met [ inl none ↦ inl (e ∙ none) | inr some ↦ inr (some.0, some.1, e ∙ some.2) ]
     by_better (inr e) = inr (first, class-from_count _ _ _ is_there (so_far.part first), e)
 
@@ -255,7 +257,7 @@ next-more_taken v local class next one after_next left after channel plan so_far
     let begins : left ≡ channel ∷ drop 1 left = taken-first left channel (sym first) in
     let P : List Channel → Type 0 = λ names. IsNextOf v local class next names in
     let next_is : after_next ≡ next_or next (next_by local channel (plan_of v local channel)) =
-        better ∙ ap (next_or next) (is ∙ ap (next_by local channel) planned) in
+    better ∙ ap (next_or next) (is ∙ ap (next_by local channel) planned) in
     let Q : Next → Type 0 = λ n. IsNextOf v local class n after in
     let R : List Channel → Type 0 = λ names. IsNextOf v local class (next_or next (next_by local channel (plan_of v local channel))) names in
     subst Q (sym next_is) (subst R (sym rest) (next-more v local class next channel (drop 1 left) (subst P begins so_far)))
@@ -283,7 +285,7 @@ pub record IsNextSoFar (v : View) (class : Class) (next : Next) (left : List ℕ
       → IsNoBetter next (next_by local channel (plan_of v local channel))
   pub met : (next ≡ nexts.Nothing)
       ⊎ ((local : Local) × (channel : Channel) × (local.0 < v.lines.lines) × IsTrue (is_of_class class channel)
-        × (next ≡ next_by local channel (plan_of v local channel)))
+      × (next ≡ next_by local channel (plan_of v local channel)))
 
 no-mail : (queues : QueuesView) → IsRing queues → (local : ℕ) → is_listed queues.ring local ≡ false → has_mail_at queues.channels local ≡ false
 no-mail queues ring local unlisted = by_mail (has_mail_at queues.channels local) refl
@@ -298,7 +300,7 @@ pub ring-begins : (v : View) (class : Class) (queues : QueuesView) → IsRing qu
 ring-begins v class queues ring same = record {
   covered = λ local channel of_class unlisted.
       let empty : messages_at (get_or queues.channels.lines local.0 (empty_line 0)) channel ≡ [] =
-          IsEmptyLine-from_no_mail _ (no-mail queues ring local.0 unlisted) channel in
+      IsEmptyLine-from_no_mail _ (no-mail queues ring local.0 unlisted) channel in
       let P : List LineChannels → Type 0 = λ lines. messages_at (get_or lines local.0 (empty_line 0)) channel ≡ [] in
       rw (plan-idle v local channel (subst P same empty)) refl;
   met = inl refl;
@@ -325,10 +327,11 @@ ring-more v class next one first rest there so_far at = record {
     by_line local channel of_class unlisted false e =
         no_better-first next one (next_by local channel (plan_of v local channel))
         (so_far.covered local channel of_class (unlisted-other first local.0 rest e unlisted))
+
     by_better : (next_or next one ≡ next) ⊎ (next_or next one ≡ one)
         → (next_or next one ≡ nexts.Nothing)
         ⊎ ((local : Local) × (channel : Channel) × (local.0 < v.lines.lines) × IsTrue (is_of_class class channel)
-          × (next_or next one ≡ next_by local channel (plan_of v local channel)))
+        × (next_or next one ≡ next_by local channel (plan_of v local channel)))
     by_better (inl e) = elim so_far.met [ inl none ↦ inl (e ∙ none) | inr some ↦ inr (some.0, some.1, some.2, some.3, e ∙ some.4) ]
     by_better (inr e) = elim at.1 [ inl none ↦ inl (e ∙ none) | inr some ↦ inr (record { 0 = first }, some.0, there, some.1, e ∙ some.2) ]
 

@@ -60,7 +60,11 @@ fn initial_block(config: &Checked, lines: Locator, local: Local) -> Block
     Block { words }
 }
 
-fn new_sides<F: MissFile>(alloc: Global, config: &Checked, slice: SliceId) -> Result<Vec<Side<F>>, AllocError>
+fn new_sides<F: MissFile>(
+    alloc: Global,
+    config: &Checked,
+    slice: SliceId,
+) -> Result<Vec<Side<F>>, AllocError>
     requires { slice.0 < config.now.slices }
     ensures { IfOk result (λ v. AreNewSides config.now (F.bound_by config.now) slice.0 config.now.cores v.items) }
 {

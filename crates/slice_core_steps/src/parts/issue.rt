@@ -10,12 +10,12 @@ ghost use Rattle.slice_core_plan.specs.Within.{StandsAt};
 ghost use Rattle.slice_queues.specs.Line.{core_at};
 
 use super::Parts;
-use slice_core_plan::{Decision, overwrites};
 use address_map::{CoreId, Local, Request};
 use cache_table::CopyState;
 use mshr_file::MissFile;
 use slice_core_answer::{Issue, Refused};
 use slice_core_log::Entry;
+use slice_core_plan::{Decision, overwrites};
 use slice_core_side::{Access, Ask, TagState, Way};
 use slice_queues_message::RequestMessage;
 

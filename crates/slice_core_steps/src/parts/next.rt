@@ -4,10 +4,10 @@ ghost use Rattle.slice_core_plan.specs.Parts.{PartsView, AfterDeliverNext, CanDe
 ghost use Rattle.slice_core_plan.specs.View.{View, IsShaped};
 
 use super::Parts;
-use slice_core_plan::Next;
 use address_map::Local;
 use mshr_file::MissFile;
 use slice_core_answer::DeliveredNext;
+use slice_core_plan::Next;
 use slice_queues::Class;
 
 impl<F: MissFile> Parts<F> {

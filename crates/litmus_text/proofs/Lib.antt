@@ -3,4 +3,3 @@ pub mod LineLemmas
 pub mod WordLemmas
 pub mod NumberLemmas
 pub mod RowLemmas
-pub mod FieldNames

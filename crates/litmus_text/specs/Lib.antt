@@ -6,4 +6,3 @@ pub mod Command
 pub mod ConfigLine
 pub mod Statement
 pub mod Field
-pub mod Settings

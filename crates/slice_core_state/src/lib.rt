@@ -13,7 +13,6 @@ pub use slice_core_answer::{
 };
 pub use slice_core_log::{Entry, Numbered};
 pub use slice_queues_message::{Class, Pick};
-pub use slice_core_steps::LineView;
 pub use state::SliceState;
 
 mod state;

@@ -15,5 +15,3 @@ pub use parts::Parts;
 
 mod line_view;
 mod parts;
-#[cfg(test)]
-mod tests;

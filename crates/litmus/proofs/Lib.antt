@@ -1,2 +1,3 @@
 pub mod MachineLemmas
 pub mod AskedLemmas
+pub mod ShapeLemmas

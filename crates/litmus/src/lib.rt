@@ -1,12 +1,17 @@
 //! Runs the texts that drive the machine, and reads the program's command line.
 //!
-//! `script` runs a script line by line on one slice's state for each slice, without threads.
+//! - [`run_script`] runs a script line by line on one slice's state for each slice, without threads. It writes each
+//!   answer as it comes, and keeps nothing of it: a call takes memory for the machine, for the log's growth and for a
+//!   report's text alone.
+//! - [`read_line`] reads what the program's own words ask for.
 #![tactic(auto)]
 
 pub use command_line::{CommandLine, read_line};
 pub use script::run_script;
 
+mod answers;
 mod command_line;
+mod line;
 mod machine;
 mod script;
 mod trace;

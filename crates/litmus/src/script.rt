@@ -1,8 +1,12 @@
 ghost use Rattle.std.specs.Prelude.{◌≡◌, IfOk};
 
+use super::answers::Answers;
 use super::machine::Machine;
 use address_map::{Checked, Config};
-use litmus_text::{ConfigLine, LineFault, Statement, Statements, TextFault, parse_command};
+use litmus_text::{
+    ConfigLine, LineFault, MissKind, Settings, Statement, Statements, TextFault, parse_command,
+};
+use mshr_file::{ExplicitFile, InvertedFile, MissFile};
 use std::alloc::Global;
 use std::io::Write;
 
@@ -15,13 +19,19 @@ pub fn run_script<W: Write>(alloc: Global, input: &[u8], out: &mut W) -> Result<
     let Some(first) = statements.next() else {
         return Ok(0);
     };
-    let (config, command) = read_config(alloc, first, &mut statements)?;
-    let mut machine = Machine::build(alloc, checked(config)?)?;
-    if let Some(command) = command {
-        run_statement(&mut machine, &command, out)?;
-    }
-    for statement in statements {
-        run_statement(&mut machine, &statement, out)?;
+    let (settings, command) = read_settings(alloc, first, &mut statements)?;
+    let Settings { config, misses } = settings;
+    let config = checked(config)?;
+    let mut answers = Answers { out };
+    match misses {
+        MissKind::Explicit => {
+            let machine: Machine<ExplicitFile> = Machine::build(alloc, config)?;
+            run_statements(machine, command, statements, &mut answers)?;
+        }
+        MissKind::Inverted => {
+            let machine: Machine<InvertedFile> = Machine::build(alloc, config)?;
+            run_statements(machine, command, statements, &mut answers)?;
+        }
     }
     Ok(0)
 }
@@ -32,21 +42,21 @@ fn checked(config: Config) -> Result<Checked, TextFault> {
 
 /// Reads the lines that configure the machine. Answers also the first statement that isn't one of them, where
 /// there is one.
-fn read_config<'a>(
+fn read_settings<'a>(
     alloc: Global,
     first: Statement<'a>,
     statements: &mut Statements<'a>,
-) -> Result<(Config, Option<Statement<'a>>), TextFault> {
-    let mut config = Config::new(alloc);
+) -> Result<(Settings, Option<Statement<'a>>), TextFault> {
+    let mut settings = Settings::new(alloc);
     let mut statement = first;
     'lines: loop {
         if !is_config(statement.words.as_slice()) {
-            return Ok((config, Some(statement)));
+            return Ok((settings, Some(statement)));
         }
-        configure(&mut config, &statement)?;
+        configure(&mut settings, &statement)?;
         match statements.next() {
             Some(next) => statement = next,
-            None => return Ok((config, None)),
+            None => return Ok((settings, None)),
         }
     }
 }
@@ -59,17 +69,34 @@ fn is_config(words: &[&[u8]]) -> bool {
     }
 }
 
-fn configure(config: &mut Config, statement: &Statement<'_>) -> Result<(), TextFault> {
+fn configure(settings: &mut Settings, statement: &Statement<'_>) -> Result<(), TextFault> {
     match ConfigLine::parse(statement.words.as_slice()) {
-        Ok(line) => line.set(config).map_err(|_| TextFault::NoMemory),
+        Ok(line) => line.set(settings).map_err(|_| TextFault::NoMemory),
         Err(fault) => Err(fault.at(statement.number)),
     }
 }
 
-fn run_statement<W: Write>(
-    machine: &mut Machine,
+/// Runs the statements that follow the configuration, of which the first may have been read already.
+fn run_statements<F: MissFile, W: Write>(
+    machine: Machine<F>,
+    first: Option<Statement<'_>>,
+    rest: Statements<'_>,
+    out: &mut Answers<'_, W>,
+) -> Result<(), TextFault> {
+    let mut machine = machine;
+    if let Some(statement) = first {
+        run_statement(&mut machine, &statement, out)?;
+    }
+    for statement in rest {
+        run_statement(&mut machine, &statement, out)?;
+    }
+    Ok(())
+}
+
+fn run_statement<F: MissFile, W: Write>(
+    machine: &mut Machine<F>,
     statement: &Statement<'_>,
-    out: &mut W,
+    out: &mut Answers<'_, W>,
 ) -> Result<(), TextFault> {
     let words = statement.words.as_slice();
     if is_config(words) {

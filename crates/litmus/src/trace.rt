@@ -1,19 +1,19 @@
 use address_map::{Checked, Op, WordAddr};
 use slice_core::Entry;
-use std::io;
-use std::io::Write;
+use std::fmt;
+use std::fmt::Write;
 
 /// The most cores that a trace of version 1 can name.
 const VERSION_1_CORES: usize = 16;
 
-/// Writes a slice's initial values and its log as a trace. Version 2 is written where version 1 has no words for the log: with more
-/// cores than it can name, or with a compare-exchange.
+/// Writes a slice's initial values and its log as a trace. Version 2 is written where version 1 has no words for the
+/// log: with more cores than it can name, or with a compare-exchange.
 pub fn write_trace<W: Write>(
     config: &Checked,
     init: &[(WordAddr, u64)],
     log: &[Entry],
     out: &mut W,
-) -> io::Result<()> {
+) -> fmt::Result {
     let has_cas = log.iter().any(|entry| matches!(entry.op, Op::Cas { .. }));
     let version = if has_cas || config.cores() > VERSION_1_CORES {
         2
@@ -31,7 +31,7 @@ pub fn write_trace<W: Write>(
     Ok(())
 }
 
-fn write_entry<W: Write>(entry: &Entry, out: &mut W) -> io::Result<()> {
+fn write_entry<W: Write>(entry: &Entry, out: &mut W) -> fmt::Result {
     let core = entry.core.0;
     let seq = entry.seq;
     let tag = entry.tag;

@@ -28,11 +28,16 @@ parts_of_pick (picks.Home line) = key (codes "home") ∷ num line.0 ∷ []
 
 -- each command of a script
 abbrev pub parts_of : Command → List Part
-parts_of (commands.Issue core request) = key (codes "issue") ∷ num core.0 ∷ num request.tag ∷ parts_of_op request.op request.word.0
+parts_of (commands.Issue core request) =
+    key (codes "issue") ∷ num core.0 ∷ num request.tag ∷ parts_of_op request.op request.word.0
+parts_of (commands.Evict core line) = key (codes "evict") ∷ num core.0 ∷ num line.0 ∷ []
 parts_of (commands.Deliver pick) = key (codes "deliver") ∷ parts_of_pick pick
 parts_of (commands.Hand core slice) = key (codes "hand") ∷ num core.0 ∷ num slice.0 ∷ []
 parts_of (commands.Word word) = key (codes "word") ∷ num word.0 ∷ []
+parts_of (commands.State line) = key (codes "state") ∷ num line.0 ∷ []
 parts_of (commands.Log slice) = key (codes "log") ∷ num slice.0 ∷ []
+parts_of commands.Stats = key (codes "stats") ∷ []
+parts_of (commands.Pump calls) = key (codes "pump") ∷ num calls ∷ []
 
 -- the machine has this core, and this line
 abbrev pub HasCore : Config → CoreId → Type 0
@@ -52,10 +57,14 @@ HasPick config (picks.Home line) = HasLine config line
 -- the machine has all that the command names; the word of an access may be any
 abbrev pub IsInRange : Config → Command → Type 0
 IsInRange config (commands.Issue core request) = HasCore config core
+IsInRange config (commands.Evict core line) = HasCore config core × HasLine config line
 IsInRange config (commands.Deliver pick) = HasPick config pick
 IsInRange config (commands.Hand core slice) = HasCore config core × (slice.0 < config.slices)
 IsInRange config (commands.Word word) = word.0 / 8 < config.lines
+IsInRange config (commands.State line) = HasLine config line
 IsInRange config (commands.Log slice) = slice.0 < config.slices
+IsInRange config commands.Stats = Unit {0}
+IsInRange config (commands.Pump calls) = Unit {0}
 
 -- what a script's line that was read says, at a machine that has all it names
 pub record IsRead (config : Config) (words : List (List ℕ)) (command : Command) : Type 0 where

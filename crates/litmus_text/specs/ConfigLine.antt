@@ -1,10 +1,15 @@
--- How the lines that configure a machine are written.
-use Rattle.std.specs.Prelude.{ℕ, List, [], ◌∷◌, ◌++◌, codes}
+-- How the lines that configure a machine are written, and what they set.
+use Rattle.std.specs.Prelude.{ℕ, Bool, true, false, List, [], ◌∷◌, ◌++◌, codes}
 use Rattle.address_map.specs.declared.config.Config.{Config}
 use Rattle.address_map.specs.declared.config.PolicyKind.{PolicyKind}
 use Rattle.address_map.specs.declared.config.PolicyKind.TheVariants as policies
+use Rattle.litmus_text.specs.declared.settings.MissKind.{MissKind}
+use Rattle.litmus_text.specs.declared.settings.MissKind.TheVariants as misses
+use Rattle.litmus_text.specs.declared.settings.Settings.{Settings}
 use Rattle.litmus_text.specs.declared.config_line.ConfigLine.{ConfigLine}
 use Rattle.litmus_text.specs.declared.config_line.ConfigLine.TheVariants as lines
+use Rattle.litmus_text.specs.declared.field.Field.TheVariants as fields
+use Rattle.litmus_text.specs.Field.{name_of, with_count}
 use Rattle.litmus_text.specs.Form.{Part, key, num}
 
 -- how a replacement policy is written
@@ -13,29 +18,35 @@ parts_of_policy policies.Lru = key (codes "lru") ∷ []
 parts_of_policy policies.Fifo = key (codes "fifo") ∷ []
 parts_of_policy (policies.Random seed) = key (codes "random") ∷ num seed ∷ []
 
-abbrev pub parts_of_config_line : ConfigLine → List Part
-parts_of_config_line (lines.Cores n) = key (codes "cores") ∷ num n ∷ []
-parts_of_config_line (lines.Slices n) = key (codes "slices") ∷ num n ∷ []
-parts_of_config_line (lines.Lines n) = key (codes "lines") ∷ num n ∷ []
-parts_of_config_line (lines.Sets n) = key (codes "sets") ∷ num n ∷ []
-parts_of_config_line (lines.Ways n) = key (codes "ways") ∷ num n ∷ []
-parts_of_config_line (lines.Mshrs n) = key (codes "mshrs") ∷ num n ∷ []
-parts_of_config_line (lines.Targets n) = key (codes "targets") ∷ num n ∷ []
-parts_of_config_line (lines.Writebacks n) = key (codes "writebacks") ∷ num n ∷ []
-parts_of_config_line (lines.Policy policy) = key (codes "policy") ∷ parts_of_policy policy
-parts_of_config_line (lines.Init word value) = key (codes "init") ∷ num word.0 ∷ num value ∷ []
-parts_of_config_line (lines.Counter word) = key (codes "counter") ∷ num word.0 ∷ []
+-- how the miss registers are called
+abbrev pub name_of_misses : MissKind → List ℕ
+name_of_misses misses.Explicit = codes "explicit"
+name_of_misses misses.Inverted = codes "inverted"
 
--- the configuration with the field that the line sets: initial values and counters add up
-abbrev pub configured : Config → ConfigLine → Config
-configured config (lines.Cores n) = record config { cores = n }
-configured config (lines.Slices n) = record config { slices = n }
-configured config (lines.Lines n) = record config { lines = n }
-configured config (lines.Sets n) = record config { sets = n }
-configured config (lines.Ways n) = record config { ways = n }
-configured config (lines.Mshrs n) = record config { mshrs = n }
-configured config (lines.Targets n) = record config { targets = n }
-configured config (lines.Writebacks n) = record config { writebacks = n }
-configured config (lines.Policy policy) = record config { policy = policy }
-configured config (lines.Init word value) = record config { init = config.init ++ (word, value) ∷ [] }
-configured config (lines.Counter word) = record config { counters = config.counters ++ word ∷ [] }
+-- how a setting is written that is on or off
+abbrev pub parts_of_setting : Bool → List Part
+parts_of_setting true = key (codes "on") ∷ []
+parts_of_setting false = key (codes "off") ∷ []
+
+-- each line begins with the name of its field
+abbrev pub parts_of_config_line : ConfigLine → List Part
+parts_of_config_line (lines.Count count n) = key (name_of (fields.Count count)) ∷ num n ∷ []
+parts_of_config_line (lines.Policy policy) = key (name_of fields.Policy) ∷ parts_of_policy policy
+parts_of_config_line (lines.Misses kind) = key (name_of fields.Misses) ∷ key (name_of_misses kind) ∷ []
+parts_of_config_line (lines.Exclusive is_on) = key (name_of fields.Exclusive) ∷ parts_of_setting is_on
+parts_of_config_line (lines.Init word value) = key (name_of fields.Init) ∷ num word.0 ∷ num value ∷ []
+parts_of_config_line (lines.Counter word) = key (name_of fields.Counter) ∷ num word.0 ∷ []
+
+-- the configuration with what the line sets: initial values and counters add up
+abbrev pub with_line : Config → ConfigLine → Config
+with_line config (lines.Count count n) = with_count config count n
+with_line config (lines.Policy policy) = record config { policy = policy }
+with_line config (lines.Misses kind) = config
+with_line config (lines.Exclusive is_on) = record config { exclusive = is_on }
+with_line config (lines.Init word value) = record config { init = config.init ++ (word, value) ∷ [] }
+with_line config (lines.Counter word) = record config { counters = config.counters ++ word ∷ [] }
+
+-- what the line makes of the settings
+abbrev pub configured : Settings → ConfigLine → Settings
+configured settings (lines.Misses kind) = record settings { misses = kind }
+configured settings line = record settings { config = with_line settings.config line }

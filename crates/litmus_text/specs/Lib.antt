@@ -6,3 +6,4 @@ pub mod Command
 pub mod ConfigLine
 pub mod Statement
 pub mod Field
+pub mod Settings

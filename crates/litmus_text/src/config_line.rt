@@ -1,87 +1,23 @@
-ghost use Rattle.std.specs.Prelude.{◌≡◌, ◌↔◌, IsTrue, ◌≢◌, IfOk, IfSome, IfNone, OnOk, map};
-ghost use Rattle.litmus_text.specs.declared.config_line.Field.{Field};
+ghost use Rattle.std.specs.Prelude.{◌≡◌, ◌↔◌, IsTrue, ◌≢◌, IfOk, IfSome, IfNone, OnOk, OnErr, map};
 ghost use Rattle.std.specs.Prelude.{[], ◌∷◌, codes};
 ghost use Rattle.litmus_text.specs.Form.{Writes, key, num};
-ghost use Rattle.litmus_text.specs.ConfigLine.{parts_of_policy};
+ghost use Rattle.litmus_text.specs.ConfigLine.{parts_of_policy, name_of_misses, parts_of_setting};
 
 use super::fault::LineFault;
+use super::field::{Count, Field};
 use super::number::number;
-use address_map::{Config, PolicyKind, WordAddr};
+use super::settings::{MissKind, Settings};
+use address_map::{PolicyKind, WordAddr};
 use std::alloc::AllocError;
-
-/// A field of a configuration, as the lines that set it begin.
-#[derive(Clone, Copy, Debug, PartialEq, Eq)]
-enum Field {
-    Cores,
-    Slices,
-    Lines,
-    Sets,
-    Ways,
-    Mshrs,
-    Targets,
-    Writebacks,
-    Policy,
-    Init,
-    Counter,
-}
-
-impl Field {
-    ghost use Rattle.litmus_text.specs.Field.{name_of};
-
-    // The field with this name.
-    fn named(name: &[u8]) -> Option<Field>
-        ensures found { IfSome result (λ field. name.now ≡ name_of field) }
-        ensures none { IfNone result ((field : Field) → name.now ≢ name_of field) }
-    {
-        if name == b"cores".as_slice() {
-            return Some(Field::Cores);
-        }
-        if name == b"slices".as_slice() {
-            return Some(Field::Slices);
-        }
-        if name == b"lines".as_slice() {
-            return Some(Field::Lines);
-        }
-        if name == b"sets".as_slice() {
-            return Some(Field::Sets);
-        }
-        if name == b"ways".as_slice() {
-            return Some(Field::Ways);
-        }
-        if name == b"mshrs".as_slice() {
-            return Some(Field::Mshrs);
-        }
-        if name == b"targets".as_slice() {
-            return Some(Field::Targets);
-        }
-        if name == b"writebacks".as_slice() {
-            return Some(Field::Writebacks);
-        }
-        if name == b"policy".as_slice() {
-            return Some(Field::Policy);
-        }
-        if name == b"init".as_slice() {
-            return Some(Field::Init);
-        }
-        if name == b"counter".as_slice() {
-            return Some(Field::Counter);
-        }
-        None
-    }
-}
 
 /// A line of a text that configures the machine.
 #[derive(Clone, Copy, Debug, PartialEq, Eq)]
 pub enum ConfigLine {
-    Cores(u64),
-    Slices(u64),
-    Lines(u64),
-    Sets(u64),
-    Ways(u64),
-    Mshrs(u64),
-    Targets(u64),
-    Writebacks(u64),
+    Count(Count, u64),
     Policy(PolicyKind),
+    Misses(MissKind),
+    /// Whether the machine has the exclusive state.
+    Exclusive(bool),
     /// A word and the value that it begins with.
     Init(WordAddr, u64),
     Counter(WordAddr),
@@ -109,15 +45,10 @@ impl ConfigLine {
             return Err(LineFault::NotACommand);
         };
         match field {
-            Field::Cores => Ok(ConfigLine::Cores(one_number(rest)?)),
-            Field::Slices => Ok(ConfigLine::Slices(one_number(rest)?)),
-            Field::Lines => Ok(ConfigLine::Lines(one_number(rest)?)),
-            Field::Sets => Ok(ConfigLine::Sets(one_number(rest)?)),
-            Field::Ways => Ok(ConfigLine::Ways(one_number(rest)?)),
-            Field::Mshrs => Ok(ConfigLine::Mshrs(one_number(rest)?)),
-            Field::Targets => Ok(ConfigLine::Targets(one_number(rest)?)),
-            Field::Writebacks => Ok(ConfigLine::Writebacks(one_number(rest)?)),
+            Field::Count(count) => Ok(ConfigLine::Count(count, one_number(rest)?)),
             Field::Policy => Ok(ConfigLine::Policy(policy(rest)?)),
+            Field::Misses => Ok(ConfigLine::Misses(misses(rest)?)),
+            Field::Exclusive => Ok(ConfigLine::Exclusive(setting(rest)?)),
             Field::Init => {
                 let (word, value) = two_numbers(rest)?;
                 Ok(ConfigLine::Init(WordAddr(word), value))
@@ -126,23 +57,19 @@ impl ConfigLine {
         }
     }
 
-    /// Sets the field that this line names. Of lines for one field the last counts, but initial values and counters
+    /// Sets what this line names. Of lines on one field the last counts, but initial values and counters
     /// add up, in the order of the lines. Only they take memory.
-    pub fn set(self, config: &mut Config) -> Result<(), AllocError>
-        ensures { OnOk result (config.new ≡ configured config.old self) }
+    pub fn set(self, settings: &mut Settings) -> Result<(), AllocError>
+        ensures ok { OnOk result (settings.new ≡ configured settings.old self) }
+        ensures err { OnErr result (settings.new ≡ settings.old) }
     {
         match self {
-            ConfigLine::Cores(cores) => config.cores = cores,
-            ConfigLine::Slices(slices) => config.slices = slices,
-            ConfigLine::Lines(lines) => config.lines = lines,
-            ConfigLine::Sets(sets) => config.sets = sets,
-            ConfigLine::Ways(ways) => config.ways = ways,
-            ConfigLine::Mshrs(mshrs) => config.mshrs = mshrs,
-            ConfigLine::Targets(targets) => config.targets = targets,
-            ConfigLine::Writebacks(writebacks) => config.writebacks = writebacks,
-            ConfigLine::Policy(policy) => config.policy = policy,
-            ConfigLine::Init(word, value) => config.init.push(word, value)?,
-            ConfigLine::Counter(word) => config.counters.push(word)?,
+            ConfigLine::Count(count, number) => count.set(&mut settings.config, number),
+            ConfigLine::Policy(policy) => settings.config.policy = policy,
+            ConfigLine::Misses(misses) => settings.misses = misses,
+            ConfigLine::Exclusive(exclusive) => settings.config.exclusive = exclusive,
+            ConfigLine::Init(word, value) => settings.config.init.push(word, value)?,
+            ConfigLine::Counter(word) => settings.config.counters.push(word)?,
         }
         Ok(())
     }
@@ -193,4 +120,33 @@ fn seed(words: &[&[u8]]) -> Result<u64, LineFault>
         return Err(LineFault::NotACommand);
     }
     one_number(rest)
+}
+
+fn misses(words: &[&[u8]]) -> Result<MissKind, LineFault>
+    ensures { IfOk result (λ kind. Writes (map (λ w. w.now) words.now) (key (name_of_misses kind) ∷ [])) }
+{
+    match words {
+        [name] => miss_kind(name),
+        _ => Err(LineFault::NotACommand),
+    }
+}
+
+fn miss_kind(name: &[u8]) -> Result<MissKind, LineFault>
+    ensures { IfOk result (λ kind. name.now ≡ name_of_misses kind) }
+{
+    match name {
+        b"explicit" => Ok(MissKind::Explicit),
+        b"inverted" => Ok(MissKind::Inverted),
+        _ => Err(LineFault::NotACommand),
+    }
+}
+
+fn setting(words: &[&[u8]]) -> Result<bool, LineFault>
+    ensures { IfOk result (λ is_on. Writes (map (λ w. w.now) words.now) (parts_of_setting is_on)) }
+{
+    match words {
+        [b"on"] => Ok(true),
+        [b"off"] => Ok(false),
+        _ => Err(LineFault::NotACommand),
+    }
 }

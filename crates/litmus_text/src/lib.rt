@@ -1,23 +1,40 @@
 //! Texts of lines, words and numbers, as scripts and traces are written in.
+//!
+//! - [`Lines`], [`Words`] and [`Statements`] take a text apart (specs/Text.antt, specs/Statement.antt): a statement is
+//!   a line that has words, with its number.
+//! - [`ConfigLine`] is a line that configures a machine. At Ok of [`ConfigLine::parse`] the words write that line, and
+//!   [`ConfigLine::set`] sets what it names in the [`Settings`] and nothing else (specs/ConfigLine.antt).
+//! - [`parse_command`] reads a command of a script. At Ok the words write that command, and the machine has what it
+//!   names (specs/Command.antt).
+//! - [`LineFault`] and [`TextFault`] say what is wrong with a text, and with which status a program ends.
+//!
+//! No call copies a text or takes memory, but `ConfigLine::set` at an initial value or a counter. Each byte is looked
+//! at a few times.
 #![tactic(auto)]
 
 pub use command::Command;
 pub use config_line::ConfigLine;
 pub use fault::{LineFault, TextFault};
+pub use field::Count;
 pub use line::Lines;
 pub use number::parse_number;
 pub use parse::parse_command;
 pub use row::{MOST_WORDS, first_words};
+pub use settings::{MissKind, Settings};
 pub use statement::{Statement, Statements};
 pub use word::Words;
 
 mod command;
 mod config_line;
 mod fault;
+mod field;
 mod line;
 mod number;
 mod parse;
 mod range;
 mod row;
+mod settings;
 mod statement;
+#[cfg(test)]
+mod tests;
 mod word;

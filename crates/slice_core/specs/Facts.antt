@@ -1,68 +1,55 @@
 -- What callers of a slice may rely on after every call.
-use Rattle.std.specs.Prelude.{Bool, true, false, IsTrue, ◌↔◌, slice_index, ◌≡◌, ℕ, ◌+◌, ◌<◌, ◌==◌, ◌&&◌, nat_lt, if◌then◌else◌, length, count_by, slice_get, Some}
-use Rattle.address_map.specs.Words.{initial_value}
+use Rattle.std.specs.Prelude.{◌≡◌, ◌≢◌, ℕ, ◌<◌, ◌==◌, Bool, if◌then◌else◌, nat_lt, length, count_by, map, slice_get, Option, Some, None}
+use Rattle.address_map.specs.declared.address.CoreId.{CoreId}
+use Rattle.address_map.specs.Place.{offset_of}
+use Rattle.address_map.specs.declared.address.Local.{Local}
+use Rattle.address_map.specs.declared.address.WordAddr.{WordAddr}
+use Rattle.cache_table.specs.CopyState.{is_waiting}
+use Rattle.mshr_file.specs.Miss.{count_of, has_miss, has_tag, IsMissFile}
+use Rattle.slice_core_answer.specs.Stats.{accepted_of, counts_of}
 use Rattle.slice_core_log.specs.declared.entry.Entry.{Entry}
-use Rattle.slice_core_parts.specs.declared.tags.TagState.TheVariants as tags
-use Rattle.slice_core_parts.specs.Side.{copy_at, targets_of, tag_at}
-use Rattle.address_map.specs.declared.block.Block.{Block}
-use Rattle.cache_table.specs.CopyState.{is_readable, is_waiting, is_writer}
-use Rattle.slice_core_line.specs.declared.directory.Directory.{Directory}
-use Rattle.slice_core_line.specs.declared.directory.Directory.TheVariants as directories
-use Rattle.slice_core_log.specs.Log.{value}
-use Rattle.slice_core_parts.specs.declared.side.CacheCopy.{CacheCopy}
-use Rattle.slice_core_parts.specs.Decision.{waits_for}
-use Rattle.slice_core_parts.specs.View.{View, side_at, line_at, word_of}
-
--- the value that each word of the slice begins with
-abbrev pub initial_of : View → ℕ → ℕ
-initial_of v word = initial_value v.init (record { 0 = word })
-
--- in how many places the core's request with this number stands: as a target, or as an entry of the log
-abbrev pub standings : View → ℕ → ℕ → ℕ
-standings v core seq =
-    count_by (λ t. t.seq == seq) (targets_of (side_at v core))
-    + count_by (λ e. (e.core.0 == core) && (e.seq == seq)) v.log
+use Rattle.slice_core_side.specs.Side.{state_of, tag_at}
+use Rattle.slice_core_side.specs.declared.tags.TagState.TheVariants as tags
+use Rattle.slice_core_standing.specs.Standing.{is_open, standings}
+use Rattle.slice_core_plan.specs.Parts.{PartsView}
+use Rattle.slice_core_plan.specs.View.{View, entry_at, side_at, word_now}
+use Rattle.slice_core_steps.specs.declared.line_view.LineView.{LineView}
 
 -- Each request that a core had accepted stands in exactly one place, and nothing else stands there. It is a target of
--- a miss register, or an entry of the log: a reply, as long as the entry's tag names its number, and handed out otherwise.
+-- a miss register, or an entry of the log: a reply, as long as a tag names its number, and handed out otherwise.
 pub record IsStanding (v : View) : Type 0 where
-  pub once : (core seq : ℕ) → core < length v.sides → standings v core seq ≡ (if nat_lt seq (side_at v core).accepted then 1 else 0)
-  -- what a tag names is an entry of its own core, asked for under that tag
-  pub replies : (core tag number : ℕ) → core < length v.sides → tag_at (side_at v core) tag ≡ tags.Performed number
-      → (e : Entry) × (slice_get v.log number ≡ Some e) × (e.core.0 ≡ core) × (e.tag ≡ tag)
+  pub once : (core : CoreId) (seq : ℕ)
+      → standings (side_at v core).misses v.log core.0 seq ≡ (if nat_lt seq (side_at v core).accepted then 1 else 0)
 
--- ---- coherence
+-- An open tag of a core names one of its targets, and no other tag names any; a performed tag names an entry of the log
+-- that the core asked for under it.
+pub record HasTags (v : View) : Type 0 where
+  pub opened : (core : CoreId) (tag : ℕ) → core.0 < length v.sides
+      → count_of (has_tag tag) (side_at v core).misses ≡ (if is_open (tag_at (side_at v core) tag) then 1 else 0)
+  pub replies : (core : CoreId) (tag number : ℕ) → core.0 < length v.sides → tag_at (side_at v core) tag ≡ tags.Performed number
+      → (e : Entry) × (slice_get v.log number ≡ Some e) × (e.core.0 ≡ core.0) × (e.tag ≡ tag)
 
--- the copy that a core has of a line, and its home copy
-abbrev pub copy_of : View → ℕ → ℕ → CacheCopy
-copy_of v core local = copy_at (side_at v core) local
-
-abbrev pub home_of : View → ℕ → Block
-home_of v local = (line_at v local).home
-
--- whether the home copy is the newest one, as the directory knows: in I and in S
-abbrev pub is_home_newest : Directory → Bool
-is_home_newest directories.I = true
-is_home_newest (directories.S sharer) = true
-is_home_newest (directories.M owner) = false
-
--- The block has the values of the line's eight words after the whole log.
-pub record HasNewest (v : View) (local : ℕ) (block : Block) : Type 0 where
-  pub size : length block.words ≡ 8
-  pub words : (offset : ℕ) → offset < 8 → slice_index block.words offset ≡ value (initial_of v (word_of v local offset)) v.log (word_of v local offset)
-
--- A slice is coherent: where a core may write a line no other core may read or write it; and every copy that
--- may be read holds the line's last performed values, and so does the home copy where the directory is in I or S.
--- (The Primer's single-writer-multiple-reader and data-value invariants.)
-pub record IsCoherent (v : View) : Type 0 where
-  pub one_writer : (c d local : ℕ) → c < length v.sides → d < length v.sides → local < length v.lines
-      → IsTrue (is_writer (copy_of v c local).state) → IsTrue (is_readable (copy_of v d local).state) → c ≡ d
-  pub readable : (core local : ℕ) → core < length v.sides → local < length v.lines
-      → IsTrue (is_readable (copy_of v core local).state) → HasNewest v local (copy_of v core local).block
-  pub home : (local : ℕ) → local < length v.lines → IsTrue (is_home_newest (line_at v local).directory) → HasNewest v local (home_of v local)
-
--- A core has a miss register for a line exactly where its copy of the line waits; the side has room for one register
--- alone, so no core has two for a line. (Kroft's miss status holding registers.)
+-- No core has two miss registers for a line, and it has one exactly where its copy of the line waits. (Kroft's miss
+-- status holding registers.)
 pub record HasOneRegister (v : View) : Type 0 where
-  pub waits : (core local : ℕ) → core < length v.sides → local < length v.lines
-      → IsTrue (is_waiting (copy_of v core local).state) ↔ IsTrue (waits_for (side_at v core).register local)
+  pub single : (core : CoreId) → core.0 < length v.sides → IsMissFile (side_at v core).misses
+  pub waits : (core : CoreId) (local : Local) → core.0 < length v.sides → local.0 < v.lines.lines
+      → is_waiting (state_of (side_at v core) local) ≡ has_miss (side_at v core).misses local.0
+
+-- Hits, misses that opened a register and misses that joined one add up to the accepted requests, for each core.
+abbrev pub CountsAccepted : PartsView → Type 0
+CountsAccepted p = (core : CoreId) → core.0 < length p.view.sides → accepted_of (counts_of p.stats core) ≡ (side_at p.view core).accepted
+
+-- What a slice shows of a word, whose line it has: the value that the word has while the slice is quiet.
+abbrev pub ShowsWord : View → WordAddr → Option Local → ℕ → Type 0
+ShowsWord v word None shown = Unit {0}
+ShowsWord v word (Some local) shown = shown ≡ word_now v local (offset_of word).0
+
+-- What a slice shows of a line: nothing of one that isn't its own, and else the directory's entry and each core's state.
+abbrev pub ShowsLine : View → Option Local → Option LineView → Type 0
+ShowsLine v None shown = shown ≡ None
+ShowsLine v (Some local) shown =
+    (given : LineView) × (shown ≡ Some given)
+    × (given.dir ≡ (entry_at v local).state) × (given.owner ≡ (entry_at v local).owner)
+    × (given.sharers ≡ (entry_at v local).sharers) × (given.home ≡ (entry_at v local).home.words)
+    × (given.copies.items ≡ map (λ side. state_of side local) v.sides)

@@ -1,3 +1,2 @@
 pub mod Facts
-pub mod Machine
 pub mod Sound

@@ -1,40 +1,43 @@
-ghost use Rattle.std.specs.Prelude.{◌≡◌, ℕ, ◌/◌, ◌<◌, ◌↔◌, length, IfOk, IsTrue};
-ghost use Rattle.slice_core_log.specs.Log.{value, IsLegal};
-ghost use Rattle.slice_core_parts.specs.Parts.{PartsView, IsNew, AfterIssue, AfterDelivery, AfterHand};
-ghost use Rattle.slice_core_parts.specs.View.{View, has_line, IsQuiet};
-ghost use Rattle.slice_core.specs.Facts.{IsStanding, IsCoherent, HasOneRegister, initial_of};
+ghost use Rattle.std.specs.Prelude.{◌≡◌, ℕ, ◌<◌, ◌↔◌, length, IfOk, IsTrue, IsSome};
+ghost use Rattle.address_map.specs.Locator.{local_at};
+ghost use Rattle.address_map.specs.Place.{line_of};
+ghost use Rattle.slice_core_log.specs.Log.{IsOrdered};
+ghost use Rattle.slice_core.specs.Facts.{CountsAccepted, HasOneRegister, HasTags, IsStanding, ShowsLine, ShowsWord};
+ghost use Rattle.slice_core_plan.specs.Parts.{PartsView, AfterDeliverNext, AfterDelivery, AfterEvict, AfterHand, AfterIssue, IsNew};
+ghost use Rattle.slice_core_plan.specs.View.{View, IsQuiet};
 
-use address_map::{Checked, CoreId, Request, SliceId, WordAddr};
+use address_map::{Checked, CoreId, LineAddr, Request, SliceId, WordAddr};
+use mshr_file::MissFile;
+use slice_core_answer::{Delivered, DeliveredNext, Evicted, Issue, Refused, Stats};
 use slice_core_log::{Entry, Numbered};
-use slice_core_parts::{Delivered, Issue, Parts, Refused};
-use slice_queues_message::Pick;
+use slice_core_steps::{LineView, Parts};
+use slice_queues_message::{Class, Pick};
 use std::alloc::{AllocError, Global};
 use std::marker::Model;
 
-/// One slice: its lines, what each core has of them, the messages in flight and the log.
-#[derive(Debug, Drop)]
-pub struct SliceState {
-    parts: Parts,
+/// One slice: its directory, what each core has of its lines, the messages in flight and the log.
+#[derive(Drop)]
+pub struct SliceState<F: MissFile> {
+    parts: Parts<F>,
 }
 
-impl Model for SliceState {
-    ghost use Rattle.slice_core_parts.specs.Parts.{PartsView};
+impl<F: MissFile> Model for SliceState<F> {
+    ghost use Rattle.slice_core_plan.specs.Parts.{PartsView};
 
     ghost Value = { PartsView };
 
-    ghost use Rattle.slice_core.specs.Facts.{initial_of};
     ghost use Rattle.slice_core.specs.Sound.{IsSound};
 
     ghost view = { λ s. s.parts };
 
-    ghost invariant = { λ s. IsSound (initial_of s.parts.view) s.parts };
+    ghost invariant = { λ s. IsSound s.parts };
 }
 
-impl SliceState {
+impl<F: MissFile> SliceState<F> {
     /// A slice of the configured machine, with its initial values, in which nothing was asked for yet.
-    pub fn build(alloc: Global, config: &Checked, slice: SliceId) -> Result<SliceState, AllocError>
+    pub fn build(alloc: Global, config: &Checked, slice: SliceId) -> Result<Self, AllocError>
         requires { slice.0 < config.now.slices }
-        ensures { IfOk result (IsNew config.now slice.0) }
+        ensures { IfOk result (IsNew config.now (F.bound_by config.now) slice) }
     {
         Ok(SliceState {
             parts: Parts::new(alloc, config, slice)?,
@@ -47,33 +50,61 @@ impl SliceState {
     pub fn issue(&mut self, core: CoreId, request: Request) -> Result<Issue, Refused>
         requires { core.0 < length self.old.view.sides }
         ensures step { AfterIssue self.old core request result self.new }
-        ensures legal { IsLegal (initial_of self.new.view) self.new.view.log }
         ensures standing { IsStanding self.new.view }
-        ensures coherent { IsCoherent self.new.view }
+        ensures ordered { IsOrdered self.new.view.log }
         ensures registers { HasOneRegister self.new.view }
+        ensures tags { HasTags self.new.view }
+        ensures counted { CountsAccepted self.new }
     {
         self.parts.issue(core, request)
     }
 
-    /// Takes the front message of a channel and does its row of the table, where there is one.
+    /// Gives up the core's copy of a line, or says why not.
+    pub fn evict(&mut self, core: CoreId, line: LineAddr) -> Evicted
+        requires { core.0 < length self.old.view.sides }
+        ensures step { AfterEvict self.old core line result self.new }
+        ensures standing { IsStanding self.new.view }
+        ensures ordered { IsOrdered self.new.view.log }
+        ensures registers { HasOneRegister self.new.view }
+        ensures tags { HasTags self.new.view }
+        ensures counted { CountsAccepted self.new }
+    {
+        self.parts.evict(core, line)
+    }
+
+    /// Takes the front message of a channel and does its row of the tables, where there is one.
     pub fn deliver(&mut self, pick: Pick) -> Delivered
         ensures step { AfterDelivery self.old pick result self.new }
-        ensures legal { IsLegal (initial_of self.new.view) self.new.view.log }
         ensures standing { IsStanding self.new.view }
-        ensures coherent { IsCoherent self.new.view }
+        ensures ordered { IsOrdered self.new.view.log }
         ensures registers { HasOneRegister self.new.view }
+        ensures tags { HasTags self.new.view }
+        ensures counted { CountsAccepted self.new }
     {
         self.parts.deliver(pick)
+    }
+
+    /// Makes one delivery of the class, where one can be made.
+    pub fn deliver_next(&mut self, class: Class) -> DeliveredNext
+        ensures step { AfterDeliverNext self.old class result self.new }
+        ensures standing { IsStanding self.new.view }
+        ensures ordered { IsOrdered self.new.view.log }
+        ensures registers { HasOneRegister self.new.view }
+        ensures tags { HasTags self.new.view }
+        ensures counted { CountsAccepted self.new }
+    {
+        self.parts.deliver_next(class)
     }
 
     /// Hands out the core's performed entry of the least number that isn't handed out yet. Its tag is then free.
     pub fn hand(&mut self, core: CoreId) -> Option<Numbered>
         requires { core.0 < length self.old.view.sides }
-        ensures step { AfterHand self.old core.0 result self.new }
-        ensures legal { IsLegal (initial_of self.new.view) self.new.view.log }
+        ensures step { AfterHand self.old core result self.new }
         ensures standing { IsStanding self.new.view }
-        ensures coherent { IsCoherent self.new.view }
+        ensures ordered { IsOrdered self.new.view.log }
         ensures registers { HasOneRegister self.new.view }
+        ensures tags { HasTags self.new.view }
+        ensures counted { CountsAccepted self.new }
     {
         self.parts.hand(core)
     }
@@ -88,7 +119,7 @@ impl SliceState {
     /// What was performed, in order.
     pub fn log(&self) -> &[Entry]
         ensures log { result.now ≡ self.now.view.log }
-        ensures legal { IsLegal (initial_of self.now.view) result.now }
+        ensures ordered { IsOrdered result.now }
     {
         self.parts.log()
     }
@@ -100,22 +131,38 @@ impl SliceState {
         self.parts.init()
     }
 
-    /// Whether no message is in flight, no miss register is held and each reply is handed out.
+    /// What was counted.
+    pub fn stats(&self) -> &Stats
+        ensures stats { result.now ≡ self.now.stats }
+        ensures cores { length result.now.cores ≡ length self.now.view.sides }
+    {
+        self.parts.stats()
+    }
+
+    /// Whether no message is in flight, no miss register is held, no line leaves and each reply is handed out.
     pub fn is_quiet(&self) -> bool
         ensures { IsTrue result ↔ IsQuiet self.now.view }
     {
         self.parts.is_quiet()
     }
 
-    /// The value of a word of a quiet slice: what the log gives it.
+    /// The value of a word of a quiet slice: the owner's copy has it where its line has an owner, else the home copy.
     pub fn word_now(&self, word: WordAddr) -> u64
         requires quiet { IsQuiet self.now.view }
-        requires here { IsTrue (has_line self.now.view (word.0 / 8)) }
-        ensures { result ≡ value (initial_of self.now.view word.0) self.now.view.log word.0 }
+        requires here { IsSome (local_at self.now.view.lines (line_of word).0) }
+        ensures { ShowsWord self.now.view word (local_at self.now.view.lines (line_of word).0) result }
     {
-        self.parts.word_now(word)
+        match self.parts.lines().local_of(word.line()) {
+            Some(local) => self.parts.word_now(local, word.offset()),
+            None => unreachable!(),
+        }
+    }
+
+    /// What the slice has of a line: none for a line that isn't the slice's.
+    pub fn line_view(&self, line: LineAddr) -> Option<LineView>
+        ensures { ShowsLine self.now.view (local_at self.now.view.lines line.0) result }
+    {
+        let local = self.parts.lines().local_of(line)?;
+        Some(self.parts.line_view(local))
     }
 }
-
-#[cfg(test)]
-mod tests;

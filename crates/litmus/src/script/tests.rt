@@ -66,3 +66,35 @@ fn output_that_fails_is_a_fault(rt: HostRuntime) -> Result<(), Fail> {
     assert_eq!(rt; run_script(rt.alloc(), FIRST_ADD, &mut out), Ok(0));
     Ok(())
 }
+
+// Which core's request is taken first is free, so there are two right answers.
+#[test]
+fn pump_serves_both_cores(rt: HostRuntime) -> Result<(), Fail> {
+    let mut out = Vec::new(rt.alloc());
+    let script =
+        b"issue 0 0 add 0 5\nissue 1 0 add 0 6\npump 100\nhand 0 0\nhand 1 0\nword 0\nevict 0 0\n";
+    assert_eq!(rt; run_script(rt.alloc(), script, &mut out), Ok(0));
+    let core_0_first =
+        b"pending 0\npending 0\nempty\nreceipt 0 tag 0 reply 0\nreceipt 1 tag 0 reply 5\n11\nnot held\n";
+    let core_1_first =
+        b"pending 0\npending 0\nempty\nreceipt 1 tag 0 reply 6\nreceipt 0 tag 0 reply 0\n11\nevicting\n";
+    assert!(rt;
+        out.as_slice() == core_0_first.as_slice() || out.as_slice() == core_1_first.as_slice()
+    );
+    Ok(())
+}
+
+#[test]
+fn a_report_that_fails_is_a_fault(rt: HostRuntime) -> Result<(), Fail> {
+    let script = b"cores 1\nmisses inverted\nstats\nstate 0\n";
+    let mut whole = Vec::new(rt.alloc());
+    assert_eq!(rt; run_script(rt.alloc(), script, &mut whole), Ok(0));
+    for room in 0..whole.len() {
+        let mut out = Narrow { room };
+        assert_eq!(rt;
+            run_script(rt.alloc(), script, &mut out),
+            Err(TextFault::CannotWrite)
+        );
+    }
+    Ok(())
+}

@@ -3,7 +3,7 @@ use Rattle.litmus.specs.Machine.{AreSlicesOf}
 use Rattle.litmus.proofs.machine.Machine.build.Given as goal
 
 abbrev pub invariant-loop-slice : goal.invariant-loop-slice
-invariant-loop-slice l = record {
+invariant-loop-slice g l = record {
   count : length l.slices.items ≡ l.slice;
   each : AreSlicesOf l.fn.config l.slices.items;
 }

@@ -1,28 +1,33 @@
-use Rattle.std.proofs.Common.{arith, length, ap}
-use Rattle.slice_core_parts.specs.Parts.{PartsView}
-use Rattle.slice_core.specs.Facts.{initial_of}
+use Rattle.std.proofs.Common.{arith, ap, length}
+use Rattle.slice_core_plan.specs.Parts.{PartsView}
 use Rattle.slice_core.specs.Sound.{IsSound}
-use Rattle.slice_core.proofs.Calls.{sound-issue, init-of-issue, sound-init, standing-of-sound, coherent-of-sound, one_register-of-sound}
+use Rattle.slice_core.proofs.AccountsFacts as facts
+use Rattle.slice_core.proofs.SoundIssue.{sound-issue}
+use Rattle.slice_core.proofs.state.SliceState.issue.Given.{Over}
 use Rattle.slice_core.proofs.state.SliceState.issue.Goals as goal
 
-sound : (c : goal.After-issue) → IsSound (initial_of c.issue.new.self.view) c.issue.new.self
-sound c =
+-- the slice that the step leaves
+sound : (g : Over) (c : goal.After-issue g) → IsSound c.issue.new.self
+sound g c =
     let cores = ap (λ (p : PartsView). length p.view.sides) c.self.view_is in
-    sound-init c.self.inside.parts c.issue.new.self (init-of-issue c.self.inside.parts c.issue.new.self c.args.core c.args.request c.issue.result c.issue.ensures.step)
-    (sound-issue (initial_of c.self.inside.parts.view) c.self.inside.parts c.issue.new.self c.args.core c.args.request c.issue.result c.self.invariant (omega (arith, cores))
-    c.issue.ensures.bounded c.issue.ensures.step)
+    let known = c.requires in
+    sound-issue c.self.inside.parts c.args.core c.args.request c.issue.result c.issue.new.self c.self.invariant
+    (omega (arith, cores, known)) c.issue.ensures.bounded c.issue.ensures.step
 
 pub invariant_of-self : goal.invariant_of-self
-invariant_of-self c = sound c
-
-pub returns-clause-legal : goal.returns-clause-legal
-returns-clause-legal c = (sound c).legal
+invariant_of-self g c = sound g c
 
 pub returns-clause-standing : goal.returns-clause-standing
-returns-clause-standing c = standing-of-sound _ c.issue.new.self (sound c)
+returns-clause-standing g c = facts.standing c.issue.new.self (sound g c)
 
-pub returns-clause-coherent : goal.returns-clause-coherent
-returns-clause-coherent c = coherent-of-sound c.issue.new.self (sound c)
+pub returns-clause-ordered : goal.returns-clause-ordered
+returns-clause-ordered g c = facts.ordered c.issue.new.self (sound g c)
 
 pub returns-clause-registers : goal.returns-clause-registers
-returns-clause-registers c = one_register-of-sound _ c.issue.new.self (sound c)
+returns-clause-registers g c = facts.registers c.issue.new.self (sound g c)
+
+pub returns-clause-tags : goal.returns-clause-tags
+returns-clause-tags g c = facts.tags c.issue.new.self (sound g c)
+
+pub returns-clause-counted : goal.returns-clause-counted
+returns-clause-counted g c = facts.counted c.issue.new.self (sound g c)

@@ -1,0 +1,57 @@
+use address_map::{CoreId, CoreSet, LineAddr};
+use arrayvec::ArrayVec;
+use cache_table::CopyState;
+use slice_core::LineView;
+use std::fmt;
+use std::fmt::Write;
+
+/// Writes what a slice has of a line, as one line of text.
+pub fn write_line<W: Write>(line: LineAddr, view: &LineView, out: &mut W) -> fmt::Result {
+    let number = line.0;
+    let dir = view.dir;
+    write!(out, "line {number} dir {dir} owner ")?;
+    write_owner(view.owner, out)?;
+    write!(out, " sharers ")?;
+    write_sharers(CoreSet::from_bits(view.sharers), out)?;
+    write!(out, " home")?;
+    write_home(&view.home, out)?;
+    write!(out, " cores")?;
+    write_copies(&view.copies, out)?;
+    writeln!(out)
+}
+
+fn write_owner<W: Write>(owner: Option<CoreId>, out: &mut W) -> fmt::Result {
+    match owner {
+        Some(CoreId(owner)) => write!(out, "{owner}"),
+        None => write!(out, "-"),
+    }
+}
+
+// The cores of a set, ascending.
+fn write_sharers<W: Write>(sharers: CoreSet, out: &mut W) -> fmt::Result {
+    if sharers.is_empty() {
+        return write!(out, "-");
+    }
+    let mut between = "";
+    for core in 0..64u8 {
+        if sharers.has(CoreId(core)) {
+            write!(out, "{between}{core}")?;
+            between = ",";
+        }
+    }
+    Ok(())
+}
+
+fn write_home<W: Write>(home: &[u64; 8], out: &mut W) -> fmt::Result {
+    for word in home {
+        write!(out, " {word}")?;
+    }
+    Ok(())
+}
+
+fn write_copies<W: Write>(copies: &ArrayVec<CopyState, 64>, out: &mut W) -> fmt::Result {
+    for state in copies {
+        write!(out, " {state}")?;
+    }
+    Ok(())
+}

@@ -1,0 +1,89 @@
+ghost use Rattle.std.specs.Prelude.{◌≡◌, ◌≢◌, map, IfSome, IfNone};
+ghost use Rattle.litmus_text.specs.declared.field.Field.{Field};
+ghost use Rattle.litmus_text.specs.Field.{name_of, all_fields};
+
+use address_map::Config;
+
+/// A number of a machine's shape.
+#[derive(Clone, Copy, Debug, PartialEq, Eq)]
+pub enum Count {
+    Cores,
+    Slices,
+    Lines,
+    Sets,
+    Ways,
+    Mshrs,
+    Targets,
+    Writebacks,
+}
+
+impl Count {
+    ghost use Rattle.litmus_text.specs.Field.{with_count};
+
+    /// Sets this number of a configuration.
+    pub(super) fn set(self, config: &mut Config, number: u64)
+        ensures { config.new ≡ with_count config.old self number }
+    {
+        match self {
+            Count::Cores => config.cores = number,
+            Count::Slices => config.slices = number,
+            Count::Lines => config.lines = number,
+            Count::Sets => config.sets = number,
+            Count::Ways => config.ways = number,
+            Count::Mshrs => config.mshrs = number,
+            Count::Targets => config.targets = number,
+            Count::Writebacks => config.writebacks = number,
+        }
+    }
+}
+
+/// What a line that configures the machine is about.
+#[derive(Clone, Copy, Debug, PartialEq, Eq)]
+pub(super) enum Field {
+    Count(Count),
+    Policy,
+    Misses,
+    Exclusive,
+    Init,
+    Counter,
+}
+
+/// The word with which a line on each field begins.
+static FIELDS: [(&[u8], Field); 13] = [
+    (b"cores", Field::Count(Count::Cores)),
+    (b"slices", Field::Count(Count::Slices)),
+    (b"lines", Field::Count(Count::Lines)),
+    (b"sets", Field::Count(Count::Sets)),
+    (b"ways", Field::Count(Count::Ways)),
+    (b"mshrs", Field::Count(Count::Mshrs)),
+    (b"targets", Field::Count(Count::Targets)),
+    (b"writebacks", Field::Count(Count::Writebacks)),
+    (b"policy", Field::Policy),
+    (b"misses", Field::Misses),
+    (b"exclusive", Field::Exclusive),
+    (b"init", Field::Init),
+    (b"counter", Field::Counter),
+];
+
+// The words and fields of the table.
+fn known_fields() -> &'static [(&'static [u8], Field)]
+    ensures names { map (λ known. known.0.now) result.now ≡ map name_of all_fields }
+    ensures fields { map (λ known. known.1) result.now ≡ all_fields }
+{
+    &FIELDS
+}
+
+impl Field {
+    /// The field with this name.
+    pub(super) fn named(name: &[u8]) -> Option<Field>
+        ensures found { IfSome result (λ field. name.now ≡ name_of field) }
+        ensures none { IfNone result ((field : Field) → name.now ≢ name_of field) }
+    {
+        for (known, field) in known_fields() {
+            if name == *known {
+                return Some(*field);
+            }
+        }
+        None
+    }
+}

@@ -1,0 +1,34 @@
+ghost use Rattle.std.specs.Prelude.{◌≡◌};
+
+use address_map::Config;
+use std::alloc::Global;
+
+/// How a cache keeps track of its misses.
+#[derive(Clone, Copy, Debug, PartialEq, Eq)]
+pub enum MissKind {
+    /// A number of registers with a number of target fields each.
+    Explicit,
+    /// An entry for each tag.
+    Inverted,
+}
+
+/// What a text configures: a machine's shape, before it is checked, and the miss registers of its caches.
+#[derive(Debug, Drop)]
+pub struct Settings {
+    pub config: Config,
+    pub misses: MissKind,
+}
+
+impl Settings {
+    ghost use Rattle.litmus_text.specs.Settings.{default_settings};
+
+    /// What holds where a text says nothing else: the machine of `Config::new`, with explicit miss registers.
+    pub fn new(alloc: Global) -> Self
+        ensures { result ≡ default_settings }
+    {
+        Settings {
+            config: Config::new(alloc),
+            misses: MissKind::Explicit,
+        }
+    }
+}

@@ -1,0 +1,206 @@
+-- Counts and accounts after a delivery.
+use Rattle.std.proofs.Common.{◌≡◌, ℕ, ◌+◌, ◌-◌, ◌*◌, ◌<◌, Bool, true, false, if◌then◌else◌, ◌++◌, length, Option, Some, None, IsSome, refl, sym, ap, subst, ◌∙◌, arith}
+use Rattle.std.specs.Prelude.{is_some, unwrap_or}
+use Rattle.address_map.specs.Locator.{line_at, local_at}
+use Rattle.address_map.specs.declared.address.CoreId.{CoreId}
+use Rattle.address_map.specs.declared.address.Local.{Local}
+use Rattle.cache_array.proofs.Held.{written_held}
+use Rattle.cache_array.specs.Array.{IsArray, held_at as array_at}
+use Rattle.cache_table.specs.declared.row.CacheSends.{CacheSends}
+use Rattle.cache_table.specs.declared.state.CopyState.{CopyState}
+use Rattle.mshr_file.specs.Miss.{targets_of}
+use Rattle.slice_core_answer.specs.Stats.{after_message}
+use Rattle.slice_core_answer.specs.declared.answer.Delivered.{Delivered}
+use Rattle.slice_core_answer.specs.declared.answer.DeliveredNext.{DeliveredNext}
+use Rattle.slice_core_answer.specs.declared.answer.DeliveredNext.TheVariants as delivered_next
+use Rattle.slice_core_answer.specs.declared.answer.Delivered.TheVariants as delivered
+use Rattle.slice_core_plan.specs.Parts.{PartsView, core_of, filled_by, AfterDeliverNext, AfterDelivery, AfterPlan, Settles}
+use Rattle.slice_core_plan.specs.Plan.{plan_of}
+use Rattle.slice_core_plan.specs.Sends.{cache_sent, directory_sent}
+use Rattle.slice_core_plan.specs.Steps.{asked_by, after_directory, after_forwarded, after_home, after_settling}
+use Rattle.slice_core_plan.specs.View.{View, channels_at, entry_at, first_word, side_at, with_entry, with_side, IsShaped}
+use Rattle.slice_core_plan.specs.declared.decide.Plan.{Plan}
+use Rattle.slice_core_plan.specs.declared.decide.Plan.TheVariants as plans
+use Rattle.slice_core_side.specs.Copy.{is_gone, no_copy}
+use Rattle.slice_core_side.specs.Perform.{asks_to_write, entries_of, performed_in, tags_after}
+use Rattle.slice_core_side.specs.Side.{SideView, array_copy, copy_of}
+use Rattle.slice_core_side.specs.Steps as sides
+use Rattle.slice_core_side.specs.Steps.{acknowledged}
+use Rattle.slice_core_side.specs.declared.copy.CacheCopy.{CacheCopy}
+use Rattle.slice_core.proofs.AccountsKept.{HasSame, Keeps, counts-before, keeps-from_sound, keeps-posted, keeps-settled, keeps-side}
+use Rattle.slice_core.proofs.AccountsPlanned.{held-at_place, is_for_copy, place_in, planned-core, planned-place}
+use Rattle.slice_core.proofs.CountedLines.{cores-asked, cores-cache, cores-directory, cores-taken}
+use Rattle.slice_core.proofs.CountedStats.{counts-same, same-message}
+use Rattle.slice_core.proofs.CountedSteps.{after_step, shaped-channels, shaped-entry}
+use Rattle.slice_core.specs.Sound.{IsSound}
+use Rattle.slice_queues.specs.Line.{after_take, core_at}
+use Rattle.slice_queues_message.specs.Pick.{channel_of, line_of}
+use Rattle.slice_queues_message.specs.declared.channel.Channel.{Channel}
+use Rattle.slice_queues_message.specs.declared.channel.Channel.TheVariants as channels
+use Rattle.slice_queues_message.specs.declared.channel.Class.{Class}
+use Rattle.slice_queues_message.specs.declared.channel.Pick.{Pick}
+
+-- ---- a copy that goes on
+
+same-if : (b : Bool) (old one other : SideView) → HasSame old one → HasSame old other
+    → HasSame old (if b then one else other)
+same-if true old one other first second = first
+same-if false old one other first second = second
+
+-- Its requests are as they were, wherever it stands.
+same-advance : (side : SideView) (local : Local) (next : CopyState) → HasSame side (sides.after_advance side local next)
+same-advance side local next =
+    same-if (is_some (array_at side.array local)) side (sides.advanced_in_array side local next)
+    (sides.advanced_in_buffer side local next)
+    (same-if (is_gone next) side _ _ (record { misses = refl; tags = refl; accepted = refl })
+    (record { misses = refl; tags = refl; accepted = refl }))
+    (same-if (is_gone next) side _ _ (record { misses = refl; tags = refl; accepted = refl })
+    (record { misses = refl; tags = refl; accepted = refl }))
+
+-- The array holds the copy that was put there.
+put-there : (side : SideView) (local : Local) (copy : CacheCopy) → IsArray side.array
+    → IsSome (array_at side.array local) → array_copy (sides.after_change side local copy) local ≡ copy
+put-there side local copy sound held =
+    ap (λ (found : Option CacheCopy). unwrap_or found no_copy) (written_held side.array local sound copy held)
+
+module _ (old : PartsView) (local : Local) (channel : Channel) (new : PartsView) (keeps : Keeps old) where
+  -- ---- the directory's rows
+
+  moved : (view : View) → view.lines ≡ old.view.lines → view.sides ≡ old.view.sides → view.log ≡ old.view.log
+      → IsShaped view → new ≡ record old { view = view; stats = after_message old.stats channel } → Keeps new
+  moved view lines sides log shaped is =
+      subst Keeps (sym is)
+      (keeps-posted old view (after_message old.stats channel) lines sides log (same-message old channel) shaped keeps)
+
+  -- ---- a core's copy
+
+  forwarded : (core requester : CoreId) (next : CopyState) (sent : CacheSends) → core.0 < length old.view.sides
+      → new ≡ record old {
+        view = after_forwarded old.view local core next sent requester;
+        stats = after_message old.stats channel;
+      }
+      → Keeps new
+  forwarded core requester next sent known is =
+      let side = sides.after_advance (side_at old.view core) local next in
+      let before = counts-before old core keeps.counted known in
+      let block = (copy_of (side_at old.view core) local).block in
+      let line = after_take (channels_at old.view local) (channels.Fwd core) in
+      let went = keeps-side old core side old.stats known (same-advance (side_at old.view core) local next)
+      (counts-same old core before.0 (side_at old.view core).accepted before.1) keeps in
+      subst Keeps (sym is)
+      (keeps-posted (record old { view = with_side old.view core side })
+      (after_forwarded old.view local core next sent requester) (after_message old.stats channel) refl refl refl
+      (same-message (record old { view = with_side old.view core side }) channel)
+      (shaped-channels (with_side old.view core side) local (cache_sent line core requester block sent)
+      (cores-cache line core requester block sent ∙ cores-taken (channels_at old.view local) (channels.Fwd core))
+      went.counted.shaped) went)
+
+  settled : (core : CoreId) (copy : CacheCopy) → core.0 < length old.view.sides
+      → IsArray (side_at old.view core).array → IsSome (array_at (side_at old.view core).array local)
+      → Settles old local core channel copy new → Keeps new
+  settled core copy known sound held after =
+      let side = side_at old.view core in
+      let targets = targets_of side.misses local.0 in
+      let taken = performed_in copy.state targets in
+      let misses = after.0 in
+      let now = sides.after_settle (sides.after_change side local copy) local (length old.view.log) misses in
+      let step =
+      after_step old core now (old.view.log ++ entries_of core (first_word old.view local) copy.block taken)
+      old.stats (old.pending - length taken) old.room in
+      let line = after_take (channels_at old.view local) channel in
+      let went : Keeps step =
+      keeps-settled old core now local copy.block (first_word old.view local) taken known after.1 after.2
+      (first (line_at old.view.lines local).0)
+      (ap (λ (c : CacheCopy). tags_after side.tags (length old.view.log) (performed_in c.state targets))
+      (put-there side local copy sound held)) refl keeps in
+      subst Keeps (sym after.3)
+      (keeps-posted step (after_settling old.view local core channel copy misses) (after_message old.stats channel) refl
+      refl refl (same-message step channel)
+      (shaped-channels step.view local (asked_by (asks_to_write copy.state targets) line core)
+      (cores-asked (asks_to_write copy.state targets) line core ∙ cores-taken (channels_at old.view local) channel)
+      went.counted.shaped) went)
+    where
+      first : (line : ℕ) → 8 * line + 0 ≡ 8 * line
+      first line = omega arith
+
+-- ---- the plans
+
+-- What was planned is carried out.
+pub keeps-plan : (plan : Plan) (old : PartsView) (local : Local) (channel : Channel) (answer : Delivered)
+    (new : PartsView)
+    → IsSound old → plan_of old.view local channel ≡ plan → AfterPlan plan old local channel answer new → Keeps new
+keeps-plan plan old local channel answer new sound = by plan
+  where
+    keeps : Keeps old
+    keeps = keeps-from_sound old sound
+
+    known : (other : Plan) → plan_of old.view local channel ≡ other → is_for_copy other ≡ true
+        → (core_of channel).0 < length old.view.sides
+    known other is copies =
+        planned-core old.view local sound.counted.shaped channel (ap is_for_copy is ∙ copies)
+
+    held : (other : Plan) (place : ℕ) → plan_of old.view local channel ≡ other → place_in other ≡ Some place
+        → IsSome (array_at (side_at old.view (core_of channel)).array local)
+    held other place is found =
+        held-at_place (side_at old.view (core_of channel)) local place
+        (planned-place old.view local channel place (ap place_in is ∙ found))
+
+    by : (other : Plan) → plan_of old.view local channel ≡ other → AfterPlan other old local channel answer new
+        → Keeps new
+    by plans.Nothing is after = subst Keeps (sym after.1) keeps
+    by plans.Blocked is after = subst Keeps (sym after.1) keeps
+    by (plans.Broken cell) is after = subst Keeps (sym after.1) keeps
+    by (plans.Directory state owner sharers sent writes) is after =
+        let core = core_of channel in
+        let entry = entry_at old.view local in
+        let line = after_take (channels_at old.view local) (channels.Req core) in
+        moved old local channel new keeps (after_directory old.view local core state owner sharers sent writes) refl
+        refl refl
+        (shaped-channels (with_entry old.view local _) local (directory_sent line core entry.home sent)
+        (cores-directory line core entry.home sent ∙ cores-taken (channels_at old.view local) (channels.Req core))
+        (shaped-entry old.view local _ sound.counted.shaped)) after.1
+    by (plans.Home state owner sharers) is after =
+        moved old local channel new keeps (after_home old.view local state owner sharers) refl refl refl
+        (shaped-channels (with_entry old.view local _) local (after_take (channels_at old.view local) channels.Home)
+        (cores-taken (channels_at old.view local) channels.Home)
+        (shaped-entry old.view local _ sound.counted.shaped)) after.1
+    by (plans.Forwarded next sent requester) is after =
+        forwarded old local channel new keeps (core_of channel) requester next sent
+        (known (plans.Forwarded next sent requester) is refl) after.1
+    by (plans.Fill place next) is after =
+        let core = core_of channel in
+        let there = known (plans.Fill place next) is refl in
+        settled old local channel new keeps core
+        (filled_by (array_copy (side_at old.view core) local) (core_at (channels_at old.view local) core.0).data next)
+        there (sound.links.kept core there).array (held (plans.Fill place next) place is refl) after.1
+    by (plans.Acknowledge place next) is after =
+        let core = core_of channel in
+        let there = known (plans.Acknowledge place next) is refl in
+        settled old local channel new keeps core (acknowledged (array_copy (side_at old.view core) local) next) there
+        (sound.links.kept core there).array (held (plans.Acknowledge place next) place is refl) after.1
+
+-- ---- the calls
+
+module _ (old : PartsView) (sound : IsSound old) (new : PartsView) where
+  keeps-same : new ≡ old → Keeps new
+  keeps-same same = subst Keeps (sym same) (keeps-from_sound old sound)
+
+  -- what a delivery answers and leaves, by the line's place
+  abbrev by_line : Pick → Delivered → Option Local → Type 0
+  by_line pick answer None = (answer ≡ delivered.Nothing) × (new ≡ old)
+  by_line pick answer (Some local) =
+      AfterPlan (plan_of old.view local (channel_of pick)) old local (channel_of pick) answer new
+
+  placed : (pick : Pick) (answer : Delivered) (place : Option Local) → by_line pick answer place → Keeps new
+  placed pick answer None after = keeps-same after.1
+  placed pick answer (Some local) after =
+      keeps-plan (plan_of old.view local (channel_of pick)) old local (channel_of pick) answer new sound refl after
+
+  pub keeps-delivery : (pick : Pick) (answer : Delivered) → AfterDelivery old pick answer new → Keeps new
+  keeps-delivery pick answer after = placed pick answer (local_at old.view.lines (line_of pick).0) after
+
+  pub keeps-deliver_next : (class : Class) (answer : DeliveredNext) → AfterDeliverNext old class answer new → Keeps new
+  keeps-deliver_next class (delivered_next.Moved pick) after = keeps-delivery pick delivered.Moved after.1
+  keeps-deliver_next class delivered_next.Nothing after = keeps-same after.0
+  keeps-deliver_next class delivered_next.Blocked after = keeps-same after.0
+  keeps-deliver_next class (delivered_next.Broken cell) after = keeps-same after.0

@@ -1,0 +1,67 @@
+-- What callers of a slice may rely on, from its invariant.
+use Rattle.std.proofs.Common.{◌≡◌, ℕ, ◌≤◌, Bool, length, sym, ap, ◌∙◌, ⊎_elim, refl, arith}
+use Rattle.std.specs.Prelude.{if◌then◌else◌, nat_lt}
+use Rattle.std.proofs.lemmas.Bool.{cases_lt, le-ltb}
+use Rattle.std.proofs.lemmas.List.{get_or_past}
+use Rattle.address_map.specs.declared.address.CoreId.{CoreId}
+use Rattle.slice_core_log.specs.Log.{IsOrdered}
+use Rattle.slice_core_plan.specs.Parts.{PartsView}
+use Rattle.slice_core_plan.specs.View.{View, no_side, side_at}
+use Rattle.slice_core_side.specs.Side.{SideView}
+use Rattle.slice_core_standing.proofs.Grown.{no_entry-standings}
+use Rattle.slice_core_standing.specs.Standing.{standings}
+use Rattle.slice_core.specs.Facts.{CountsAccepted, HasOneRegister, HasTags, IsStanding}
+use Rattle.slice_core.specs.Sound.{HasAccounts, HasLinks, IsSound}
+
+-- A core that isn't there has nothing.
+pub side-missing : (v : View) (core : CoreId) → length v.sides ≤ core.0 → side_at v core ≡ no_side
+side-missing v core past = get_or_past v.sides core.0 no_side past
+
+abbrev one_if : Bool → ℕ
+one_if b = if b then 1 else 0
+
+-- No request of a core that isn't there stands anywhere.
+pub standing-from_accounts : (v : View) → HasAccounts v → IsStanding v
+standing-from_accounts v has = record {
+  once = λ core seq.
+      ⊎_elim (λ known. (has.accounts core known).standing.once seq) (λ past. missing core seq past)
+      (cases_lt core.0 (length v.sides));
+}
+  where
+    none : (seq : ℕ) → one_if (nat_lt seq 0) ≡ 0
+    none seq = let not_below = le-ltb seq 0 (omega arith) in rw not_below refl
+
+    missing : (core : CoreId) (seq : ℕ) → length v.sides ≤ core.0
+        → standings (side_at v core).misses v.log core.0 seq ≡ one_if (nat_lt seq (side_at v core).accepted)
+    missing core seq past =
+        ap (λ (s : SideView). standings s.misses v.log core.0 seq) (side-missing v core past)
+        ∙ no_entry-standings core.0 seq v.log (has.absent core.0 past) ∙ sym (none seq)
+        ∙ ap (λ (s : SideView). one_if (nat_lt seq s.accepted)) (sym (side-missing v core past))
+
+pub tags-from_accounts : (v : View) → HasAccounts v → HasTags v
+tags-from_accounts v has = record {
+  opened = λ core tag known. (has.accounts core known).tags.opened tag;
+  replies = λ core tag number known named. (has.accounts core known).tags.replies tag number named;
+}
+
+pub registers-from : (v : View) → HasAccounts v → HasLinks v → HasOneRegister v
+registers-from v has links = record {
+  single = λ core known. (has.accounts core known).waits.file;
+  waits = links.waits;
+}
+
+module _ (p : PartsView) (sound : IsSound p) where
+  pub standing : IsStanding p.view
+  standing = standing-from_accounts p.view sound.accounts
+
+  pub tags : HasTags p.view
+  tags = tags-from_accounts p.view sound.accounts
+
+  pub registers : HasOneRegister p.view
+  registers = registers-from p.view sound.accounts sound.links
+
+  pub ordered : IsOrdered p.view.log
+  ordered = sound.accounts.ordered
+
+  pub counted : CountsAccepted p
+  counted = sound.counted.accepted

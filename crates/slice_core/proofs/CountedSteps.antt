@@ -1,0 +1,142 @@
+-- The sizes and counts of a slice after a step of one core, and after a step of the channels.
+use Rattle.std.proofs.Common.{◌≡◌, ◌≢◌, ℕ, ◌+◌, ◌^◌, ◌<◌, ◌≤◌, List, length, get_or, sym, ap, ◌∙◌, ⊎_elim, arith}
+use Rattle.std.specs.Prelude.{slice_set}
+use Rattle.std.proofs.lemmas.Bool.{cases_eq}
+use Rattle.std.proofs.lemmas.List.{get_or-set_other, get_or-set_same, length-set}
+use Rattle.std.proofs.lemmas.List.Sums.{sum_by-set}
+use Rattle.address_map.specs.declared.address.CoreId.{CoreId}
+use Rattle.address_map.specs.declared.address.Local.{Local}
+use Rattle.directory_table.specs.declared.state.DirEntry.{DirEntry}
+use Rattle.slice_core_answer.specs.Stats.{StatsView, accepted_of, counts_of}
+use Rattle.slice_core_log.specs.declared.entry.Entry.{Entry}
+use Rattle.slice_core_plan.specs.Parts.{PartsView}
+use Rattle.slice_core_plan.specs.View.{View, channels_at, no_side, side_at, with_channels, with_entry, with_side, IsShaped}
+use Rattle.slice_core_side.specs.Side.{SideView}
+use Rattle.slice_core_standing.specs.Standing.{waiting}
+use Rattle.slice_core.specs.Sound.{IsCounted}
+use Rattle.slice_queues.specs.Line.{LineChannels, empty_line}
+
+-- ---- one core's side
+
+module _ (v : View) (core : CoreId) (side : SideView) (known : core.0 < length v.sides) where
+  -- A core's new side is what is found there.
+  pub side-here : (other : CoreId) → other.0 ≡ core.0 → side_at (with_side v core side) other ≡ side
+  side-here other same =
+      ap (λ n. get_or (slice_set v.sides core.0 side) n no_side) same
+      ∙ get_or-set_same v.sides core.0 side no_side known
+
+  -- Another core has what it had.
+  pub side-there : (other : CoreId) → other.0 ≢ core.0 → side_at (with_side v core side) other ≡ side_at v other
+  side-there other apart = get_or-set_other v.sides core.0 other.0 side no_side apart
+
+-- ---- a step of one core
+
+-- the slice after a step of one core: its side, what was performed, and what is counted of it
+abbrev pub after_step : PartsView → CoreId → SideView → List Entry → StatsView → ℕ → ℕ → PartsView
+after_step p core side log stats pending room = record {
+  view = record (with_side p.view core side) { log = log };
+  stats = stats;
+  pending = pending;
+  room = room;
+}
+
+-- What was counted of a core is as many as it had accepted; of the others nothing new was counted.
+pub record Counts (p : PartsView) (core : CoreId) (accepted : ℕ) (stats : StatsView) : Type 0 where
+  pub sized : length stats.cores ≡ length p.stats.cores
+  pub here : accepted_of (counts_of stats core) ≡ accepted
+  pub others : (other : CoreId) → other.0 ≢ core.0
+      → accepted_of (counts_of stats other) ≡ accepted_of (counts_of p.stats other)
+
+-- A core's step leaves the counts right where as many wait as wait in its registers, and the log has room for them.
+pub counted-step : (p : PartsView) (core : CoreId) (side : SideView) (log : List Entry) (stats : StatsView)
+    (pending room : ℕ)
+    → IsCounted p → core.0 < length p.view.sides
+    → pending + waiting (side_at p.view core).misses ≡ p.pending + waiting side.misses
+    → length log + pending ≤ room → room < 2 ^ 63 → Counts p core side.accepted stats
+    → IsCounted (after_step p core side log stats pending room)
+counted-step p core side log stats pending room c known waits fits bounded counts = record {
+  shaped = record {
+    entries = c.shaped.entries;
+    lines = c.shaped.lines;
+    cores = λ local inside. c.shaped.cores local inside ∙ sym long;
+  };
+  machine = c.machine;
+  cores = let few = c.cores in omega (arith, few, long);
+  stats = counts.sized ∙ c.stats ∙ sym long;
+  pending =
+      let before = c.pending in
+      let sums = sum_by-set (λ (s : SideView). waiting s.misses) p.view.sides core.0 side no_side known in
+      omega (arith, before, sums, waits);
+  room = fits;
+  bounded = bounded;
+  accepted = λ other inside. ⊎_elim (here other) (there other (omega (arith, inside, long))) (cases_eq other.0 core.0);
+}
+  where
+    long : length (slice_set p.view.sides core.0 side) ≡ length p.view.sides
+    long = length-set p.view.sides core.0 side
+
+    here : (other : CoreId) → other.0 ≡ core.0
+        → accepted_of (counts_of stats other) ≡ (side_at (with_side p.view core side) other).accepted
+    here other same =
+        ap (λ n. accepted_of (counts_of stats (record { 0 = n }))) same ∙ counts.here
+        ∙ sym (ap (λ (s : SideView). s.accepted) (side-here p.view core side known other same))
+
+    there : (other : CoreId) → other.0 < length p.view.sides → other.0 ≢ core.0
+        → accepted_of (counts_of stats other) ≡ (side_at (with_side p.view core side) other).accepted
+    there other inside apart =
+        counts.others other apart ∙ c.accepted other inside
+        ∙ sym (ap (λ (s : SideView). s.accepted) (side-there p.view core side known other apart))
+
+-- ---- channels and entries of a line
+
+-- A line's channels still are as many as there are cores.
+pub shaped-channels : (v : View) (local : Local) (line : LineChannels)
+    → length line.cores ≡ length (channels_at v local).cores
+    → IsShaped v → IsShaped (with_channels v local line)
+shaped-channels v local line sized shaped = record {
+  entries = shaped.entries;
+  lines = length-set v.channels local.0 line ∙ shaped.lines;
+  cores = λ other inside. ⊎_elim (here other inside) (there other inside) (cases_eq other.0 local.0);
+}
+  where
+    here : (other : Local) → other.0 < v.lines.lines → other.0 ≡ local.0
+        → length (channels_at (with_channels v local line) other).cores ≡ length v.sides
+    here other inside same =
+        let all = shaped.lines in
+        ap (λ n. length (get_or (slice_set v.channels local.0 line) n (empty_line 0)).cores) same
+        ∙ ap (λ (l : LineChannels). length l.cores)
+        (get_or-set_same v.channels local.0 line (empty_line 0) (omega (arith, inside, same, all)))
+        ∙ sized ∙ shaped.cores local (omega (arith, inside, same))
+
+    there : (other : Local) → other.0 < v.lines.lines → other.0 ≢ local.0
+        → length (channels_at (with_channels v local line) other).cores ≡ length v.sides
+    there other inside apart =
+        ap (λ (l : LineChannels). length l.cores)
+        (get_or-set_other v.channels local.0 other.0 line (empty_line 0) apart) ∙ shaped.cores other inside
+
+pub shaped-entry : (v : View) (local : Local) (entry : DirEntry) → IsShaped v → IsShaped (with_entry v local entry)
+shaped-entry v local entry shaped = record {
+  entries = length-set v.entries local.0 entry ∙ shaped.entries;
+  lines = shaped.lines;
+  cores = shaped.cores;
+}
+
+-- No accepted request was counted.
+pub record CountsSame (p : PartsView) (stats : StatsView) : Type 0 where
+  pub sized : length stats.cores ≡ length p.stats.cores
+  pub each : (core : CoreId) → accepted_of (counts_of stats core) ≡ accepted_of (counts_of p.stats core)
+
+-- A view with the same sides, log and lines has the same counts then.
+pub counted-posted : (p : PartsView) (view : View) (stats : StatsView)
+    → view.lines ≡ p.view.lines → view.sides ≡ p.view.sides → view.log ≡ p.view.log
+    → CountsSame p stats → IsShaped view → IsCounted p → IsCounted (record p { view = view; stats = stats })
+counted-posted p view stats lines sides log same shaped c = record {
+  shaped = shaped;
+  machine = rw lines c.machine;
+  cores = rw sides c.cores;
+  stats = rw sides (same.sized ∙ c.stats);
+  pending = rw sides c.pending;
+  room = rw log c.room;
+  bounded = c.bounded;
+  accepted = λ core inside. rw sides (same.each core ∙ c.accepted core (rw sides at inside));
+}

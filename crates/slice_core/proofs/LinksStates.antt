@@ -1,0 +1,566 @@
+-- What the rows of the cache's table do to a copy's state, as far as registers and requests go: tests over all states
+-- that
+-- hold by computing.
+use Rattle.std.proofs.Common.{◌≡◌, ℕ, ◌+◌, ◌==◌, nat_lt, Bool, true, false, not, if◌then◌else◌, ◌&&◌, ◌||◌, Option, Some, None, List, [], ◌∷◌, refl, sym, subst, is_some}
+use Rattle.std.proofs.lemmas.Bool.{and_parts}
+use Rattle.address_map.specs.declared.block.Block.{Block}
+use Rattle.address_map.specs.declared.request.Op.{Op}
+use Rattle.address_map.specs.declared.request.Op.TheVariants as ops
+use Rattle.cache_table.specs.CopyState.{is_leaving, is_waiting}
+use Rattle.cache_table.specs.Row.{row_of, counted}
+use Rattle.cache_table.specs.declared.row.CacheEvent.TheVariants as events
+use Rattle.cache_table.specs.declared.row.CacheSends.{CacheSends}
+use Rattle.cache_table.specs.declared.row.CacheSends.TheVariants as sends
+use Rattle.cache_table.specs.declared.row.Row.{Row}
+use Rattle.cache_table.specs.declared.row.Row.TheVariants as rows
+use Rattle.cache_table.specs.declared.state.CopyState.{CopyState}
+use Rattle.cache_table.specs.declared.state.CopyState.TheVariants as states
+use Rattle.mshr_file.specs.Miss.{is_waited}
+use Rattle.slice_core_plan.specs.Plan.{event_of_forwarded, is_put_ack}
+use Rattle.slice_core_plan.specs.Steps.{request_of}
+use Rattle.slice_core_side.specs.Access.{event_of, is_idle}
+use Rattle.slice_core_side.specs.Copy.{is_gone, may_leave}
+use Rattle.slice_core_side.specs.Kept.{stands_in_array}
+use Rattle.slice_core_side.specs.Perform.{asks_to_write, left_in, settled_state}
+use Rattle.slice_core_side.specs.Steps.{next_by, put_by}
+use Rattle.slice_core_side.specs.declared.access.Ask.{Ask}
+use Rattle.slice_core_side.specs.declared.access.Ask.TheVariants as asks
+use Rattle.slice_core.specs.Sound.{has_sent}
+use Rattle.slice_queues_message.specs.declared.message.ForwardedMessage.{ForwardedMessage}
+use Rattle.slice_queues_message.specs.declared.message.ForwardedMessage.TheVariants as forwards
+use Rattle.slice_queues_message.specs.declared.message.RequestMessage.{RequestMessage}
+use Rattle.slice_queues_message.specs.declared.message.RequestMessage.TheVariants as requests
+use Rattle.target_list.specs.Target.{behind_loads}
+use Rattle.target_list.specs.declared.target.Target.{Target}
+
+-- ---- tests over all states
+
+unfoldable each_state : (CopyState → Bool) → Bool
+each_state p =
+    p states.I && p states.IS_D && p states.IM_AD && p states.IM_A && p states.S && p states.SM_AD && p states.SM_A
+    && p states.M && p states.E && p states.MI_A && p states.SI_A && p states.II_A
+
+left : (a b : Bool) → (a && b) ≡ true → a ≡ true
+left a b e = (and_parts a b e).0
+
+right : (a b : Bool) → (a && b) ≡ true → b ≡ true
+right a b e = (and_parts a b e).1
+
+each_state-at : (p : CopyState → Bool) → each_state p ≡ true → (s : CopyState) → p s ≡ true
+unfolding each_state
+each_state-at p e states.I =
+    left _ _ (left _ _ (left _ _
+    (left _ _ (left _ _ (left _ _ (left _ _ (left _ _ (left _ _ (left _ _ (left _ _ e))))))))))
+each_state-at p e states.IS_D =
+    right _ _ (left _ _ (left _ _
+    (left _ _ (left _ _ (left _ _ (left _ _ (left _ _ (left _ _ (left _ _ (left _ _ e))))))))))
+each_state-at p e states.IM_AD =
+    right _ _ (left _ _ (left _ _ (left _ _ (left _ _ (left _ _ (left _ _ (left _ _ (left _ _ (left _ _ e)))))))))
+each_state-at p e states.IM_A =
+    right _ _ (left _ _ (left _ _ (left _ _ (left _ _ (left _ _ (left _ _ (left _ _ (left _ _ e))))))))
+each_state-at p e states.S = right _ _ (left _ _ (left _ _ (left _ _ (left _ _ (left _ _ (left _ _ (left _ _ e)))))))
+each_state-at p e states.SM_AD = right _ _ (left _ _ (left _ _ (left _ _ (left _ _ (left _ _ (left _ _ e))))))
+each_state-at p e states.SM_A = right _ _ (left _ _ (left _ _ (left _ _ (left _ _ (left _ _ e)))))
+each_state-at p e states.M = right _ _ (left _ _ (left _ _ (left _ _ (left _ _ e))))
+each_state-at p e states.E = right _ _ (left _ _ (left _ _ (left _ _ e)))
+each_state-at p e states.MI_A = right _ _ (left _ _ (left _ _ e))
+each_state-at p e states.SI_A = right _ _ (left _ _ e)
+each_state-at p e states.II_A = right _ _ e
+
+-- the second where the first holds
+unfoldable pub implies : Bool → Bool → Bool
+implies true b = b
+implies false b = true
+
+pub implies-at : (a b : Bool) → implies a b ≡ true → a ≡ true → b ≡ true
+unfolding implies
+implies-at true b e h = e
+implies-at false b e h = cc
+
+-- where one holds the other does
+unfoldable pub agree : Bool → Bool → Bool
+agree true b = b
+agree false b = not b
+
+pub agree-at : (a b : Bool) → agree a b ≡ true → a ≡ b
+unfolding agree
+agree-at true true e = refl
+agree-at true false e = cc
+agree-at false true e = cc
+agree-at false false e = refl
+
+-- a row that goes on does so to a state that passes, and sends what passes
+unfoldable goes_to : (CopyState → CacheSends → Bool) → Row → Bool
+goes_to p (rows.Go next sent) = p next sent
+goes_to p rows.Blocked = true
+goes_to p rows.NoEntry = true
+
+goes_to-at : (p : CopyState → CacheSends → Bool) (row : Row) (next : CopyState) (sent : CacheSends) →
+    goes_to p row ≡ true →
+    row ≡ rows.Go next sent → p next sent ≡ true
+unfolding goes_to
+goes_to-at p row next sent passes is = subst (λ r. goes_to p r ≡ true) is passes
+
+goes_to-counted : (p : CopyState → CacheSends → Bool) (come n : ℕ) (waits : CopyState) →
+    p states.M sends.Nothing ≡ true →
+    p waits sends.Nothing ≡ true → goes_to p (counted come n waits) ≡ true
+unfolding goes_to
+goes_to-counted p come n waits last more = by (come == n) (nat_lt come n)
+  where
+    by : (a b : Bool) →
+        goes_to p (if a then rows.Go states.M sends.Nothing else if b then rows.Go waits sends.Nothing else
+        rows.NoEntry) ≡ true
+    by true b = last
+    by false true = more
+    by false false = refl
+
+-- ---- requests
+
+-- what holds of each kind of request holds of every one
+each_request-at : (p : Option RequestMessage → Bool) → p None ≡ true → p (Some requests.GetS) ≡ true →
+    p (Some requests.GetM) ≡ true → p (Some requests.PutS) ≡ true →
+    ((block : Block) → p (Some (requests.PutM block)) ≡ true) →
+    (request : Option RequestMessage) → p request ≡ true
+each_request-at p n s m t u None = n
+each_request-at p n s m t u (Some requests.GetS) = s
+each_request-at p n s m t u (Some requests.GetM) = m
+each_request-at p n s m t u (Some requests.PutS) = t
+each_request-at p n s m t u (Some (requests.PutM block)) = u block
+
+-- nothing is asked for a copy of which nothing is left over
+pub sent-none : (state : CopyState) → has_sent state None ≡ true
+unfolding each_state
+sent-none state = each_state-at (λ s. has_sent s None) refl state
+
+-- ---- accesses
+
+-- the copy stays in the array, waits no more than before, and has sent what it had
+unfoldable hits : CopyState → Option RequestMessage → CopyState → CacheSends → Bool
+hits state request next sends.Nothing =
+    (stands_in_array next && agree (is_waiting next) (is_waiting state))
+    && implies (has_sent state request) (has_sent next request)
+hits state request next _ = true
+
+hit-load : (state : CopyState) (request : Option RequestMessage) →
+    goes_to (hits state request) (row_of state events.Load) ≡ true
+unfolding each_state hits goes_to implies agree
+hit-load state =
+    each_request-at (λ r. goes_to (hits state r) (row_of state events.Load))
+    (each_state-at (λ s. goes_to (hits s None) (row_of s events.Load)) refl state)
+    (each_state-at (λ s. goes_to (hits s (Some requests.GetS)) (row_of s events.Load)) refl state)
+    (each_state-at (λ s. goes_to (hits s (Some requests.GetM)) (row_of s events.Load)) refl state)
+    (each_state-at (λ s. goes_to (hits s (Some requests.PutS)) (row_of s events.Load)) refl state)
+    (λ b. each_state-at (λ s. goes_to (hits s (Some (requests.PutM b))) (row_of s events.Load)) refl state)
+
+hit-write : (state : CopyState) (request : Option RequestMessage) →
+    goes_to (hits state request) (row_of state events.Write) ≡ true
+unfolding each_state hits goes_to implies agree
+hit-write state =
+    each_request-at (λ r. goes_to (hits state r) (row_of state events.Write))
+    (each_state-at (λ s. goes_to (hits s None) (row_of s events.Write)) refl state)
+    (each_state-at (λ s. goes_to (hits s (Some requests.GetS)) (row_of s events.Write)) refl state)
+    (each_state-at (λ s. goes_to (hits s (Some requests.GetM)) (row_of s events.Write)) refl state)
+    (each_state-at (λ s. goes_to (hits s (Some requests.PutS)) (row_of s events.Write)) refl state)
+    (λ b. each_state-at (λ s. goes_to (hits s (Some (requests.PutM b))) (row_of s events.Write)) refl state)
+
+hit-row : (op : Op) (state : CopyState) (request : Option RequestMessage) →
+    goes_to (hits state request) (row_of state (event_of op)) ≡ true
+hit-row ops.Load = hit-load
+hit-row (ops.Store new) = hit-write
+hit-row (ops.Add increment) = hit-write
+hit-row (ops.Cas expect new) = hit-write
+
+-- A hit leaves the copy where it is, waiting for nothing that it didn't wait for.
+pub record HitsOn (state next : CopyState) (request : Option RequestMessage) : Type 0 where
+  pub stands : stands_in_array next ≡ true
+  pub waits : is_waiting next ≡ is_waiting state
+  pub sent : has_sent state request ≡ true → has_sent next request ≡ true
+
+pub hits_on : (op : Op) (state next : CopyState) (request : Option RequestMessage) →
+    row_of state (event_of op) ≡ rows.Go next sends.Nothing → HitsOn state next request
+unfolding hits
+hits_on op state next request is =
+    let all = goes_to-at (hits state request) (row_of state (event_of op)) next sends.Nothing
+    (hit-row op state request) is in
+    let first = left (stands_in_array next && agree (is_waiting next) (is_waiting state))
+    (implies (has_sent state request) (has_sent next request)) all in record {
+      stands = left _ (agree (is_waiting next) (is_waiting state)) first;
+      waits = agree-at _ _ (right (stands_in_array next) _ first);
+      sent = implies-at _ _ (right (stands_in_array next && agree (is_waiting next) (is_waiting state)) _ all);
+    }
+
+-- the copy waits, and has sent what it asks for
+unfoldable opens : CopyState → CacheSends → Bool
+opens next sends.GetS = (stands_in_array next && is_waiting next) && has_sent next (Some requests.GetS)
+opens next sends.GetM = (stands_in_array next && is_waiting next) && has_sent next (Some requests.GetM)
+opens next _ = true
+
+opens-load : (state : CopyState) → goes_to opens (row_of state events.Load) ≡ true
+unfolding each_state opens goes_to
+opens-load = each_state-at (λ s. goes_to opens (row_of s events.Load)) refl
+
+opens-write : (state : CopyState) → goes_to opens (row_of state events.Write) ≡ true
+unfolding each_state opens goes_to
+opens-write = each_state-at (λ s. goes_to opens (row_of s events.Write)) refl
+
+opens-row : (op : Op) (state : CopyState) → goes_to opens (row_of state (event_of op)) ≡ true
+opens-row ops.Load = opens-load
+opens-row (ops.Store new) = opens-write
+opens-row (ops.Add increment) = opens-write
+opens-row (ops.Cas expect new) = opens-write
+
+-- what a row sends for a miss
+abbrev pub sends_for : Ask → CacheSends
+sends_for asks.GetS = sends.GetS
+sends_for asks.GetM = sends.GetM
+
+-- A miss leaves a copy in the array that waits, and for which this was asked.
+pub record OpensTo (next : CopyState) (ask : Ask) : Type 0 where
+  pub stands : stands_in_array next ≡ true
+  pub waits : is_waiting next ≡ true
+  pub sent : has_sent next (Some (request_of ask)) ≡ true
+
+pub opens_to : (op : Op) (state next : CopyState) (ask : Ask) →
+    row_of state (event_of op) ≡ rows.Go next (sends_for ask) → OpensTo next ask
+unfolding opens
+opens_to op state next asks.GetS is =
+    let all = goes_to-at opens (row_of state (event_of op)) next sends.GetS (opens-row op state) is in
+    let first = left (stands_in_array next && is_waiting next) (has_sent next (Some requests.GetS)) all in record {
+      stands = left _ (is_waiting next) first;
+      waits = right (stands_in_array next) _ first;
+      sent = right (stands_in_array next && is_waiting next) _ all;
+    }
+opens_to op state next asks.GetM is =
+    let all = goes_to-at opens (row_of state (event_of op)) next sends.GetM (opens-row op state) is in
+    let first = left (stands_in_array next && is_waiting next) (has_sent next (Some requests.GetM)) all in record {
+      stands = left _ (is_waiting next) first;
+      waits = right (stands_in_array next) _ first;
+      sent = right (stands_in_array next && is_waiting next) _ all;
+    }
+
+-- ---- evictions
+
+unfoldable leaves : Block → CopyState → Bool
+leaves block state =
+    implies (may_leave state)
+    ((is_leaving (next_by state (row_of state events.Eviction))
+    && not (is_waiting (next_by state (row_of state events.Eviction))))
+    && (has_sent (next_by state (row_of state events.Eviction)) (Some (put_by block (row_of state events.Eviction)))
+    && not (is_waiting state)))
+
+-- A copy that leaves waits for nothing, before and then, and its Put was sent.
+pub record LeavesBy (state next : CopyState) (put : RequestMessage) : Type 0 where
+  pub leaving : is_leaving next ≡ true
+  pub idle : is_waiting state ≡ false
+  pub waits : is_waiting next ≡ false
+  pub sent : has_sent next (Some put) ≡ true
+
+not-false : (b : Bool) → not b ≡ true → b ≡ false
+not-false true e = cc
+not-false false e = refl
+
+pub leaves_by : (block : Block) (state : CopyState) → may_leave state ≡ true →
+    LeavesBy state (next_by state (row_of state events.Eviction)) (put_by block (row_of state events.Eviction))
+unfolding each_state leaves implies
+leaves_by block state may =
+    let next = next_by state (row_of state events.Eviction) in
+    let put = put_by block (row_of state events.Eviction) in
+    let tested : leaves block state ≡ true = each_state-at (leaves block) refl state in
+    let all = implies-at (may_leave state) _ tested may in
+    let first = left (is_leaving next && not (is_waiting next)) (has_sent next (Some put) && not (is_waiting state))
+    all in
+    let second = right (is_leaving next && not (is_waiting next)) _ all in record {
+      leaving = left _ (not (is_waiting next)) first;
+      idle = not-false _ (right (has_sent next (Some put)) _ second);
+      waits = not-false _ (right (is_leaving next) _ first);
+      sent = left _ (not (is_waiting state)) second;
+    }
+
+-- ---- forwarded messages
+
+-- the copy stays where it is or is gone, and waits as before; what it has sent is what it had, but a Put whose
+-- acknowledgement came
+unfoldable goes_on : Bool → CopyState → Option RequestMessage → CopyState → CacheSends → Bool
+goes_on acked state request next sent =
+    (((is_gone next || agree (stands_in_array next) (stands_in_array state))
+    && (is_gone next || agree (is_leaving next) (is_leaving state)))
+    && agree (is_waiting next) (is_waiting state))
+    && (acked && is_some request || implies (has_sent state request) (has_sent next request))
+
+goes_on-row : (message : ForwardedMessage) (state : CopyState) (request : Option RequestMessage) →
+    goes_to (goes_on (is_put_ack message) state request) (row_of state (event_of_forwarded message)) ≡ true
+unfolding each_state goes_on goes_to implies agree
+goes_on-row (forwards.FwdGetS core) state =
+    each_request-at (λ r. goes_to (goes_on false state r) (row_of state events.FwdGetS))
+    (each_state-at (λ s. goes_to (goes_on false s None) (row_of s events.FwdGetS)) refl state)
+    (each_state-at (λ s. goes_to (goes_on false s (Some requests.GetS)) (row_of s events.FwdGetS)) refl state)
+    (each_state-at (λ s. goes_to (goes_on false s (Some requests.GetM)) (row_of s events.FwdGetS)) refl state)
+    (each_state-at (λ s. goes_to (goes_on false s (Some requests.PutS)) (row_of s events.FwdGetS)) refl state)
+    (λ b. each_state-at (λ s. goes_to (goes_on false s (Some (requests.PutM b))) (row_of s events.FwdGetS)) refl state)
+goes_on-row (forwards.FwdGetM core) state =
+    each_request-at (λ r. goes_to (goes_on false state r) (row_of state events.FwdGetM))
+    (each_state-at (λ s. goes_to (goes_on false s None) (row_of s events.FwdGetM)) refl state)
+    (each_state-at (λ s. goes_to (goes_on false s (Some requests.GetS)) (row_of s events.FwdGetM)) refl state)
+    (each_state-at (λ s. goes_to (goes_on false s (Some requests.GetM)) (row_of s events.FwdGetM)) refl state)
+    (each_state-at (λ s. goes_to (goes_on false s (Some requests.PutS)) (row_of s events.FwdGetM)) refl state)
+    (λ b. each_state-at (λ s. goes_to (goes_on false s (Some (requests.PutM b))) (row_of s events.FwdGetM)) refl state)
+goes_on-row (forwards.Inv core) state =
+    each_request-at (λ r. goes_to (goes_on false state r) (row_of state events.Inv))
+    (each_state-at (λ s. goes_to (goes_on false s None) (row_of s events.Inv)) refl state)
+    (each_state-at (λ s. goes_to (goes_on false s (Some requests.GetS)) (row_of s events.Inv)) refl state)
+    (each_state-at (λ s. goes_to (goes_on false s (Some requests.GetM)) (row_of s events.Inv)) refl state)
+    (each_state-at (λ s. goes_to (goes_on false s (Some requests.PutS)) (row_of s events.Inv)) refl state)
+    (λ b. each_state-at (λ s. goes_to (goes_on false s (Some (requests.PutM b))) (row_of s events.Inv)) refl state)
+goes_on-row forwards.PutAck state =
+    each_request-at (λ r. goes_to (goes_on true state r) (row_of state events.PutAck))
+    (each_state-at (λ s. goes_to (goes_on true s None) (row_of s events.PutAck)) refl state)
+    (each_state-at (λ s. goes_to (goes_on true s (Some requests.GetS)) (row_of s events.PutAck)) refl state)
+    (each_state-at (λ s. goes_to (goes_on true s (Some requests.GetM)) (row_of s events.PutAck)) refl state)
+    (each_state-at (λ s. goes_to (goes_on true s (Some requests.PutS)) (row_of s events.PutAck)) refl state)
+    (λ b. each_state-at (λ s. goes_to (goes_on true s (Some (requests.PutM b))) (row_of s events.PutAck)) refl state)
+
+-- A copy that answers a forwarded message stays where it stands unless nothing is left of it. It waits as before, and
+-- has
+-- sent what it had.
+pub record GoesOn (state next : CopyState) (request : Option RequestMessage) : Type 0 where
+  pub stands : is_gone next ≡ false → stands_in_array next ≡ stands_in_array state
+  pub leaves : is_gone next ≡ false → is_leaving next ≡ is_leaving state
+  pub waits : is_waiting next ≡ is_waiting state
+  pub sent : has_sent state request ≡ true → has_sent next request ≡ true
+
+or-else : (a b : Bool) → (a || b) ≡ true → a ≡ false → b ≡ true
+or-else true b e none = cc
+or-else false b e none = e
+
+pub goes_on_by : (message : ForwardedMessage) (state next : CopyState) (sent : CacheSends)
+    (request : Option RequestMessage) →
+    row_of state (event_of_forwarded message) ≡ rows.Go next sent → (is_put_ack message && is_some request) ≡ false →
+    GoesOn state next request
+unfolding goes_on
+goes_on_by message state next sent request is early =
+    let acked = is_put_ack message && is_some request in
+    let kept = implies (has_sent state request) (has_sent next request) in
+    let stands = is_gone next || agree (stands_in_array next) (stands_in_array state) in
+    let leaves = is_gone next || agree (is_leaving next) (is_leaving state) in
+    let waits = agree (is_waiting next) (is_waiting state) in
+    let all : (((stands && leaves) && waits) && (acked || kept)) ≡ true =
+    goes_to-at (goes_on (is_put_ack message) state request) (row_of state (event_of_forwarded message)) next sent
+    (goes_on-row message state request) is in
+    let places = left (stands && leaves) waits (left ((stands && leaves) && waits) (acked || kept) all) in record {
+      stands = λ here. agree-at _ _ (or-else (is_gone next) _ (left stands leaves places) here);
+      leaves = λ here. agree-at _ _ (or-else (is_gone next) _ (right stands leaves places) here);
+      waits = agree-at _ _ (right (stands && leaves) waits (left ((stands && leaves) && waits) (acked || kept) all));
+      sent = implies-at _ _ (or-else acked kept (right ((stands && leaves) && waits) (acked || kept) all) early);
+    }
+
+-- ---- data and acknowledgements
+
+-- the copy waited, and comes to a state of the array; and what it has sent is what it had
+unfoldable comes : CopyState → Option RequestMessage → CopyState → CacheSends → Bool
+comes state request next sent =
+    (is_waiting state && stands_in_array next) && implies (has_sent state request) (has_sent next request)
+
+-- A copy that data or an acknowledgement come to waited for them, and stands in the array. It has sent what it had.
+pub record ComesTo (state next : CopyState) (request : Option RequestMessage) : Type 0 where
+  pub waited : is_waiting state ≡ true
+  pub stands : stands_in_array next ≡ true
+  pub sent : has_sent state request ≡ true → has_sent next request ≡ true
+
+comes_to : (state next : CopyState) (sent : CacheSends) (request : Option RequestMessage) (row : Row) →
+    goes_to (comes state request) row ≡ true → row ≡ rows.Go next sent → ComesTo state next request
+unfolding comes
+comes_to state next sent request row tested is =
+    let all = goes_to-at (comes state request) row next sent tested is in
+    let kept = implies (has_sent state request) (has_sent next request) in
+    let first = left (is_waiting state && stands_in_array next) kept all in record {
+      waited = left _ (stands_in_array next) first;
+      stands = right (is_waiting state) _ first;
+      sent = implies-at _ _ (right (is_waiting state && stands_in_array next) kept all);
+    }
+
+data-row : (n k : ℕ) (state : CopyState) → goes_to (comes state None) (row_of state (events.Data n k)) ≡ true
+unfolding goes_to comes implies
+data-row n k states.IM_AD = goes_to-counted (comes states.IM_AD None) k n states.IM_A refl refl
+data-row n k states.SM_AD = goes_to-counted (comes states.SM_AD None) k n states.SM_A refl refl
+data-row n k states.IS_D = refl
+data-row n k states.I = refl
+data-row n k states.IM_A = refl
+data-row n k states.S = refl
+data-row n k states.SM_A = refl
+data-row n k states.M = refl
+data-row n k states.E = refl
+data-row n k states.MI_A = refl
+data-row n k states.SI_A = refl
+data-row n k states.II_A = refl
+
+exclusive-row : (loads : Bool) (state : CopyState) → goes_to (comes state None) (row_of state (events.DataE loads))
+    ≡ true
+unfolding each_state goes_to comes implies
+exclusive-row true = each_state-at (λ s. goes_to (comes s None) (row_of s (events.DataE true))) refl
+exclusive-row false = each_state-at (λ s. goes_to (comes s None) (row_of s (events.DataE false))) refl
+
+pub comes_by_data : (n k : ℕ) (state next : CopyState) (sent : CacheSends) →
+    row_of state (events.Data n k) ≡ rows.Go next sent → ComesTo state next None
+comes_by_data n k state next sent = comes_to state next sent None (row_of state (events.Data n k)) (data-row n k state)
+
+pub comes_by_exclusive : (loads : Bool) (state next : CopyState) (sent : CacheSends) →
+    row_of state (events.DataE loads) ≡ rows.Go next sent → ComesTo state next None
+comes_by_exclusive loads state next sent =
+    comes_to state next sent None (row_of state (events.DataE loads)) (exclusive-row loads state)
+
+ack-counts : (state : CopyState) (waits : CopyState) (come n : ℕ) →
+    ((request : Option RequestMessage) → comes state request states.M sends.Nothing ≡ true) →
+    ((request : Option RequestMessage) → comes state request waits sends.Nothing ≡ true) →
+    (request : Option RequestMessage) → goes_to (comes state request) (counted come n waits) ≡ true
+ack-counts state waits come n last more request =
+    goes_to-counted (comes state request) come n waits (last request) (more request)
+
+ack-row : (n k : ℕ) (state : CopyState) (request : Option RequestMessage) →
+    goes_to (comes state request) (row_of state (events.InvAck n k)) ≡ true
+unfolding goes_to comes implies
+ack-row n k states.IM_A =
+    ack-counts states.IM_A states.IM_A (k + 1) n
+    (each_request-at (λ r. comes states.IM_A r states.M sends.Nothing) refl refl refl refl (λ b. refl))
+    (each_request-at (λ r. comes states.IM_A r states.IM_A sends.Nothing) refl refl refl refl (λ b. refl))
+ack-row n k states.SM_A =
+    ack-counts states.SM_A states.SM_A (k + 1) n
+    (each_request-at (λ r. comes states.SM_A r states.M sends.Nothing) refl refl refl refl (λ b. refl))
+    (each_request-at (λ r. comes states.SM_A r states.SM_A sends.Nothing) refl refl refl refl (λ b. refl))
+ack-row n k states.IM_AD =
+    each_request-at (λ r. comes states.IM_AD r states.IM_AD sends.Nothing) refl refl refl refl (λ b. refl)
+ack-row n k states.SM_AD =
+    each_request-at (λ r. comes states.SM_AD r states.SM_AD sends.Nothing) refl refl refl refl (λ b. refl)
+ack-row n k states.IS_D = λ request. refl
+ack-row n k states.I = λ request. refl
+ack-row n k states.S = λ request. refl
+ack-row n k states.M = λ request. refl
+ack-row n k states.E = λ request. refl
+ack-row n k states.MI_A = λ request. refl
+ack-row n k states.SI_A = λ request. refl
+ack-row n k states.II_A = λ request. refl
+
+pub comes_by_ack : (n k : ℕ) (state next : CopyState) (sent : CacheSends) (request : Option RequestMessage) →
+    row_of state (events.InvAck n k) ≡ rows.Go next sent → ComesTo state next request
+comes_by_ack n k state next sent request =
+    comes_to state next sent request (row_of state (events.InvAck n k)) (ack-row n k state request)
+
+-- ---- settling
+
+-- a shared copy waits where a write is left behind its loads
+shared-waits : (left : List Target) → is_waiting (settled_state states.S left) ≡ is_waited left
+shared-waits [] = refl
+shared-waits (target ∷ targets) = refl
+
+-- A copy that has come to its state waits exactly where some of its targets are left.
+pub settled-waits : (state : CopyState) (targets : List Target) → stands_in_array state ≡ true →
+    is_waited targets ≡ true →
+    is_waiting (settled_state state (left_in state targets)) ≡ is_waited (left_in state targets)
+settled-waits states.S targets stands some = shared-waits (behind_loads targets)
+settled-waits states.M targets stands some = refl
+settled-waits states.E targets stands some = refl
+settled-waits states.IS_D targets stands some = sym some
+settled-waits states.IM_AD targets stands some = sym some
+settled-waits states.IM_A targets stands some = sym some
+settled-waits states.SM_AD targets stands some = sym some
+settled-waits states.SM_A targets stands some = sym some
+settled-waits states.I targets stands some = cc
+settled-waits states.MI_A targets stands some = cc
+settled-waits states.SI_A targets stands some = cc
+settled-waits states.II_A targets stands some = cc
+
+-- what waits for the directory once a copy has settled: the right to write, if it is asked for
+unfoldable pub asked_then : Bool → Option RequestMessage → Option RequestMessage
+asked_then true request = Some requests.GetM
+asked_then false request = request
+
+shared-sent : (left : List Target) (request : Option RequestMessage) → has_sent states.S request ≡ true →
+    has_sent (settled_state states.S left) (asked_then (is_waited left) request) ≡ true
+unfolding asked_then
+shared-sent [] request sent = sent
+shared-sent (target ∷ targets) request sent = refl
+
+-- It has sent what it had, or asks for the right to write.
+pub settled-sent : (state : CopyState) (targets : List Target) (request : Option RequestMessage) →
+    has_sent state request ≡ true →
+    has_sent (settled_state state (left_in state targets)) (asked_then (asks_to_write state targets) request) ≡ true
+unfolding asked_then
+settled-sent states.S targets request sent = shared-sent (behind_loads targets) request sent
+settled-sent states.M targets request sent = sent
+settled-sent states.E targets request sent = sent
+settled-sent states.IS_D targets request sent = sent
+settled-sent states.IM_AD targets request sent = sent
+settled-sent states.IM_A targets request sent = sent
+settled-sent states.SM_AD targets request sent = sent
+settled-sent states.SM_A targets request sent = sent
+settled-sent states.I targets request sent = sent
+settled-sent states.MI_A targets request sent = sent
+settled-sent states.SI_A targets request sent = sent
+settled-sent states.II_A targets request sent = sent
+
+-- It stands in the array as before.
+pub settled-stands : (state : CopyState) (targets : List Target) → stands_in_array state ≡ true →
+    stands_in_array (settled_state state (left_in state targets)) ≡ true
+settled-stands states.S targets stands = shared (behind_loads targets)
+  where
+    shared : (left : List Target) → stands_in_array (settled_state states.S left) ≡ true
+    shared [] = refl
+    shared (target ∷ targets) = refl
+settled-stands states.M targets stands = refl
+settled-stands states.E targets stands = refl
+settled-stands states.IS_D targets stands = refl
+settled-stands states.IM_AD targets stands = refl
+settled-stands states.IM_A targets stands = refl
+settled-stands states.SM_AD targets stands = refl
+settled-stands states.SM_A targets stands = refl
+settled-stands states.I targets stands = stands
+settled-stands states.MI_A targets stands = stands
+settled-stands states.SI_A targets stands = stands
+settled-stands states.II_A targets stands = stands
+
+-- a copy of which nothing is left is in I
+pub gone-is : (state : CopyState) → is_gone state ≡ true → state ≡ states.I
+gone-is states.I gone = refl
+gone-is states.IS_D gone = cc
+gone-is states.IM_AD gone = cc
+gone-is states.IM_A gone = cc
+gone-is states.S gone = cc
+gone-is states.SM_AD gone = cc
+gone-is states.SM_A gone = cc
+gone-is states.M gone = cc
+gone-is states.E gone = cc
+gone-is states.MI_A gone = cc
+gone-is states.SI_A gone = cc
+gone-is states.II_A gone = cc
+
+-- no copy waits and leaves
+pub waits-or_leaves : (state : CopyState) → is_leaving state ≡ true → is_waiting state ≡ false
+unfolding each_state implies
+waits-or_leaves state leaves =
+    not-false (is_waiting state)
+    (implies-at (is_leaving state) (not (is_waiting state))
+    (each_state-at (λ s. implies (is_leaving s) (not (is_waiting s))) refl state) leaves)
+
+clash : (b : Bool) → not b ≡ true → b ≡ true → ⊥
+clash true e f = cc
+clash false e f = cc
+
+-- a copy that is idle has sent nothing that waits
+unfoldable idles : Option RequestMessage → CopyState → Bool
+idles request state = implies (is_idle state) (not (has_sent state request))
+
+pub idle-none : (state : CopyState) (request : Option RequestMessage) → is_idle state ≡ true →
+    has_sent state request ≡ true → request ≡ None
+unfolding each_state idles implies
+idle-none state None idle sent = refl
+idle-none state (Some requests.GetS) idle sent =
+    let tested = implies-at _ _ (each_state-at (idles (Some requests.GetS)) refl state) idle in
+    absurd (clash (has_sent state (Some requests.GetS)) tested sent)
+idle-none state (Some requests.GetM) idle sent =
+    let tested = implies-at _ _ (each_state-at (idles (Some requests.GetM)) refl state) idle in
+    absurd (clash (has_sent state (Some requests.GetM)) tested sent)
+idle-none state (Some requests.PutS) idle sent =
+    let tested = implies-at _ _ (each_state-at (idles (Some requests.PutS)) refl state) idle in
+    absurd (clash (has_sent state (Some requests.PutS)) tested sent)
+idle-none state (Some (requests.PutM block)) idle sent =
+    let tested = implies-at _ _ (each_state-at (idles (Some (requests.PutM block))) refl state) idle in
+    absurd (clash (has_sent state (Some (requests.PutM block))) tested sent)

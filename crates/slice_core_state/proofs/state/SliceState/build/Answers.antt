@@ -1,5 +1,0 @@
-use Rattle.slice_core_state.proofs.SoundBegin.{sound-begins}
-use Rattle.slice_core_state.proofs.state.SliceState.build.Goals as goal
-
-pub invariant_of-result : goal.invariant_of-result
-invariant_of-result g c = sound-begins c.args.config.now _ c.args.slice c.in_ok-new.field-0 c.in_ok-new.ensures c.requires

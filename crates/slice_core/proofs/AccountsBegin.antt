@@ -73,6 +73,7 @@ module _ (c : Config) (bound : Bound) (slice : SliceId) (p : PartsView) (new : I
   counted-begins within = record {
     shaped = shaped-begins;
     machine = rw new.lines (of-machine c slice new.allowed within);
+    some_core = let some = new.allowed.some_core in let all = new.sides.count_is in omega (arith, some, all);
     cores = let few = new.allowed.few_cores in let all = new.sides.count_is in omega (arith, few, all);
     stats =
         ap (λ (s : StatsView). length s.cores) new.stats ∙ length-replicate c.cores no_counts

@@ -189,6 +189,7 @@ module _ (old : PartsView) (core : CoreId) (request : Request) (answer : Result 
         counted = record {
           shaped = keeps.counted.shaped;
           machine = keeps.counted.machine;
+          some_core = keeps.counted.some_core;
           cores = keeps.counted.cores;
           stats = keeps.counted.stats;
           pending = keeps.counted.pending;

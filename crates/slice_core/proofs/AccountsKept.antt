@@ -26,6 +26,7 @@ use Rattle.slice_core.proofs.AccountsSteps.{accounts-posted, accounts-step, own-
 use Rattle.slice_core.proofs.CountedStats.{counts-same, waiting-within}
 use Rattle.slice_core.proofs.CountedSteps.{Counts, CountsSame, after_step, counted-posted, counted-step}
 use Rattle.slice_core.specs.Sound.{HasAccounts, HasLinks, IsCounted, IsSound}
+use Rattle.slice_core_coherence.specs.Stands.{AreReached}
 use Rattle.target_list.specs.declared.target.Target.{Target}
 
 -- The counts are right, and each core's requests are accounted for.
@@ -33,12 +34,13 @@ pub record Keeps (p : PartsView) : Type 0 where
   pub counted : IsCounted p
   pub accounts : HasAccounts p.view
 
--- That is the invariant but for the links.
+-- That is the invariant but for the links and the lines.
 pub keeps-from_sound : (p : PartsView) → IsSound p → Keeps p
 keeps-from_sound p sound = record { counted = sound.counted; accounts = sound.accounts }
 
-pub sound-from_keeps : (p : PartsView) → Keeps p → HasLinks p.view → IsSound p
-sound-from_keeps p keeps links = record { counted = keeps.counted; accounts = keeps.accounts; links = links }
+pub sound-from_keeps : (p : PartsView) → Keeps p → HasLinks p.view → AreReached p.view → IsSound p
+sound-from_keeps p keeps links reached =
+    record { counted = keeps.counted; accounts = keeps.accounts; links = links; reached = reached }
 
 -- ---- steps that change no request
 

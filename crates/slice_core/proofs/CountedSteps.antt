@@ -61,6 +61,7 @@ counted-step p core side log stats pending room c known waits fits bounded count
     cores = λ local inside. c.shaped.cores local inside ∙ sym long;
   };
   machine = c.machine;
+  some_core = let some = c.some_core in omega (arith, some, long);
   cores = let few = c.cores in omega (arith, few, long);
   stats = counts.sized ∙ c.stats ∙ sym long;
   pending =
@@ -133,6 +134,7 @@ pub counted-posted : (p : PartsView) (view : View) (stats : StatsView)
 counted-posted p view stats lines sides log same shaped c = record {
   shaped = shaped;
   machine = rw lines c.machine;
+  some_core = rw sides c.some_core;
   cores = rw sides c.cores;
   stats = rw sides (same.sized ∙ c.stats);
   pending = rw sides c.pending;

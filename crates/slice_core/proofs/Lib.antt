@@ -24,6 +24,8 @@ pub mod AccountsFacts
 pub mod AccountsCan
 pub mod LinksVictims
 pub mod LinksWays
+pub mod LinksInverted
+pub mod Coherent
 pub mod SoundIssue
 pub mod SoundEvict
 pub mod SoundDelivery

@@ -41,6 +41,10 @@ use Rattle.slice_core.proofs.AccountsPlanned.{is_for_copy, nothing-past, planned
 use Rattle.slice_core.proofs.LinksDirectory.{links_directory, links_home}
 use Rattle.slice_core.proofs.LinksForwarded.{links_forwarded}
 use Rattle.slice_core.proofs.LinksSettling.{links_acknowledge, links_fill, state-filled_by}
+use Rattle.slice_core.proofs.Coherent.{whole}
+use Rattle.slice_core_coherence.proofs.Calls.{located}
+use Rattle.slice_core_coherence.proofs.Deliveries.{reached_delivery}
+use Rattle.slice_core_coherence.specs.Stands.{AreReached}
 use Rattle.slice_core.specs.Sound.{HasLinks, IsSound}
 use Rattle.slice_queues.specs.Line.{CoreChannels, core_at}
 use Rattle.slice_queues_message.specs.Pick.{channel_of, line_of}
@@ -302,22 +306,11 @@ module _ (old : PartsView) (local : Local) (answer : Delivered) (new : PartsView
 pub sound-plan : (plan : Plan) (old : PartsView) (local : Local) (channel : Channel) (answer : Delivered)
     (new : PartsView)
     → IsSound old → local.0 < old.view.lines.lines → plan_of old.view local channel ≡ plan
-    → AfterPlan plan old local channel answer new → IsSound new
-sound-plan plan old local channel answer new sound within is after =
+    → AreReached new.view → AfterPlan plan old local channel answer new → IsSound new
+sound-plan plan old local channel answer new sound within is reached after =
     sound-from_keeps new (keeps-plan plan old local channel answer new sound is after)
     (links-plan old local answer new sound within plan channel is after)
-
--- A line that has a place among the slice's own is one of them.
-located : (own : Lines) (line : ℕ) (local : Local) → local_at own line ≡ Some local → local.0 < own.lines
-located own line local =
-    by (line % own.slices == own.slice && nat_lt (line / own.slices) own.lines) (record { 0 = line / own.slices })
-    (λ mine. ltb-true (line / own.slices) own.lines (and_parts _ _ mine).1)
-  where
-    by : (mine : Bool) (here : Local) → (mine ≡ true → here.0 < own.lines)
-        → (if mine then Some here else None) ≡ Some local → local.0 < own.lines
-    by true here inside is =
-        let same : here ≡ local = cc in subst (λ (l : Local). l.0 < own.lines) same (inside refl)
-    by false here inside is = cc
+    reached
 
 module _ (old : PartsView) (sound : IsSound old) (new : PartsView) where
   sound-same : new ≡ old → IsSound new
@@ -330,15 +323,17 @@ module _ (old : PartsView) (sound : IsSound old) (new : PartsView) where
       AfterPlan (plan_of old.view local (channel_of pick)) old local (channel_of pick) answer new
 
   placed : (pick : Pick) (answer : Delivered) (place : Option Local) → local_at old.view.lines (line_of pick).0 ≡ place
-      → by_line pick answer place → IsSound new
-  placed pick answer None is after = sound-same after.1
-  placed pick answer (Some local) is after =
+      → AreReached new.view → by_line pick answer place → IsSound new
+  placed pick answer None is reached after = sound-same after.1
+  placed pick answer (Some local) is reached after =
       sound-plan (plan_of old.view local (channel_of pick)) old local (channel_of pick) answer new sound
-      (located old.view.lines (line_of pick).0 local is) refl after
+      (located old.view.lines (line_of pick).0 local is) refl reached after
 
   -- A delivery of a chosen message keeps the invariant.
   pub sound-delivery : (pick : Pick) (answer : Delivered) → AfterDelivery old pick answer new → IsSound new
-  sound-delivery pick answer after = placed pick answer (local_at old.view.lines (line_of pick).0) refl after
+  sound-delivery pick answer after =
+      placed pick answer (local_at old.view.lines (line_of pick).0) refl
+      (reached_delivery old new (whole old sound) sound.reached pick answer after) after
 
   -- So does one of the next message of a class.
   pub sound-deliver_next : (class : Class) (answer : DeliveredNext) → AfterDeliverNext old class answer new

@@ -1,12 +1,20 @@
 -- What callers of a slice may rely on after every call.
-use Rattle.std.specs.Prelude.{◌≡◌, ◌≢◌, ℕ, ◌<◌, ◌==◌, Bool, if◌then◌else◌, nat_lt, length, count_by, map, slice_get, Option, Some, None}
+use Rattle.std.specs.Prelude.{◌≡◌, ℕ, ◌<◌, if◌then◌else◌, nat_lt, length, map, slice_get, Option, Some, None, Result, Ok}
 use Rattle.address_map.specs.declared.address.CoreId.{CoreId}
 use Rattle.address_map.specs.Place.{offset_of}
 use Rattle.address_map.specs.declared.address.Local.{Local}
 use Rattle.address_map.specs.declared.address.WordAddr.{WordAddr}
 use Rattle.cache_table.specs.CopyState.{is_waiting}
-use Rattle.mshr_file.specs.Miss.{count_of, has_miss, has_tag, IsMissFile}
+use Rattle.mshr_file.specs.Miss.{Bound, count_of, has_miss, has_tag, IsMissFile}
 use Rattle.slice_core_answer.specs.Stats.{accepted_of, counts_of}
+use Rattle.slice_core_answer.specs.declared.answer.Delivered.{Delivered}
+use Rattle.slice_core_answer.specs.declared.answer.Delivered.TheVariants as delivered
+use Rattle.slice_core_answer.specs.declared.answer.DeliveredNext.{DeliveredNext}
+use Rattle.slice_core_answer.specs.declared.answer.DeliveredNext.TheVariants as delivered_next
+use Rattle.slice_core_answer.specs.declared.answer.Issue.{Issue}
+use Rattle.slice_core_answer.specs.declared.answer.Issue.TheVariants as issues
+use Rattle.slice_core_answer.specs.declared.answer.Refused.{Refused}
+use Rattle.slice_core_answer.specs.declared.answer.Stall.TheVariants as stalls
 use Rattle.slice_core_log.specs.declared.entry.Entry.{Entry}
 use Rattle.slice_core_side.specs.Side.{state_of, tag_at}
 use Rattle.slice_core_side.specs.declared.tags.TagState.TheVariants as tags
@@ -53,3 +61,23 @@ ShowsLine v (Some local) shown =
     × (given.dir ≡ (entry_at v local).state) × (given.owner ≡ (entry_at v local).owner)
     × (given.sharers ≡ (entry_at v local).sharers) × (given.home ≡ (entry_at v local).home.words)
     × (given.copies.items ≡ map (λ side. state_of side local) v.sides)
+
+-- The core's miss file is bounded by tags alone: there is a field for each tag of the core, so for each destination
+-- that an access of its can have (Farkas and Jouppi's inverted organisation).
+abbrev pub IsInverted : View → CoreId → Type 0
+IsInverted v core = (side_at v core).bound ≡ Bound.tags
+
+-- The request was not put off for want of a miss register, nor of a field of one.
+abbrev pub NeedsNoRegister : Result Issue Refused → Type 0
+NeedsNoRegister (Ok (issues.Stall stalls.NoRegister)) = ⊥
+NeedsNoRegister (Ok (issues.Stall stalls.NoTarget)) = ⊥
+NeedsNoRegister _ = Unit {0}
+
+-- The answer isn't that the tables have no row for a message, that a channel is full, or that a message came early.
+abbrev pub IsNotBroken : Delivered → Type 0
+IsNotBroken (delivered.Broken cell) = ⊥
+IsNotBroken _ = Unit {0}
+
+abbrev pub IsNotBrokenNext : DeliveredNext → Type 0
+IsNotBrokenNext (delivered_next.Broken cell) = ⊥
+IsNotBrokenNext _ = Unit {0}

@@ -10,9 +10,10 @@ use Rattle.cache_table.specs.declared.state.CopyState.TheVariants as states
 use Rattle.mshr_file.specs.Miss.{has_miss}
 use Rattle.slice_core_log.specs.Log.{IsOrdered}
 use Rattle.slice_core_side.specs.Kept.{IsKept}
-use Rattle.slice_core_side.specs.Side.{SideView, state_of}
+use Rattle.slice_core_side.specs.Side.{state_of}
 use Rattle.slice_core_standing.specs.Standing.{HasNoEntry, IsAccount, waiting}
 use Rattle.slice_core.specs.Facts.{CountsAccepted}
+use Rattle.slice_core_coherence.specs.Stands.{AreReached}
 use Rattle.slice_core_plan.specs.Parts.{PartsView}
 use Rattle.slice_core_plan.specs.View.{View, channels_at, side_at, IsOwned, IsShaped}
 use Rattle.slice_queues.specs.Line.{core_at}
@@ -25,6 +26,7 @@ use Rattle.slice_queues_message.specs.declared.message.RequestMessage.TheVariant
 pub record IsCounted (p : PartsView) : Type 0 where
   pub shaped : IsShaped p.view
   pub machine : IsOfMachine p.view.lines
+  pub some_core : 0 < length p.view.sides
   pub cores : length p.view.sides ≤ 64
   pub stats : length p.stats.cores ≡ length p.view.sides
   pub pending : p.pending ≡ sum_by (λ side. waiting side.misses) p.view.sides
@@ -65,8 +67,9 @@ pub record HasLinks (v : View) : Type 0 where
       → has_sent (state_of (side_at v core) local) (core_at (channels_at v local) core.0).request ≡ true
   pub owned : (local : Local) → local.0 < v.lines.lines → IsOwned v local
 
--- All of it.
+-- All of it; and each line stands as a line that the protocol's machine can come to.
 pub record IsSound (p : PartsView) : Type 0 where
   pub counted : IsCounted p
   pub accounts : HasAccounts p.view
   pub links : HasLinks p.view
+  pub reached : AreReached p.view

@@ -3,8 +3,9 @@
 //! [`SliceState`] takes the calls of cores and the deliveries of messages one at a time, in any order. What each call
 //! does is said exactly by the definitions of `slice_core_steps`; what holds after every call stands in
 //! `specs/Facts.antt`: each accepted request stands in exactly one target, reply or hand-out; a core's entries of a line
-//! stand in the log in the order in which it asked for them; each copy that waits has its one miss register; and each tag
-//! names what was asked for under it. `specs/Sound.antt` is the invariant that shows it.
+//! stand in the log in the order in which it asked for them; each copy that waits has its one miss register; each tag
+//! names what was asked for under it; and a core whose miss file is bounded by tags alone waits for no miss register.
+//! `specs/Sound.antt` is the invariant that shows it.
 #![tactic(auto)]
 
 pub use address_map::{Block, CoreId, LineAddr, Op, Request, SliceId, WordAddr};
@@ -12,8 +13,8 @@ pub use slice_core_answer::{
     Cell, Delivered, DeliveredNext, Evicted, Issue, Refused, Stall, Stats,
 };
 pub use slice_core_log::{Entry, Numbered};
-pub use slice_queues_message::{Class, Pick};
 pub use slice_core_steps::LineView;
+pub use slice_queues_message::{Class, Pick};
 pub use state::SliceState;
 
 mod state;

@@ -2,7 +2,8 @@ ghost use Rattle.std.specs.Prelude.{◌≡◌, ℕ, ◌<◌, ◌↔◌, length, 
 ghost use Rattle.address_map.specs.Locator.{local_at};
 ghost use Rattle.address_map.specs.Place.{line_of};
 ghost use Rattle.slice_core_log.specs.Log.{IsOrdered};
-ghost use Rattle.slice_core.specs.Facts.{CountsAccepted, HasOneRegister, HasTags, IsStanding, ShowsLine, ShowsWord};
+ghost use Rattle.slice_core.specs.Facts.{CountsAccepted, HasOneRegister, HasTags, IsInverted, IsNotBroken, IsNotBrokenNext, IsStanding, NeedsNoRegister, ShowsLine, ShowsWord};
+ghost use Rattle.slice_core_coherence.specs.Coherent.{HasOneWriter};
 ghost use Rattle.slice_core_plan.specs.Parts.{PartsView, AfterDeliverNext, AfterDelivery, AfterEvict, AfterHand, AfterIssue, IsNew};
 ghost use Rattle.slice_core_plan.specs.View.{View, IsQuiet};
 
@@ -50,9 +51,11 @@ impl<F: MissFile> SliceState<F> {
     pub fn issue(&mut self, core: CoreId, request: Request) -> Result<Issue, Refused>
         requires { core.0 < length self.old.view.sides }
         ensures step { AfterIssue self.old core request result self.new }
+        ensures unbounded { IsInverted self.old.view core → NeedsNoRegister result }
         ensures standing { IsStanding self.new.view }
         ensures ordered { IsOrdered self.new.view.log }
         ensures registers { HasOneRegister self.new.view }
+        ensures one_writer { HasOneWriter self.new.view }
         ensures tags { HasTags self.new.view }
         ensures counted { CountsAccepted self.new }
     {
@@ -66,6 +69,7 @@ impl<F: MissFile> SliceState<F> {
         ensures standing { IsStanding self.new.view }
         ensures ordered { IsOrdered self.new.view.log }
         ensures registers { HasOneRegister self.new.view }
+        ensures one_writer { HasOneWriter self.new.view }
         ensures tags { HasTags self.new.view }
         ensures counted { CountsAccepted self.new }
     {
@@ -75,9 +79,11 @@ impl<F: MissFile> SliceState<F> {
     /// Takes the front message of a channel and does its row of the tables, where there is one.
     pub fn deliver(&mut self, pick: Pick) -> Delivered
         ensures step { AfterDelivery self.old pick result self.new }
+        ensures unbroken { IsNotBroken result }
         ensures standing { IsStanding self.new.view }
         ensures ordered { IsOrdered self.new.view.log }
         ensures registers { HasOneRegister self.new.view }
+        ensures one_writer { HasOneWriter self.new.view }
         ensures tags { HasTags self.new.view }
         ensures counted { CountsAccepted self.new }
     {
@@ -87,9 +93,11 @@ impl<F: MissFile> SliceState<F> {
     /// Makes one delivery of the class, where one can be made.
     pub fn deliver_next(&mut self, class: Class) -> DeliveredNext
         ensures step { AfterDeliverNext self.old class result self.new }
+        ensures unbroken { IsNotBrokenNext result }
         ensures standing { IsStanding self.new.view }
         ensures ordered { IsOrdered self.new.view.log }
         ensures registers { HasOneRegister self.new.view }
+        ensures one_writer { HasOneWriter self.new.view }
         ensures tags { HasTags self.new.view }
         ensures counted { CountsAccepted self.new }
     {
@@ -103,6 +111,7 @@ impl<F: MissFile> SliceState<F> {
         ensures standing { IsStanding self.new.view }
         ensures ordered { IsOrdered self.new.view.log }
         ensures registers { HasOneRegister self.new.view }
+        ensures one_writer { HasOneWriter self.new.view }
         ensures tags { HasTags self.new.view }
         ensures counted { CountsAccepted self.new }
     {

@@ -1,4 +1,5 @@
 use Rattle.slice_core.specs.Sound.{IsSound}
+use Rattle.slice_core.proofs.Coherent.{coherent, unbroken_delivery}
 use Rattle.slice_core.proofs.AccountsCan.{can-deliver}
 use Rattle.slice_core.proofs.AccountsFacts as facts
 use Rattle.slice_core.proofs.SoundDelivery.{sound-delivery}
@@ -30,3 +31,11 @@ returns-clause-tags g c = facts.tags c.deliver.new.self (sound g c)
 
 pub returns-clause-counted : goal.returns-clause-counted
 returns-clause-counted g c = facts.counted c.deliver.new.self (sound g c)
+
+pub returns-clause-one_writer : goal.returns-clause-one_writer
+returns-clause-one_writer g c = coherent c.deliver.new.self (sound g c)
+
+pub returns-clause-unbroken : goal.returns-clause-unbroken
+returns-clause-unbroken g c =
+    unbroken_delivery c.self.inside.parts c.self.invariant c.deliver.new.self c.args.pick c.deliver.result
+    c.deliver.ensures

@@ -1,4 +1,5 @@
 use Rattle.slice_core.specs.Sound.{IsSound}
+use Rattle.slice_core.proofs.Coherent.{coherent, unbroken_next}
 use Rattle.slice_core.proofs.AccountsCan.{can-deliver}
 use Rattle.slice_core.proofs.AccountsFacts as facts
 use Rattle.slice_core.proofs.SoundDelivery.{sound-deliver_next}
@@ -31,3 +32,11 @@ returns-clause-tags g c = facts.tags c.deliver_next.new.self (sound g c)
 
 pub returns-clause-counted : goal.returns-clause-counted
 returns-clause-counted g c = facts.counted c.deliver_next.new.self (sound g c)
+
+pub returns-clause-one_writer : goal.returns-clause-one_writer
+returns-clause-one_writer g c = coherent c.deliver_next.new.self (sound g c)
+
+pub returns-clause-unbroken : goal.returns-clause-unbroken
+returns-clause-unbroken g c =
+    unbroken_next c.self.inside.parts c.self.invariant c.deliver_next.new.self c.args.class c.deliver_next.result
+    c.deliver_next.ensures

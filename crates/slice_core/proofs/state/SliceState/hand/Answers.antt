@@ -1,6 +1,7 @@
 use Rattle.std.proofs.Common.{arith, ap, length}
 use Rattle.slice_core_plan.specs.Parts.{PartsView}
 use Rattle.slice_core.specs.Sound.{IsSound}
+use Rattle.slice_core.proofs.Coherent.{coherent}
 use Rattle.slice_core.proofs.AccountsFacts as facts
 use Rattle.slice_core.proofs.SoundEvict.{sound-hand}
 use Rattle.slice_core.proofs.state.SliceState.hand.Given.{Over}
@@ -25,3 +26,6 @@ returns-clause-registers g c = facts.registers c.hand.new.self (sound g c)
 
 pub returns-clause-tags : goal.returns-clause-tags
 returns-clause-tags g c = facts.tags c.hand.new.self (sound g c)
+
+pub returns-clause-one_writer : goal.returns-clause-one_writer
+returns-clause-one_writer g c = coherent c.hand.new.self (sound g c)

@@ -1,21 +1,35 @@
-use Rattle.std.proofs.Common.{arith, ap, length}
+use Rattle.std.proofs.Common.{◌<◌, arith, ap, length, subst, sym}
 use Rattle.slice_core_plan.specs.Parts.{PartsView}
+use Rattle.slice_core.specs.Facts.{IsInverted}
 use Rattle.slice_core.specs.Sound.{IsSound}
+use Rattle.slice_core.proofs.Coherent.{coherent}
 use Rattle.slice_core.proofs.AccountsFacts as facts
+use Rattle.slice_core.proofs.LinksInverted.{needs-issue}
 use Rattle.slice_core.proofs.SoundIssue.{sound-issue}
 use Rattle.slice_core.proofs.state.SliceState.issue.Given.{Over}
 use Rattle.slice_core.proofs.state.SliceState.issue.Goals as goal
 
+-- the core is one of the slice's
+known : (g : Over) (c : goal.After-issue g) → c.args.core.0 < length c.self.inside.parts.view.sides
+known g c =
+    let cores = ap (λ (p : PartsView). length p.view.sides) c.self.view_is in
+    let called = c.requires in
+    omega (arith, cores, called)
+
 -- the slice that the step leaves
 sound : (g : Over) (c : goal.After-issue g) → IsSound c.issue.new.self
 sound g c =
-    let cores = ap (λ (p : PartsView). length p.view.sides) c.self.view_is in
-    let known = c.requires in
     sound-issue c.self.inside.parts c.args.core c.args.request c.issue.result c.issue.new.self c.self.invariant
-    (omega (arith, cores, known)) c.issue.ensures.bounded c.issue.ensures.step
+    (known g c) c.issue.ensures.bounded c.issue.ensures.step
 
 pub invariant_of-self : goal.invariant_of-self
 invariant_of-self g c = sound g c
+
+pub returns-clause-unbounded : goal.returns-clause-unbounded
+returns-clause-unbounded g c inverted =
+    needs-issue c.self.inside.parts c.args.core c.args.request c.issue.result c.issue.new.self c.self.invariant
+    (known g c) (subst (λ (p : PartsView). IsInverted p.view c.args.core) (sym c.self.view_is) inverted)
+    c.issue.ensures.step
 
 pub returns-clause-standing : goal.returns-clause-standing
 returns-clause-standing g c = facts.standing c.issue.new.self (sound g c)
@@ -31,3 +45,6 @@ returns-clause-tags g c = facts.tags c.issue.new.self (sound g c)
 
 pub returns-clause-counted : goal.returns-clause-counted
 returns-clause-counted g c = facts.counted c.issue.new.self (sound g c)
+
+pub returns-clause-one_writer : goal.returns-clause-one_writer
+returns-clause-one_writer g c = coherent c.issue.new.self (sound g c)

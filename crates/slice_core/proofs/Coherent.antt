@@ -1,0 +1,83 @@
+-- What the protocol gives a sound slice: one writer or only readers, and a row and room for each message.
+use Rattle.std.proofs.Common.{◌≡◌, ◌≢◌, ◌<◌, ◌⊎◌, Bool, true, false, length, Option, Some, None, IsSome, refl, sym, ap, ◌∙◌}
+use Rattle.address_map.specs.Locator.{Lines, local_at}
+use Rattle.address_map.specs.declared.address.Local.{Local}
+use Rattle.slice_core_answer.specs.declared.answer.Cell.{Cell}
+use Rattle.slice_core_answer.specs.declared.answer.Delivered.{Delivered}
+use Rattle.slice_core_answer.specs.declared.answer.Delivered.TheVariants as delivered
+use Rattle.slice_core_answer.specs.declared.answer.DeliveredNext.{DeliveredNext}
+use Rattle.slice_core_answer.specs.declared.answer.DeliveredNext.TheVariants as delivered_next
+use Rattle.slice_core_coherence.proofs.Calls.{located}
+use Rattle.slice_core_coherence.specs.Whole.{IsWhole}
+use Rattle.slice_core_coherence.proofs.Consequences.{one_writer}
+use Rattle.slice_core_coherence.proofs.Unbroken.{whole_is_unbroken}
+use Rattle.slice_core_coherence.specs.Coherent.{HasOneWriter, NothingIsBroken}
+use Rattle.slice_core_plan.specs.Parts.{PartsView, AfterDeliverNext, AfterDelivery, AfterPlan}
+use Rattle.slice_core_plan.specs.Plan.{plan_of}
+use Rattle.slice_core_plan.specs.View.{View}
+use Rattle.slice_core_plan.specs.declared.decide.Plan.{Plan}
+use Rattle.slice_core_plan.specs.declared.decide.Plan.TheVariants as plans
+use Rattle.slice_core.specs.Facts.{IsNotBroken, IsNotBrokenNext}
+use Rattle.slice_core.specs.Sound.{IsSound}
+use Rattle.slice_queues_message.specs.Pick.{channel_of, line_of}
+use Rattle.slice_queues_message.specs.declared.channel.Channel.{Channel}
+use Rattle.slice_queues_message.specs.declared.channel.Class.{Class}
+use Rattle.slice_queues_message.specs.declared.channel.Pick.{Pick}
+
+-- What a sound slice is at its outside.
+pub whole : (p : PartsView) → IsSound p → IsWhole p.view
+whole p sound = record {
+  shaped = sound.counted.shaped;
+  few = sound.counted.cores;
+  kept = sound.links.kept;
+  own = sound.links.own;
+}
+
+-- One core may write a line and no other may read it, or none may write it.
+pub coherent : (p : PartsView) → IsSound p → HasOneWriter p.view
+coherent p sound = one_writer p.view sound.counted.cores sound.reached
+
+-- Each message has a row and room, and comes in time.
+pub unbroken : (p : PartsView) → IsSound p → NothingIsBroken p.view
+unbroken p sound =
+    whole_is_unbroken p.view (whole p sound) sound.counted.some_core sound.reached
+
+-- ---- answers
+
+planned : (plan : Plan) (old : PartsView) (local : Local) (channel : Channel) (answer : Delivered) (new : PartsView)
+    → ((cell : Cell) → plan ≢ plans.Broken cell) → AfterPlan plan old local channel answer new → IsNotBroken answer
+planned plans.Nothing old local channel answer new fine after = rw after.0 tt
+planned plans.Blocked old local channel answer new fine after = rw after.0 tt
+planned (plans.Broken cell) old local channel answer new fine after = absurd (fine cell refl)
+planned (plans.Directory state owner sharers sent writes) old local channel answer new fine after = rw after.0 tt
+planned (plans.Home state owner sharers) old local channel answer new fine after = rw after.0 tt
+planned (plans.Forwarded next sent requester) old local channel answer new fine after = rw after.0 tt
+planned (plans.Fill place next) old local channel answer new fine after = rw after.0 tt
+planned (plans.Acknowledge place next) old local channel answer new fine after = rw after.0 tt
+
+module _ (old : PartsView) (sound : IsSound old) (new : PartsView) where
+  -- what a delivery answers and leaves, by the line's place
+  abbrev by_line : Pick → Delivered → Option Local → Type 0
+  by_line pick answer None = (answer ≡ delivered.Nothing) × (new ≡ old)
+  by_line pick answer (Some local) =
+      AfterPlan (plan_of old.view local (channel_of pick)) old local (channel_of pick) answer new
+
+  placed : (pick : Pick) (answer : Delivered) (place : Option Local) → local_at old.view.lines (line_of pick).0 ≡ place
+      → by_line pick answer place → IsNotBroken answer
+  placed pick answer None is after = rw after.0 tt
+  placed pick answer (Some local) is after =
+      planned (plan_of old.view local (channel_of pick)) old local (channel_of pick) answer new
+      (λ cell. unbroken old sound local (channel_of pick) cell (located old.view.lines (line_of pick).0 local is)) after
+
+  -- No delivery of a chosen message is broken.
+  pub unbroken_delivery : (pick : Pick) (answer : Delivered) → AfterDelivery old pick answer new → IsNotBroken answer
+  unbroken_delivery pick answer after = placed pick answer (local_at old.view.lines (line_of pick).0) refl after
+
+  -- Nor is one of the next message of a class.
+  pub unbroken_next : (class : Class) (answer : DeliveredNext) → AfterDeliverNext old class answer new
+      → IsNotBrokenNext answer
+  unbroken_next class (delivered_next.Moved pick) after = tt
+  unbroken_next class delivered_next.Nothing after = tt
+  unbroken_next class delivered_next.Blocked after = tt
+  unbroken_next class (delivered_next.Broken cell) after =
+      let some = after.2 in absurd (unbroken old sound some.0 some.1 cell some.2 some.4)

@@ -1,0 +1,502 @@
+-- A forwarded message that a core takes is a turn of its line.
+use Rattle.std.proofs.Common.{◌≡◌, ℕ, ◌+◌, ◌<◌, ◌≤◌, ◌==◌, ◌&&◌, ◌||◌, Bool, true, false, not, drop, if◌then◌else◌, length, Option, Some, None, slice_get, get_or, is_some, refl, sym, ap, ◌∙◌, subst, arith, true≢false}
+use Rattle.std.proofs.Math.Bool.{and-false, or-false, or-true}
+use Rattle.std.proofs.lemmas.Bool.{eq-eqb, ne_eqb}
+use Rattle.address_map.proofs.CoreSets.{has-with_other, has-with_same}
+use Rattle.address_map.specs.CoreSet.{has, with}
+use Rattle.address_map.specs.declared.address.CoreId.{CoreId}
+use Rattle.address_map.specs.declared.address.Local.{Local}
+use Rattle.address_map.specs.declared.block.Block.{Block}
+use Rattle.cache_table.specs.CopyState.{is_waiting}
+use Rattle.cache_table.specs.Law.{sends_data, sends_home, sends_inv_ack}
+use Rattle.cache_table.specs.Row.{row_of}
+use Rattle.cache_table.specs.declared.row.CacheEvent.TheVariants as events
+use Rattle.cache_table.specs.declared.row.CacheSends.{CacheSends}
+use Rattle.cache_table.specs.declared.row.CacheSends.TheVariants as sends
+use Rattle.cache_table.specs.declared.row.Row.{Row}
+use Rattle.cache_table.specs.declared.row.Row.TheVariants as rows
+use Rattle.cache_table.specs.declared.state.CopyState.{CopyState}
+use Rattle.cache_table.specs.declared.state.CopyState.TheVariants as states
+use Rattle.directory_table.specs.declared.state.DirEntry.{DirEntry}
+use Rattle.slice_core_coherence.proofs.Facts.{data_before_counting}
+use Rattle.slice_core_coherence.proofs.Frame.{by_number, by_side, read-set, with_copy_at}
+use Rattle.slice_core_coherence.proofs.OwnTurns.{StepStands}
+use Rattle.slice_core_coherence.proofs.Parts.{IsFirst, data_stand, first_at_hand, first_stands, first_taken}
+use Rattle.slice_core_coherence.proofs.Places.{PartsStand, acks-with_core, acks_kept, acks_turned, parts_as, parts_sent, parts_turned, with_core-length, with_part_at}
+use Rattle.slice_core_coherence.proofs.Rows.{IsAnswer, answers, sends_for}
+use Rattle.slice_core_coherence.proofs.Turns.{IsQuiet, turn_stands}
+use Rattle.slice_core_coherence.specs.Stands.{AcksStand, AreReached, EntryStands, LineStands, PartStands, Stands, copies_at}
+use Rattle.slice_core_plan.specs.Plan.{asks, by_forwarded_row, event_of_forwarded, forwarded_by, is_put_ack, plan_of, requester_of}
+use Rattle.slice_core_plan.specs.Sends.{cache_room, cache_sent}
+use Rattle.slice_core_plan.specs.Steps.{after_forwarded}
+use Rattle.slice_core_plan.specs.View.{View, IsShaped, channels_at, entry_at, side_at}
+use Rattle.slice_core_plan.specs.Within.{Stands as HasCopy}
+use Rattle.slice_core_plan.specs.declared.decide.Plan.{Plan}
+use Rattle.slice_core_plan.specs.declared.decide.Plan.TheVariants as plans
+use Rattle.slice_core_answer.specs.declared.answer.Cell.TheVariants as cells
+use Rattle.slice_core_protocol.proofs.Frame.{at_place}
+use Rattle.slice_core_protocol.proofs.Promises.{reached_has_room, reached_has_rows}
+use Rattle.slice_core_protocol.specs.Fit.{is_counting, is_no_data}
+use Rattle.slice_core_protocol.specs.Line.{Line, Part}
+use Rattle.slice_core_protocol.specs.Machine.{Reached, Step, acted, after, after_turn, asks_for, change_if, further, given, stands as is_at_hand, stands_ack, taken, turn}
+use Rattle.slice_core_protocol.specs.Line.{Request}
+use Rattle.slice_core_side.proofs.Found.{copy_of-after_advance, copy_of-after_advance_other}
+use Rattle.slice_core_side.specs.Copy.{is_gone, no_copy}
+use Rattle.slice_core_side.specs.Kept.{IsKept}
+use Rattle.slice_core_side.specs.Side.{copy_of, state_of}
+use Rattle.slice_core_side.specs.Steps.{after_advance}
+use Rattle.slice_core_side.specs.declared.copy.CacheCopy.{CacheCopy}
+use Rattle.slice_queues.specs.Line.{CoreChannels, LineChannels, after_send, after_take, core_at, no_messages, with_core}
+use Rattle.slice_queues_message.specs.declared.channel.Channel.TheVariants as channels
+use Rattle.slice_queues_message.specs.declared.message.DataMessage.TheVariants as replies
+use Rattle.slice_queues_message.specs.declared.message.ForwardedMessage.{ForwardedMessage}
+use Rattle.slice_queues_message.specs.declared.message.ForwardedMessage.TheVariants as forwards
+use Rattle.slice_queues_message.specs.declared.message.Message.TheVariants as messages
+
+-- ---- the row that was planned
+
+-- what is planned by a row that goes on, and for whom
+row_in : Plan → Row
+row_in (plans.Forwarded next sent requester) = rows.Go next sent
+row_in _ = rows.Blocked
+
+requester_in : CoreId → Plan → CoreId
+requester_in core (plans.Forwarded next sent requester) = requester
+requester_in core _ = core
+
+module _ (v : View) (local : Local) (core : CoreId) (next : CopyState) (sent : CacheSends) (requester : CoreId) where
+  -- the message that was taken, and its row
+  pub record IsMessage (message : ForwardedMessage) : Type 0 where
+    pub waits : slice_get (core_at (channels_at v local) core.0).forwarded 0 ≡ Some message
+    pub row : row_of (state_of (side_at v core) local) (event_of_forwarded message) ≡ rows.Go next sent
+    pub names : requester_of core message ≡ requester
+
+  planned_by : (message : ForwardedMessage) (row : Row)
+      → by_forwarded_row v local core message row ≡ plans.Forwarded next sent requester
+      → (row ≡ rows.Go next sent) × (requester_of core message ≡ requester)
+  unfolding row_in requester_in
+  planned_by message rows.NoEntry is = absurd (cc is)
+  planned_by message rows.Blocked is = absurd (cc is)
+  planned_by message (rows.Go n s) is =
+      by_tests (cache_room (channels_at v local) core (requester_of core message) s)
+      (is_put_ack message && asks v local core) is
+    where
+      by_tests : (room early : Bool)
+          → (if not room then plans.Broken cells.Full else if early then plans.Broken cells.Early
+          else plans.Forwarded n s (requester_of core message)) ≡ plans.Forwarded next sent requester
+          → (rows.Go n s ≡ rows.Go next sent) × (requester_of core message ≡ requester)
+      by_tests false early is = absurd (cc is)
+      by_tests true true is = absurd (cc is)
+      by_tests true false is = (ap row_in is, ap (requester_in core) is)
+
+  pub message_by : (front : Option ForwardedMessage)
+      → slice_get (core_at (channels_at v local) core.0).forwarded 0 ≡ front
+      → forwarded_by v local core front ≡ plans.Forwarded next sent requester
+      → (message : ForwardedMessage) × IsMessage message
+  message_by None waits is = absurd (cc is)
+  message_by (Some message) waits is =
+      let planned = planned_by message (row_of (state_of (side_at v core) local) (event_of_forwarded message)) is in
+      (message, record { waits = waits; row = planned.0; names = planned.1 })
+
+-- ---- the core's own part
+
+-- the copy that went to its next state, if anything is left of it
+abbrev pub moved : CacheCopy → CopyState → CacheCopy
+moved copy next = if is_gone next then no_copy else record copy { state = next }
+
+moved-state : (copy : CacheCopy) (next : CopyState) → (moved copy next).state ≡ next
+moved-state copy states.I = refl
+moved-state copy states.IS_D = refl
+moved-state copy states.IM_AD = refl
+moved-state copy states.IM_A = refl
+moved-state copy states.S = refl
+moved-state copy states.SM_AD = refl
+moved-state copy states.SM_A = refl
+moved-state copy states.M = refl
+moved-state copy states.E = refl
+moved-state copy states.MI_A = refl
+moved-state copy states.SI_A = refl
+moved-state copy states.II_A = refl
+
+-- A copy that waits stays, with its count.
+moved-counted : (copy : CacheCopy) (next : CopyState) → is_waiting next ≡ true
+    → (moved copy next).counted ≡ copy.counted
+moved-counted copy states.IS_D waits = refl
+moved-counted copy states.IM_AD waits = refl
+moved-counted copy states.IM_A waits = refl
+moved-counted copy states.SM_AD waits = refl
+moved-counted copy states.SM_A waits = refl
+moved-counted copy states.I waits = absurd (cc waits)
+moved-counted copy states.S waits = absurd (cc waits)
+moved-counted copy states.M waits = absurd (cc waits)
+moved-counted copy states.E waits = absurd (cc waits)
+moved-counted copy states.MI_A waits = absurd (cc waits)
+moved-counted copy states.SI_A waits = absurd (cc waits)
+moved-counted copy states.II_A waits = absurd (cc waits)
+
+-- No forwarded message has its core ask for anything.
+asks-nothing : (message : ForwardedMessage) (own : Request) → asks_for (sends_for message) own ≡ own
+asks-nothing (forwards.Inv core) own = refl
+asks-nothing (forwards.FwdGetS core) own = refl
+asks-nothing (forwards.FwdGetM core) own = refl
+asks-nothing forwards.PutAck own = refl
+
+-- The core's copy and channels after the message are its part after the row.
+part_after : (copy : CacheCopy) (mail : CoreChannels) (part : Part) (message : ForwardedMessage) (next : CopyState)
+    → IsFirst message part → IsAnswer message part.look.state next (sends_for message) → PartStands copy mail part
+    → PartStands (moved copy next) (record mail { forwarded = drop 1 mail.forwarded })
+    (acted (event_of_forwarded message) 0 next (sends_for message) part)
+part_after copy mail part message next first answer stands =
+    let took = first_taken copy mail part message first stands in record {
+      state = moved-state copy next;
+      request = took.request ∙ sym (asks-nothing message (taken (event_of_forwarded message) part.look).request);
+      incoming = took.incoming;
+      queue = took.queue;
+      named = took.named;
+      wants = λ h. absurd (true≢false (sym h ∙ answer.not_counting));
+      counted = λ waits.
+          let more : part.counted ≡ part.counted + 0 = omega arith in
+          moved-counted copy next waits ∙ stands.counted (answer.waited waits) ∙ more
+          ∙ sym (ap (λ b. if b then part.counted + 0 else 0) waits);
+    }
+
+-- ---- acknowledgements
+
+-- A turn that sends no Inv-Ack leaves what is owed, as do data that come.
+owes-turned : (message : ForwardedMessage) (next : CopyState) (sent : CacheSends) (part : Part) (to : ℕ)
+    → sends_inv_ack sent ≡ false
+    → stands_ack (acted (event_of_forwarded message) 0 next sent part) to ≡ stands_ack part to
+owes-turned (forwards.Inv core) next sent part to none =
+    ap (λ b. b && part.owes_to == to) (ap (λ b. part.look.sent || b) none ∙ or-false part.look.sent)
+owes-turned (forwards.FwdGetS core) next sent part to none =
+    ap (λ b. b && part.owes_to == to) (ap (λ b. part.look.sent || b) none ∙ or-false part.look.sent)
+owes-turned (forwards.FwdGetM core) next sent part to none =
+    ap (λ b. b && part.owes_to == to) (ap (λ b. part.look.sent || b) none ∙ or-false part.look.sent)
+owes-turned forwards.PutAck next sent part to none =
+    ap (λ b. b && part.owes_to == to) (ap (λ b. part.look.sent || b) none ∙ or-false part.look.sent)
+
+owes-given : (b : Bool) (part : Part) (to : ℕ) → stands_ack (change_if b given part) to ≡ stands_ack part to
+owes-given true part to = refl
+owes-given false part to = refl
+
+-- Which acknowledgements wait for the core is no part of its own.
+acks_apart : (copy : CacheCopy) (mail : CoreChannels) (part : Part) (acks : ℕ) → PartStands copy mail part
+    → PartStands copy (record mail { acks = acks }) part
+acks_apart copy mail part acks stands = record {
+  state = stands.state;
+  request = stands.request;
+  incoming = stands.incoming;
+  queue = stands.queue;
+  named = stands.named;
+  wants = stands.wants;
+  counted = stands.counted;
+}
+
+-- ---- the line
+
+module _ (exclusive : Bool) (cores : ℕ) (entry : DirEntry) (queues : LineChannels) (copy : ℕ → CacheCopy) (line : Line)
+    (core : CoreId) (next : CopyState) (block : Block) (some : 0 < cores) (most : cores ≤ 64)
+    (reached : Reached exclusive cores line) (stands : LineStands cores entry queues copy line)
+    (size : length queues.cores ≡ cores) (within : core.0 < cores) where
+  there : core.0 < length queues.cores
+  there = subst (λ n. core.0 < n) (sym size) within
+
+  -- the core's channels once the message is taken, and the line's
+  abbrev mail_here : CoreChannels
+  mail_here = record (core_at queues core.0) { forwarded = drop 1 (core_at queues core.0).forwarded }
+
+  abbrev queues_here : LineChannels
+  queues_here = with_core queues core.0 mail_here
+
+  abbrev copies_here : ℕ → CacheCopy
+  copies_here = with_copy_at copy core.0 (moved (copy core.0) next)
+
+  module _ (message : ForwardedMessage) (waits : slice_get (core_at queues core.0).forwarded 0 ≡ Some message)
+      (row : row_of (copy core.0).state (event_of_forwarded message) ≡ rows.Go next (sends_for message)) where
+    abbrev change : Part → Part
+    change = acted (event_of_forwarded message) 0 next (sends_for message)
+
+    -- the parts after the core's own turn
+    abbrev turned : ℕ → Part
+    turned = with_part_at line.part core.0 change
+
+    abbrev turned_line : Line
+    turned_line = after_turn line core.0 (event_of_forwarded message) next (sends_for message)
+
+    pub first : IsFirst message (line.part core.0)
+    first = first_stands (copy core.0) (core_at queues core.0) (line.part core.0) message waits
+        (stands.part core.0 within)
+
+    pub at_hand : is_at_hand (line.part core.0) (event_of_forwarded message) ≡ true
+    at_hand = first_at_hand message (line.part core.0) first
+
+    pub row_here : row_of (line.part core.0).look.state (event_of_forwarded message) ≡ rows.Go next (sends_for message)
+    row_here = ap (λ s. row_of s (event_of_forwarded message)) (sym (stands.part core.0 within).state) ∙ row
+
+    abbrev pub message_step : Step exclusive cores line
+    message_step = turn core.0 (event_of_forwarded message) next (sends_for message) within at_hand row_here
+
+    own : PartStands (moved (copy core.0) next) mail_here (change (line.part core.0))
+    own = part_after (copy core.0) (core_at queues core.0) (line.part core.0) message next first
+        (answers message (line.part core.0).look.state next (sends_for message) row_here) (stands.part core.0 within)
+
+    turned_stand : PartsStand cores queues_here copies_here turned
+    turned_stand = parts_turned cores queues copy line.part core.0 (moved (copy core.0) next) mail_here change there own
+        stands.part
+
+    entry_after : EntryStands entry turned_line
+    entry_after = record {
+      directory = stands.entry_stands.directory;
+      owner = stands.entry_stands.owner;
+      sharers = stands.entry_stands.sharers;
+    }
+
+    -- A Put-Ack: nothing is sent.
+    pub quiet_stands : IsQuiet (sends_for message) → LineStands cores entry queues_here copies_here turned_line
+    quiet_stands quiet =
+        turn_stands cores entry queues copy line core.0 (event_of_forwarded message) next (sends_for message)
+        (moved (copy core.0) next) mail_here there quiet refl own stands
+
+    -- Data for the core that a forwarded request names.
+    module _ (requester : CoreId) (named : requester.0 ≡ (line.part core.0).names)
+        (gives : sends_data (sends_for message) ≡ true) (owes : sends_inv_ack (sends_for message) ≡ false) where
+      abbrev queues_sent : LineChannels
+      queues_sent = after_send queues_here (channels.Data requester) (messages.Data (replies.Data block 0))
+
+      below : requester.0 < cores
+      below =
+          let room = (reached_has_room exclusive cores line some most reached).turn core.0
+          (event_of_forwarded message) next (sends_for message) within at_hand row_here in
+          subst (λ n. n < cores) (sym named) (room.named gives)
+
+      given_here : turned_line.part requester.0 ≡ given (turned requester.0)
+      given_here =
+          ap (λ b. change_if b given (turned requester.0))
+          (ap (λ b. b && requester.0 == (line.part core.0).names) gives
+          ∙ eq-eqb requester.0 (line.part core.0).names named)
+
+      not_counting : is_counting (turned requester.0).look.state ≡ false
+      not_counting =
+          sym (ap (λ (p : Part). is_counting p.look.state) given_here)
+          ∙ data_before_counting exclusive cores turned_line some most (further reached message_step) requester.0 below
+          (ap (λ (p : Part). is_no_data p.look.incoming) given_here)
+
+      given_stand : PartsStand cores queues_sent copies_here turned_line.part
+      given_stand =
+          parts_as cores queues_sent copies_here (with_part_at turned requester.0 given) turned_line.part
+          (λ x within_x.
+          ap (λ b. change_if (b && x == (line.part core.0).names) given (turned x)) gives
+          ∙ ap (λ n. change_if (x == n) given (turned x)) (sym named))
+          (parts_sent cores queues_here copies_here turned requester.0
+          (record (core_at queues_here requester.0) { «data» = Some (replies.Data block 0) }) given
+          (subst (λ n. requester.0 < n) (sym (with_core-length queues core.0 mail_here ∙ size)) below)
+          (data_stand (copies_here requester.0) (core_at queues_here requester.0) (turned requester.0)
+          (replies.Data block 0) not_counting (turned_stand requester.0 below))
+          turned_stand)
+
+      given_acks : AcksStand cores queues_sent turned_line.part
+      given_acks =
+          acks_kept cores queues queues_sent line.part turned_line.part
+          (λ x. acks-with_core queues_here requester.0 x _ refl ∙ acks-with_core queues core.0 x mail_here refl)
+          (λ to from within_from.
+          owes-given (sends_data (sends_for message) && from == (line.part core.0).names) (turned from) to
+          ∙ acks_turned line.part core.0 change
+          (λ y. owes-turned message next (sends_for message) (line.part core.0) y owes) to from)
+          stands.acks
+
+      -- The data alone, or the block home as well.
+      pub given_stands : (queues_at : LineChannels) → queues_at.cores ≡ queues_sent.cores
+          → is_some queues_at.home ≡ (sends_home (sends_for message) || line.home)
+          → LineStands cores entry queues_at copies_here turned_line
+      given_stands queues_at same home = record {
+        entry_stands = entry_after;
+        home = home;
+        part = λ x within_x.
+            subst (λ c. PartStands (copies_here x) (get_or c x no_messages) (turned_line.part x)) (sym same)
+            (given_stand x within_x);
+        acks = record {
+          waits = λ to from. subst (λ c. to < cores → from < cores
+              → has (get_or c to no_messages).acks from ≡ stands_ack (turned_line.part from) to) (sym same)
+              (given_acks.waits to from);
+          senders = λ to from. subst (λ c. has (get_or c to no_messages).acks from ≡ true → from < cores) (sym same)
+              (given_acks.senders to from);
+        };
+      }
+
+  -- The acknowledgement of an Inv, for the core that it names.
+  module _ (requester : CoreId) (waits : slice_get (core_at queues core.0).forwarded 0 ≡ Some (forwards.Inv requester))
+      (row : row_of (copy core.0).state events.Inv ≡ rows.Go next sends.InvAckToRequester) where
+    abbrev acks_of : ℕ → ℕ
+    acks_of to = (core_at queues_here to).acks
+
+    abbrev mail_acked : CoreChannels
+    mail_acked = record (core_at queues_here requester.0) { acks = with (acks_of requester.0) core.0 }
+
+    abbrev queues_acked : LineChannels
+    queues_acked = after_send queues_here (channels.Ack requester core) messages.InvAck
+
+    abbrev part_acked : Part
+    part_acked = acted events.Inv 0 next sends.InvAckToRequester (line.part core.0)
+
+    abbrev line_acked : Line
+    line_acked = after_turn line core.0 events.Inv next sends.InvAckToRequester
+
+    due : (line.part core.0).owes_to ≡ requester.0
+    due = (first (forwards.Inv requester) waits row).1
+
+    owes_now : (to : ℕ) → stands_ack part_acked to ≡ ((line.part core.0).owes_to == to)
+    owes_now to = ap (λ b. b && (line.part core.0).owes_to == to) (or-true (line.part core.0).look.sent)
+
+    there_requester : requester.0 < length queues_here.cores
+    there_requester =
+        let same = at_place line.part core.0 (acted events.Inv 0 next sends.InvAckToRequester) in
+        let named = (reached_has_rows exclusive cores line_acked some most
+        (further reached (message_step (forwards.Inv requester) waits row))).ack_for_core core.0 within
+        (ap (λ (p : Part). p.look.sent) same ∙ or-true (line.part core.0).look.sent) in
+        subst (λ n. n < length queues_here.cores) (ap (λ (p : Part). p.owes_to) same ∙ due)
+        (subst (λ n. (line_acked.part core.0).owes_to < n) (sym (with_core-length queues core.0 mail_here ∙ size))
+        named)
+
+    -- Its acknowledgement waits for who is due, and the others do as before.
+    acks_as : (to from : ℕ) → has (acks_of to) from ≡ has (core_at queues to).acks from
+    acks_as to from = ap (λ a. has a from) (acks-with_core queues core.0 to mail_here refl)
+
+    waits_due : (to from : ℕ) → to < cores → from < cores → to ≡ requester.0
+        → has (with (acks_of requester.0) core.0) from ≡ stands_ack (line_acked.part from) to
+    waits_due to from below within_from same =
+        by_number from core.0
+        (λ b. has (with (acks_of requester.0) core.0) from
+        ≡ stands_ack (change_if b (acted events.Inv 0 next sends.InvAckToRequester) (line.part from)) to)
+        (λ here.
+        ap (λ x. has (with (acks_of requester.0) core.0) x) here
+        ∙ has-with_same (acks_of requester.0) core.0 (omega (arith, within, most))
+        ∙ sym (ap (λ x. stands_ack (acted events.Inv 0 next sends.InvAckToRequester (line.part x)) to) here
+        ∙ owes_now to ∙ eq-eqb (line.part core.0).owes_to to (due ∙ sym same)))
+        (λ away.
+        has-with_other (acks_of requester.0) core.0 from away ∙ acks_as requester.0 from
+        ∙ ap (λ y. has (core_at queues y).acks from) (sym same) ∙ stands.acks.waits to from below within_from)
+
+    waits_other : (to from : ℕ) → to < cores → from < cores → (to ≡ requester.0 → ⊥)
+        → has (acks_of to) from ≡ stands_ack (line_acked.part from) to
+    waits_other to from below within_from apart =
+        acks_as to from ∙ stands.acks.waits to from below within_from
+        ∙ sym (by_number from core.0
+        (λ b. stands_ack (change_if b (acted events.Inv 0 next sends.InvAckToRequester) (line.part from)) to
+        ≡ stands_ack (line.part from) to)
+        (λ here. subst (λ x. stands_ack (acted events.Inv 0 next sends.InvAckToRequester (line.part x)) to
+        ≡ stands_ack (line.part x) to) (sym here)
+        (owes_now to ∙ not_due ∙ sym (ap (λ b. (line.part core.0).look.sent && b) not_due
+        ∙ and-false (line.part core.0).look.sent)))
+        (λ away. refl))
+      where
+        not_due : ((line.part core.0).owes_to == to) ≡ false
+        not_due = ne_eqb (line.part core.0).owes_to to (λ e. apart (sym e ∙ due))
+
+    pub acked_stands : LineStands cores entry queues_acked copies_here line_acked
+    acked_stands = record {
+      entry_stands = entry_after (forwards.Inv requester) waits row;
+      home = stands.home;
+      part = λ x below.
+          subst (λ m. PartStands (copies_here x) m (line_acked.part x))
+          (sym (read-set queues_here.cores requester.0 x mail_acked no_messages there_requester))
+          (by_number x requester.0
+          (λ b. PartStands (copies_here x) (if b then mail_acked else core_at queues_here x) (line_acked.part x))
+          (λ same. acks_apart (copies_here x) (core_at queues_here requester.0) (line_acked.part x)
+          (with (acks_of requester.0) core.0)
+          (subst (λ y. PartStands (copies_here x) (core_at queues_here y) (line_acked.part x)) same
+          (turned_stand (forwards.Inv requester) waits row x below)))
+          (λ apart. turned_stand (forwards.Inv requester) waits row x below));
+      acks = record {
+        waits = λ to from below within_from.
+            ap (λ (m : CoreChannels). has m.acks from)
+            (read-set queues_here.cores requester.0 to mail_acked no_messages there_requester)
+            ∙ by_number to requester.0
+            (λ b. has (if b then mail_acked else core_at queues_here to).acks from
+            ≡ stands_ack (line_acked.part from) to)
+            (waits_due to from below within_from) (waits_other to from below within_from);
+        senders = λ to from waits.
+            by_number to requester.0
+            (λ b. has (if b then mail_acked else core_at queues_here to).acks from ≡ true → from < cores)
+            (λ same h. by_number from core.0 (λ b. from < cores) (λ here. subst (λ n. n < cores) (sym here) within)
+            (λ away. stands.acks.senders requester.0 from
+            (sym (has-with_other (acks_of requester.0) core.0 from away ∙ acks_as requester.0 from) ∙ h)))
+            (λ apart h. stands.acks.senders to from (sym (acks_as to from) ∙ h))
+            (sym (ap (λ (m : CoreChannels). has m.acks from)
+            (read-set queues_here.cores requester.0 to mail_acked no_messages there_requester)) ∙ waits);
+      };
+    }
+
+  -- ---- each message
+
+  unfoldable pub message_stands : (message : ForwardedMessage) → slice_get (core_at queues core.0).forwarded 0 ≡ Some message
+      → row_of (copy core.0).state (event_of_forwarded message) ≡ rows.Go next (sends_for message)
+      → StepStands exclusive cores entry
+      (cache_sent (after_take queues (channels.Fwd core)) core (requester_of core message) block (sends_for message))
+      copies_here line
+  message_stands (forwards.Inv requester) waits row =
+      (message_step (forwards.Inv requester) waits row, acked_stands requester waits row)
+  message_stands (forwards.FwdGetS requester) waits row =
+      let named = sym (first (forwards.FwdGetS requester) waits row).2 in
+      let sent = queues_sent (forwards.FwdGetS requester) waits row requester named refl refl in (
+        message_step (forwards.FwdGetS requester) waits row,
+        given_stands (forwards.FwdGetS requester) waits row requester named refl refl
+            (record sent { home = Some block }) refl refl,
+      )
+  message_stands (forwards.FwdGetM requester) waits row =
+      let named = sym (first (forwards.FwdGetM requester) waits row).2 in
+      let sent = queues_sent (forwards.FwdGetM requester) waits row requester named refl refl in (
+        message_step (forwards.FwdGetM requester) waits row,
+        given_stands (forwards.FwdGetM requester) waits row requester named refl refl sent refl stands.home,
+      )
+  message_stands forwards.PutAck waits row = (
+    message_step forwards.PutAck waits row,
+    quiet_stands forwards.PutAck waits row (record { gives = refl; home = refl; acknowledges = refl }),
+  )
+
+-- ---- the slice
+
+module _ (v : View) (local : Local) (core : CoreId) (next : CopyState) (sent : CacheSends) (requester : CoreId)
+    (some : 0 < length v.sides) (most : length v.sides ≤ 64) (shaped : IsShaped v) (kept : IsKept (side_at v core))
+    (there : core.0 < length v.sides) (inside : local.0 < v.lines.lines) (has_copy : HasCopy (side_at v core) local)
+    (is : plan_of v local (channels.Fwd core) ≡ plans.Forwarded next sent requester) where
+  abbrev channels_after : LineChannels
+  channels_after =
+      cache_sent (after_take (channels_at v local) (channels.Fwd core)) core requester
+      (copy_of (side_at v core) local).block sent
+
+  -- The machine's step for a forwarded message that a core takes.
+  unfoldable pub forwarded_step : (line : Line) → Reached v.exclusive (length v.sides) line → Stands v local line
+      → StepStands v.exclusive (length v.sides) (entry_at v local) channels_after
+      (with_copy_at (copies_at v local) core.0 (copy_of (after_advance (side_at v core) local next) local)) line
+  forwarded_step line reached stands =
+      let side = side_at v core in
+      let block = (copy_of side local).block in
+      let found = message_by v local core next sent requester
+      (slice_get (core_at (channels_at v local) core.0).forwarded 0) refl is in
+      let message = found.0 in
+      let sends = (answers message (state_of side local) next sent found.1.row).sends in
+      let queues = after_take (channels_at v local) (channels.Fwd core) in
+      let result = message_stands v.exclusive (length v.sides) (entry_at v local) (channels_at v local)
+      (copies_at v local) line core next block some most reached stands (shaped.cores local inside) there message
+      found.1.waits
+      (subst (λ s. row_of (state_of side local) (event_of_forwarded message) ≡ rows.Go next s) sends found.1.row) in (
+        result.0,
+        subst (λ now. LineStands (length v.sides) (entry_at v local) channels_after
+            (with_copy_at (copies_at v local) core.0 now) (after result.0))
+            (sym (copy_of-after_advance side local kept next has_copy))
+            (subst (λ s. LineStands (length v.sides) (entry_at v local) (cache_sent queues core requester block s)
+            (with_copy_at (copies_at v local) core.0 (moved (copy_of side local) next)) (after result.0)) (sym sends)
+            (subst (λ r. LineStands (length v.sides) (entry_at v local)
+            (cache_sent queues core r block (sends_for message))
+            (with_copy_at (copies_at v local) core.0 (moved (copy_of side local) next)) (after result.0))
+            found.1.names result.1)),
+      )
+
+  -- A slice in which a core takes a forwarded message goes on as its lines can.
+  pub forwarded_reached : AreReached v → AreReached (after_forwarded v local core next sent requester)
+  forwarded_reached all =
+      let before = all local inside in
+      let step = forwarded_step before.0 before.1 before.2 in
+      by_side v local shaped inside all channels_after core (after_advance (side_at v core) local next) v.log there
+      (λ other within apart. copy_of-after_advance_other (side_at v core) local kept next other apart)
+      (after step.0) (further before.1 step.0) step.1

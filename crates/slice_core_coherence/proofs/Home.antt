@@ -1,0 +1,122 @@
+-- A block that comes home is a step of the line.
+use Rattle.std.proofs.Common.{◌≡◌, ℕ, ◌<◌, Bool, true, false, if◌then◌else◌, length, Option, Some, None, is_some, unwrap_or, refl, sym, ap, ◌∙◌, subst}
+use Rattle.address_map.specs.declared.address.CoreId.{CoreId}
+use Rattle.address_map.specs.declared.address.Local.{Local}
+use Rattle.directory_table.specs.Law.{IfGo}
+use Rattle.directory_table.specs.Row as Directory
+use Rattle.directory_table.specs.Row.{cell}
+use Rattle.directory_table.specs.declared.row.DirEvent.TheVariants as asks
+use Rattle.directory_table.specs.declared.row.DirRow.{DirRow}
+use Rattle.directory_table.specs.declared.row.DirRow.TheVariants as rows
+use Rattle.directory_table.specs.declared.row.DirSends.{DirSends}
+use Rattle.directory_table.specs.declared.row.DirSends.TheVariants as answers
+use Rattle.directory_table.specs.declared.state.DirEntry.{DirEntry}
+use Rattle.directory_table.specs.declared.state.DirState.{DirState}
+use Rattle.directory_table.specs.declared.state.DirState.TheVariants as dirs
+use Rattle.slice_core_coherence.proofs.Directory.{row_here}
+use Rattle.slice_core_coherence.proofs.Frame.{by_entry}
+use Rattle.slice_core_coherence.specs.Stands.{AreReached, LineStands, Stands, copies_at}
+use Rattle.slice_core_plan.specs.Plan.{by_home_row, plan_of}
+use Rattle.slice_core_plan.specs.Steps.{after_home}
+use Rattle.slice_core_plan.specs.View.{View, IsShaped, channels_at, entry_at}
+use Rattle.slice_core_plan.specs.declared.decide.Plan.{Plan}
+use Rattle.slice_core_plan.specs.declared.decide.Plan.TheVariants as plans
+use Rattle.slice_core_protocol.specs.Line.{Line}
+use Rattle.slice_core_protocol.specs.Machine.{Reached, Step, after, entry_of, further, serve}
+use Rattle.slice_queues.specs.Line.{after_take}
+use Rattle.slice_queues_message.specs.declared.channel.Channel.TheVariants as channels
+
+-- A block that comes home makes the directory send nothing.
+home_row : (exclusive : Bool) (state : DirState) (owner : Option CoreId) (sharers : ℕ)
+    → IfGo (cell exclusive state owner sharers asks.DataHome) (λ next owns shares sent writes. sent ≡ answers.Nothing)
+home_row true dirs.I owner sharers = tt
+home_row true dirs.S owner sharers = tt
+home_row true dirs.M (Some core) sharers = tt
+home_row true dirs.M None sharers = tt
+home_row true dirs.S_D owner sharers = refl
+home_row false dirs.I owner sharers = tt
+home_row false dirs.S owner sharers = tt
+home_row false dirs.M (Some core) sharers = tt
+home_row false dirs.M None sharers = tt
+home_row false dirs.S_D owner sharers = refl
+
+module _ (v : View) (local : Local) (state : DirState) (owner : Option CoreId) (sharers : ℕ) where
+  -- what the plan says of the row
+  pub record ComesHome : Type 0 where
+    pub waits : is_some (channels_at v local).home ≡ true
+    pub writes : Bool
+    pub row : Directory.row_of v.exclusive (entry_at v local) asks.DataHome
+        ≡ rows.Go state owner sharers answers.Nothing writes
+
+  pub comes_home : plan_of v local channels.Home ≡ plans.Home state owner sharers → ComesHome
+  comes_home is = by (is_some (channels_at v local).home) refl is
+    where
+      row_now : DirRow
+      row_now = Directory.row_of v.exclusive (entry_at v local) asks.DataHome
+
+      entry_in : Plan → DirState × Option CoreId × ℕ
+      entry_in (plans.Home s o sh) = (s, o, sh)
+      entry_in _ = (state, owner, sharers)
+
+      by_row : is_some (channels_at v local).home ≡ true → (row : DirRow) → row_now ≡ row
+          → by_home_row row ≡ plans.Home state owner sharers → ComesHome
+      by_row waits rows.NoEntry e is = absurd (cc is)
+      by_row waits rows.Blocked e is = absurd (cc is)
+      by_row waits (rows.Go s o sh sent writes) e is =
+          let none : sent ≡ answers.Nothing =
+          subst (λ (r : DirRow). IfGo r (λ next owns shares se w. se ≡ answers.Nothing)) e
+          (home_row v.exclusive (entry_at v local).state (entry_at v local).owner (entry_at v local).sharers) in
+          record {
+            waits = waits;
+            writes = writes;
+            row = e ∙ ap (λ se. rows.Go s o sh se writes) none
+                ∙ ap (λ (t : DirState × Option CoreId × ℕ). rows.Go t.0 t.1 t.2 answers.Nothing writes)
+                (ap entry_in is);
+          }
+
+      by : (waits : Bool) → is_some (channels_at v local).home ≡ waits
+          → (if waits then by_home_row row_now else plans.Nothing) ≡ plans.Home state owner sharers → ComesHome
+      by true waits is = by_row waits row_now refl is
+      by false waits is = absurd (cc is)
+
+module _ (v : View) (local : Local) (shaped : IsShaped v) (inside : local.0 < v.lines.lines) (state : DirState)
+    (owner : Option CoreId) (sharers : ℕ) (is : plan_of v local channels.Home ≡ plans.Home state owner sharers) where
+  -- The machine's line goes on by one step, and the slice's line is that line then.
+  unfoldable pub home_step : (l : Line) → Stands v local l
+      → (step : Step v.exclusive (length v.sides) l)
+      × LineStands (length v.sides)
+      (record {
+        home = unwrap_or (channels_at v local).home (entry_at v local).home;
+        sharers = sharers;
+        owner = owner;
+        state = state;
+      })
+      (after_take (channels_at v local) channels.Home) (copies_at v local) (after step)
+  home_step l stands =
+      let known = comes_home v local state owner sharers is in
+      (
+        serve asks.DataHome (entry_at v local).home state owner sharers answers.Nothing known.writes tt
+        (sym stands.home ∙ known.waits)
+        (row_here v.exclusive (entry_at v local) l (entry_at v local).home asks.DataHome stands.entry_stands
+        ∙ known.row),
+        record {
+          entry_stands = record { directory = refl; owner = refl; sharers = refl };
+          home = refl;
+          part = stands.part;
+          acks = record { waits = stands.acks.waits; senders = stands.acks.senders };
+        },
+      )
+
+  -- A block that comes home leaves each line reached.
+  pub reached_home : AreReached v → AreReached (after_home v local state owner sharers)
+  reached_home all =
+      let before = all local inside in
+      let step = home_step before.0 before.2 in
+      by_entry v local shaped inside all
+      (record {
+        home = unwrap_or (channels_at v local).home (entry_at v local).home;
+        sharers = sharers;
+        owner = owner;
+        state = state;
+      })
+      (after_take (channels_at v local) channels.Home) (after step.0) (further before.1 step.0) step.1

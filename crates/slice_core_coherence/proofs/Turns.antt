@@ -1,0 +1,76 @@
+-- A core's turn that sends nothing to other cores or home: an access, an eviction, or a message that it takes.
+use Rattle.std.proofs.Common.{◌≡◌, ℕ, ◌<◌, ◌==◌, ◌&&◌, ◌||◌, Bool, true, false, length, refl, sym, ap, ◌∙◌, subst, IsTrue}
+use Rattle.std.proofs.Math.Bool.{or-false}
+use Rattle.cache_table.specs.Law.{sends_data, sends_home, sends_inv_ack}
+use Rattle.cache_table.specs.Row.{row_of}
+use Rattle.cache_table.specs.declared.row.CacheEvent.{CacheEvent}
+use Rattle.cache_table.specs.declared.row.CacheEvent.TheVariants as events
+use Rattle.cache_table.specs.declared.row.CacheSends.{CacheSends}
+use Rattle.cache_table.specs.declared.row.Row.TheVariants as rows
+use Rattle.cache_table.specs.declared.state.CopyState.{CopyState}
+use Rattle.directory_table.specs.declared.state.DirEntry.{DirEntry}
+use Rattle.slice_core_coherence.proofs.Frame.{with_copy_at}
+use Rattle.slice_core_coherence.proofs.Places.{PartsStand, acks-with_core, acks_kept, acks_turned, parts_as, parts_turned, with_part_at}
+use Rattle.slice_core_coherence.specs.Stands.{LineStands, PartStands}
+use Rattle.slice_core_protocol.specs.Line.{Line, Part}
+use Rattle.slice_core_protocol.specs.Machine.{acted, after_turn, change_if, given, stands_ack, taken}
+use Rattle.slice_core_side.specs.declared.copy.CacheCopy.{CacheCopy}
+use Rattle.slice_queues.specs.Line.{CoreChannels, LineChannels, core_at, with_core}
+
+-- Nothing of the row leaves the core's own channels.
+pub record IsQuiet (sent : CacheSends) : Type 0 where
+  pub gives : sends_data sent ≡ false
+  pub home : sends_home sent ≡ false
+  pub acknowledges : sends_inv_ack sent ≡ false
+
+-- The core owes what it owed.
+acted_owes : (part : Part) (event : CacheEvent) (more : ℕ) (next : CopyState) (sent : CacheSends) (to : ℕ)
+    → IsQuiet sent → stands_ack (acted event more next sent part) to ≡ stands_ack part to
+acted_owes part event more next sent to quiet =
+    ap (λ b. b && part.owes_to == to)
+    (ap (λ b. (taken event part.look).sent || b) quiet.acknowledges
+    ∙ or-false (taken event part.look).sent ∙ kept event)
+  where
+    kept : (event : CacheEvent) → (taken event part.look).sent ≡ part.look.sent
+    kept (events.Data n k) = refl
+    kept (events.DataE loads) = refl
+    kept events.Inv = refl
+    kept events.FwdGetS = refl
+    kept events.FwdGetM = refl
+    kept events.PutAck = refl
+    kept events.Load = refl
+    kept events.Write = refl
+    kept events.Eviction = refl
+    kept (events.InvAck n k) = refl
+
+-- The line after such a turn, where the core's copy and channels are its part.
+pub turn_stands : (cores : ℕ) (entry : DirEntry) (channels : LineChannels) (copy : ℕ → CacheCopy) (line : Line) (c : ℕ)
+    (event : CacheEvent) (next : CopyState) (sent : CacheSends) (now : CacheCopy) (mail : CoreChannels)
+    → c < length channels.cores → IsQuiet sent → mail.acks ≡ (core_at channels c).acks
+    → PartStands now mail (acted event 0 next sent (line.part c)) → LineStands cores entry channels copy line
+    → LineStands cores entry (with_core channels c mail) (with_copy_at copy c now) (after_turn line c event next sent)
+turn_stands cores entry channels copy line c event next sent now mail there quiet same here stands = record {
+  entry_stands = record {
+    directory = stands.entry_stands.directory;
+    owner = stands.entry_stands.owner;
+    sharers = stands.entry_stands.sharers;
+  };
+  home = stands.home ∙ sym (ap (λ b. b || line.home) quiet.home);
+  part = parts_as cores (with_core channels c mail) (with_copy_at copy c now) turned
+      (after_turn line c event next sent).part (λ x below. alone x)
+      (parts_turned cores channels copy line.part c now mail change there here stands.part);
+  acks = acks_kept cores channels (with_core channels c mail) line.part (after_turn line c event next sent).part
+      (λ x. acks-with_core channels c x mail same)
+      (λ to x below. ap (λ p. stands_ack p to) (alone x)
+      ∙ acks_turned line.part c change (λ to. acted_owes (line.part c) event 0 next sent to quiet) to x)
+      stands.acks;
+}
+  where
+    change : Part → Part
+    change = acted event 0 next sent
+
+    turned : ℕ → Part
+    turned = with_part_at line.part c change
+
+    alone : (x : ℕ) → (after_turn line c event next sent).part x ≡ turned x
+    alone x = ap (λ b. change_if (b && x == (line.part c).names) given (turned x)) quiet.gives

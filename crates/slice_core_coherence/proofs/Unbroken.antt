@@ -1,0 +1,649 @@
+-- No message of a slice whose lines the machine reaches is broken.
+use Rattle.std.proofs.Common.{◌≡◌, ◌≢◌, ℕ, zero, suc, ◌+◌, ◌<◌, ◌≤◌, ◌==◌, ◌&&◌, ◌||◌, Bool, true, false, not, List, [], ◌∷◌, ◌++◌, length, map, filter, if◌then◌else◌, Option, Some, None, option_map, IfSome, IsSome, IsTrue, IsFalse, is_some, position, find, slice_get, nat_lt, inl, inr, refl, sym, ap, ◌∙◌, subst, arith, true≢false}
+use Rattle.std.proofs.lemmas.Bool.{and_parts, cases_lt, eq-eqb, ltb-false}
+use Rattle.std.proofs.lemmas.List.{get_or_past, length-map}
+use Rattle.std.proofs.lemmas.List.Folds.{find_at}
+use Rattle.std.proofs.lemmas.Option.{slice_get_past}
+use Rattle.std.specs.List.{list_all, position_or_len, range_with_len}
+use Rattle.address_map.proofs.CoreSets.{has-zero}
+use Rattle.address_map.specs.CoreSet.{has, members}
+use Rattle.address_map.specs.declared.address.CoreId.{CoreId}
+use Rattle.address_map.specs.declared.address.Local.{Local}
+use Rattle.address_map.specs.declared.block.Block.{Block}
+use Rattle.std.proofs.Math.Bool.{or-true}
+use Rattle.cache_array.specs.Array.{held_at as array_at, slots_at}
+use Rattle.cache_array.specs.Set.{holds}
+use Rattle.cache_table.specs.CopyState.{is_leaving, is_waiting}
+use Rattle.cache_table.specs.Law.{sends_data, sends_home}
+use Rattle.cache_table.specs.Row.{row_of}
+use Rattle.cache_table.specs.declared.row.CacheEvent.{CacheEvent}
+use Rattle.cache_table.specs.declared.row.CacheEvent.TheVariants as events
+use Rattle.cache_table.specs.declared.row.CacheSends.{CacheSends}
+use Rattle.cache_table.specs.declared.row.CacheSends.TheVariants as sends
+use Rattle.cache_table.specs.declared.row.Row.{Row}
+use Rattle.cache_table.specs.declared.row.Row.TheVariants as lines
+use Rattle.cache_table.specs.declared.state.CopyState.{CopyState}
+use Rattle.cache_table.specs.declared.state.CopyState.TheVariants as states
+use Rattle.slice_core_protocol.proofs.Frame.{at_place}
+use Rattle.slice_core_coherence.proofs.Parts.{IsFirst, first_at_hand, first_stands}
+use Rattle.slice_core_coherence.proofs.Rows.{ack_row-same, answers, sends_for}
+use Rattle.slice_queues_message.specs.declared.message.ForwardedMessage.TheVariants as forwards
+use Rattle.directory_table.proofs.RowLaws.{cell-lawful}
+use Rattle.directory_table.specs.Law.{IfGo, Invalidates, is_sent_inv, is_shared, is_named, requester, writer}
+use Rattle.directory_table.specs.Row as Directory
+use Rattle.directory_table.specs.declared.row.DirEvent.{DirEvent}
+use Rattle.directory_table.specs.declared.row.DirEvent.TheVariants as dir_events
+use Rattle.directory_table.specs.declared.row.DirRow.{DirRow}
+use Rattle.directory_table.specs.declared.row.DirRow.TheVariants as rows
+use Rattle.directory_table.specs.declared.row.DirSends.{DirSends}
+use Rattle.directory_table.specs.declared.row.DirSends.TheVariants as dir_sends
+use Rattle.directory_table.specs.declared.state.DirEntry.{DirEntry}
+use Rattle.directory_table.specs.declared.state.DirState.{DirState}
+use Rattle.slice_core_answer.specs.declared.answer.Cell.{Cell}
+use Rattle.slice_core_answer.specs.declared.answer.Cell.TheVariants as cells
+use Rattle.slice_core_coherence.proofs.Directory.{asked_here, room_here, row_here, within_here}
+use Rattle.slice_core_coherence.proofs.Facts.{data_while_waiting}
+use Rattle.slice_core_coherence.specs.Coherent.{NothingIsBroken, WaitsInArray}
+use Rattle.slice_core_coherence.specs.Stands.{AreReached, LineStands, PartStands, Stands, copies_at, kind_of_data, kind_of_request, named_by, queue_of, queued_forward, queued_inv, queued_put_ack}
+use Rattle.slice_core_coherence.specs.Whole.{IsWhole}
+use Rattle.slice_core_plan.proofs.RoomLaws.{takes-from}
+use Rattle.slice_core_plan.specs.Plan.{acknowledge_at, ack_plan, asks, by_ack_row, by_data_row, by_directory_row, by_forwarded_row, by_home_row, data_by, event_of_data, event_of_forwarded, event_of_request, fill_at, forwarded_by, is_put_ack, plan_of, stands_at, request_by, requester_of}
+use Rattle.slice_core_plan.specs.Sends.{cache_room, directory_room, takes, takes_invalidations}
+use Rattle.slice_core_plan.specs.View.{View, IsShaped, channels_at, entry_at, side_at}
+use Rattle.slice_core_plan.specs.declared.decide.Plan.{Plan}
+use Rattle.slice_core_plan.specs.declared.decide.Plan.TheVariants as plans
+use Rattle.slice_core_protocol.proofs.Promises.{reached_has_room, reached_has_rows, reached_nothing_early}
+use Rattle.slice_core_protocol.proofs.Steps.{reached_coherent}
+use Rattle.slice_core_protocol.specs.Fit.{is_counting, is_no_data, is_no_forward, is_no_request, is_only_data}
+use Rattle.slice_core_protocol.specs.Line.{Forward, fwd_get_m, fwd_get_s, no_forward, Line, Part}
+use Rattle.slice_core_protocol.specs.Machine.{Reached, acted, after, entry_of, further, is_asked_for, stands as at_hand, turn}
+use Rattle.slice_core_protocol.specs.Promise.{HasRoomAtService, HasRoomAtTurn, has_room_for_forward, has_room_for_inv, has_room_for_put_ack, is_directory_entry, is_entry, is_message}
+use Rattle.slice_core_side.specs.Copy.{found_in}
+use Rattle.slice_core_side.specs.Side.{copy_of}
+use Rattle.slice_core_side.specs.declared.copy.CacheCopy.{CacheCopy}
+use Rattle.slice_queues.specs.Line.{CoreChannels, LineChannels, core_at, no_messages}
+use Rattle.slice_queues_message.specs.declared.channel.Channel.{Channel}
+use Rattle.slice_queues_message.specs.declared.channel.Channel.TheVariants as channels
+use Rattle.slice_queues_message.specs.declared.message.DataMessage.{DataMessage}
+use Rattle.slice_queues_message.specs.declared.message.DataMessage.TheVariants as replies
+use Rattle.slice_queues_message.specs.declared.message.ForwardedMessage.{ForwardedMessage}
+use Rattle.slice_queues_message.specs.declared.message.Message.TheVariants as messages
+use Rattle.slice_queues_message.specs.declared.message.RequestMessage.{RequestMessage}
+use Rattle.slice_queues_message.specs.declared.message.RequestMessage.TheVariants as requests
+use Rattle.writeback_buffer.specs.Buffer.{held_at as buffer_at}
+use Rattle.writeback_buffer.specs.declared.entry.Leaving.{Leaving}
+
+-- ---- room
+
+no_data_waits : (waiting : Option DataMessage) → is_no_data (kind_of_data waiting) ≡ true → waiting ≡ None
+no_data_waits None none = refl
+no_data_waits (Some (replies.Data block acks)) none = absurd (true≢false (sym none))
+no_data_waits (Some (replies.DataE block)) none = absurd (true≢false (sym none))
+
+no_request_waits : (waiting : Option RequestMessage) → is_no_request (kind_of_request waiting) ≡ true → waiting ≡ None
+no_request_waits None none = refl
+no_request_waits (Some requests.GetS) none = absurd (true≢false (sym none))
+no_request_waits (Some requests.GetM) none = absurd (true≢false (sym none))
+no_request_waits (Some requests.PutS) none = absurd (true≢false (sym none))
+no_request_waits (Some (requests.PutM block)) none = absurd (true≢false (sym none))
+
+-- One more message finds room behind these slots.
+short_slots : (inv : Bool) (asked : Forward) (put_ack : Bool) (owes_to names : ℕ)
+    → (not put_ack && not (inv && not (is_no_forward asked))) ≡ true
+    → length (queued_inv inv owes_to ++ (queued_forward asked names ++ queued_put_ack put_ack)) < 2
+short_slots inv asked true owes_to names room = absurd (true≢false (sym room))
+short_slots true no_forward false owes_to names room = omega arith
+short_slots true fwd_get_s false owes_to names room = absurd (true≢false (sym room))
+short_slots true fwd_get_m false owes_to names room = absurd (true≢false (sym room))
+short_slots false no_forward false owes_to names room = omega arith
+short_slots false fwd_get_s false owes_to names room = omega arith
+short_slots false fwd_get_m false owes_to names room = omega arith
+
+-- Where an Inv or a forwarded request finds room, a Put-Ack would.
+room_as_inv : (inv none put_ack : Bool) → (not inv && none && not put_ack) ≡ true
+    → (not put_ack && not (inv && not none)) ≡ true
+room_as_inv inv none true room = absurd (true≢false (sym (and_parts (not inv && none) false room).1))
+room_as_inv true none false room = absurd (true≢false (sym room))
+room_as_inv false none false room = refl
+
+room_as_forward : (inv none put_ack : Bool) → (none && not put_ack) ≡ true
+    → (not put_ack && not (inv && not none)) ≡ true
+room_as_forward inv true true room = absurd (true≢false (sym room))
+room_as_forward inv false put_ack room = absurd (true≢false (sym room))
+room_as_forward true true false room = refl
+room_as_forward false true false room = refl
+
+-- Each number of a range that passes the one test passes the other.
+all_of_range : (p q : ℕ → Bool) (n a : ℕ) → ((x : ℕ) → x < a + n → q x ≡ true → p x ≡ true)
+    → list_all p (filter q (range_with_len a n)) ≡ true
+all_of_range p q zero a all = refl
+all_of_range p q (suc n) a all =
+    by (q a) refl (all_of_range p q n (a + 1) (λ x below. all x (omega (arith, below))))
+  where
+    by : (b : Bool) → q a ≡ b → list_all p (filter q (range_with_len (a + 1) n)) ≡ true
+        → list_all p (if b then a ∷ filter q (range_with_len (a + 1) n) else filter q (range_with_len (a + 1) n))
+        ≡ true
+    by true named rest = rw (all a (omega arith) named) rest
+    by false named rest = rest
+
+module _ (exclusive : Bool) (cores : ℕ) (entry : DirEntry) (line : LineChannels) (copy : ℕ → CacheCopy)
+    (size : length line.cores ≡ cores) (some : 0 < cores) (most : cores ≤ 64) (l : Line)
+    (reached : Reached exclusive cores l) (stands : LineStands cores entry line copy l) where
+  there : (x : ℕ) → x < cores → x < length line.cores
+  there x below = subst (λ n. x < n) (sym size) below
+
+  takes_data : (core : CoreId) → core.0 < cores → is_no_data (l.part core.0).look.incoming ≡ true
+      → takes line (channels.Data core) ≡ true
+  takes_data core below none =
+      let empty = no_data_waits (core_at line core.0).data
+      (ap is_no_data (stands.part core.0 below).incoming ∙ none) in
+      takes-from line (channels.Data core) (there core.0 below) (rw empty (omega arith))
+
+  takes_forwarded : (core : CoreId) → core.0 < cores → has_room_for_put_ack (l.part core.0).look ≡ true
+      → takes line (channels.Fwd core) ≡ true
+  takes_forwarded core below room =
+      let part = l.part core.0 in
+      let short = short_slots part.look.inv part.look.forward part.look.put_ack part.owes_to part.names room in
+      takes-from line (channels.Fwd core) (there core.0 below)
+      (rw (length-map (core_at line core.0).forwarded messages.Forwarded, (stands.part core.0 below).queue) short)
+
+  -- ---- the directory
+
+  sharer_within : (event : DirEvent) (state : DirState) (owner : Option CoreId) (sharers : ℕ) (sent : DirSends)
+      (writes : Bool) → Directory.row_of exclusive (entry_of l entry.home) event
+      ≡ rows.Go state owner sharers sent writes → (x : ℕ) → x < 64 → is_sent_inv sent x ≡ true → x < cores
+  sharer_within event state owner sharers sent writes row x below named =
+      let kept = reached_coherent exclusive cores l some most reached in
+      let law : Invalidates l.directory l.sharers event sent =
+      subst (λ (r : DirRow). IfGo r (λ next owns shares se w. Invalidates l.directory l.sharers event se)) row
+      (cell-lawful exclusive l.directory l.owner l.sharers event).invalidated in
+      let all = sym (law.each x below) ∙ named in
+      kept.1.entry.sharers_within x below
+      (and_parts (is_shared l.directory && is_some (writer event)) (has l.sharers x)
+      (and_parts (is_shared l.directory && is_some (writer event) && has l.sharers x)
+      (not (is_named (writer event) x)) all).0).1
+
+  room_for : (core : CoreId) → core.0 < cores → (sent : DirSends)
+      → ((x : ℕ) → x < 64 → is_sent_inv sent x ≡ true → x < cores) → HasRoomAtService cores l (dir_events.GetS core) sent
+      → directory_room line core sent ≡ true
+  unfolding takes_invalidations members
+  room_for core below dir_sends.Nothing inside room = refl
+  room_for core below (dir_sends.Data acks) inside room = takes_data core below (room.data_channel refl)
+  room_for core below dir_sends.DataE inside room = takes_data core below (room.data_channel refl)
+  room_for core below (dir_sends.DataAndInv acks set) inside room =
+      rw (takes_data core below (room.data_channel refl))
+      (all_of_range (λ x. takes line (channels.Fwd (record { 0 = x }))) (has set) 64 0 (λ x small named.
+      let x_below = inside x (omega (arith, small)) named in
+      takes_forwarded (record { 0 = x }) x_below
+      (room_as_inv (l.part x).look.inv (is_no_forward (l.part x).look.forward) (l.part x).look.put_ack
+      (room.inv x x_below named))))
+  room_for core below (dir_sends.FwdGetS owner) inside room =
+      takes_forwarded owner room.named
+      (room_as_forward (l.part owner.0).look.inv (is_no_forward (l.part owner.0).look.forward)
+      (l.part owner.0).look.put_ack room.forward)
+  room_for core below (dir_sends.FwdGetM owner) inside room =
+      takes_forwarded owner room.named
+      (room_as_forward (l.part owner.0).look.inv (is_no_forward (l.part owner.0).look.forward)
+      (l.part owner.0).look.put_ack room.forward)
+  room_for core below dir_sends.PutAck inside room = takes_forwarded core below (room.put_ack refl)
+
+  request_row : (core : CoreId) (message : RequestMessage) → core.0 < cores
+      → (core_at line core.0).request ≡ Some message → (cell : Cell)
+      → by_directory_row line core (Directory.row_of exclusive entry (event_of_request core message))
+      ≢ plans.Broken cell
+  request_row core message below waits cell is =
+      by (Directory.row_of exclusive entry event) refl is
+    where
+      event : DirEvent
+      event = event_of_request core message
+
+      asked : is_asked_for l event ≡ true
+      asked = asked_here l core message (sym (ap kind_of_request waits) ∙ (stands.part core.0 below).request)
+
+      same : Directory.row_of exclusive (entry_of l entry.home) event ≡ Directory.row_of exclusive entry event
+      same = row_here exclusive entry l entry.home event stands.entry_stands
+
+      has_row : (row : DirRow) → Directory.row_of exclusive entry event ≡ row → is_directory_entry row ≡ true
+      has_row row known =
+          subst (λ r. is_directory_entry r ≡ true) (same ∙ known)
+          ((reached_has_rows exclusive cores l some most reached).serve event entry.home
+          (within_here cores core message below) asked)
+
+      by : (row : DirRow) → Directory.row_of exclusive entry event ≡ row
+          → by_directory_row line core row ≡ plans.Broken cell → ⊥
+      by rows.NoEntry known is = true≢false (sym (has_row rows.NoEntry known))
+      by rows.Blocked known is = absurd (cc is)
+      by (rows.Go state owner sharers sent writes) known is =
+          let room = room_for core below sent (sharer_within event state owner sharers sent writes (same ∙ known))
+          (room_here cores l core message sent ((reached_has_room exclusive cores l some most reached).serve event
+          entry.home state owner sharers sent writes (within_here cores core message below) asked (same ∙ known))) in
+          let moves : plans.Directory state owner sharers sent writes ≡ plans.Broken cell =
+          ap (λ b. if b then plans.Directory state owner sharers sent writes else plans.Broken cells.Full) (sym room)
+          ∙ is in
+          absurd (cc moves)
+
+-- ---- the slice
+
+-- Nothing waits for a core that isn't there.
+nobody_at : (line : LineChannels) (core : ℕ) → length line.cores ≤ core → core_at line core ≡ no_messages
+nobody_at line core past = get_or_past line.cores core no_messages past
+
+-- Only a copy that waits has a row for an acknowledgement.
+entry_waits : (state : CopyState) (n k : ℕ) → is_entry (row_of state (events.InvAck n k)) ≡ true
+    → is_waiting state ≡ true
+entry_waits states.IM_AD n k entry = refl
+entry_waits states.SM_AD n k entry = refl
+entry_waits states.IM_A n k entry = refl
+entry_waits states.SM_A n k entry = refl
+entry_waits states.IS_D n k entry = refl
+entry_waits states.I n k entry = absurd (true≢false (sym entry))
+entry_waits states.S n k entry = absurd (true≢false (sym entry))
+entry_waits states.M n k entry = absurd (true≢false (sym entry))
+entry_waits states.E n k entry = absurd (true≢false (sym entry))
+entry_waits states.MI_A n k entry = absurd (true≢false (sym entry))
+entry_waits states.SI_A n k entry = absurd (true≢false (sym entry))
+entry_waits states.II_A n k entry = absurd (true≢false (sym entry))
+
+-- Where no element passes, none is found.
+found_none : {X : Type 0} (p : X → Bool) (xs : List X) → position p xs ≡ None → find p xs ≡ None
+found_none p xs none =
+    find_at p xs
+    ∙ slice_get_past xs (position_or_len p xs)
+    (ltb-false (position_or_len p xs) (length xs)
+    (no_place (nat_lt (position_or_len p xs) (length xs)) (position_or_len p xs) none))
+  where
+    no_place : (b : Bool) (n : ℕ) → (if b then Some n else None) ≡ None → b ≡ false
+    no_place true n e = absurd (cc e)
+    no_place false n e = refl
+
+nothing_is : {A : Type 0} (o : Option A) → is_some o ≡ false → o ≡ None
+nothing_is None none = refl
+nothing_is (Some x) none = absurd (true≢false none)
+
+data_is_message : (v : View) (local : Local) (core : CoreId) (message : DataMessage)
+    → is_message (event_of_data v local core message) ≡ true
+data_is_message v local core (replies.Data block acks) = refl
+data_is_message v local core (replies.DataE block) = refl
+
+data_waits : (message : DataMessage) → is_no_data (kind_of_data (Some message)) ≡ false
+data_waits (replies.Data block acks) = refl
+data_waits (replies.DataE block) = refl
+
+forwarded_is_message : (message : ForwardedMessage) → is_message (event_of_forwarded message) ≡ true
+forwarded_is_message (forwards.Inv to) = refl
+forwarded_is_message (forwards.FwdGetS to) = refl
+forwarded_is_message (forwards.FwdGetM to) = refl
+forwarded_is_message forwards.PutAck = refl
+
+module _ (v : View) (local : Local) (shaped : IsShaped v) (inside : local.0 < v.lines.lines)
+    (most : length v.sides ≤ 64) (waiting : WaitsInArray v) (l : Line) (reached : Reached v.exclusive (length v.sides) l)
+    (stands : Stands v local l) (cell : Cell) where
+  size : length (channels_at v local).cores ≡ length v.sides
+  size = shaped.cores local inside
+
+  -- ---- the directory
+
+  request_unbroken : (core : CoreId) → plan_of v local (channels.Req core) ≢ plans.Broken cell
+  request_unbroken core is =
+      elim (cases_lt core.0 (length v.sides)) [
+        | inl below ↦ by (core_at (channels_at v local) core.0).request refl below is
+        | inr past ↦
+            let none = ap (λ (m : CoreChannels). m.request)
+            (nobody_at (channels_at v local) core.0 (rw size past)) in
+            let nothing : plans.Nothing ≡ plans.Broken cell = ap (request_by v local core) (sym none) ∙ is in
+            absurd (cc nothing)
+      ]
+    where
+      by : (request : Option RequestMessage) → (core_at (channels_at v local) core.0).request ≡ request
+          → core.0 < length v.sides → request_by v local core request ≡ plans.Broken cell → ⊥
+      by None waits below is = absurd (cc is)
+      by (Some message) waits below is =
+          request_row v.exclusive (length v.sides) (entry_at v local) (channels_at v local) (copies_at v local) size
+          (omega (arith, below)) most l reached stands core message below waits cell is
+
+  home_unbroken : 0 < length v.sides → plan_of v local channels.Home ≢ plans.Broken cell
+  home_unbroken some is = by_home (is_some (channels_at v local).home) refl is
+    where
+      row_now : DirRow
+      row_now = Directory.row_of v.exclusive (entry_at v local) dir_events.DataHome
+
+      by_row : (row : DirRow) → row_now ≡ row → is_directory_entry row ≡ true
+          → by_home_row row ≡ plans.Broken cell → ⊥
+      by_row rows.NoEntry known entry is = true≢false (sym entry)
+      by_row rows.Blocked known entry is = absurd (cc is)
+      by_row (rows.Go state owner sharers sent writes) known entry is = absurd (cc is)
+
+      by_home : (waits : Bool) → is_some (channels_at v local).home ≡ waits
+          → (if waits then by_home_row row_now else plans.Nothing) ≡ plans.Broken cell → ⊥
+      by_home false waits is = absurd (cc is)
+      by_home true waits is =
+          by_row row_now refl
+          (subst (λ r. is_directory_entry r ≡ true)
+          (row_here v.exclusive (entry_at v local) l (entry_at v local).home dir_events.DataHome stands.entry_stands)
+          ((reached_has_rows v.exclusive (length v.sides) l some most reached).serve dir_events.DataHome
+          (entry_at v local).home tt (sym stands.home ∙ waits)))
+          is
+
+  -- ---- the caches
+
+  none_planned : (to from : CoreId) → has (core_at (channels_at v local) to.0).acks from.0 ≡ false
+      → plan_of v local (channels.Ack to from) ≡ plans.Nothing
+  none_planned to from none =
+      let copy = copy_of (side_at v to) local in
+      ap (λ b. if b then by_ack_row v local to (row_of copy.state (events.InvAck copy.wants copy.counted))
+      else plans.Nothing) none
+
+  module _ (core : CoreId) (below : core.0 < length v.sides) where
+    part : Part
+    part = l.part core.0
+
+    mail : CoreChannels
+    mail = core_at (channels_at v local) core.0
+
+    copy : CacheCopy
+    copy = copy_of (side_at v core) local
+
+    standing : PartStands copy mail part
+    unfolding part mail copy
+    standing = stands.part core.0 below
+
+    some_core : 0 < length v.sides
+    some_core = omega (arith, below)
+
+    not_asking : is_no_request part.look.request ≡ true → asks v local core ≡ false
+    unfolding part mail copy
+    not_asking none =
+        ap is_some (no_request_waits (core_at (channels_at v local) core.0).request
+        (ap is_no_request standing.request ∙ none))
+
+    -- A message that is at hand has a row.
+    has_row : (event : CacheEvent) → is_message event ≡ true → at_hand part event ≡ true
+        → is_entry (row_of copy.state event) ≡ true
+    unfolding part copy
+    has_row event message here =
+        subst (λ s. is_entry (row_of s event) ≡ true) (sym standing.state)
+        ((reached_has_rows v.exclusive (length v.sides) l some_core most reached).turn core.0 event below message here)
+
+    has_room : (event : CacheEvent) (next : CopyState) (sent : CacheSends) → at_hand part event ≡ true
+        → row_of copy.state event ≡ lines.Go next sent → HasRoomAtTurn (length v.sides) l core.0 sent
+    unfolding part copy
+    has_room event next sent here row =
+        (reached_has_room v.exclusive (length v.sides) l some_core most reached).turn core.0 event next sent below here
+        (ap (λ s. row_of s event) (sym standing.state) ∙ row)
+
+    -- Whom an Inv names is a core.
+    owed_within : (next : CopyState) → part.look.inv ≡ true
+        → row_of copy.state events.Inv ≡ lines.Go next sends.InvAckToRequester → part.owes_to < length v.sides
+    unfolding part copy
+    owed_within next waits row =
+        let turned = turn core.0 events.Inv next sends.InvAckToRequester below waits
+        (ap (λ s. row_of s events.Inv) (sym standing.state) ∙ row) in
+        let same = at_place l.part core.0 (acted events.Inv 0 next sends.InvAckToRequester) in
+        subst (λ (p : Part). p.owes_to < length v.sides) same
+        ((reached_has_rows v.exclusive (length v.sides) (after turned) some_core most
+        (further reached turned)).ack_for_core core.0 below
+        (ap (λ (p : Part). p.look.sent) same ∙ or-true (l.part core.0).look.sent))
+
+    ack_room : (to : CoreId) (next : CopyState) → IsFirst (forwards.Inv to) part
+        → row_of copy.state events.Inv ≡ lines.Go next sends.InvAckToRequester
+        → takes (channels_at v local) (channels.Ack to core) ≡ true
+    unfolding part
+    ack_room to next first row =
+        let line = channels_at v local in
+        let named = subst (λ n. n < length v.sides) first.1 (owed_within next first.0 row) in
+        let none : has (core_at line to.0).acks core.0 ≡ false =
+        stands.acks.waits to.0 core.0 named below
+        ∙ ap (λ b. b && (l.part core.0).owes_to == to.0)
+        ((has_room events.Inv next sends.InvAckToRequester first.0 row).ack refl) in
+        let short : 0 < 1 = omega arith in
+        takes-from line (channels.Ack to core)
+        (subst (λ n. to.0 < n) (sym size) named, subst (λ n. core.0 < n) (sym size) below) (rw none short)
+
+    given_room : (to : CoreId) (sent : CacheSends) → part.names ≡ to.0 → HasRoomAtTurn (length v.sides) l core.0 sent
+        → sends_data sent ≡ true → takes (channels_at v local) (channels.Data to) ≡ true
+    unfolding part
+    given_room to sent named room gives =
+        takes_data v.exclusive (length v.sides) (entry_at v local) (channels_at v local) (copies_at v local) size
+        some_core most l reached stands to (subst (λ n. n < length v.sides) named (room.named gives))
+        (subst (λ n. is_no_data (l.part n).look.incoming ≡ true) named (room.data_channel gives))
+
+    home_room : (sent : CacheSends) → HasRoomAtTurn (length v.sides) l core.0 sent → sends_home sent ≡ true
+        → takes (channels_at v local) channels.Home ≡ true
+    home_room sent room gives =
+        let none = nothing_is (channels_at v local).home (stands.home ∙ room.home gives) in
+        let short : 0 < 1 = omega arith in
+        takes-from (channels_at v local) channels.Home tt (rw none short)
+
+    -- Where a forwarded message is taken, each message that it sends finds room.
+    answer_room : (message : ForwardedMessage) (next : CopyState) → IsFirst message part
+        → row_of copy.state (event_of_forwarded message) ≡ lines.Go next (sends_for message)
+        → cache_room (channels_at v local) core (requester_of core message) (sends_for message) ≡ true
+    unfolding part
+    answer_room (forwards.Inv to) next first row = ack_room to next first row
+    answer_room (forwards.FwdGetS to) next first row =
+        let room = has_room events.FwdGetS next sends.DataToRequesterAndHome
+        (first_at_hand (forwards.FwdGetS to) (l.part core.0) first) row in
+        rw (given_room to sends.DataToRequesterAndHome first.2 room refl)
+        (home_room sends.DataToRequesterAndHome room refl)
+    answer_room (forwards.FwdGetM to) next first row =
+        given_room to sends.DataToRequester first.2
+        (has_room events.FwdGetM next sends.DataToRequester (first_at_hand (forwards.FwdGetM to) (l.part core.0) first)
+        row) refl
+    answer_room forwards.PutAck next first row = refl
+
+    -- A Put-Ack comes only after the Put was taken.
+    not_early : (message : ForwardedMessage) → IsFirst message part → (is_put_ack message && asks v local core) ≡ false
+    unfolding part
+    not_early (forwards.Inv to) first = refl
+    not_early (forwards.FwdGetS to) first = refl
+    not_early (forwards.FwdGetM to) first = refl
+    not_early forwards.PutAck first =
+        not_asking ((reached_nothing_early v.exclusive (length v.sides) l some_core most reached core.0 below).put_taken
+        first.2)
+
+    -- What is planned by a row, where the message has one, finds room and isn't early.
+    by_forwarded : (message : ForwardedMessage) → IsFirst message part → (row : Row)
+        → row_of copy.state (event_of_forwarded message) ≡ row → is_entry row ≡ true
+        → by_forwarded_row v local core message row ≡ plans.Broken cell → ⊥
+    by_forwarded message first lines.NoEntry known entry is = true≢false (sym entry)
+    by_forwarded message first lines.Blocked known entry is = absurd (cc is)
+    by_forwarded message first (lines.Go next sent) known entry is =
+        let sends_it = (answers message copy.state next sent known).sends in
+        let room : cache_room (channels_at v local) core (requester_of core message) sent ≡ true =
+        ap (λ se. cache_room (channels_at v local) core (requester_of core message) se) sends_it
+        ∙ answer_room message next first (known ∙ ap (lines.Go next) sends_it) in
+        let moves : plans.Forwarded next sent (requester_of core message) ≡ plans.Broken cell =
+        sym (planned room (not_early message first)) ∙ is in
+        absurd (cc moves)
+      where
+        planned : cache_room (channels_at v local) core (requester_of core message) sent ≡ true
+            → (is_put_ack message && asks v local core) ≡ false
+            → by_forwarded_row v local core message (lines.Go next sent)
+            ≡ plans.Forwarded next sent (requester_of core message)
+        planned room early =
+            ap (λ b. if not b then plans.Broken cells.Full
+            else if is_put_ack message && asks v local core then plans.Broken cells.Early
+            else plans.Forwarded next sent (requester_of core message)) room
+            ∙ ap (λ b. if b then plans.Broken cells.Early
+            else plans.Forwarded next sent (requester_of core message)) early
+
+    forwarded_here : plan_of v local (channels.Fwd core) ≢ plans.Broken cell
+    unfolding mail part copy
+    forwarded_here is = by (slice_get (core_at (channels_at v local) core.0).forwarded 0) refl is
+      where
+        by : (front : Option ForwardedMessage) → slice_get (core_at (channels_at v local) core.0).forwarded 0 ≡ front
+            → forwarded_by v local core front ≡ plans.Broken cell → ⊥
+        by None waits is = absurd (cc is)
+        by (Some message) waits is =
+            let first = first_stands copy mail part message waits standing in
+            by_forwarded message first (row_of copy.state (event_of_forwarded message)) refl
+            (has_row (event_of_forwarded message) (forwarded_is_message message) (first_at_hand message part first)) is
+
+    -- ---- data
+
+    data_at_hand : (message : DataMessage) → (core_at (channels_at v local) core.0).data ≡ Some message
+        → at_hand part (event_of_data v local core message) ≡ true
+    unfolding part copy mail
+    data_at_hand (replies.DataE block) waits = ap is_only_data (sym standing.incoming ∙ ap kind_of_data waits)
+    data_at_hand (replies.Data block acks) waits =
+        let kind = sym standing.incoming ∙ ap kind_of_data waits in
+        let named : acks ≡ (l.part core.0).wants =
+        subst (λ (m : Option DataMessage). IfSome m (λ message. named_by message ≡ (l.part core.0).wants)) waits
+        standing.named in
+        let counts = standing.counted (data_while_waiting v.exclusive (length v.sides) l some_core most reached core.0
+        below (ap is_no_data kind)) in
+        rw (kind, eq-eqb acks (l.part core.0).wants named, eq-eqb copy.counted (l.part core.0).counted counts) refl
+
+    -- Where a copy waits, it stands in its array.
+    stands_there : is_waiting copy.state ≡ true → (place : ℕ) × (stands_at v local core ≡ Some place)
+    unfolding copy
+    stands_there waits = by (stands_at v local core) refl
+      where
+        by : (place : Option ℕ) → stands_at v local core ≡ place
+            → (place : ℕ) × (stands_at v local core ≡ Some place)
+        by (Some place) known = (place, known)
+        by None known =
+            absurd (cc (subst IsSome (ap (option_map (λ slot. slot.value))
+            (found_none (holds local) (slots_at (side_at v core).array local) known))
+            (waiting core local below inside waits)))
+
+    by_data : (event : CacheEvent) (row : Row) → row_of copy.state event ≡ row → is_entry row ≡ true
+        → is_no_data part.look.incoming ≡ false → by_data_row v local core row ≡ plans.Broken cell → ⊥
+    unfolding part copy
+    by_data event lines.NoEntry known entry waits is = true≢false (sym entry)
+    by_data event lines.Blocked known entry waits is = absurd (cc is)
+    by_data event (lines.Go next sent) known entry waits is =
+        let early : asks v local core ≡ false =
+        not_asking ((reached_nothing_early v.exclusive (length v.sides) l some_core most reached core.0 below).data_taken
+        waits) in
+        let there = stands_there (ap is_waiting standing.state
+        ∙ data_while_waiting v.exclusive (length v.sides) l some_core most reached core.0 below waits) in
+        let moves : plans.Fill there.0 next ≡ plans.Broken cell =
+        sym (ap (λ b. if b then plans.Broken cells.Early else fill_at (stands_at v local core) next) early
+        ∙ ap (λ place. fill_at place next) there.1) ∙ is in
+        absurd (cc moves)
+
+    data_here : plan_of v local (channels.Data core) ≢ plans.Broken cell
+    unfolding mail part copy
+    data_here is = by (core_at (channels_at v local) core.0).data refl is
+      where
+        by : (message : Option DataMessage) → (core_at (channels_at v local) core.0).data ≡ message
+            → data_by v local core message ≡ plans.Broken cell → ⊥
+        by None waits is = absurd (cc is)
+        by (Some message) waits is =
+            by_data (event_of_data v local core message) (row_of copy.state (event_of_data v local core message)) refl
+            (has_row (event_of_data v local core message) (data_is_message v local core message)
+            (data_at_hand message waits))
+            (ap is_no_data (sym standing.incoming ∙ ap kind_of_data waits) ∙ data_waits message) is
+
+    -- ---- acknowledgements
+
+    -- An acknowledgement that waits has a row.
+    acked : (from : CoreId) → has (core_at (channels_at v local) core.0).acks from.0 ≡ true
+        → is_entry (row_of copy.state (events.InvAck copy.wants copy.counted)) ≡ true
+    unfolding part copy
+    acked from waits =
+        let from_below = stands.acks.senders core.0 from.0 waits in
+        let owed = sym (stands.acks.waits core.0 from.0 below from_below) ∙ waits in
+        let entry = (reached_has_rows v.exclusive (length v.sides) l some_core most reached).ack core.0 from.0 below
+        from_below owed in
+        let waiting_now = entry_waits (l.part core.0).look.state (l.part core.0).wants (l.part core.0).counted entry in
+        subst (λ r. is_entry r ≡ true)
+        (sym (ap (λ k. row_of copy.state (events.InvAck copy.wants k)) (standing.counted waiting_now)
+        ∙ ack_row-same copy.state copy.wants (l.part core.0).wants (l.part core.0).counted
+        (λ counts. standing.wants (ap is_counting (sym standing.state) ∙ counts))
+        ∙ ap (λ s. row_of s (events.InvAck (l.part core.0).wants (l.part core.0).counted)) standing.state)) entry
+
+    by_ack : (n k : ℕ) (row : Row) → row_of copy.state (events.InvAck n k) ≡ row → is_entry row ≡ true
+        → by_ack_row v local core row ≡ plans.Broken cell → ⊥
+    by_ack n k lines.NoEntry known entry is = true≢false (sym entry)
+    by_ack n k lines.Blocked known entry is = absurd (cc is)
+    by_ack n k (lines.Go next sent) known entry is =
+        let there = stands_there (entry_waits copy.state n k (ap is_entry known ∙ entry)) in
+        let moves : plans.Acknowledge there.0 next ≡ plans.Broken cell =
+        sym (ap (λ place. acknowledge_at place next) there.1) ∙ is in
+        absurd (cc moves)
+
+    ack_here : (from : CoreId) → plan_of v local (channels.Ack core from) ≢ plans.Broken cell
+    unfolding copy
+    ack_here from is = by (has (core_at (channels_at v local) core.0).acks from.0) refl is
+      where
+        by : (waits : Bool) → has (core_at (channels_at v local) core.0).acks from.0 ≡ waits
+            → (if waits then by_ack_row v local core (row_of copy.state (events.InvAck copy.wants copy.counted))
+            else plans.Nothing) ≡ plans.Broken cell → ⊥
+        by false waits is = absurd (cc is)
+        by true waits is =
+            by_ack copy.wants copy.counted (row_of copy.state (events.InvAck copy.wants copy.counted)) refl
+            (acked from waits) is
+
+  -- ---- any channel
+
+  nobody : (core : CoreId) → length v.sides ≤ core.0 → core_at (channels_at v local) core.0 ≡ no_messages
+  nobody core past = nobody_at (channels_at v local) core.0 (rw size past)
+
+  channel_unbroken : (channel : Channel) → 0 < length v.sides → plan_of v local channel ≢ plans.Broken cell
+  channel_unbroken (channels.Req core) some is = request_unbroken core is
+  channel_unbroken channels.Home some is = home_unbroken some is
+  channel_unbroken (channels.Fwd core) some is =
+      elim (cases_lt core.0 (length v.sides)) [
+        | inl below ↦ forwarded_here core below is
+        | inr past ↦
+            let nothing : plans.Nothing ≡ plans.Broken cell =
+            ap (λ (m : CoreChannels). forwarded_by v local core (slice_get m.forwarded 0)) (sym (nobody core past))
+            ∙ is in
+            absurd (cc nothing)
+      ]
+  channel_unbroken (channels.Data core) some is =
+      elim (cases_lt core.0 (length v.sides)) [
+        | inl below ↦ data_here core below is
+        | inr past ↦
+            let nothing : plans.Nothing ≡ plans.Broken cell =
+            ap (λ (m : CoreChannels). data_by v local core m.data) (sym (nobody core past)) ∙ is in
+            absurd (cc nothing)
+      ]
+  channel_unbroken (channels.Ack to from) some is =
+      elim (cases_lt to.0 (length v.sides)) [
+        | inl below ↦ ack_here to below from is
+        | inr past ↦
+            let none : has (core_at (channels_at v local) to.0).acks from.0 ≡ false =
+            ap (λ (m : CoreChannels). has m.acks from.0) (nobody to past) ∙ has-zero from.0 in
+            let nothing : plans.Nothing ≡ plans.Broken cell = sym (none_planned to from none) ∙ is in
+            absurd (cc nothing)
+      ]
+
+-- No message of a line is broken, where each copy that waits stands in its array.
+pub nothing_is_broken : (v : View) → IsShaped v → 0 < length v.sides → length v.sides ≤ 64 → WaitsInArray v
+    → AreReached v → NothingIsBroken v
+nothing_is_broken v shaped some most waiting all local channel cell inside =
+    let line = all local inside in
+    channel_unbroken v local shaped inside most waiting line.0 line.1 line.2 cell channel some
+
+-- A copy that waits isn't one that leaves, and so stands in its array.
+waits_in_array : (v : View) → IsWhole v → WaitsInArray v
+waits_in_array v whole core local below inside waits =
+    by (array_at (side_at v core).array local) (buffer_at (side_at v core).buffer.entries local.0)
+    ((whole.kept core below).leaving local) waits
+  where
+    not_leaving : (state : CopyState) → is_leaving state ≡ true → is_waiting state ≡ true → ⊥
+    not_leaving states.MI_A leaves waits = true≢false (sym waits)
+    not_leaving states.SI_A leaves waits = true≢false (sym waits)
+    not_leaving states.II_A leaves waits = true≢false (sym waits)
+    not_leaving states.I leaves waits = true≢false (sym leaves)
+    not_leaving states.S leaves waits = true≢false (sym leaves)
+    not_leaving states.M leaves waits = true≢false (sym leaves)
+    not_leaving states.E leaves waits = true≢false (sym leaves)
+    not_leaving states.IS_D leaves waits = true≢false (sym leaves)
+    not_leaving states.IM_AD leaves waits = true≢false (sym leaves)
+    not_leaving states.IM_A leaves waits = true≢false (sym leaves)
+    not_leaving states.SM_AD leaves waits = true≢false (sym leaves)
+    not_leaving states.SM_A leaves waits = true≢false (sym leaves)
+
+    by : (held : Option CacheCopy) (leaving : Option Leaving) → IfSome leaving (λ l. is_leaving l.state ≡ true)
+        → IsTrue (is_waiting (found_in held leaving).state) → IsSome held
+    by (Some held) leaving leaves waits = refl
+    by None (Some leaving) leaves waits = absurd (not_leaving leaving.state leaves waits)
+    by None None leaves waits = absurd (true≢false (sym waits))
+
+pub whole_is_unbroken : (v : View) → IsWhole v → 0 < length v.sides → AreReached v → NothingIsBroken v
+whole_is_unbroken v whole some all =
+    nothing_is_broken v whole.shaped some whole.few (waits_in_array v whole) all

@@ -1,0 +1,28 @@
+-- What follows for a slice whose lines are lines of the protocol's machine.
+use Rattle.std.specs.Prelude.{◌≡◌, ◌≢◌, ℕ, ◌<◌, length, IsSome, IsTrue}
+use Rattle.address_map.specs.declared.address.CoreId.{CoreId}
+use Rattle.address_map.specs.declared.address.Local.{Local}
+use Rattle.cache_array.specs.Array.{held_at as array_at}
+use Rattle.cache_table.specs.CopyState.{is_readable, is_waiting, is_writer}
+use Rattle.slice_core_answer.specs.declared.answer.Cell.{Cell}
+use Rattle.slice_core_plan.specs.Plan.{plan_of}
+use Rattle.slice_core_plan.specs.View.{View, side_at}
+use Rattle.slice_core_plan.specs.declared.decide.Plan.TheVariants as plans
+use Rattle.slice_core_side.specs.Side.{state_of}
+use Rattle.slice_queues_message.specs.declared.channel.Channel.{Channel}
+
+-- Where one core may write a line, no other core may read it.
+abbrev pub HasOneWriter : View → Type 0
+HasOneWriter v = (local : Local) (c d : CoreId) → local.0 < v.lines.lines → c.0 < length v.sides → d.0 < length v.sides
+    → IsTrue (is_writer (state_of (side_at v c) local)) → IsTrue (is_readable (state_of (side_at v d) local))
+    → c.0 ≡ d.0
+
+-- A copy that waits stands in its core's array.
+abbrev pub WaitsInArray : View → Type 0
+WaitsInArray v = (core : CoreId) (local : Local) → core.0 < length v.sides → local.0 < v.lines.lines
+    → IsTrue (is_waiting (state_of (side_at v core) local)) → IsSome (array_at (side_at v core).array local)
+
+-- No message of a line is broken: each has a row, or waits; what its row sends has room; and none comes early.
+abbrev pub NothingIsBroken : View → Type 0
+NothingIsBroken v = (local : Local) (channel : Channel) (cell : Cell) → local.0 < v.lines.lines
+    → plan_of v local channel ≢ plans.Broken cell

@@ -1,0 +1,5 @@
+pub mod Stands
+pub mod Whole
+pub mod Coherent
+pub mod Blocks
+pub mod Newest

@@ -1,0 +1,16 @@
+-- What else is known of a slice between two calls.
+use Rattle.std.specs.Prelude.{ℕ, ◌<◌, ◌≤◌, length, IsSome}
+use Rattle.address_map.specs.declared.address.CoreId.{CoreId}
+use Rattle.address_map.specs.declared.address.Local.{Local}
+use Rattle.cache_array.specs.Array.{held_at as array_at}
+use Rattle.slice_core_plan.specs.View.{View, IsShaped, side_at}
+use Rattle.slice_core_side.specs.Kept.{IsKept}
+
+-- Its shape; that it has no more cores than a set can have; that each core's copies stand where they belong; and that
+-- the arrays hold lines of the slice alone.
+pub record IsWhole (v : View) : Type 0 where
+  pub shaped : IsShaped v
+  pub few : length v.sides ≤ 64
+  pub kept : (core : CoreId) → core.0 < length v.sides → IsKept (side_at v core)
+  pub own : (core : CoreId) (local : Local) → core.0 < length v.sides
+      → IsSome (array_at (side_at v core).array local) → local.0 < v.lines.lines

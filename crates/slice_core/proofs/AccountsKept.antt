@@ -26,7 +26,7 @@ use Rattle.slice_core.proofs.AccountsSteps.{accounts-posted, accounts-step, own-
 use Rattle.slice_core.proofs.CountedStats.{counts-same, waiting-within}
 use Rattle.slice_core.proofs.CountedSteps.{Counts, CountsSame, after_step, counted-posted, counted-step}
 use Rattle.slice_core.specs.Sound.{HasAccounts, HasLinks, IsCounted, IsSound}
-use Rattle.slice_core_coherence.specs.Stands.{AreReached}
+use Rattle.slice_core_coherence.specs.Newest.{IsFaithful}
 use Rattle.target_list.specs.declared.target.Target.{Target}
 
 -- The counts are right, and each core's requests are accounted for.
@@ -38,9 +38,9 @@ pub record Keeps (p : PartsView) : Type 0 where
 pub keeps-from_sound : (p : PartsView) → IsSound p → Keeps p
 keeps-from_sound p sound = record { counted = sound.counted; accounts = sound.accounts }
 
-pub sound-from_keeps : (p : PartsView) → Keeps p → HasLinks p.view → AreReached p.view → IsSound p
-sound-from_keeps p keeps links reached =
-    record { counted = keeps.counted; accounts = keeps.accounts; links = links; reached = reached }
+pub sound-from_keeps : (p : PartsView) → Keeps p → HasLinks p.view → IsFaithful p.view → IsSound p
+sound-from_keeps p keeps links faithful =
+    record { counted = keeps.counted; accounts = keeps.accounts; links = links; faithful = faithful }
 
 -- ---- steps that change no request
 

@@ -8,7 +8,7 @@ use Rattle.slice_core_answer.specs.declared.answer.Delivered.TheVariants as deli
 use Rattle.slice_core_answer.specs.declared.answer.DeliveredNext.{DeliveredNext}
 use Rattle.slice_core_answer.specs.declared.answer.DeliveredNext.TheVariants as delivered_next
 use Rattle.slice_core_coherence.proofs.Calls.{located}
-use Rattle.slice_core_coherence.specs.Whole.{IsWhole}
+use Rattle.slice_core_coherence.specs.Whole.{IsAddressed, IsWhole}
 use Rattle.slice_core_coherence.proofs.Consequences.{one_writer}
 use Rattle.slice_core_coherence.proofs.Unbroken.{whole_is_unbroken}
 use Rattle.slice_core_coherence.specs.Coherent.{HasOneWriter, NothingIsBroken}
@@ -17,7 +17,10 @@ use Rattle.slice_core_plan.specs.Plan.{plan_of}
 use Rattle.slice_core_plan.specs.View.{View}
 use Rattle.slice_core_plan.specs.declared.decide.Plan.{Plan}
 use Rattle.slice_core_plan.specs.declared.decide.Plan.TheVariants as plans
-use Rattle.slice_core.specs.Facts.{IsNotBroken, IsNotBrokenNext}
+use Rattle.slice_core.proofs.AccountsCan.{can-deliver}
+use Rattle.slice_core.proofs.AccountsFacts as facts
+use Rattle.slice_core.specs.Facts.{Holds, IsNotBroken, IsNotBrokenNext}
+use Rattle.slice_core_coherence.proofs.Current.{newest, reached_without}
 use Rattle.slice_core.specs.Sound.{IsSound}
 use Rattle.slice_queues_message.specs.Pick.{channel_of, line_of}
 use Rattle.slice_queues_message.specs.declared.channel.Channel.{Channel}
@@ -33,14 +36,31 @@ whole p sound = record {
   own = sound.links.own;
 }
 
+-- Each line is one of the machine's, and each target names a word of its line.
+pub addressed : (p : PartsView) → IsSound p → IsAddressed p.view
+addressed p sound = record { machine = sound.counted.machine; performable = (can-deliver p sound).performable }
+
 -- One core may write a line and no other may read it, or none may write it.
 pub coherent : (p : PartsView) → IsSound p → HasOneWriter p.view
-coherent p sound = one_writer p.view sound.counted.cores sound.reached
+coherent p sound = one_writer p.view sound.counted.cores (reached_without p.view sound.faithful.reached)
 
 -- Each message has a row and room, and comes in time.
 pub unbroken : (p : PartsView) → IsSound p → NothingIsBroken p.view
 unbroken p sound =
-    whole_is_unbroken p.view (whole p sound) sound.counted.some_core sound.reached
+    whole_is_unbroken p.view (whole p sound) sound.counted.some_core (reached_without p.view sound.faithful.reached)
+
+-- All that callers may rely on.
+pub holds : (p : PartsView) → IsSound p → Holds p
+holds p sound = record {
+  standing = facts.standing p sound;
+  tags = facts.tags p sound;
+  registers = facts.registers p sound;
+  ordered = facts.ordered p sound;
+  legal = sound.faithful.legal;
+  one_writer = coherent p sound;
+  newest = newest p.view sound.counted.some_core sound.counted.cores sound.faithful.reached;
+  counted = facts.counted p sound;
+}
 
 -- ---- answers
 

@@ -9,7 +9,7 @@ use Rattle.slice_core.proofs.AccountsBegin.{keeps-begins}
 use Rattle.slice_core.proofs.AccountsKept.{sound-from_keeps}
 use Rattle.slice_core.proofs.LinksBeginning.{links_initial}
 use Rattle.slice_core.specs.Sound.{IsSound}
-use Rattle.slice_core_coherence.proofs.Beginning.{reached_initial}
+use Rattle.slice_core_coherence.proofs.BlocksBeginning.{legal_initial, reached_with_initial}
 
 -- A slice of the configured machine, in which nothing was asked for yet, is sound.
 pub sound-begins : (c : Config) (bound : Bound) (slice : SliceId) (p : PartsView) → IsNew c bound slice p
@@ -17,4 +17,7 @@ pub sound-begins : (c : Config) (bound : Bound) (slice : SliceId) (p : PartsView
 sound-begins c bound slice p new within =
     sound-from_keeps p (keeps-begins c bound slice p new within)
     (links_initial c bound slice p new (power_from_ones c.sets new.allowed.sets_power))
-    (reached_initial c bound slice p new)
+    (record {
+      reached = reached_with_initial c bound slice p new (keeps-begins c bound slice p new within).counted.machine;
+      legal = legal_initial c bound slice p new;
+    })

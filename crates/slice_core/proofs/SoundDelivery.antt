@@ -41,10 +41,10 @@ use Rattle.slice_core.proofs.AccountsPlanned.{is_for_copy, nothing-past, planned
 use Rattle.slice_core.proofs.LinksDirectory.{links_directory, links_home}
 use Rattle.slice_core.proofs.LinksForwarded.{links_forwarded}
 use Rattle.slice_core.proofs.LinksSettling.{links_acknowledge, links_fill, state-filled_by}
-use Rattle.slice_core.proofs.Coherent.{whole}
+use Rattle.slice_core.proofs.Coherent.{addressed, whole}
 use Rattle.slice_core_coherence.proofs.Calls.{located}
-use Rattle.slice_core_coherence.proofs.Deliveries.{reached_delivery}
-use Rattle.slice_core_coherence.specs.Stands.{AreReached}
+use Rattle.slice_core_coherence.proofs.BlocksDeliveries.{faithful_delivery}
+use Rattle.slice_core_coherence.specs.Newest.{IsFaithful}
 use Rattle.slice_core.specs.Sound.{HasLinks, IsSound}
 use Rattle.slice_queues.specs.Line.{CoreChannels, core_at}
 use Rattle.slice_queues_message.specs.Pick.{channel_of, line_of}
@@ -306,11 +306,11 @@ module _ (old : PartsView) (local : Local) (answer : Delivered) (new : PartsView
 pub sound-plan : (plan : Plan) (old : PartsView) (local : Local) (channel : Channel) (answer : Delivered)
     (new : PartsView)
     → IsSound old → local.0 < old.view.lines.lines → plan_of old.view local channel ≡ plan
-    → AreReached new.view → AfterPlan plan old local channel answer new → IsSound new
-sound-plan plan old local channel answer new sound within is reached after =
+    → IsFaithful new.view → AfterPlan plan old local channel answer new → IsSound new
+sound-plan plan old local channel answer new sound within is faithful after =
     sound-from_keeps new (keeps-plan plan old local channel answer new sound is after)
     (links-plan old local answer new sound within plan channel is after)
-    reached
+    faithful
 
 module _ (old : PartsView) (sound : IsSound old) (new : PartsView) where
   sound-same : new ≡ old → IsSound new
@@ -323,17 +323,17 @@ module _ (old : PartsView) (sound : IsSound old) (new : PartsView) where
       AfterPlan (plan_of old.view local (channel_of pick)) old local (channel_of pick) answer new
 
   placed : (pick : Pick) (answer : Delivered) (place : Option Local) → local_at old.view.lines (line_of pick).0 ≡ place
-      → AreReached new.view → by_line pick answer place → IsSound new
-  placed pick answer None is reached after = sound-same after.1
-  placed pick answer (Some local) is reached after =
+      → IsFaithful new.view → by_line pick answer place → IsSound new
+  placed pick answer None is faithful after = sound-same after.1
+  placed pick answer (Some local) is faithful after =
       sound-plan (plan_of old.view local (channel_of pick)) old local (channel_of pick) answer new sound
-      (located old.view.lines (line_of pick).0 local is) refl reached after
+      (located old.view.lines (line_of pick).0 local is) refl faithful after
 
   -- A delivery of a chosen message keeps the invariant.
   pub sound-delivery : (pick : Pick) (answer : Delivered) → AfterDelivery old pick answer new → IsSound new
   sound-delivery pick answer after =
       placed pick answer (local_at old.view.lines (line_of pick).0) refl
-      (reached_delivery old new (whole old sound) sound.reached pick answer after) after
+      (faithful_delivery old new (whole old sound) (addressed old sound) sound.faithful pick answer after) after
 
   -- So does one of the next message of a class.
   pub sound-deliver_next : (class : Class) (answer : DeliveredNext) → AfterDeliverNext old class answer new

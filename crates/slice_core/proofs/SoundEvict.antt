@@ -20,9 +20,9 @@ use Rattle.slice_core.proofs.AccountsEvict.{keeps-evict}
 use Rattle.slice_core.proofs.AccountsHand.{keeps-hand}
 use Rattle.slice_core.proofs.AccountsKept.{keeps-from_sound, sound-from_keeps}
 use Rattle.slice_core.proofs.LinksAccesses.{links_evict, links_hand}
-use Rattle.slice_core.proofs.Coherent.{whole}
+use Rattle.slice_core.proofs.Coherent.{addressed, whole}
 use Rattle.slice_core.specs.Sound.{HasLinks, IsSound}
-use Rattle.slice_core_coherence.proofs.Calls.{reached_evicted, reached_handed}
+use Rattle.slice_core_coherence.proofs.BlocksCalls.{faithful_evicted, faithful_handed}
 
 -- a copy that may leave is there
 some : (held : Option CacheCopy) → IsSomeAnd held (λ copy. may_leave copy.state ≡ true) → IsSome held
@@ -74,7 +74,7 @@ pub sound-evict : (old : PartsView) (core : CoreId) (line : LineAddr) (answer : 
 sound-evict old core line answer new sound known after =
     sound-from_keeps new (keeps-evict old core line answer new (keeps-from_sound old sound) known after)
     (links_evicted old core line answer new sound known after)
-    (reached_evicted old core line answer new (whole old sound) known sound.reached after)
+    (faithful_evicted old core line answer new (whole old sound) (addressed old sound) known sound.faithful after)
 
 -- A reply that is handed out keeps the invariant.
 pub sound-hand : (old : PartsView) (core : CoreId) (answer : Option Numbered) (new : PartsView) → IsSound old →
@@ -83,4 +83,4 @@ sound-hand old core None new sound known after = subst IsSound (sym after.1) sou
 sound-hand old core (Some given) new sound known after =
     sound-from_keeps new (keeps-hand old core (Some given) new (keeps-from_sound old sound) known after)
     (subst (λ (p : PartsView). HasLinks p.view) (sym after.3) (links_hand old.view core after.0 sound.links known))
-    (reached_handed old core (Some given) new known sound.reached after)
+    (faithful_handed old core (Some given) new known sound.faithful after)

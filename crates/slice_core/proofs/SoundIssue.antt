@@ -27,9 +27,9 @@ use Rattle.slice_core.proofs.AccountsKept.{keeps-from_sound, sound-from_keeps}
 use Rattle.slice_core.proofs.LinksAccesses.{links_hit, links_join, links_open}
 use Rattle.slice_core.proofs.LinksVictims.{has_victim-chosen}
 use Rattle.slice_core.proofs.LinksWays.{its_way}
-use Rattle.slice_core.proofs.Coherent.{whole}
+use Rattle.slice_core.proofs.Coherent.{addressed, whole}
 use Rattle.slice_core.specs.Sound.{HasLinks, IsSound}
-use Rattle.slice_core_coherence.proofs.Calls.{reached_issue}
+use Rattle.slice_core_coherence.proofs.BlocksCalls.{faithful_issue}
 
 module _ (old : PartsView) (core : CoreId) (request : Request) (answer : Result Issue Refused) (new : PartsView)
     (sound : IsSound old) (known : core.0 < length old.view.sides) where
@@ -118,4 +118,4 @@ sound-issue old core request answer new sound known bound after =
     sound-from_keeps new
     (keeps-issue old core request answer new (keeps-from_sound old sound) known bound after)
     (links_issue old core request answer new sound known after)
-    (reached_issue old core request answer new (whole old sound) known sound.reached after)
+    (faithful_issue old core request answer new (whole old sound) (addressed old sound) known sound.faithful after)

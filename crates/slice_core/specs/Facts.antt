@@ -15,6 +15,9 @@ use Rattle.slice_core_answer.specs.declared.answer.Issue.{Issue}
 use Rattle.slice_core_answer.specs.declared.answer.Issue.TheVariants as issues
 use Rattle.slice_core_answer.specs.declared.answer.Refused.{Refused}
 use Rattle.slice_core_answer.specs.declared.answer.Stall.TheVariants as stalls
+use Rattle.slice_core_coherence.specs.Coherent.{HasOneWriter}
+use Rattle.slice_core_coherence.specs.Newest.{HasNewest}
+use Rattle.slice_core_log.specs.Log.{initially, IsLegal, IsOrdered}
 use Rattle.slice_core_log.specs.declared.entry.Entry.{Entry}
 use Rattle.slice_core_side.specs.Side.{state_of, tag_at}
 use Rattle.slice_core_side.specs.declared.tags.TagState.TheVariants as tags
@@ -47,6 +50,22 @@ pub record HasOneRegister (v : View) : Type 0 where
 -- Hits, misses that opened a register and misses that joined one add up to the accepted requests, for each core.
 abbrev pub CountsAccepted : PartsView → Type 0
 CountsAccepted p = (core : CoreId) → core.0 < length p.view.sides → accepted_of (counts_of p.stats core) ≡ (side_at p.view core).accepted
+
+-- What holds of a slice after every call.
+pub record Holds (p : PartsView) : Type 0 where
+  -- no request is lost, doubled or made up, and each tag names what was asked for under it
+  pub standing : IsStanding p.view
+  pub tags : HasTags p.view
+  -- a core has one miss register for a line that it waits for, and none for any other
+  pub registers : HasOneRegister p.view
+  -- a core's entries of a line are in the order in which it asked for them, and each reply is the value that its word had
+  pub ordered : IsOrdered p.view.log
+  pub legal : IsLegal (initially p.view.init) p.view.log
+  -- one core writes a line or many read it, and who may read it reads what was last performed
+  pub one_writer : HasOneWriter p.view
+  pub newest : HasNewest p.view
+  -- what is counted of a core's requests adds up
+  pub counted : CountsAccepted p
 
 -- What a slice shows of a word, whose line it has: the value that the word has while the slice is quiet.
 abbrev pub ShowsWord : View → WordAddr → Option Local → ℕ → Type 0

@@ -13,7 +13,7 @@ use Rattle.slice_core_side.specs.Kept.{IsKept}
 use Rattle.slice_core_side.specs.Side.{state_of}
 use Rattle.slice_core_standing.specs.Standing.{HasNoEntry, IsAccount, waiting}
 use Rattle.slice_core.specs.Facts.{CountsAccepted}
-use Rattle.slice_core_coherence.specs.Stands.{AreReached}
+use Rattle.slice_core_coherence.specs.Newest.{IsFaithful}
 use Rattle.slice_core_plan.specs.Parts.{PartsView}
 use Rattle.slice_core_plan.specs.View.{View, channels_at, side_at, IsOwned, IsShaped}
 use Rattle.slice_queues.specs.Line.{core_at}
@@ -67,9 +67,9 @@ pub record HasLinks (v : View) : Type 0 where
       → has_sent (state_of (side_at v core) local) (core_at (channels_at v local) core.0).request ≡ true
   pub owned : (local : Local) → local.0 < v.lines.lines → IsOwned v local
 
--- All of it; and each line stands as a line that the protocol's machine can come to.
+-- All of it; and each line stands, with its blocks, as one that the protocol's machine can come to, and the log is legal.
 pub record IsSound (p : PartsView) : Type 0 where
   pub counted : IsCounted p
   pub accounts : HasAccounts p.view
   pub links : HasLinks p.view
-  pub reached : AreReached p.view
+  pub faithful : IsFaithful p.view

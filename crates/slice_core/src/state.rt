@@ -1,9 +1,7 @@
 ghost use Rattle.std.specs.Prelude.{◌≡◌, ℕ, ◌<◌, ◌↔◌, length, IfOk, IsTrue, IsSome};
 ghost use Rattle.address_map.specs.Locator.{local_at};
 ghost use Rattle.address_map.specs.Place.{line_of};
-ghost use Rattle.slice_core_log.specs.Log.{IsOrdered};
-ghost use Rattle.slice_core.specs.Facts.{CountsAccepted, HasOneRegister, HasTags, IsInverted, IsNotBroken, IsNotBrokenNext, IsStanding, NeedsNoRegister, ShowsLine, ShowsWord};
-ghost use Rattle.slice_core_coherence.specs.Coherent.{HasOneWriter};
+ghost use Rattle.slice_core.specs.Facts.{Holds, IsInverted, IsNotBroken, IsNotBrokenNext, NeedsNoRegister, ShowsLine, ShowsWord};
 ghost use Rattle.slice_core_plan.specs.Parts.{PartsView, AfterDeliverNext, AfterDelivery, AfterEvict, AfterHand, AfterIssue, IsNew};
 ghost use Rattle.slice_core_plan.specs.View.{View, IsQuiet};
 
@@ -38,7 +36,8 @@ impl<F: MissFile> SliceState<F> {
     /// A slice of the configured machine, with its initial values, in which nothing was asked for yet.
     pub fn build(alloc: Global, config: &Checked, slice: SliceId) -> Result<Self, AllocError>
         requires { slice.0 < config.now.slices }
-        ensures { IfOk result (IsNew config.now (F.bound_by config.now) slice) }
+        ensures new { IfOk result (IsNew config.now (F.bound_by config.now) slice) }
+        ensures holds { IfOk result Holds }
     {
         Ok(SliceState {
             parts: Parts::new(alloc, config, slice)?,
@@ -52,12 +51,7 @@ impl<F: MissFile> SliceState<F> {
         requires { core.0 < length self.old.view.sides }
         ensures step { AfterIssue self.old core request result self.new }
         ensures unbounded { IsInverted self.old.view core → NeedsNoRegister result }
-        ensures standing { IsStanding self.new.view }
-        ensures ordered { IsOrdered self.new.view.log }
-        ensures registers { HasOneRegister self.new.view }
-        ensures one_writer { HasOneWriter self.new.view }
-        ensures tags { HasTags self.new.view }
-        ensures counted { CountsAccepted self.new }
+        ensures holds { Holds self.new }
     {
         self.parts.issue(core, request)
     }
@@ -66,12 +60,7 @@ impl<F: MissFile> SliceState<F> {
     pub fn evict(&mut self, core: CoreId, line: LineAddr) -> Evicted
         requires { core.0 < length self.old.view.sides }
         ensures step { AfterEvict self.old core line result self.new }
-        ensures standing { IsStanding self.new.view }
-        ensures ordered { IsOrdered self.new.view.log }
-        ensures registers { HasOneRegister self.new.view }
-        ensures one_writer { HasOneWriter self.new.view }
-        ensures tags { HasTags self.new.view }
-        ensures counted { CountsAccepted self.new }
+        ensures holds { Holds self.new }
     {
         self.parts.evict(core, line)
     }
@@ -80,12 +69,7 @@ impl<F: MissFile> SliceState<F> {
     pub fn deliver(&mut self, pick: Pick) -> Delivered
         ensures step { AfterDelivery self.old pick result self.new }
         ensures unbroken { IsNotBroken result }
-        ensures standing { IsStanding self.new.view }
-        ensures ordered { IsOrdered self.new.view.log }
-        ensures registers { HasOneRegister self.new.view }
-        ensures one_writer { HasOneWriter self.new.view }
-        ensures tags { HasTags self.new.view }
-        ensures counted { CountsAccepted self.new }
+        ensures holds { Holds self.new }
     {
         self.parts.deliver(pick)
     }
@@ -94,12 +78,7 @@ impl<F: MissFile> SliceState<F> {
     pub fn deliver_next(&mut self, class: Class) -> DeliveredNext
         ensures step { AfterDeliverNext self.old class result self.new }
         ensures unbroken { IsNotBrokenNext result }
-        ensures standing { IsStanding self.new.view }
-        ensures ordered { IsOrdered self.new.view.log }
-        ensures registers { HasOneRegister self.new.view }
-        ensures one_writer { HasOneWriter self.new.view }
-        ensures tags { HasTags self.new.view }
-        ensures counted { CountsAccepted self.new }
+        ensures holds { Holds self.new }
     {
         self.parts.deliver_next(class)
     }
@@ -108,12 +87,7 @@ impl<F: MissFile> SliceState<F> {
     pub fn hand(&mut self, core: CoreId) -> Option<Numbered>
         requires { core.0 < length self.old.view.sides }
         ensures step { AfterHand self.old core result self.new }
-        ensures standing { IsStanding self.new.view }
-        ensures ordered { IsOrdered self.new.view.log }
-        ensures registers { HasOneRegister self.new.view }
-        ensures one_writer { HasOneWriter self.new.view }
-        ensures tags { HasTags self.new.view }
-        ensures counted { CountsAccepted self.new }
+        ensures holds { Holds self.new }
     {
         self.parts.hand(core)
     }
@@ -128,7 +102,7 @@ impl<F: MissFile> SliceState<F> {
     /// What was performed, in order.
     pub fn log(&self) -> &[Entry]
         ensures log { result.now ≡ self.now.view.log }
-        ensures ordered { IsOrdered result.now }
+        ensures holds { Holds self.now }
     {
         self.parts.log()
     }

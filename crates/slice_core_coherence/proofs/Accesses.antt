@@ -1,4 +1,5 @@
--- An access that is performed, or that asks for its line, is a step of the line; one that joins or is handed out is none.
+-- An access that is performed, or that asks for its line, is a step of the line; one that joins or is handed out is
+-- none.
 use Rattle.std.proofs.Common.{◌≡◌, ◌≢◌, ℕ, ◌<◌, ◌≤◌, Bool, true, false, List, if◌then◌else◌, length, set, Some, None, IsSome, IsSomeAnd, is_some, refl, sym, ap, ◌∙◌, subst, true≢false}
 use Rattle.std.proofs.lemmas.List.{get_or-set_same, length-set, set-get_or}
 use Rattle.address_map.specs.Place.{offset_of}
@@ -54,7 +55,8 @@ abbrev pub sends_for : Ask → CacheSends
 sends_for asks.GetS = sends.GetS
 sends_for asks.GetM = sends.GetM
 
-pub request_for_ask : (ask : Ask) (waits : Asked) → kind_of_request (Some (request_of ask)) ≡ asks_for (sends_for ask) waits
+pub request_for_ask : (ask : Ask) (waits : Asked) → kind_of_request (Some (request_of ask)) ≡ asks_for (sends_for
+    ask) waits
 request_for_ask asks.GetS waits = refl
 request_for_ask asks.GetM waits = refl
 
@@ -140,7 +142,8 @@ module _ (v : View) (core : CoreId) (local : Local) (shaped : IsShaped v) (most 
       (further line.1 step.0) step.1
 
   -- An access that asks for its line is a step of the line.
-  unfoldable pub opening_step : (request : Request) (held : Bool) (next : CopyState) (ask : Ask) (misses : List Register)
+  unfoldable pub opening_step : (request : Request) (held : Bool) (next : CopyState) (ask : Ask) (misses : List
+      Register)
       → HasPlace (side_at v core) local held
       → row_of (state_of (side_at v core) local) (event_of request.op) ≡ rows.Go next (sends_for ask) → (line : Line)
       → Reached v.exclusive (length v.sides) line → Stands v local line
@@ -173,7 +176,7 @@ module _ (v : View) (core : CoreId) (local : Local) (shaped : IsShaped v) (most 
       (further line.1 step.0) step.1
 
   -- A core that asks the directory for something leaves the slice its shape.
-  shaped_asking : (side : SideView) (message : RequestMessage)
+  pub shaped_asking : (side : SideView) (message : RequestMessage)
       → IsShaped (after_request (with_side v core side) core local message)
   shaped_asking side message = record {
     entries = shaped.entries;
@@ -217,13 +220,14 @@ module _ (v : View) (core : CoreId) (local : Local) (shaped : IsShaped v) (most 
     replaced = sides.after_replace (side_at v core) local
 
     left_held : IsSome (array_at (side_at v core).array left_line)
-    left_held = (passing (λ (c : CacheCopy). may_leave c.state) (array_at (side_at v core).array left_line) victim.goes).0
+    left_held = (passing (λ (c : CacheCopy). may_leave c.state) (array_at (side_at v core).array left_line)
+        victim.goes).0
 
-    can_leave : CanLeave (side_at v core) left_line
+    pub can_leave : CanLeave (side_at v core) left_line
     can_leave = record { held = victim.goes; room = replaces.room; absent = kept.apart left_line left_held }
 
     -- Lines of which the array holds one and not the other are two.
-    is_another : local.0 ≢ left_line.0
+    pub is_another : local.0 ≢ left_line.0
     is_another same =
         true≢false (sym left_held
         ∙ ap is_some (ap (array_at (side_at v core).array) (sym (same_local local left_line same)) ∙ replaces.absent))
@@ -236,7 +240,7 @@ module _ (v : View) (core : CoreId) (local : Local) (shaped : IsShaped v) (most 
         (copy_of-after_replace_other (side_at v core) local kept can_leave)
 
     -- Then the line has a way.
-    has_way : HasPlace replaced local false
+    pub has_way : HasPlace replaced local false
     has_way =
         let side = side_at v core in
         let changes = changes-evict (sides.after_draw side) left_line (kept-after_draw side kept)
@@ -246,7 +250,7 @@ module _ (v : View) (core : CoreId) (local : Local) (shaped : IsShaped v) (most 
           removed_way side.array left_line kept.array local (sym victim.shares) left_held,
         )
 
-    side_replaced : side_at (with_way v core local ways.Victim) core ≡ replaced
+    pub side_replaced : side_at (with_way v core local ways.Victim) core ≡ replaced
     side_replaced = get_or-set_same v.sides core.0 replaced no_side there
 
     -- And the access asks for it.

@@ -1,13 +1,13 @@
 -- A step on one line of a slice leaves the blocks of its other lines as they stand.
-use Rattle.std.proofs.Common.{◌≡◌, ◌≢◌, ℕ, ◌+◌, ◌*◌, ◌<◌, ◌==◌, Bool, true, false, if◌then◌else◌, List, length, get_or, set, inl, inr, refl, sym, ap, ◌∙◌, subst}
+use Rattle.std.proofs.Common.{◌≡◌, ◌≢◌, ℕ, ◌<◌, Bool, if◌then◌else◌, List, length, get_or, set, inl, inr, refl, sym, ap, ◌∙◌, subst}
 use Rattle.std.proofs.lemmas.Bool.{cases_eq}
 use Rattle.std.proofs.lemmas.List.{get_or-set_other, get_or-set_same, length-set, set-get_or}
 use Rattle.address_map.specs.declared.address.CoreId.{CoreId}
 use Rattle.address_map.specs.declared.address.Local.{Local}
 use Rattle.address_map.specs.declared.block.Block.{Block}
 use Rattle.directory_table.specs.declared.state.DirEntry.{DirEntry}
-use Rattle.slice_core_coherence.proofs.Frame.{IsAlike, IsSized, by_number, line_as, read-set, same_local, stepped, with_copy_at}
-use Rattle.slice_core_coherence.specs.Blocks.{AreReachedWith, BlocksStand, CoreBlocksStand, HasValues, IsNewest, IsReachedWith, LineReachedWith}
+use Rattle.slice_core_coherence.proofs.Frame.{by_number, line_as, read-set, same_local, stepped, with_copy_at}
+use Rattle.slice_core_coherence.specs.Blocks.{AreReachedWith, BlocksStand, CoreBlocksStand, HasValues, IsReachedWith, LineReachedWith}
 use Rattle.slice_core_coherence.specs.Stands.{LineStands, copies_at}
 use Rattle.slice_core_log.specs.Log.{initially}
 use Rattle.slice_core_log.specs.declared.entry.Entry.{Entry}
@@ -24,7 +24,8 @@ pub blocks_as : (cores : ℕ) (entry : DirEntry) (channels : LineChannels) (copy
     → ((c : ℕ) → c < cores → now c ≡ copy c) → BlocksStand cores entry channels copy blocks
     → BlocksStand cores entry channels now blocks
 blocks_as cores entry channels copy now blocks same stand = record {
-  core = λ c below. subst (λ x. CoreBlocksStand x (core_at channels c) (blocks.copy c) (blocks.arriving c) (blocks.put c))
+  core = λ c below. subst (λ x. CoreBlocksStand x (core_at channels c) (blocks.copy c) (blocks.arriving c)
+      (blocks.put c))
       (sym (same c below)) (stand.core c below);
   home = stand.home;
   mail = stand.mail;
@@ -53,14 +54,14 @@ pub reached_further : (exclusive : Bool) (cores : ℕ) (init : ℕ → ℕ) (log
     → LineReachedWith exclusive cores init log first entry channels copy
 reached_further exclusive cores init log first entry channels copy line blocks newest reached step written values stands
     blocks_stand = record {
-  line = after step;
-  blocks = blocks_after step written blocks;
-  newest = newest_after step written newest;
-  reached = further_with reached step written;
-  has_values = values;
-  stands = stands;
-  blocks_stand = blocks_stand;
-}
+      line = after step;
+      blocks = blocks_after step written blocks;
+      newest = newest_after step written newest;
+      reached = further_with reached step written;
+      has_values = values;
+      stands = stands;
+      blocks_stand = blocks_stand;
+    }
 
 -- The log says of a line's blocks what it said.
 abbrev pub LogKeeps : View → List Entry → Local → Type 0
@@ -87,7 +88,8 @@ module _ (v : View) (local : Local) (shaped : IsShaped v) (inside : local.0 < v.
     (log : List Entry)
     (keeps : (other : Local) → other.0 < v.lines.lines → other.0 ≢ local.0 → LogKeeps v log other) where
   entry_is : (entry : DirEntry) → get_or (set v.entries local.0 entry) local.0 no_entry ≡ entry
-  entry_is entry = get_or-set_same v.entries local.0 entry no_entry (subst (λ n. local.0 < n) (sym shaped.entries) inside)
+  entry_is entry = get_or-set_same v.entries local.0 entry no_entry (subst (λ n. local.0 < n) (sym shaped.entries)
+      inside)
 
   channels_are : (channels : LineChannels)
       → get_or (set v.channels local.0 channels) local.0 (empty_line 0) ≡ channels
@@ -128,7 +130,8 @@ module _ (v : View) (local : Local) (shaped : IsShaped v) (inside : local.0 < v.
         → AreReachedWith (stepped v local entry channels core side log)
     by_step_with line other within = elim (cases_eq other.0 local.0) [
       | inl same ↦
-          subst (λ l. IsReachedWith (stepped v local entry channels core side log) l) (sym (same_local other local same))
+          subst (λ l. IsReachedWith (stepped v local entry channels core side log) l) (sym (same_local other local
+          same))
           (subst (λ n. LineReachedWith v.exclusive n (initially v.init) log (first_word v local)
           (get_or (set v.entries local.0 entry) local.0 no_entry)
           (get_or (set v.channels local.0 channels) local.0 (empty_line 0))
@@ -145,8 +148,10 @@ module _ (v : View) (local : Local) (shaped : IsShaped v) (inside : local.0 < v.
           (reached_as v.exclusive (length v.sides) (initially v.init) log (first_word v other) _ _ (copies_at v other)
           (copies_at (stepped v local entry channels core side log) other)
           (λ x below. copies_same other within apart x)
-          (rw (get_or-set_other v.entries local.0 other.0 entry no_entry apart,
-          get_or-set_other v.channels local.0 other.0 channels (empty_line 0) apart)
+          (rw (
+            get_or-set_other v.entries local.0 other.0 entry no_entry apart,
+            get_or-set_other v.channels local.0 other.0 channels (empty_line 0) apart,
+          )
           (reached_alike v.exclusive (length v.sides) (initially v.init) v.log log (first_word v other) _ _ _
           (keeps other within apart) (all other within))))
     ]
@@ -187,11 +192,15 @@ by_entry_with v local shaped inside all entry channels line other within = elim 
   | inl same ↦
       subst (λ l. IsReachedWith (with_channels (with_entry v local entry) local channels) l)
       (sym (same_local other local same))
-      (rw (entry_is v local shaped inside all v.log (λ o w a block has. has) entry,
-      channels_are v local shaped inside all v.log (λ o w a block has. has) channels) line)
+      (rw (
+        entry_is v local shaped inside all v.log (λ o w a block has. has) entry,
+        channels_are v local shaped inside all v.log (λ o w a block has. has) channels,
+      ) line)
   | inr apart ↦
-      rw (get_or-set_other v.entries local.0 other.0 entry no_entry apart,
-      get_or-set_other v.channels local.0 other.0 channels (empty_line 0) apart) (all other within)
+      rw (
+        get_or-set_other v.entries local.0 other.0 entry no_entry apart,
+        get_or-set_other v.channels local.0 other.0 channels (empty_line 0) apart,
+      ) (all other within)
 ]
 
 -- A core's side with the same copies leaves the lines as they stand: whatever its registers, tags and counts are.

@@ -1,8 +1,6 @@
 -- A slice whose lines are the machine's, blocks and all: its lines are the machine's without their blocks, and what may
 -- be read is the newest.
-use Rattle.std.proofs.Common.{◌≡◌, ℕ, ◌<◌, ◌≤◌, ◌||◌, ◌&&◌, Bool, true, false, not, List, length, IsTrue, arith, refl, sym, ap, ◌∙◌, subst, true≢false}
-use Rattle.address_map.specs.declared.address.CoreId.{CoreId}
-use Rattle.address_map.specs.declared.address.Local.{Local}
+use Rattle.std.proofs.Common.{◌≡◌, ℕ, ◌<◌, ◌≤◌, ◌||◌, ◌&&◌, Bool, true, not, List, length, refl, sym, ap, ◌∙◌, subst, true≢false}
 use Rattle.cache_table.specs.CopyState.{is_readable}
 use Rattle.cache_table.specs.declared.state.CopyState.{CopyState}
 use Rattle.cache_table.specs.declared.state.CopyState.TheVariants as states

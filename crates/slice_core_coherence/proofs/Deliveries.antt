@@ -1,150 +1,44 @@
 -- A message that is taken leaves the slice's lines reached, whichever it is; and so does a call that takes none.
-use Rattle.std.proofs.Common.{◌≡◌, ℕ, ◌<◌, Bool, Option, Some, None, arith, refl, sym, ap, ◌∙◌, subst}
-use Rattle.address_map.specs.Locator.{local_at}
-use Rattle.address_map.specs.declared.address.CoreId.{CoreId}
-use Rattle.address_map.specs.declared.address.Local.{Local}
-use Rattle.cache_table.specs.declared.row.CacheSends.{CacheSends}
-use Rattle.cache_table.specs.declared.state.CopyState.{CopyState}
-use Rattle.directory_table.specs.declared.row.DirSends.{DirSends}
-use Rattle.directory_table.specs.declared.state.DirState.{DirState}
+use Rattle.std.proofs.Common.{arith}
 use Rattle.slice_core_answer.specs.declared.answer.Delivered.{Delivered}
-use Rattle.slice_core_answer.specs.declared.answer.Delivered.TheVariants as delivered
 use Rattle.slice_core_answer.specs.declared.answer.DeliveredNext.{DeliveredNext}
-use Rattle.slice_core_answer.specs.declared.answer.DeliveredNext.TheVariants as delivered_next
-use Rattle.slice_core_coherence.proofs.Calls.{located}
 use Rattle.slice_core_coherence.proofs.Directory.{reached_directory}
 use Rattle.slice_core_coherence.proofs.Forwarded.{forwarded_reached}
 use Rattle.slice_core_coherence.proofs.Home.{reached_home}
-use Rattle.slice_core_coherence.proofs.Planned.{IsFor, is_for}
+use Rattle.slice_core_coherence.proofs.KeptByDeliveries.{deliver_next_keeps, delivery_keeps}
 use Rattle.slice_core_coherence.proofs.Settling.{count_reached, fill_reached}
+use Rattle.slice_core_coherence.proofs.Steps.{KeepsMessages}
 use Rattle.slice_core_coherence.specs.Stands.{AreReached}
 use Rattle.slice_core_coherence.specs.Whole.{IsWhole}
-use Rattle.slice_core_plan.specs.Parts.{PartsView, AfterDeliverNext, AfterDelivery, AfterPlan}
-use Rattle.slice_core_plan.specs.Plan.{plan_of}
-use Rattle.slice_core_plan.specs.View.{View}
-use Rattle.slice_core_plan.specs.declared.decide.Plan.{Plan}
-use Rattle.slice_core_plan.specs.declared.decide.Plan.TheVariants as plans
-use Rattle.slice_queues_message.specs.Pick.{channel_of, line_of}
-use Rattle.slice_queues_message.specs.declared.channel.Channel.{Channel}
-use Rattle.slice_queues_message.specs.declared.channel.Channel.TheVariants as channels
+use Rattle.slice_core_plan.specs.Parts.{PartsView, AfterDeliverNext, AfterDelivery}
 use Rattle.slice_queues_message.specs.declared.channel.Class.{Class}
 use Rattle.slice_queues_message.specs.declared.channel.Pick.{Pick}
 
-module _ (old : PartsView) (local : Local) (answer : Delivered) (new : PartsView) (whole : IsWhole old.view)
-    (inside : local.0 < old.view.lines.lines) (all : AreReached old.view) where
-  -- the slice's view is this one
-  seen : (view : View) (after : PartsView) → new ≡ after → after.view ≡ view → AreReached view → AreReached new.view
-  seen view after is same reached = subst AreReached (sym (ap (λ (p : PartsView). p.view) is ∙ same)) reached
+messages_keep : KeepsMessages IsWhole AreReached
+messages_keep = record {
+  directory = λ v local core state owner sharers sent writes whole inside there is all.
+      reached_directory v local whole.shaped inside whole.few core there state owner sharers sent writes is all;
+  home = λ v local state owner sharers whole inside is all.
+      reached_home v local whole.shaped inside state owner sharers is all;
+  forwarded = λ v local core next sent requester whole inside there copy is all.
+      forwarded_reached v local core next sent requester (omega (arith, there)) whole.few whole.shaped
+      (whole.kept core there) there inside copy is all;
+  filling = λ v local core place next misses whole inside there is all.
+      fill_reached v local core (omega (arith, there)) whole.few whole.shaped (whole.kept core there) there inside
+      place next is misses all;
+  counting = λ v local core from place next misses whole inside there is all.
+      count_reached v local core (omega (arith, there)) whole.few whole.shaped (whole.kept core there) there inside
+      from place next is misses all;
+}
 
-  planned : (channel : Channel) (plan : Plan) → plan_of old.view local channel ≡ plan
-      → IsFor old.view channel local plan
-  planned = is_for old.view local whole.shaped inside
+-- A delivery of a chosen message leaves each line reached.
+pub reached_delivery : (old new : PartsView) → IsWhole old.view → AreReached old.view → (pick : Pick)
+    (answer : Delivered) → AfterDelivery old pick answer new → AreReached new.view
+reached_delivery old new whole all pick answer =
+    delivery_keeps IsWhole AreReached messages_keep old new whole whole all pick answer
 
-  taken_request : (state : DirState) (owner : Option CoreId) (sharers : ℕ) (sent : DirSends) (writes : Bool)
-      (channel : Channel) → plan_of old.view local channel ≡ plans.Directory state owner sharers sent writes
-      → AfterPlan (plans.Directory state owner sharers sent writes) old local channel answer new → AreReached new.view
-  taken_request state owner sharers sent writes (channels.Req core) is after =
-      seen _ _ after.1 refl
-      (reached_directory old.view local whole.shaped inside whole.few core (planned (channels.Req core) _ is) state
-      owner sharers sent writes is all)
-  taken_request state owner sharers sent writes (channels.Fwd core) is after =
-      absurd (planned (channels.Fwd core) _ is)
-  taken_request state owner sharers sent writes (channels.Data core) is after =
-      absurd (planned (channels.Data core) _ is)
-  taken_request state owner sharers sent writes (channels.Ack to from) is after =
-      absurd (planned (channels.Ack to from) _ is)
-  taken_request state owner sharers sent writes channels.Home is after = absurd (planned channels.Home _ is)
-
-  taken_home : (state : DirState) (owner : Option CoreId) (sharers : ℕ) (channel : Channel)
-      → plan_of old.view local channel ≡ plans.Home state owner sharers
-      → AfterPlan (plans.Home state owner sharers) old local channel answer new → AreReached new.view
-  taken_home state owner sharers channels.Home is after =
-      seen _ _ after.1 refl (reached_home old.view local whole.shaped inside state owner sharers is all)
-  taken_home state owner sharers (channels.Req core) is after = absurd (planned (channels.Req core) _ is)
-  taken_home state owner sharers (channels.Fwd core) is after = absurd (planned (channels.Fwd core) _ is)
-  taken_home state owner sharers (channels.Data core) is after = absurd (planned (channels.Data core) _ is)
-  taken_home state owner sharers (channels.Ack to from) is after = absurd (planned (channels.Ack to from) _ is)
-
-  taken_forwarded : (next : CopyState) (sent : CacheSends) (requester : CoreId) (channel : Channel)
-      → plan_of old.view local channel ≡ plans.Forwarded next sent requester
-      → AfterPlan (plans.Forwarded next sent requester) old local channel answer new → AreReached new.view
-  taken_forwarded next sent requester (channels.Fwd core) is after =
-      let for = planned (channels.Fwd core) _ is in
-      seen _ _ after.1 refl
-      (forwarded_reached old.view local core next sent requester (omega (arith, for.0)) whole.few whole.shaped
-      (whole.kept core for.0) for.0 inside for.1 is all)
-  taken_forwarded next sent requester (channels.Req core) is after = absurd (planned (channels.Req core) _ is)
-  taken_forwarded next sent requester (channels.Data core) is after = absurd (planned (channels.Data core) _ is)
-  taken_forwarded next sent requester (channels.Ack to from) is after = absurd (planned (channels.Ack to from) _ is)
-  taken_forwarded next sent requester channels.Home is after = absurd (planned channels.Home _ is)
-
-  taken_data : (place : ℕ) (next : CopyState) (channel : Channel)
-      → plan_of old.view local channel ≡ plans.Fill place next
-      → AfterPlan (plans.Fill place next) old local channel answer new → AreReached new.view
-  taken_data place next (channels.Data core) is after =
-      let there = planned (channels.Data core) _ is in
-      seen _ _ after.1.3 refl
-      (fill_reached old.view local core (omega (arith, there)) whole.few whole.shaped (whole.kept core there) there
-      inside place next is after.1.0 all)
-  taken_data place next (channels.Req core) is after = absurd (planned (channels.Req core) _ is)
-  taken_data place next (channels.Fwd core) is after = absurd (planned (channels.Fwd core) _ is)
-  taken_data place next (channels.Ack to from) is after = absurd (planned (channels.Ack to from) _ is)
-  taken_data place next channels.Home is after = absurd (planned channels.Home _ is)
-
-  taken_ack : (place : ℕ) (next : CopyState) (channel : Channel)
-      → plan_of old.view local channel ≡ plans.Acknowledge place next
-      → AfterPlan (plans.Acknowledge place next) old local channel answer new → AreReached new.view
-  taken_ack place next (channels.Ack to from) is after =
-      let there = planned (channels.Ack to from) _ is in
-      seen _ _ after.1.3 refl
-      (count_reached old.view local to (omega (arith, there)) whole.few whole.shaped (whole.kept to there) there inside
-      from place next is after.1.0 all)
-  taken_ack place next (channels.Req core) is after = absurd (planned (channels.Req core) _ is)
-  taken_ack place next (channels.Fwd core) is after = absurd (planned (channels.Fwd core) _ is)
-  taken_ack place next (channels.Data core) is after = absurd (planned (channels.Data core) _ is)
-  taken_ack place next channels.Home is after = absurd (planned channels.Home _ is)
-
-  -- What is planned at a channel leaves each line reached.
-  pub reached_planned : (plan : Plan) (channel : Channel) → plan_of old.view local channel ≡ plan
-      → AfterPlan plan old local channel answer new → AreReached new.view
-  reached_planned plans.Nothing channel is after = seen _ _ after.1 refl all
-  reached_planned plans.Blocked channel is after = seen _ _ after.1 refl all
-  reached_planned (plans.Broken cell) channel is after = seen _ _ after.1 refl all
-  reached_planned (plans.Directory state owner sharers sent writes) channel is after =
-      taken_request state owner sharers sent writes channel is after
-  reached_planned (plans.Home state owner sharers) channel is after = taken_home state owner sharers channel is after
-  reached_planned (plans.Forwarded next sent requester) channel is after =
-      taken_forwarded next sent requester channel is after
-  reached_planned (plans.Fill place next) channel is after = taken_data place next channel is after
-  reached_planned (plans.Acknowledge place next) channel is after = taken_ack place next channel is after
-
--- ---- the calls
-
-module _ (old new : PartsView) (whole : IsWhole old.view) (all : AreReached old.view) where
-  unchanged : new ≡ old → AreReached new.view
-  unchanged same = subst (λ (p : PartsView). AreReached p.view) (sym same) all
-
-  -- what a delivery answers and leaves, by the line's place
-  abbrev by_line : Pick → Delivered → Option Local → Type 0
-  by_line pick answer None = (answer ≡ delivered.Nothing) × (new ≡ old)
-  by_line pick answer (Some local) =
-      AfterPlan (plan_of old.view local (channel_of pick)) old local (channel_of pick) answer new
-
-  at_place : (pick : Pick) (answer : Delivered) (place : Option Local)
-      → local_at old.view.lines (line_of pick).0 ≡ place → by_line pick answer place → AreReached new.view
-  at_place pick answer None is after = unchanged after.1
-  at_place pick answer (Some local) is after =
-      reached_planned old local answer new whole (located old.view.lines (line_of pick).0 local is) all
-      (plan_of old.view local (channel_of pick)) (channel_of pick) refl after
-
-  -- A delivery of a chosen message leaves each line reached.
-  pub reached_delivery : (pick : Pick) (answer : Delivered) → AfterDelivery old pick answer new → AreReached new.view
-  reached_delivery pick answer after = at_place pick answer (local_at old.view.lines (line_of pick).0) refl after
-
-  -- So does one of the next message of a class.
-  pub reached_deliver_next : (class : Class) (answer : DeliveredNext) → AfterDeliverNext old class answer new
-      → AreReached new.view
-  reached_deliver_next class (delivered_next.Moved pick) after = reached_delivery pick delivered.Moved after.1
-  reached_deliver_next class delivered_next.Nothing after = unchanged after.0
-  reached_deliver_next class delivered_next.Blocked after = unchanged after.0
-  reached_deliver_next class (delivered_next.Broken cell) after = unchanged after.0
+-- So does one of the next message of a class.
+pub reached_deliver_next : (old new : PartsView) → IsWhole old.view → AreReached old.view → (class : Class)
+    (answer : DeliveredNext) → AfterDeliverNext old class answer new → AreReached new.view
+reached_deliver_next old new whole all class answer =
+    deliver_next_keeps IsWhole AreReached messages_keep old new whole whole all class answer

@@ -1,5 +1,5 @@
 -- A request that the directory serves is a step of the line.
-use Rattle.std.proofs.Common.{◌≡◌, ◌≢◌, ℕ, ◌<◌, ◌≤◌, ◌==◌, ◌&&◌, Bool, true, false, not, [], ◌∷◌, ◌++◌, if◌then◌else◌, length, Option, Some, None, IfSome, IsTrue, is_some, inl, inr, refl, sym, ap, ◌∙◌, subst, arith, true≢false}
+use Rattle.std.proofs.Common.{◌≡◌, ℕ, ◌<◌, ◌≤◌, ◌==◌, ◌&&◌, Bool, true, false, not, [], ◌∷◌, ◌++◌, if◌then◌else◌, length, Option, Some, None, IfSome, IsTrue, is_some, inl, inr, refl, sym, ap, ◌∙◌, subst, arith, true≢false}
 use Rattle.std.proofs.lemmas.Bool.{and_parts, cases_lt}
 use Rattle.std.proofs.lemmas.List.{get_or_past}
 use Rattle.std.proofs.lemmas.List.FromFn.{length-map-range_with_len}
@@ -22,8 +22,8 @@ use Rattle.slice_core_answer.specs.declared.answer.Cell.TheVariants as cells
 use Rattle.slice_core_coherence.proofs.Facts.{data_before_counting, inv_without_ack}
 use Rattle.slice_core_coherence.proofs.Frame.{by_entry, by_number}
 use Rattle.slice_core_coherence.proofs.Parts.{data_stand, forward_stands, inv_stands, put_ack_stands, request_for, request_stands, with_data, with_forward, with_request}
-use Rattle.slice_core_coherence.proofs.Places.{PartsStand, acks-with_core, acks_kept, change-twice, core_at-same, parts_as, parts_sent, with_core-length, with_part_at}
-use Rattle.slice_core_coherence.specs.Stands.{AcksStand, AreReached, EntryStands, LineStands, PartStands, Stands, copies_at, kind_of_request}
+use Rattle.slice_core_coherence.proofs.Places.{PartsStand, acks-with_core, acks_kept, change-twice, parts_as, parts_sent, with_core-length, with_part_at}
+use Rattle.slice_core_coherence.specs.Stands.{AreReached, EntryStands, LineStands, PartStands, Stands, copies_at, kind_of_request}
 use Rattle.slice_core_plan.specs.Plan.{by_directory_row, event_of_request, plan_of, request_by}
 use Rattle.slice_core_plan.specs.Sends.{directory_room, directory_sent}
 use Rattle.slice_core_plan.specs.Steps.{after_directory, block_in}
@@ -37,8 +37,8 @@ use Rattle.slice_core_protocol.specs.Line.{Forward, Line, Part, fwd_get_m, fwd_g
 use Rattle.slice_core_protocol.specs.Machine.{IsWithin, Reached, Step, after, after_service, answered, change_if, entry_of, forwarded, further, invalidated_by, is_asked_for, serve, stands_ack}
 use Rattle.slice_core_protocol.specs.Promise.{HasRoomAtService, has_room_for_forward, has_room_for_inv, has_room_for_put_ack}
 use Rattle.slice_core_side.specs.declared.copy.CacheCopy.{CacheCopy}
-use Rattle.slice_queues.proofs.InvalidateLaws.{core_at-after_invalidating, core_at-not_invalidated}
-use Rattle.slice_queues.specs.Line.{CoreChannels, LineChannels, after_invalidating, after_send, after_take, core_at, no_messages, with_core, with_invalidation}
+use Rattle.slice_queues.proofs.InvalidateLaws.{core_at-after_invalidating}
+use Rattle.slice_queues.specs.Line.{CoreChannels, LineChannels, after_invalidating, after_send, after_take, core_at, no_messages, with_invalidation}
 use Rattle.slice_queues_message.specs.declared.channel.Channel.TheVariants as channels
 use Rattle.slice_queues_message.specs.declared.message.DataMessage.{DataMessage}
 use Rattle.slice_queues_message.specs.declared.message.DataMessage.TheVariants as replies
@@ -159,7 +159,8 @@ acks-sent line core block answers.Nothing x = refl
 acks-sent line core block (answers.Data acks) x = acks-with_core line core.0 x _ refl
 acks-sent line core block answers.DataE x = acks-with_core line core.0 x _ refl
 acks-sent line core block (answers.DataAndInv acks invalidated) x =
-    acks-invalidating (after_send line (channels.Data core) (messages.Data (replies.Data block acks))) invalidated core x
+    acks-invalidating (after_send line (channels.Data core) (messages.Data (replies.Data block acks))) invalidated
+    core x
     ∙ acks-with_core line core.0 x _ refl
 acks-sent line core block (answers.FwdGetS owner) x = acks-with_core line owner.0 x _ refl
 acks-sent line core block (answers.FwdGetM owner) x = acks-with_core line owner.0 x _ refl
@@ -461,71 +462,71 @@ module _ (exclusive : Bool) (cores : ℕ) (entry : DirEntry) (line : LineChannel
     (waits : (core_at line core.0).request ≡ Some message) (state : DirState) (owner : Option CoreId) (sharers : ℕ)
     (sent : DirSends) (writes : Bool)
     (row : Directory.row_of exclusive entry (event_of_request core message) ≡ rows.Go state owner sharers sent writes)
-    where
-  pub is_asked : is_asked_for l (event_of_request core message) ≡ true
-  is_asked = asked_here l core message (sym (ap kind_of_request waits) ∙ (stands.part core.0 within).request)
+  where
+    pub is_asked : is_asked_for l (event_of_request core message) ≡ true
+    is_asked = asked_here l core message (sym (ap kind_of_request waits) ∙ (stands.part core.0 within).request)
 
-  pub has_row : Directory.row_of exclusive (entry_of l entry.home) (event_of_request core message)
-      ≡ rows.Go state owner sharers sent writes
-  has_row = row_here exclusive entry l entry.home (event_of_request core message) stands.entry_stands ∙ row
+    pub has_row : Directory.row_of exclusive (entry_of l entry.home) (event_of_request core message)
+        ≡ rows.Go state owner sharers sent writes
+    has_row = row_here exclusive entry l entry.home (event_of_request core message) stands.entry_stands ∙ row
 
-  -- The machine's directory serves the request.
-  abbrev pub serving : Step exclusive cores l
-  serving =
-      serve (event_of_request core message) entry.home state owner sharers sent writes
-      (within_here cores core message within) is_asked has_row
+    -- The machine's directory serves the request.
+    abbrev pub serving : Step exclusive cores l
+    serving =
+        serve (event_of_request core message) entry.home state owner sharers sent writes
+        (within_here cores core message within) is_asked has_row
 
-  some : 0 < cores
-  some = omega (arith, within)
+    some : 0 < cores
+    some = omega (arith, within)
 
-  next : Line
-  next = after_row l core state owner sharers sent
+    next : Line
+    next = after_row l core state owner sharers sent
 
-  next_reached : Reached exclusive cores next
-  unfolding next
-  next_reached =
-      subst (Reached exclusive cores) (same_service l core message state owner sharers sent) (further reached serving)
+    next_reached : Reached exclusive cores next
+    unfolding next
+    next_reached =
+        subst (Reached exclusive cores) (same_service l core message state owner sharers sent) (further reached serving)
 
-  room : HasRoomAtService cores l (asks.GetS core) sent
-  room =
-      room_here cores l core message sent ((reached_has_room exclusive cores l some most reached).serve
-      (event_of_request core message) entry.home state owner sharers sent writes
-      (within_here cores core message within) is_asked has_row)
+    room : HasRoomAtService cores l (asks.GetS core) sent
+    room =
+        room_here cores l core message sent ((reached_has_room exclusive cores l some most reached).serve
+        (event_of_request core message) entry.home state owner sharers sent writes
+        (within_here cores core message within) is_asked has_row)
 
-  may_serve : MayServe cores l.part core sent
-  unfolding next
-  may_serve = record {
-    not_counting = calm l core state owner sharers sent
-        (data_before_counting exclusive cores next some most next_reached core.0 within);
-    inv = λ x below named. room.inv x below named;
-    named = room.named;
-    asked = room.forward;
-    put_ack = λ put. room.put_ack put;
-  }
+    may_serve : MayServe cores l.part core sent
+    unfolding next
+    may_serve = record {
+      not_counting = calm l core state owner sharers sent
+          (data_before_counting exclusive cores next some most next_reached core.0 within);
+      inv = λ x below named. room.inv x below named;
+      named = room.named;
+      asked = room.forward;
+      put_ack = λ put. room.put_ack put;
+    }
 
-  -- The line's directory has the row's entry, the channels have what the row sends, and the request is gone.
-  pub served_stands : (home block : Block)
-      → LineStands cores (record { home = home; sharers = sharers; owner = owner; state = state })
-      (directory_sent (after_take line (channels.Req core)) core block sent) copy (after serving)
-  unfolding next taken_line
-  served_stands home block =
-      subst (λ after'. LineStands cores (record { home = home; sharers = sharers; owner = owner; state = state })
-      (directory_sent (after_take line (channels.Req core)) core block sent) copy after')
-      (sym (same_service l core message state owner sharers sent)) (record {
-        entry_stands = record { directory = refl; owner = refl; sharers = refl };
-        home = ap is_some (home-sent (after_take line (channels.Req core)) core block sent) ∙ stands.home;
-        part = serve_stands cores line copy l.part core block size within stands.part l state owner sharers sent refl
-            may_serve;
-        acks = acks_kept cores line (directory_sent (after_take line (channels.Req core)) core block sent) l.part
-            next.part
-            (λ x. acks-sent (after_take line (channels.Req core)) core block sent x
-            ∙ acks-with_core line core.0 x _ refl)
-            (λ to x below. owes-served (is_named (forwarded_to sent) x) (x == core.0) (is_sent_inv sent x) sent core.0
-            (l.part x) to
-            (settled l core state owner sharers sent x
-            (inv_without_ack exclusive cores next some most next_reached x below)))
-            stands.acks;
-      })
+    -- The line's directory has the row's entry, the channels have what the row sends, and the request is gone.
+    pub served_stands : (home block : Block)
+        → LineStands cores (record { home = home; sharers = sharers; owner = owner; state = state })
+        (directory_sent (after_take line (channels.Req core)) core block sent) copy (after serving)
+    unfolding next taken_line
+    served_stands home block =
+        subst (λ after'. LineStands cores (record { home = home; sharers = sharers; owner = owner; state = state })
+        (directory_sent (after_take line (channels.Req core)) core block sent) copy after')
+        (sym (same_service l core message state owner sharers sent)) (record {
+          entry_stands = record { directory = refl; owner = refl; sharers = refl };
+          home = ap is_some (home-sent (after_take line (channels.Req core)) core block sent) ∙ stands.home;
+          part = serve_stands cores line copy l.part core block size within stands.part l state owner sharers sent refl
+              may_serve;
+          acks = acks_kept cores line (directory_sent (after_take line (channels.Req core)) core block sent) l.part
+              next.part
+              (λ x. acks-sent (after_take line (channels.Req core)) core block sent x
+              ∙ acks-with_core line core.0 x _ refl)
+              (λ to x below. owes-served (is_named (forwarded_to sent) x) (x == core.0) (is_sent_inv sent x) sent core.0
+              (l.part x) to
+              (settled l core state owner sharers sent x
+              (inv_without_ack exclusive cores next some most next_reached x below)))
+              stands.acks;
+        })
 
 module _ (v : View) (local : Local) (shaped : IsShaped v) (inside : local.0 < v.lines.lines)
     (most : length v.sides ≤ 64) (core : CoreId) (within : core.0 < length v.sides) (state : DirState)
@@ -546,15 +547,15 @@ module _ (v : View) (local : Local) (shaped : IsShaped v) (inside : local.0 < v.
       (copies_at v local) (after step)
   directory_step l reached stands =
       let s = served state owner sharers sent writes v local core
-      (core_at (channels_at v local) core.0).request refl is in
-      (
+      (core_at (channels_at v local) core.0).request refl is in (
         serving v.exclusive (length v.sides) (entry_at v local) (channels_at v local) (copies_at v local) core
-        (shaped.cores local inside) within most l reached stands s.message s.waits state owner sharers sent writes
-        s.row,
+            (shaped.cores local inside) within most l reached stands s.message s.waits state owner sharers sent writes
+            s.row,
         served_stands v.exclusive (length v.sides) (entry_at v local) (channels_at v local) (copies_at v local) core
-        (shaped.cores local inside) within most l reached stands s.message s.waits state owner sharers sent writes s.row
-        (if writes then block_in (entry_at v local).home (core_at (channels_at v local) core.0).request
-        else (entry_at v local).home) (entry_at v local).home,
+            (shaped.cores local inside) within most l reached stands s.message s.waits state owner sharers sent
+            writes s.row
+            (if writes then block_in (entry_at v local).home (core_at (channels_at v local) core.0).request
+            else (entry_at v local).home) (entry_at v local).home,
       )
 
   -- A request that the directory takes leaves each line reached.

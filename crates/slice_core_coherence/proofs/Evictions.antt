@@ -36,7 +36,8 @@ use Rattle.slice_queues_message.specs.declared.message.Message.TheVariants as me
 pub record LeavesBy (block : Block) (state : CopyState) : Type 0 where
   pub sent : CacheSends
   pub row : row_of state events.Eviction ≡ rows.Go (next_by state (row_of state events.Eviction)) sent
-  pub put : (waits : Request) → kind_of_request (Some (put_by block (row_of state events.Eviction))) ≡ asks_for sent waits
+  pub put : (waits : Request) → kind_of_request (Some (put_by block (row_of state events.Eviction))) ≡ asks_for sent
+      waits
 
 pub leaves_by : (block : Block) (state : CopyState) → may_leave state ≡ true → LeavesBy block state
 leaves_by block states.S may = record { sent = sends.PutS; row = refl; put = λ waits. refl }
@@ -64,7 +65,8 @@ module _ (v : View) (core : CoreId) (local : Local) (shaped : IsShaped v) (most 
     (there : core.0 < length v.sides) (inside : local.0 < v.lines.lines) (kept : IsKept (side_at v core))
     (leaves : CanLeave (side_at v core) local) where
   -- A copy that leaves, and tells the directory, is a step of its line.
-  unfoldable pub leave_step : (now : CacheCopy) → now ≡ leaving_copy (evicted (copy_of (side_at v core) local)) → (line : Line)
+  unfoldable pub leave_step : (now : CacheCopy) → now ≡ leaving_copy (evicted (copy_of (side_at v core) local))
+      → (line : Line)
       → Reached v.exclusive (length v.sides) line → Stands v local line
       → StepStands v.exclusive (length v.sides) (entry_at v local)
       (after_send (channels_at v local) (channels.Req core)
@@ -79,7 +81,8 @@ module _ (v : View) (core : CoreId) (local : Local) (shaped : IsShaped v) (most 
       let is_next : now.state ≡ next_by copy.state (row_of copy.state events.Eviction) =
       ap (λ (c : CacheCopy). c.state) is ∙ ap (λ (c : CacheCopy). (evicted c).state) same in
       own_step v.exclusive (length v.sides) (entry_at v local) (channels_at v local) (copies_at v local) core.0
-      events.Eviction (next_by copy.state (row_of copy.state events.Eviction)) by.sent now (Some (put_of copy)) line most
+      events.Eviction (next_by copy.state (row_of copy.state events.Eviction)) by.sent now (Some (put_of copy)) line
+      most
       there (subst (λ n. core.0 < n) (sym (shaped.cores local inside)) there) tt
       (ap (λ (c : CacheCopy). row_of c.state events.Eviction) same ∙ by.row) is_next (by.put _)
       (λ waits. ap (λ (c : CacheCopy). c.counted) is) reached stands

@@ -1,9 +1,8 @@
 -- What is true of each core of a line that the machine reaches, and is needed to follow its numbers.
-use Rattle.std.proofs.Common.{◌≡◌, ℕ, ◌+◌, ◌<◌, ◌≤◌, ◌==◌, ◌&&◌, ◌||◌, Bool, true, false, not, refl, ap, sym, ◌∙◌, subst, arith, true≢false, if◌then◌else◌, Option}
+use Rattle.std.proofs.Common.{◌≡◌, ℕ, ◌+◌, ◌<◌, ◌≤◌, ◌==◌, ◌&&◌, ◌||◌, Bool, true, false, not, refl, ap, sym, ◌∙◌, subst, arith, if◌then◌else◌, Option}
 use Rattle.std.proofs.Math.Bool.{or-true}
 use Rattle.std.proofs.lemmas.Bool.{and_parts, eqb-true}
 use Rattle.address_map.proofs.Members.{count_of-most}
-use Rattle.address_map.specs.CoreSet.{count_of}
 use Rattle.address_map.specs.declared.address.CoreId.{CoreId}
 use Rattle.address_map.specs.declared.block.Block.{Block}
 use Rattle.cache_table.specs.CopyState.{is_waiting}
@@ -24,10 +23,10 @@ use Rattle.slice_core_protocol.proofs.Count.{count_below-some}
 use Rattle.slice_core_protocol.proofs.Each.{all_words, each_fit, each_fit-at, if_so, if_so-at, not-at}
 use Rattle.slice_core_protocol.proofs.Frame.{by_test}
 use Rattle.slice_core_protocol.proofs.Steps.{reached_coherent}
-use Rattle.slice_core_protocol.specs.Coherent.{IsCoherent, debts, wanted}
+use Rattle.slice_core_protocol.specs.Coherent.{debts}
 use Rattle.slice_core_protocol.specs.Fit.{awaits, is_counting, is_no_data, owes}
 use Rattle.slice_core_protocol.specs.Line.{Line, Look, Part, near_of}
-use Rattle.slice_core_protocol.specs.Machine.{Reached, acknowledged, acted, after_service, answered, beginning, change_if, count, entry_of, forwarded, further, given, invalidated_by, serve, stands_ack, turn, who}
+use Rattle.slice_core_protocol.specs.Machine.{Reached, acknowledged, acted, answered, beginning, change_if, count, entry_of, forwarded, further, given, invalidated_by, serve, stands_ack, turn, who}
 
 -- ---- each core
 

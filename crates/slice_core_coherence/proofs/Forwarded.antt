@@ -104,7 +104,7 @@ module _ (v : View) (local : Local) (core : CoreId) (next : CopyState) (sent : C
 abbrev pub moved : CacheCopy → CopyState → CacheCopy
 moved copy next = if is_gone next then no_copy else record copy { state = next }
 
-moved-state : (copy : CacheCopy) (next : CopyState) → (moved copy next).state ≡ next
+pub moved-state : (copy : CacheCopy) (next : CopyState) → (moved copy next).state ≡ next
 moved-state copy states.I = refl
 moved-state copy states.IS_D = refl
 moved-state copy states.IM_AD = refl
@@ -202,13 +202,13 @@ module _ (exclusive : Bool) (cores : ℕ) (entry : DirEntry) (queues : LineChann
   there = subst (λ n. core.0 < n) (sym size) within
 
   -- the core's channels once the message is taken, and the line's
-  abbrev mail_here : CoreChannels
+  abbrev pub mail_here : CoreChannels
   mail_here = record (core_at queues core.0) { forwarded = drop 1 (core_at queues core.0).forwarded }
 
-  abbrev queues_here : LineChannels
+  abbrev pub queues_here : LineChannels
   queues_here = with_core queues core.0 mail_here
 
-  abbrev copies_here : ℕ → CacheCopy
+  abbrev pub copies_here : ℕ → CacheCopy
   copies_here = with_copy_at copy core.0 (moved (copy core.0) next)
 
   module _ (message : ForwardedMessage) (waits : slice_get (core_at queues core.0).forwarded 0 ≡ Some message)
@@ -220,7 +220,7 @@ module _ (exclusive : Bool) (cores : ℕ) (entry : DirEntry) (queues : LineChann
     abbrev turned : ℕ → Part
     turned = with_part_at line.part core.0 change
 
-    abbrev turned_line : Line
+    abbrev pub turned_line : Line
     turned_line = after_turn line core.0 (event_of_forwarded message) next (sends_for message)
 
     pub first : IsFirst message (line.part core.0)
@@ -252,7 +252,7 @@ module _ (exclusive : Bool) (cores : ℕ) (entry : DirEntry) (queues : LineChann
     }
 
     -- A Put-Ack: nothing is sent.
-    pub quiet_stands : IsQuiet (sends_for message) → LineStands cores entry queues_here copies_here turned_line
+    quiet_stands : IsQuiet (sends_for message) → LineStands cores entry queues_here copies_here turned_line
     quiet_stands quiet =
         turn_stands cores entry queues copy line core.0 (event_of_forwarded message) next (sends_for message)
         (moved (copy core.0) next) mail_here there quiet refl own stands
@@ -260,10 +260,10 @@ module _ (exclusive : Bool) (cores : ℕ) (entry : DirEntry) (queues : LineChann
     -- Data for the core that a forwarded request names.
     module _ (requester : CoreId) (named : requester.0 ≡ (line.part core.0).names)
         (gives : sends_data (sends_for message) ≡ true) (owes : sends_inv_ack (sends_for message) ≡ false) where
-      abbrev queues_sent : LineChannels
+      abbrev pub queues_sent : LineChannels
       queues_sent = after_send queues_here (channels.Data requester) (messages.Data (replies.Data block 0))
 
-      below : requester.0 < cores
+      pub below : requester.0 < cores
       below =
           let room = (reached_has_room exclusive cores line some most reached).turn core.0
           (event_of_forwarded message) next (sends_for message) within at_hand row_here in
@@ -305,7 +305,7 @@ module _ (exclusive : Bool) (cores : ℕ) (entry : DirEntry) (queues : LineChann
           stands.acks
 
       -- The data alone, or the block home as well.
-      pub given_stands : (queues_at : LineChannels) → queues_at.cores ≡ queues_sent.cores
+      given_stands : (queues_at : LineChannels) → queues_at.cores ≡ queues_sent.cores
           → is_some queues_at.home ≡ (sends_home (sends_for message) || line.home)
           → LineStands cores entry queues_at copies_here turned_line
       given_stands queues_at same home = record {
@@ -332,7 +332,7 @@ module _ (exclusive : Bool) (cores : ℕ) (entry : DirEntry) (queues : LineChann
     abbrev mail_acked : CoreChannels
     mail_acked = record (core_at queues_here requester.0) { acks = with (acks_of requester.0) core.0 }
 
-    abbrev queues_acked : LineChannels
+    abbrev pub queues_acked : LineChannels
     queues_acked = after_send queues_here (channels.Ack requester core) messages.InvAck
 
     abbrev part_acked : Part
@@ -347,7 +347,7 @@ module _ (exclusive : Bool) (cores : ℕ) (entry : DirEntry) (queues : LineChann
     owes_now : (to : ℕ) → stands_ack part_acked to ≡ ((line.part core.0).owes_to == to)
     owes_now to = ap (λ b. b && (line.part core.0).owes_to == to) (or-true (line.part core.0).look.sent)
 
-    there_requester : requester.0 < length queues_here.cores
+    pub there_requester : requester.0 < length queues_here.cores
     there_requester =
         let same = at_place line.part core.0 (acted events.Inv 0 next sends.InvAckToRequester) in
         let named = (reached_has_rows exclusive cores line_acked some most
@@ -392,7 +392,7 @@ module _ (exclusive : Bool) (cores : ℕ) (entry : DirEntry) (queues : LineChann
         not_due : ((line.part core.0).owes_to == to) ≡ false
         not_due = ne_eqb (line.part core.0).owes_to to (λ e. apart (sym e ∙ due))
 
-    pub acked_stands : LineStands cores entry queues_acked copies_here line_acked
+    acked_stands : LineStands cores entry queues_acked copies_here line_acked
     acked_stands = record {
       entry_stands = entry_after (forwards.Inv requester) waits row;
       home = stands.home;
@@ -428,30 +428,25 @@ module _ (exclusive : Bool) (cores : ℕ) (entry : DirEntry) (queues : LineChann
 
   -- ---- each message
 
-  unfoldable pub message_stands : (message : ForwardedMessage) → slice_get (core_at queues core.0).forwarded 0 ≡ Some message
-      → row_of (copy core.0).state (event_of_forwarded message) ≡ rows.Go next (sends_for message)
-      → StepStands exclusive cores entry
+  -- The line after the core's turn, whichever message it takes.
+  pub message_stands : (message : ForwardedMessage)
+      (waits : slice_get (core_at queues core.0).forwarded 0 ≡ Some message)
+      (row : row_of (copy core.0).state (event_of_forwarded message) ≡ rows.Go next (sends_for message))
+      → LineStands cores entry
       (cache_sent (after_take queues (channels.Fwd core)) core (requester_of core message) block (sends_for message))
-      copies_here line
-  message_stands (forwards.Inv requester) waits row =
-      (message_step (forwards.Inv requester) waits row, acked_stands requester waits row)
+      copies_here (after (message_step message waits row))
+  message_stands (forwards.Inv requester) waits row = acked_stands requester waits row
   message_stands (forwards.FwdGetS requester) waits row =
       let named = sym (first (forwards.FwdGetS requester) waits row).2 in
-      let sent = queues_sent (forwards.FwdGetS requester) waits row requester named refl refl in (
-        message_step (forwards.FwdGetS requester) waits row,
-        given_stands (forwards.FwdGetS requester) waits row requester named refl refl
-            (record sent { home = Some block }) refl refl,
-      )
+      let sent = queues_sent (forwards.FwdGetS requester) waits row requester named refl refl in
+      given_stands (forwards.FwdGetS requester) waits row requester named refl refl (record sent { home = Some block })
+      refl refl
   message_stands (forwards.FwdGetM requester) waits row =
       let named = sym (first (forwards.FwdGetM requester) waits row).2 in
-      let sent = queues_sent (forwards.FwdGetM requester) waits row requester named refl refl in (
-        message_step (forwards.FwdGetM requester) waits row,
-        given_stands (forwards.FwdGetM requester) waits row requester named refl refl sent refl stands.home,
-      )
-  message_stands forwards.PutAck waits row = (
-    message_step forwards.PutAck waits row,
-    quiet_stands forwards.PutAck waits row (record { gives = refl; home = refl; acknowledges = refl }),
-  )
+      let sent = queues_sent (forwards.FwdGetM requester) waits row requester named refl refl in
+      given_stands (forwards.FwdGetM requester) waits row requester named refl refl sent refl stands.home
+  message_stands forwards.PutAck waits row =
+      quiet_stands forwards.PutAck waits row (record { gives = refl; home = refl; acknowledges = refl })
 
 -- ---- the slice
 
@@ -459,38 +454,52 @@ module _ (v : View) (local : Local) (core : CoreId) (next : CopyState) (sent : C
     (some : 0 < length v.sides) (most : length v.sides ≤ 64) (shaped : IsShaped v) (kept : IsKept (side_at v core))
     (there : core.0 < length v.sides) (inside : local.0 < v.lines.lines) (has_copy : HasCopy (side_at v core) local)
     (is : plan_of v local (channels.Fwd core) ≡ plans.Forwarded next sent requester) where
-  abbrev channels_after : LineChannels
+  abbrev pub channels_after : LineChannels
   channels_after =
       cache_sent (after_take (channels_at v local) (channels.Fwd core)) core requester
       (copy_of (side_at v core) local).block sent
 
-  -- The machine's step for a forwarded message that a core takes.
-  unfoldable pub forwarded_step : (line : Line) → Reached v.exclusive (length v.sides) line → Stands v local line
-      → StepStands v.exclusive (length v.sides) (entry_at v local) channels_after
-      (with_copy_at (copies_at v local) core.0 (copy_of (after_advance (side_at v core) local next) local)) line
-  forwarded_step line reached stands =
+  -- What holds of the line's channels and copies after each message that its row takes on holds after the one that was
+  -- planned.
+  pub forwarded_as : (P : LineChannels → (ℕ → CacheCopy) → Type 0)
+      → ((message : ForwardedMessage) → slice_get (core_at (channels_at v local) core.0).forwarded 0 ≡ Some message
+      → row_of (state_of (side_at v core) local) (event_of_forwarded message) ≡ rows.Go next (sends_for message)
+      → P (cache_sent (after_take (channels_at v local) (channels.Fwd core)) core (requester_of core message)
+      (copy_of (side_at v core) local).block (sends_for message))
+      (with_copy_at (copies_at v local) core.0 (moved (copy_of (side_at v core) local) next)))
+      → P channels_after
+      (with_copy_at (copies_at v local) core.0 (copy_of (after_advance (side_at v core) local next) local))
+  forwarded_as P each =
       let side = side_at v core in
       let block = (copy_of side local).block in
+      let queues = after_take (channels_at v local) (channels.Fwd core) in
+      let copies = with_copy_at (copies_at v local) core.0 (moved (copy_of side local) next) in
       let found = message_by v local core next sent requester
       (slice_get (core_at (channels_at v local) core.0).forwarded 0) refl is in
       let message = found.0 in
       let sends = (answers message (state_of side local) next sent found.1.row).sends in
-      let queues = after_take (channels_at v local) (channels.Fwd core) in
-      let result = message_stands v.exclusive (length v.sides) (entry_at v local) (channels_at v local)
-      (copies_at v local) line core next block some most reached stands (shaped.cores local inside) there message
-      found.1.waits
-      (subst (λ s. row_of (state_of side local) (event_of_forwarded message) ≡ rows.Go next s) sends found.1.row) in (
-        result.0,
-        subst (λ now. LineStands (length v.sides) (entry_at v local) channels_after
-            (with_copy_at (copies_at v local) core.0 now) (after result.0))
-            (sym (copy_of-after_advance side local kept next has_copy))
-            (subst (λ s. LineStands (length v.sides) (entry_at v local) (cache_sent queues core requester block s)
-            (with_copy_at (copies_at v local) core.0 (moved (copy_of side local) next)) (after result.0)) (sym sends)
-            (subst (λ r. LineStands (length v.sides) (entry_at v local)
-            (cache_sent queues core r block (sends_for message))
-            (with_copy_at (copies_at v local) core.0 (moved (copy_of side local) next)) (after result.0))
-            found.1.names result.1)),
-      )
+      let first = each message found.1.waits
+      (subst (λ s. row_of (state_of side local) (event_of_forwarded message) ≡ rows.Go next s) sends found.1.row) in
+      subst (λ now. P channels_after (with_copy_at (copies_at v local) core.0 now))
+      (sym (copy_of-after_advance side local kept next has_copy))
+      (subst (λ s. P (cache_sent queues core requester block s) copies) (sym sends)
+      (subst (λ r. P (cache_sent queues core r block (sends_for message)) copies) found.1.names first))
+
+  -- The machine's step for a forwarded message that a core takes.
+  pub forwarded_step : (line : Line) → Reached v.exclusive (length v.sides) line → Stands v local line
+      → StepStands v.exclusive (length v.sides) (entry_at v local) channels_after
+      (with_copy_at (copies_at v local) core.0 (copy_of (after_advance (side_at v core) local next) local)) line
+  forwarded_step line reached stands =
+      let size = shaped.cores local inside in
+      let block = (copy_of (side_at v core) local).block in
+      forwarded_as
+      (λ queues copies. StepStands v.exclusive (length v.sides) (entry_at v local) queues copies line)
+      (λ message waits row. (
+        message_step v.exclusive (length v.sides) (entry_at v local) (channels_at v local) (copies_at v local) line
+            core next block some most reached stands size there message waits row,
+        message_stands v.exclusive (length v.sides) (entry_at v local) (channels_at v local) (copies_at v local) line
+            core next block some most reached stands size there message waits row,
+      ))
 
   -- A slice in which a core takes a forwarded message goes on as its lines can.
   pub forwarded_reached : AreReached v → AreReached (after_forwarded v local core next sent requester)

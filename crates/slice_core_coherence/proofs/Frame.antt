@@ -111,7 +111,8 @@ stepped v local entry channels core side log = record v {
 
 module _ (v : View) (local : Local) (shaped : IsShaped v) (inside : local.0 < v.lines.lines) (all : AreReached v) where
   entry_is : (entry : DirEntry) → get_or (set v.entries local.0 entry) local.0 no_entry ≡ entry
-  entry_is entry = get_or-set_same v.entries local.0 entry no_entry (subst (λ n. local.0 < n) (sym shaped.entries) inside)
+  entry_is entry = get_or-set_same v.entries local.0 entry no_entry (subst (λ n. local.0 < n) (sym shaped.entries)
+      inside)
 
   channels_are : (channels : LineChannels)
       → get_or (set v.channels local.0 channels) local.0 (empty_line 0) ≡ channels
@@ -210,16 +211,15 @@ pub by_same_copies : (v : View) (core : CoreId) (side : SideView) → core.0 < l
     → ((other : Local) → copy_of side other ≡ copy_of (side_at v core) other) → AreReached v
     → AreReached (with_side v core side)
 by_same_copies v core side there same all other within =
-    let before = all other within in
-    (
+    let before = all other within in (
       before.0,
       subst (λ n. Reached v.exclusive n before.0) (sym (length-set v.sides core.0 side)) before.1,
       subst (λ n. LineStands n (entry_at v other) (channels_at v other)
-      (copies_at (with_side v core side) other) before.0) (sym (length-set v.sides core.0 side))
-      (line_as (length v.sides) (entry_at v other) (channels_at v other) (copies_at v other)
-      (copies_at (with_side v core side) other) before.0
-      (λ x below.
-      ap (λ (s : SideView). copy_of s other) (read-set v.sides core.0 x side no_side there)
-      ∙ by_number x core.0 (λ b. copy_of (if b then side else get_or v.sides x no_side) other ≡ copies_at v other x)
-      (λ here. same other ∙ ap (λ y. copies_at v other y) (sym here)) (λ differs. refl)) before.2),
+          (copies_at (with_side v core side) other) before.0) (sym (length-set v.sides core.0 side))
+          (line_as (length v.sides) (entry_at v other) (channels_at v other) (copies_at v other)
+          (copies_at (with_side v core side) other) before.0
+          (λ x below.
+          ap (λ (s : SideView). copy_of s other) (read-set v.sides core.0 x side no_side there)
+          ∙ by_number x core.0 (λ b. copy_of (if b then side else get_or v.sides x no_side) other ≡ copies_at v other x)
+          (λ here. same other ∙ ap (λ y. copies_at v other y) (sym here)) (λ differs. refl)) before.2),
     )

@@ -8,9 +8,7 @@ use Rattle.directory_table.specs.Row.{cell}
 use Rattle.directory_table.specs.declared.row.DirEvent.TheVariants as asks
 use Rattle.directory_table.specs.declared.row.DirRow.{DirRow}
 use Rattle.directory_table.specs.declared.row.DirRow.TheVariants as rows
-use Rattle.directory_table.specs.declared.row.DirSends.{DirSends}
 use Rattle.directory_table.specs.declared.row.DirSends.TheVariants as answers
-use Rattle.directory_table.specs.declared.state.DirEntry.{DirEntry}
 use Rattle.directory_table.specs.declared.state.DirState.{DirState}
 use Rattle.directory_table.specs.declared.state.DirState.TheVariants as dirs
 use Rattle.slice_core_coherence.proofs.Directory.{row_here}
@@ -22,7 +20,7 @@ use Rattle.slice_core_plan.specs.View.{View, IsShaped, channels_at, entry_at}
 use Rattle.slice_core_plan.specs.declared.decide.Plan.{Plan}
 use Rattle.slice_core_plan.specs.declared.decide.Plan.TheVariants as plans
 use Rattle.slice_core_protocol.specs.Line.{Line}
-use Rattle.slice_core_protocol.specs.Machine.{Reached, Step, after, entry_of, further, serve}
+use Rattle.slice_core_protocol.specs.Machine.{Step, after, further, serve}
 use Rattle.slice_queues.specs.Line.{after_take}
 use Rattle.slice_queues_message.specs.declared.channel.Channel.TheVariants as channels
 
@@ -93,12 +91,11 @@ module _ (v : View) (local : Local) (shaped : IsShaped v) (inside : local.0 < v.
       })
       (after_take (channels_at v local) channels.Home) (copies_at v local) (after step)
   home_step l stands =
-      let known = comes_home v local state owner sharers is in
-      (
+      let known = comes_home v local state owner sharers is in (
         serve asks.DataHome (entry_at v local).home state owner sharers answers.Nothing known.writes tt
-        (sym stands.home ∙ known.waits)
-        (row_here v.exclusive (entry_at v local) l (entry_at v local).home asks.DataHome stands.entry_stands
-        ∙ known.row),
+            (sym stands.home ∙ known.waits)
+            (row_here v.exclusive (entry_at v local) l (entry_at v local).home asks.DataHome stands.entry_stands
+            ∙ known.row),
         record {
           entry_stands = record { directory = refl; owner = refl; sharers = refl };
           home = refl;

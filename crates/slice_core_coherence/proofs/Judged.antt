@@ -27,8 +27,8 @@ use Rattle.slice_core_side.specs.declared.copy.CacheCopy.{CacheCopy}
 use Rattle.writeback_buffer.specs.Buffer.{held_at as buffer_at}
 use Rattle.writeback_buffer.specs.declared.entry.Leaving.{Leaving}
 
--- What an access says of the row for a copy in this state: a hit sends nothing, and is to a copy that the array holds; a
--- miss asks for the line, and has its way.
+-- What an access says of the row for a copy in this state: a hit sends nothing, and is to a copy that the array holds;
+-- a miss asks for the line, and has its way.
 abbrev pub IsJudged : SideView → Local → CopyState → Op → Access → Type 0
 IsJudged side local state op (accesses.Hit place next silent) =
     IsSome (array_at side.array local) × (row_of state (event_of op) ≡ rows.Go next sends.Nothing)
@@ -72,8 +72,10 @@ module _ (side : SideView) (local : Local) (state : CopyState) (op : Op) where
   judged-held : (room : Bool) (row : Row) → IsSome (array_at side.array local) → row_of state (event_of op) ≡ row
       → IsJudged side local state op (held_by side local room state row)
   judged-held room (rows.Go next sends.Nothing) held is = (held, is)
-  judged-held room (rows.Go next sends.GetS) held is = judged-register room (accesses.Open next asks.GetS ways.Held) (is, held)
-  judged-held room (rows.Go next sends.GetM) held is = judged-register room (accesses.Open next asks.GetM ways.Held) (is, held)
+  judged-held room (rows.Go next sends.GetS) held is = judged-register room (accesses.Open next asks.GetS ways.Held)
+      (is, held)
+  judged-held room (rows.Go next sends.GetM) held is = judged-register room (accesses.Open next asks.GetM ways.Held)
+      (is, held)
   judged-held room (rows.Go next sends.PutS) held is = tt
   judged-held room (rows.Go next sends.PutM) held is = tt
   judged-held room (rows.Go next sends.InvAckToRequester) held is = tt

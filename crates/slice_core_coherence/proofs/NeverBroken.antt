@@ -1,5 +1,5 @@
 -- No delivery of a slice whose lines the machine reaches answers that a message is broken.
-use Rattle.std.proofs.Common.{◌≡◌, ◌≢◌, ℕ, ◌<◌, Option, Some, None, length, refl, sym, ap, ◌∙◌, subst}
+use Rattle.std.proofs.Common.{◌≡◌, ◌≢◌, Option, Some, None, refl, sym, ap, ◌∙◌}
 use Rattle.address_map.specs.Locator.{local_at}
 use Rattle.address_map.specs.declared.address.Local.{Local}
 use Rattle.slice_core_answer.specs.declared.answer.Cell.{Cell}
@@ -11,7 +11,6 @@ use Rattle.slice_core_coherence.proofs.Calls.{located}
 use Rattle.slice_core_coherence.specs.Coherent.{NothingIsBroken}
 use Rattle.slice_core_plan.specs.Parts.{AfterDeliverNext, AfterDelivery, AfterPlan, PartsView}
 use Rattle.slice_core_plan.specs.Plan.{plan_of}
-use Rattle.slice_core_plan.specs.View.{View}
 use Rattle.slice_core_plan.specs.declared.decide.Plan.{Plan}
 use Rattle.slice_core_plan.specs.declared.decide.Plan.TheVariants as plans
 use Rattle.slice_queues_message.specs.Pick.{channel_of, line_of}

@@ -57,7 +57,8 @@ each_eviction_own = refl
 
 row_stays_own : (event : CacheEvent) (state : CopyState) → IsOwn event
     → if_go (row_of state event) (stays_own state) ≡ true
-row_stays_own events.Load state own = each_state-at (λ s. if_go (row_of s events.Load) (stays_own s)) each_load_own state
+row_stays_own events.Load state own = each_state-at (λ s. if_go (row_of s events.Load) (stays_own s)) each_load_own
+    state
 row_stays_own events.Write state own =
     each_state-at (λ s. if_go (row_of s events.Write) (stays_own s)) each_write_own state
 row_stays_own events.Eviction state own =
@@ -144,7 +145,8 @@ StepStands exclusive cores entry channels copy line =
     (step : Step exclusive cores line) × LineStands cores entry channels copy (after step)
 
 -- A core's own turn is a step of the line.
-unfoldable pub own_step : (exclusive : Bool) (cores : ℕ) (entry : DirEntry) (channels : LineChannels) (copy : ℕ → CacheCopy)
+unfoldable pub own_step : (exclusive : Bool) (cores : ℕ) (entry : DirEntry) (channels : LineChannels) (copy : ℕ
+    → CacheCopy)
     (c : ℕ) (event : CacheEvent) (next : CopyState) (sent : CacheSends) (now : CacheCopy)
     (message : Option RequestMessage) (line : Line)
     → cores ≤ 64 → c < cores → c < length channels.cores → IsOwn event

@@ -1,14 +1,12 @@
 -- How a core's part stands after a message comes to it, or after one of its messages is taken.
-use Rattle.std.proofs.Common.{◌≡◌, ℕ, ◌&&◌, Bool, true, false, not, List, [], ◌∷◌, ◌++◌, drop, refl, sym, ap, ◌∙◌, true≢false, IsTrue, Option, Some, None, IfSome, slice_get}
+use Rattle.std.proofs.Common.{◌≡◌, ℕ, ◌&&◌, Bool, true, false, not, List, [], ◌∷◌, ◌++◌, drop, refl, sym, ap, ◌∙◌, true≢false, Option, Some, None, slice_get}
 use Rattle.address_map.specs.declared.address.CoreId.{CoreId}
-use Rattle.cache_table.specs.CopyState.{is_waiting}
-use Rattle.cache_table.specs.declared.state.CopyState.{CopyState}
-use Rattle.slice_core_coherence.specs.Stands.{PartStands, kind_of_data, kind_of_request, named_by, queue_of, queued_forward, queued_inv, queued_put_ack}
+use Rattle.slice_core_coherence.specs.Stands.{PartStands, kind_of_data, kind_of_request, named_by, queued_forward, queued_inv, queued_put_ack}
 use Rattle.slice_core_protocol.specs.Fit.{is_counting, is_no_forward, is_put_ack_first}
-use Rattle.slice_core_protocol.specs.Line.{Forward, fwd_get_m, fwd_get_s, no_forward, no_data, Look, Part, no_request}
+use Rattle.slice_core_protocol.specs.Line.{Forward, fwd_get_m, fwd_get_s, no_forward, no_data, Part}
 use Rattle.slice_core_plan.specs.Plan.{event_of_forwarded}
 use Rattle.slice_core_protocol.specs.Machine.{invalidated_by, stands, taken}
-use Rattle.slice_core_protocol.specs.Promise.{has_room_for_forward, has_room_for_inv, has_room_for_put_ack}
+use Rattle.slice_core_protocol.specs.Promise.{has_room_for_forward, has_room_for_inv}
 use Rattle.slice_core_side.specs.declared.copy.CacheCopy.{CacheCopy}
 use Rattle.slice_queues.specs.Line.{CoreChannels, with_invalidation}
 use Rattle.slice_queues_message.specs.declared.message.DataMessage.{DataMessage}

@@ -181,7 +181,8 @@ module _ (v : View) (local : Local) (shaped : IsShaped v) (inside : local.0 < v.
   for_ack to from =
       by_core to (λ m. if has m.acks from.0 then by_ack_row v local to (ack_row to) else plans.Nothing)
       (channels.Ack to from)
-      (subst (λ b. IsFor v (channels.Ack to from) local (if b then by_ack_row v local to (ack_row to) else plans.Nothing))
+      (subst (λ b. IsFor v (channels.Ack to from) local (if b then by_ack_row v local to (ack_row to) else
+      plans.Nothing))
       (sym (has-zero from.0)) tt)
       (λ there. by there (has (core_at (channels_at v local) to.0).acks from.0) (ack_row to))
     where

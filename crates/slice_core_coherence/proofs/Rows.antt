@@ -2,6 +2,7 @@
 use Rattle.std.proofs.Common.{◌≡◌, ℕ, ◌+◌, ◌==◌, ◌&&◌, Bool, true, false, not, nat_lt, if◌then◌else◌, refl, sym, ap, ◌∙◌}
 use Rattle.std.proofs.lemmas.Bool.{eqb-true}
 use Rattle.cache_table.specs.CopyState.{is_waiting}
+use Rattle.cache_table.specs.Law.{sends_data}
 use Rattle.cache_table.specs.Row.{counted, row_of}
 use Rattle.cache_table.specs.declared.row.CacheEvent.TheVariants as events
 use Rattle.cache_table.specs.declared.row.CacheSends.{CacheSends}
@@ -10,6 +11,7 @@ use Rattle.cache_table.specs.declared.row.Row.{Row}
 use Rattle.cache_table.specs.declared.row.Row.TheVariants as rows
 use Rattle.cache_table.specs.declared.state.CopyState.{CopyState}
 use Rattle.cache_table.specs.declared.state.CopyState.TheVariants as states
+use Rattle.slice_core_coherence.specs.Blocks.{has_block}
 use Rattle.slice_core_plan.specs.Plan.{event_of_forwarded}
 use Rattle.slice_core_protocol.proofs.Each.{each_state, each_state-at, if_go, if_go-at, implies-at, left, not-at, right}
 use Rattle.slice_core_protocol.specs.Fit.{◌implies◌, is_counting}
@@ -19,7 +21,7 @@ use Rattle.slice_queues_message.specs.declared.message.ForwardedMessage.TheVaria
 
 -- ---- a test of each row
 
-if_go-counted : (p : CopyState → CacheSends → Bool) (come n : ℕ) (waits : CopyState)
+pub if_go-counted : (p : CopyState → CacheSends → Bool) (come n : ℕ) (waits : CopyState)
     → p states.M sends.Nothing ≡ true → p waits sends.Nothing ≡ true → if_go (counted come n waits) p ≡ true
 unfolding if_go
 if_go-counted p come n waits last more = by (come == n) (nat_lt come n)
@@ -117,6 +119,34 @@ answers message state next sent row =
       not_counting = not-at (is_counting next) (right (is_sending wanted sent) (not (is_counting next)) first);
       waited = implies-at (is_waiting next) (is_waiting state)
           (right (is_sending wanted sent && not (is_counting next)) (is_waiting next implies is_waiting state) all);
+    }
+
+-- A copy that has a block after a forwarded message, or gives its block on, had it before.
+pub record KeepsBlock (state next : CopyState) (sent : CacheSends) : Type 0 where
+  pub kept : has_block next ≡ true → has_block state ≡ true
+  pub given : sends_data sent ≡ true → has_block state ≡ true
+
+unfoldable keeps_block : CopyState → CopyState → CacheSends → Bool
+keeps_block state next sent = (has_block next implies has_block state) && (sends_data sent implies has_block state)
+
+keeps_all : (message : ForwardedMessage) (state : CopyState)
+    → if_go (row_of state (event_of_forwarded message)) (keeps_block state) ≡ true
+unfolding each_state if_go keeps_block
+keeps_all (forwards.Inv core) = each_state-at (λ s. if_go (row_of s events.Inv) (keeps_block s)) refl
+keeps_all (forwards.FwdGetS core) = each_state-at (λ s. if_go (row_of s events.FwdGetS) (keeps_block s)) refl
+keeps_all (forwards.FwdGetM core) = each_state-at (λ s. if_go (row_of s events.FwdGetM) (keeps_block s)) refl
+keeps_all forwards.PutAck = each_state-at (λ s. if_go (row_of s events.PutAck) (keeps_block s)) refl
+
+pub keeps : (message : ForwardedMessage) (state next : CopyState) (sent : CacheSends)
+    → row_of state (event_of_forwarded message) ≡ rows.Go next sent → KeepsBlock state next sent
+unfolding keeps_block
+keeps message state next sent row =
+    let all = if_go-at (row_of state (event_of_forwarded message)) (keeps_block state) next sent
+    (keeps_all message state) row in
+    let first = has_block next implies has_block state in
+    let second = sends_data sent implies has_block state in record {
+      kept = implies-at (has_block next) (has_block state) (left first second all);
+      given = implies-at (sends_data sent) (has_block state) (right first second all);
     }
 
 -- ---- data and acknowledgements

@@ -40,7 +40,7 @@ use Rattle.slice_core_plan.specs.declared.decide.Plan.TheVariants as plans
 use Rattle.slice_core_protocol.proofs.Each.{each_state, each_state-at, not-at}
 use Rattle.slice_core_protocol.specs.Fit.{is_counting, is_only_data, is_shared_data}
 use Rattle.slice_core_protocol.specs.Line.{Line, Look, Part, no_data}
-use Rattle.slice_core_protocol.specs.Machine.{Reached, acknowledged as taken_from, acted, after, after_ack, change_if, count, further, stands as is_at_hand, stands_ack, taken, turn}
+use Rattle.slice_core_protocol.specs.Machine.{Reached, Step, acknowledged as taken_from, acted, after, after_ack, change_if, count, further, stands as is_at_hand, stands_ack, taken, turn}
 use Rattle.slice_core_side.proofs.Found.{changes-change, copy_of-after_change, copy_of-after_change_other, copy_of-after_settle, copy_of-after_settle_other, copy_of-held, kept-after_change}
 use Rattle.slice_core_side.specs.Copy.{found_in}
 use Rattle.slice_core_side.specs.Kept.{IsKept, stands_in_array}
@@ -90,7 +90,8 @@ settled_stands copy block mail part stands = by (is_waiting copy.state) refl
     }
 
 -- a settled copy's state, and its count where it waited for nothing
-settled-state : (copy : CacheCopy) (block : Block) (state : CopyState) → (settled_copy copy block state).state ≡ state
+pub settled-state : (copy : CacheCopy) (block : Block) (state : CopyState)
+    → (settled_copy copy block state).state ≡ state
 settled-state copy block state = by (is_waiting copy.state)
   where
     by : (b : Bool) → (if b then record copy { block = block; state = state }
@@ -98,20 +99,20 @@ settled-state copy block state = by (is_waiting copy.state)
     by true = refl
     by false = refl
 
-settled-counted : (copy : CacheCopy) (block : Block) (state : CopyState) → is_waiting copy.state ≡ false
+pub settled-counted : (copy : CacheCopy) (block : Block) (state : CopyState) → is_waiting copy.state ≡ false
     → (settled_copy copy block state).counted ≡ 0
 settled-counted copy block state still =
     ap (λ b. (if b then record copy { block = block; state = state }
     else record { block = block; state = state; wants = 0; counted = 0 }).counted) still
 
 -- A copy that has come to its state stays in it, or asks for the right to write.
-data Asking (state : CopyState) (targets : List Target) : Type 0 where
+pub data Asking (state : CopyState) (targets : List Target) : Type 0 where
   stays : asks_to_write state targets ≡ false → settled_state state (left_in state targets) ≡ state
       → Asking state targets
   asks_on : asks_to_write state targets ≡ true → state ≡ states.S
       → settled_state state (left_in state targets) ≡ states.SM_AD → Asking state targets
 
-asking : (state : CopyState) (targets : List Target) → Asking state targets
+pub asking : (state : CopyState) (targets : List Target) → Asking state targets
 asking states.S targets = by (behind_loads targets) refl
   where
     by : (left : List Target) → behind_loads targets ≡ left → Asking states.S targets
@@ -226,7 +227,7 @@ module _ (exclusive : Bool) (cores : ℕ) (entry : DirEntry) (queues : LineChann
     comes : kind_of_data (Some message) ≡ (line.part core.0).look.incoming
     comes = ap kind_of_data (sym waits) ∙ (stands.part core.0 within).incoming
 
-    data_at_hand : is_at_hand (line.part core.0) event ≡ true
+    pub data_at_hand : is_at_hand (line.part core.0) event ≡ true
     data_at_hand = by message comes wanted
       where
         by : (m : DataMessage) → kind_of_data (Some m) ≡ (line.part core.0).look.incoming
@@ -240,7 +241,7 @@ module _ (exclusive : Bool) (cores : ℕ) (entry : DirEntry) (queues : LineChann
             (eq-eqb (copy core.0).counted (line.part core.0).counted ((stands.part core.0 within).counted waited))
         by (replies.DataE block) kind names = ap is_only_data (sym kind)
 
-    data_row_here : row_of (line.part core.0).look.state event ≡ rows.Go next sends.Nothing
+    pub data_row_here : row_of (line.part core.0).look.state event ≡ rows.Go next sends.Nothing
     data_row_here =
         ap (λ s. row_of s event) state_here ∙ row ∙ ap (λ s. rows.Go next s) data_row.sends
 
@@ -253,23 +254,23 @@ module _ (exclusive : Bool) (cores : ℕ) (entry : DirEntry) (queues : LineChann
         by (replies.Data block acks) = refl
         by (replies.DataE block) = refl
 
+    abbrev pub fill_turn : Step exclusive cores line
+    fill_turn = turn core.0 event next sends.Nothing within data_at_hand data_row_here
+
     -- The copy with the data, whichever targets it has performed.
-    pub fill_step : (filled : CacheCopy) (block : Block) → filled.state ≡ next → filled.wants ≡ named_by message
+    pub fill_stands : (filled : CacheCopy) (block : Block) → filled.state ≡ next → filled.wants ≡ named_by message
         → filled.counted ≡ (copy core.0).counted
-        → StepStands exclusive cores entry (after_take queues (channels.Data core))
-        (with_copy_at copy core.0 (settled_copy filled block filled.state)) line
-    fill_step filled block state wants counted =
-        let mail : CoreChannels = record (core_at queues core.0) { «data» = None } in (
-          turn core.0 event next sends.Nothing within data_at_hand data_row_here,
-          turn_stands cores entry queues copy line core.0 event next sends.Nothing
-              (settled_copy filled block filled.state) mail there
-              (record { gives = refl; home = refl; acknowledges = refl }) refl
-              (settled_stands filled block mail
-              (acted event 0 next sends.Nothing (line.part core.0))
-              (filled_part (copy core.0) (core_at queues core.0) (line.part core.0) event next
-              filled taken_here waited state (wants ∙ wanted) counted (stands.part core.0 within)))
-              stands,
-        )
+        → LineStands cores entry (after_take queues (channels.Data core))
+        (with_copy_at copy core.0 (settled_copy filled block filled.state)) (after fill_turn)
+    fill_stands filled block state wants counted =
+        let mail : CoreChannels = record (core_at queues core.0) { «data» = None } in
+        turn_stands cores entry queues copy line core.0 event next sends.Nothing
+        (settled_copy filled block filled.state) mail there
+        (record { gives = refl; home = refl; acknowledges = refl }) refl
+        (settled_stands filled block mail (acted event 0 next sends.Nothing (line.part core.0))
+        (filled_part (copy core.0) (core_at queues core.0) (line.part core.0) event next filled taken_here waited state
+        (wants ∙ wanted) counted (stands.part core.0 within)))
+        stands
 
   -- ---- acknowledgements
 
@@ -286,7 +287,7 @@ module _ (exclusive : Bool) (cores : ℕ) (entry : DirEntry) (queues : LineChann
     goes_on : is_counting next ≡ true → is_counting (line.part core.0).look.state ≡ true
     goes_on counting = ap is_counting state_here ∙ ack_row.1 counting
 
-    sender : stands_ack (line.part from.0) core.0 ≡ true
+    pub sender : stands_ack (line.part from.0) core.0 ≡ true
     sender = sym (stands.acks.waits core.0 from.0 within from_within) ∙ waits
 
     few : (line.part core.0).counted < 64
@@ -294,7 +295,7 @@ module _ (exclusive : Bool) (cores : ℕ) (entry : DirEntry) (queues : LineChann
         let fewer = counts_fewer exclusive cores line some most reached from.0 from_within core.0 sender in
         let small = wants_few exclusive cores line reached core.0 in omega (arith, fewer, small)
 
-    ack_row_here : row_of (line.part core.0).look.state
+    pub ack_row_here : row_of (line.part core.0).look.state
         (events.InvAck (line.part core.0).wants (line.part core.0).counted) ≡ rows.Go next sends.Nothing
     ack_row_here =
         let own = stands.part core.0 within in
@@ -352,45 +353,46 @@ module _ (exclusive : Bool) (cores : ℕ) (entry : DirEntry) (queues : LineChann
         ∙ sym (owes_alike x to)))
         (λ apart. stands.acks.waits to x below x_within ∙ sym (owes_other x to (λ here. apart)))
 
+    abbrev pub count_turn : Step exclusive cores line
+    count_turn = count core.0 from.0 next sends.Nothing within from_within sender ack_row_here
+
     -- The copy with one more acknowledgement counted, whichever targets it has performed.
-    pub count_step : (block : Block)
-        → StepStands exclusive cores entry (after_take queues (channels.Ack core from))
-        (with_copy_at copy core.0 (settled_copy (acknowledged (copy core.0) next) block next)) line
-    count_step block =
+    pub count_stands : (block : Block)
+        → LineStands cores entry (after_take queues (channels.Ack core from))
+        (with_copy_at copy core.0 (settled_copy (acknowledged (copy core.0) next) block next)) (after count_turn)
+    count_stands block =
         let now = settled_copy (acknowledged (copy core.0) next) block next in
         let read : (to : ℕ) → core_at (with_core queues core.0 mail_left) to
         ≡ (if to == core.0 then mail_left else core_at queues to) =
-        λ to. read-set queues.cores core.0 to mail_left no_messages there in (
-          count core.0 from.0 next sends.Nothing within from_within sender ack_row_here,
-          record {
-            entry_stands = record {
-              directory = stands.entry_stands.directory;
-              owner = stands.entry_stands.owner;
-              sharers = stands.entry_stands.sharers;
-            };
-            home = stands.home;
-            part = λ x below.
-                taken_apart (x == from.0) (with_copy_at copy core.0 now x)
-                (core_at (with_core queues core.0 mail_left) x) (with_part_at line.part core.0 change x)
-                (parts_turned cores queues copy line.part core.0 now mail_left change there
-                (settled_stands (acknowledged (copy core.0) next) block mail_left (change (line.part core.0))
-                (counted_part (copy core.0) (core_at queues core.0) (line.part core.0) next acks_left waited_ack goes_on
-                few (stands.part core.0 within))) stands.part x below);
-            acks = record {
-              waits = λ to x below x_within.
-                  ap (λ (m : CoreChannels). has m.acks x) (read to) ∙ waits_at to x below x_within;
-              senders = λ to x waits_x.
-                  by_number to core.0
-                  (λ b. has (if b then mail_left else core_at queues to).acks x ≡ true → x < cores)
-                  (λ same h. by_number x from.0 (λ b. x < cores)
-                  (λ here. subst (λ n. n < cores) (sym here) from_within)
-                  (λ away. stands.acks.senders core.0 x
-                  (sym (has-without_other (core_at queues core.0).acks from.0 x away) ∙ h)))
-                  (λ apart h. stands.acks.senders to x h)
-                  (sym (ap (λ (m : CoreChannels). has m.acks x) (read to)) ∙ waits_x);
-            };
-          },
-        )
+        λ to. read-set queues.cores core.0 to mail_left no_messages there in
+        record {
+          entry_stands = record {
+            directory = stands.entry_stands.directory;
+            owner = stands.entry_stands.owner;
+            sharers = stands.entry_stands.sharers;
+          };
+          home = stands.home;
+          part = λ x below.
+              taken_apart (x == from.0) (with_copy_at copy core.0 now x)
+              (core_at (with_core queues core.0 mail_left) x) (with_part_at line.part core.0 change x)
+              (parts_turned cores queues copy line.part core.0 now mail_left change there
+              (settled_stands (acknowledged (copy core.0) next) block mail_left (change (line.part core.0))
+              (counted_part (copy core.0) (core_at queues core.0) (line.part core.0) next acks_left waited_ack goes_on
+              few (stands.part core.0 within))) stands.part x below);
+          acks = record {
+            waits = λ to x below x_within.
+                ap (λ (m : CoreChannels). has m.acks x) (read to) ∙ waits_at to x below x_within;
+            senders = λ to x waits_x.
+                by_number to core.0
+                (λ b. has (if b then mail_left else core_at queues to).acks x ≡ true → x < cores)
+                (λ same h. by_number x from.0 (λ b. x < cores)
+                (λ here. subst (λ n. n < cores) (sym here) from_within)
+                (λ away. stands.acks.senders core.0 x
+                (sym (has-without_other (core_at queues core.0).acks from.0 x away) ∙ h)))
+                (λ apart h. stands.acks.senders to x h)
+                (sym (ap (λ (m : CoreChannels). has m.acks x) (read to)) ∙ waits_x);
+          };
+        }
 
   -- ---- the right to write
 
@@ -457,7 +459,7 @@ next_in state _ = state
 
 module _ (v : View) (local : Local) (core : CoreId) (place : ℕ) (next : CopyState) where
   -- the row by which a message of the core goes on
-  abbrev HasRow : CacheEvent → Type 0
+  abbrev pub HasRow : CacheEvent → Type 0
   HasRow event = (sent : CacheSends) × (row_of (state_of (side_at v core) local) event ≡ rows.Go next sent)
 
   data_row_planned : (row : Row) → by_data_row v local core row ≡ plans.Fill place next
@@ -495,7 +497,7 @@ module _ (v : View) (local : Local) (core : CoreId) (place : ℕ) (next : CopySt
       by None is = absurd (cc is)
       by (Some at) is = (s, ap (λ state. rows.Go state s) (ap (next_in n) is))
 
-  abbrev ack_event : CacheEvent
+  abbrev pub ack_event : CacheEvent
   ack_event = events.InvAck (copy_of (side_at v core) local).wants (copy_of (side_at v core) local).counted
 
   ack_planned : (from : CoreId) (waits : Bool) → has (core_at (channels_at v local) core.0).acks from.0 ≡ waits
@@ -507,19 +509,19 @@ module _ (v : View) (local : Local) (core : CoreId) (place : ℕ) (next : CopySt
       (waits, ack_row_planned (row_of (state_of (side_at v core) local) ack_event) is)
 
 -- the data that fill a copy say what it wants, and leave what it has counted
-filled-state : (copy : CacheCopy) (message : Option DataMessage) (next : CopyState)
+pub filled-state : (copy : CacheCopy) (message : Option DataMessage) (next : CopyState)
     → (filled_by copy message next).state ≡ next
 filled-state copy None next = refl
 filled-state copy (Some (replies.Data block acks)) next = refl
 filled-state copy (Some (replies.DataE block)) next = refl
 
-filled-counted : (copy : CacheCopy) (message : Option DataMessage) (next : CopyState)
+pub filled-counted : (copy : CacheCopy) (message : Option DataMessage) (next : CopyState)
     → (filled_by copy message next).counted ≡ copy.counted
 filled-counted copy None next = refl
 filled-counted copy (Some (replies.Data block acks)) next = refl
 filled-counted copy (Some (replies.DataE block)) next = refl
 
-filled-wants : (copy : CacheCopy) (message : DataMessage) (next : CopyState)
+pub filled-wants : (copy : CacheCopy) (message : DataMessage) (next : CopyState)
     → (filled_by copy (Some message) next).wants ≡ named_by message
 filled-wants copy (replies.Data block acks) next = refl
 filled-wants copy (replies.DataE block) next = refl
@@ -532,7 +534,7 @@ leaves-still state leaves =
     not-at _ (each_state-at (λ s. not (is_leaving s && is_waiting s)) refl state)
 
 -- A copy that waits stands in the array.
-waits-held : (side : SideView) (local : Local) → IsKept side → is_waiting (state_of side local) ≡ true
+pub waits-held : (side : SideView) (local : Local) → IsKept side → is_waiting (state_of side local) ≡ true
     → IsSome (array_at side.array local)
 waits-held side local kept =
     by (array_at side.array local) (buffer_at side.buffer.entries local.0) (kept.leaving local)
@@ -593,23 +595,23 @@ module _ (v : View) (local : Local) (core : CoreId) (some : 0 < length v.sides) 
   -- ---- data
 
   module _ (place : ℕ) (next : CopyState) (is : plan_of v local (channels.Data core) ≡ plans.Fill place next) where
-    abbrev filled_copy : CacheCopy
+    abbrev pub filled_copy : CacheCopy
     filled_copy =
         filled_by (array_copy (side_at v core) local) (core_at (channels_at v local) core.0).data next
 
-    data_found : (message : DataMessage) × ((core_at (channels_at v local) core.0).data ≡ Some message)
+    pub data_found : (message : DataMessage) × ((core_at (channels_at v local) core.0).data ≡ Some message)
         × HasRow v local core place next (event_of_data v local core message)
     data_found = data_planned v local core place next (core_at (channels_at v local) core.0).data refl is
 
-    abbrev loads_alone : Bool
+    abbrev pub loads_alone : Bool
     loads_alone = list_all is_load (targets_of (side_at v core).misses local.0)
 
-    abbrev IsRow : DataMessage → CacheSends → Type 0
+    abbrev pub IsRow : DataMessage → CacheSends → Type 0
     IsRow message sent =
         row_of (state_of (side_at v core) local)
         (data_event (copy_of (side_at v core) local).counted loads_alone message) ≡ rows.Go next sent
 
-    data_has_row : (sent : CacheSends) × IsRow data_found.0 sent
+    pub data_has_row : (sent : CacheSends) × IsRow data_found.0 sent
     data_has_row = by data_found.0 data_found.2
       where
         by : (message : DataMessage) → HasRow v local core place next (event_of_data v local core message)
@@ -617,11 +619,11 @@ module _ (v : View) (local : Local) (core : CoreId) (some : 0 < length v.sides) 
         by (replies.Data block acks) row = row
         by (replies.DataE block) row = row
 
-    data_comes : IsTaken (state_of (side_at v core) local) next data_has_row.0
+    pub data_comes : IsTaken (state_of (side_at v core) local) next data_has_row.0
     data_comes =
         data_row-taken (copy_of (side_at v core) local) loads_alone data_found.0 next data_has_row.0 data_has_row.1
 
-    in_array : copy_of (side_at v core) local ≡ array_copy (side_at v core) local
+    pub in_array : copy_of (side_at v core) local ≡ array_copy (side_at v core) local
     in_array =
         copy_of-held (side_at v core) local kept (waits-held (side_at v core) local kept data_comes.waited)
 
@@ -630,12 +632,16 @@ module _ (v : View) (local : Local) (core : CoreId) (some : 0 < length v.sides) 
         → CameTo (channels.Data core) (settled_copy filled_copy block filled_copy.state) line
     fill_stepped block line reached stands =
         let held = array_copy (side_at v core) local in
-        let front = (core_at (channels_at v local) core.0).data in
-        fill_step v.exclusive (length v.sides) (entry_at v local) (channels_at v local) (copies_at v local) line core
-        some most reached stands (shaped.cores local inside) there loads_alone data_found.0 data_found.1 next
-        data_has_row.0 data_has_row.1 filled_copy block (filled-state held front next)
-        (ap (λ d. (filled_by held d next).wants) data_found.1 ∙ filled-wants held data_found.0 next)
-        (filled-counted held front next ∙ sym (ap (λ (c : CacheCopy). c.counted) in_array))
+        let front = (core_at (channels_at v local) core.0).data in (
+          fill_turn v.exclusive (length v.sides) (entry_at v local) (channels_at v local) (copies_at v local) line core
+              some most reached stands (shaped.cores local inside) there loads_alone data_found.0 data_found.1 next
+              data_has_row.0 data_has_row.1,
+          fill_stands v.exclusive (length v.sides) (entry_at v local) (channels_at v local) (copies_at v local) line
+              core some most reached stands (shaped.cores local inside) there loads_alone data_found.0 data_found.1 next
+              data_has_row.0 data_has_row.1 filled_copy block (filled-state held front next)
+              (ap (λ d. (filled_by held d next).wants) data_found.1 ∙ filled-wants held data_found.0 next)
+              (filled-counted held front next ∙ sym (ap (λ (c : CacheCopy). c.counted) in_array)),
+        )
 
     -- A slice in which a core takes data goes on as its lines can.
     pub fill_reached : (misses : List Register) → AreReached v
@@ -652,19 +658,19 @@ module _ (v : View) (local : Local) (core : CoreId) (some : 0 < length v.sides) 
 
   module _ (from : CoreId) (place : ℕ) (next : CopyState)
       (is : plan_of v local (channels.Ack core from) ≡ plans.Acknowledge place next) where
-    abbrev acknowledged_copy : CacheCopy
+    abbrev pub acknowledged_copy : CacheCopy
     acknowledged_copy = acknowledged (array_copy (side_at v core) local) next
 
-    ack_found : (has (core_at (channels_at v local) core.0).acks from.0 ≡ true)
+    pub ack_found : (has (core_at (channels_at v local) core.0).acks from.0 ≡ true)
         × HasRow v local core place next (ack_event v local core place next)
     ack_found =
         ack_planned v local core place next from (has (core_at (channels_at v local) core.0).acks from.0) refl is
 
-    ack_has_row : (sent : CacheSends)
+    pub ack_has_row : (sent : CacheSends)
         × (row_of (state_of (side_at v core) local) (ack_event v local core place next) ≡ rows.Go next sent)
     ack_has_row = ack_found.1
 
-    ack_comes : IsTaken (state_of (side_at v core) local) next ack_has_row.0
+    pub ack_comes : IsTaken (state_of (side_at v core) local) next ack_has_row.0
     ack_comes =
         (ack-taken (copy_of (side_at v core) local).wants (copy_of (side_at v core) local).counted
         (state_of (side_at v core) local) next ack_has_row.0 ack_has_row.1).0
@@ -674,11 +680,20 @@ module _ (v : View) (local : Local) (core : CoreId) (some : 0 < length v.sides) 
         → CameTo (channels.Ack core from) (settled_copy acknowledged_copy block next) line
     count_stepped block line reached stands =
         let held = waits-held (side_at v core) local kept ack_comes.waited in
-        subst (λ c. CameTo (channels.Ack core from) (settled_copy (acknowledged c next) block next) line)
-        (copy_of-held (side_at v core) local kept held)
-        (count_step v.exclusive (length v.sides) (entry_at v local) (channels_at v local) (copies_at v local) line core
-        some most reached stands (shaped.cores local inside) there from
-        (stands.acks.senders core.0 from.0 ack_found.0) ack_found.0 next ack_has_row.0 ack_has_row.1 block)
+        let waits = ack_found.0 in
+        let within = stands.acks.senders core.0 from.0 waits in (
+          count_turn v.exclusive (length v.sides) (entry_at v local) (channels_at v local) (copies_at v local) line core
+              some most reached stands (shaped.cores local inside) there from within waits next ack_has_row.0
+              ack_has_row.1,
+          subst (λ c. LineStands (length v.sides) (entry_at v local) (after_take (channels_at v local)
+              (channels.Ack core from))
+              (with_copy_at (copies_at v local) core.0 (settled_copy (acknowledged c next) block next))
+              (after_ack line core.0 from.0 next sends.Nothing))
+              (copy_of-held (side_at v core) local kept held)
+              (count_stands v.exclusive (length v.sides) (entry_at v local) (channels_at v local) (copies_at v local)
+              line core some most reached stands (shaped.cores local inside) there from within waits next ack_has_row.0
+              ack_has_row.1 block),
+        )
 
     -- A slice in which a core takes an acknowledgement goes on as its lines can.
     pub count_reached : (misses : List Register) → AreReached v

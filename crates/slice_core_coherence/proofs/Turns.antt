@@ -1,16 +1,14 @@
 -- A core's turn that sends nothing to other cores or home: an access, an eviction, or a message that it takes.
-use Rattle.std.proofs.Common.{◌≡◌, ℕ, ◌<◌, ◌==◌, ◌&&◌, ◌||◌, Bool, true, false, length, refl, sym, ap, ◌∙◌, subst, IsTrue}
+use Rattle.std.proofs.Common.{◌≡◌, ℕ, ◌<◌, ◌==◌, ◌&&◌, ◌||◌, false, length, refl, sym, ap, ◌∙◌}
 use Rattle.std.proofs.Math.Bool.{or-false}
 use Rattle.cache_table.specs.Law.{sends_data, sends_home, sends_inv_ack}
-use Rattle.cache_table.specs.Row.{row_of}
 use Rattle.cache_table.specs.declared.row.CacheEvent.{CacheEvent}
 use Rattle.cache_table.specs.declared.row.CacheEvent.TheVariants as events
 use Rattle.cache_table.specs.declared.row.CacheSends.{CacheSends}
-use Rattle.cache_table.specs.declared.row.Row.TheVariants as rows
 use Rattle.cache_table.specs.declared.state.CopyState.{CopyState}
 use Rattle.directory_table.specs.declared.state.DirEntry.{DirEntry}
 use Rattle.slice_core_coherence.proofs.Frame.{with_copy_at}
-use Rattle.slice_core_coherence.proofs.Places.{PartsStand, acks-with_core, acks_kept, acks_turned, parts_as, parts_turned, with_part_at}
+use Rattle.slice_core_coherence.proofs.Places.{acks-with_core, acks_kept, acks_turned, parts_as, parts_turned, with_part_at}
 use Rattle.slice_core_coherence.specs.Stands.{LineStands, PartStands}
 use Rattle.slice_core_protocol.specs.Line.{Line, Part}
 use Rattle.slice_core_protocol.specs.Machine.{acted, after_turn, change_if, given, stands_ack, taken}

@@ -1,5 +1,5 @@
 -- No message of a slice whose lines the machine reaches is broken.
-use Rattle.std.proofs.Common.{◌≡◌, ◌≢◌, ℕ, zero, suc, ◌+◌, ◌<◌, ◌≤◌, ◌==◌, ◌&&◌, ◌||◌, Bool, true, false, not, List, [], ◌∷◌, ◌++◌, length, map, filter, if◌then◌else◌, Option, Some, None, option_map, IfSome, IsSome, IsTrue, IsFalse, is_some, position, find, slice_get, nat_lt, inl, inr, refl, sym, ap, ◌∙◌, subst, arith, true≢false}
+use Rattle.std.proofs.Common.{◌≡◌, ◌≢◌, ℕ, zero, suc, ◌+◌, ◌<◌, ◌≤◌, ◌==◌, ◌&&◌, Bool, true, false, not, List, ◌∷◌, ◌++◌, length, filter, if◌then◌else◌, Option, Some, None, option_map, IfSome, IsSome, IsTrue, is_some, position, find, slice_get, nat_lt, inl, inr, refl, sym, ap, ◌∙◌, subst, arith, true≢false}
 use Rattle.std.proofs.lemmas.Bool.{and_parts, cases_lt, eq-eqb, ltb-false}
 use Rattle.std.proofs.lemmas.List.{get_or_past, length-map}
 use Rattle.std.proofs.lemmas.List.Folds.{find_at}
@@ -9,7 +9,6 @@ use Rattle.address_map.proofs.CoreSets.{has-zero}
 use Rattle.address_map.specs.CoreSet.{has, members}
 use Rattle.address_map.specs.declared.address.CoreId.{CoreId}
 use Rattle.address_map.specs.declared.address.Local.{Local}
-use Rattle.address_map.specs.declared.block.Block.{Block}
 use Rattle.std.proofs.Math.Bool.{or-true}
 use Rattle.cache_array.specs.Array.{held_at as array_at, slots_at}
 use Rattle.cache_array.specs.Set.{holds}
@@ -29,7 +28,7 @@ use Rattle.slice_core_coherence.proofs.Parts.{IsFirst, first_at_hand, first_stan
 use Rattle.slice_core_coherence.proofs.Rows.{ack_row-same, answers, sends_for}
 use Rattle.slice_queues_message.specs.declared.message.ForwardedMessage.TheVariants as forwards
 use Rattle.directory_table.proofs.RowLaws.{cell-lawful}
-use Rattle.directory_table.specs.Law.{IfGo, Invalidates, is_sent_inv, is_shared, is_named, requester, writer}
+use Rattle.directory_table.specs.Law.{IfGo, Invalidates, is_sent_inv, is_shared, is_named, writer}
 use Rattle.directory_table.specs.Row as Directory
 use Rattle.directory_table.specs.declared.row.DirEvent.{DirEvent}
 use Rattle.directory_table.specs.declared.row.DirEvent.TheVariants as dir_events
@@ -44,20 +43,19 @@ use Rattle.slice_core_answer.specs.declared.answer.Cell.TheVariants as cells
 use Rattle.slice_core_coherence.proofs.Directory.{asked_here, room_here, row_here, within_here}
 use Rattle.slice_core_coherence.proofs.Facts.{data_while_waiting}
 use Rattle.slice_core_coherence.specs.Coherent.{NothingIsBroken, WaitsInArray}
-use Rattle.slice_core_coherence.specs.Stands.{AreReached, LineStands, PartStands, Stands, copies_at, kind_of_data, kind_of_request, named_by, queue_of, queued_forward, queued_inv, queued_put_ack}
+use Rattle.slice_core_coherence.specs.Stands.{AreReached, LineStands, PartStands, Stands, copies_at, kind_of_data, kind_of_request, named_by, queued_forward, queued_inv, queued_put_ack}
 use Rattle.slice_core_coherence.specs.Whole.{IsWhole}
 use Rattle.slice_core_plan.proofs.RoomLaws.{takes-from}
-use Rattle.slice_core_plan.specs.Plan.{acknowledge_at, ack_plan, asks, by_ack_row, by_data_row, by_directory_row, by_forwarded_row, by_home_row, data_by, event_of_data, event_of_forwarded, event_of_request, fill_at, forwarded_by, is_put_ack, plan_of, stands_at, request_by, requester_of}
+use Rattle.slice_core_plan.specs.Plan.{acknowledge_at, asks, by_ack_row, by_data_row, by_directory_row, by_forwarded_row, by_home_row, data_by, event_of_data, event_of_forwarded, event_of_request, fill_at, forwarded_by, is_put_ack, plan_of, stands_at, request_by, requester_of}
 use Rattle.slice_core_plan.specs.Sends.{cache_room, directory_room, takes, takes_invalidations}
 use Rattle.slice_core_plan.specs.View.{View, IsShaped, channels_at, entry_at, side_at}
-use Rattle.slice_core_plan.specs.declared.decide.Plan.{Plan}
 use Rattle.slice_core_plan.specs.declared.decide.Plan.TheVariants as plans
 use Rattle.slice_core_protocol.proofs.Promises.{reached_has_room, reached_has_rows, reached_nothing_early}
 use Rattle.slice_core_protocol.proofs.Steps.{reached_coherent}
 use Rattle.slice_core_protocol.specs.Fit.{is_counting, is_no_data, is_no_forward, is_no_request, is_only_data}
 use Rattle.slice_core_protocol.specs.Line.{Forward, fwd_get_m, fwd_get_s, no_forward, Line, Part}
 use Rattle.slice_core_protocol.specs.Machine.{Reached, acted, after, entry_of, further, is_asked_for, stands as at_hand, turn}
-use Rattle.slice_core_protocol.specs.Promise.{HasRoomAtService, HasRoomAtTurn, has_room_for_forward, has_room_for_inv, has_room_for_put_ack, is_directory_entry, is_entry, is_message}
+use Rattle.slice_core_protocol.specs.Promise.{HasRoomAtService, HasRoomAtTurn, has_room_for_put_ack, is_directory_entry, is_entry, is_message}
 use Rattle.slice_core_side.specs.Copy.{found_in}
 use Rattle.slice_core_side.specs.Side.{copy_of}
 use Rattle.slice_core_side.specs.declared.copy.CacheCopy.{CacheCopy}
@@ -164,7 +162,8 @@ module _ (exclusive : Bool) (cores : ℕ) (entry : DirEntry) (line : LineChannel
       (not (is_named (writer event) x)) all).0).1
 
   room_for : (core : CoreId) → core.0 < cores → (sent : DirSends)
-      → ((x : ℕ) → x < 64 → is_sent_inv sent x ≡ true → x < cores) → HasRoomAtService cores l (dir_events.GetS core) sent
+      → ((x : ℕ) → x < 64 → is_sent_inv sent x ≡ true → x < cores)
+      → HasRoomAtService cores l (dir_events.GetS core) sent
       → directory_room line core sent ≡ true
   unfolding takes_invalidations members
   room_for core below dir_sends.Nothing inside room = refl
@@ -276,7 +275,8 @@ forwarded_is_message (forwards.FwdGetM to) = refl
 forwarded_is_message forwards.PutAck = refl
 
 module _ (v : View) (local : Local) (shaped : IsShaped v) (inside : local.0 < v.lines.lines)
-    (most : length v.sides ≤ 64) (waiting : WaitsInArray v) (l : Line) (reached : Reached v.exclusive (length v.sides) l)
+    (most : length v.sides ≤ 64) (waiting : WaitsInArray v) (l : Line) (reached : Reached v.exclusive (length
+    v.sides) l)
     (stands : Stands v local l) (cell : Cell) where
   size : length (channels_at v local).cores ≡ length v.sides
   size = shaped.cores local inside
@@ -514,7 +514,8 @@ module _ (v : View) (local : Local) (shaped : IsShaped v) (inside : local.0 < v.
     by_data event lines.Blocked known entry waits is = absurd (cc is)
     by_data event (lines.Go next sent) known entry waits is =
         let early : asks v local core ≡ false =
-        not_asking ((reached_nothing_early v.exclusive (length v.sides) l some_core most reached core.0 below).data_taken
+        not_asking ((reached_nothing_early v.exclusive (length v.sides) l some_core most reached core.0
+        below).data_taken
         waits) in
         let there = stands_there (ap is_waiting standing.state
         ∙ data_while_waiting v.exclusive (length v.sides) l some_core most reached core.0 below waits) in

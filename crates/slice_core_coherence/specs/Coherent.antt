@@ -1,9 +1,10 @@
 -- What follows for a slice whose lines are lines of the protocol's machine.
-use Rattle.std.specs.Prelude.{◌≡◌, ◌≢◌, ℕ, ◌<◌, length, IsSome, IsTrue}
+use Rattle.std.specs.Prelude.{◌≡◌, ◌≢◌, ◌<◌, length, IsSome, IsTrue}
 use Rattle.address_map.specs.declared.address.CoreId.{CoreId}
 use Rattle.address_map.specs.declared.address.Local.{Local}
 use Rattle.cache_array.specs.Array.{held_at as array_at}
 use Rattle.cache_table.specs.CopyState.{is_readable, is_waiting, is_writer}
+use Rattle.mshr_file.specs.Miss.{has_miss}
 use Rattle.slice_core_answer.specs.declared.answer.Cell.{Cell}
 use Rattle.slice_core_plan.specs.Plan.{plan_of}
 use Rattle.slice_core_plan.specs.View.{View, side_at}
@@ -26,3 +27,8 @@ WaitsInArray v = (core : CoreId) (local : Local) → core.0 < length v.sides →
 abbrev pub NothingIsBroken : View → Type 0
 NothingIsBroken v = (local : Local) (channel : Channel) (cell : Cell) → local.0 < v.lines.lines
     → plan_of v local channel ≢ plans.Broken cell
+
+-- A copy waits exactly where its core has a miss register for the line.
+abbrev pub WaitsForMisses : View → Type 0
+WaitsForMisses v = (core : CoreId) (local : Local) → core.0 < length v.sides → local.0 < v.lines.lines
+    → is_waiting (state_of (side_at v core) local) ≡ has_miss (side_at v core).misses local.0

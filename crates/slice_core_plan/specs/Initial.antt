@@ -1,5 +1,5 @@
 -- What a slice begins with, by its machine's configuration.
-use Rattle.std.specs.Prelude.{◌≡◌, ℕ, ◌/◌, ◌%◌, ◌<◌, ◌==◌, Bool, List, length, slice_index, slice_index_or}
+use Rattle.std.specs.Prelude.{◌≡◌, ℕ, ◌/◌, ◌%◌, ◌^◌, ◌<◌, ◌==◌, Bool, List, length, slice_index, slice_index_or}
 use Rattle.address_map.specs.Locator.{Lines, word_at}
 use Rattle.address_map.specs.Words.{initial_value}
 use Rattle.address_map.specs.declared.address.Local.{Local}
@@ -15,10 +15,11 @@ use Rattle.slice_core_plan.specs.View.{no_entry, no_side}
 abbrev pub is_of_slice : Config → ℕ → WordAddr → Bool
 is_of_slice c slice word = word.0 / 8 % c.slices == slice
 
--- the block has the initial values of the line's words
+-- the block has the initial values of the line's words, of 64 bits each
 pub record IsInitialBlock (c : Config) (own : Lines) (local : Local) (block : Block) : Type 0 where
   pub size : length block.words ≡ 8
   pub words : (i : ℕ) → i < 8 → slice_index block.words i ≡ initial_value c.init (word_at own local (record { 0 = i }))
+  pub fits : (i : ℕ) → i < 8 → slice_index block.words i < 2 ^ 64
 
 -- a line that nobody has, with this home copy
 abbrev pub unowned : Block → DirEntry

@@ -18,6 +18,13 @@ words-more words i v f within before is =
     below_more _ _ (λ k less. let other : k ≢ i = omega arith in get_or-set_other words i k v 0 other ∙ before k less)
     (get_or-set_same words i v 0 within ∙ is)
 
+pub words-fit : (words : List ℕ) (i v limit : ℕ) → i < length words → ((k : ℕ) → k < i → get_or words k 0 < limit)
+    → v < limit → (k : ℕ) → k < i + 1 → get_or (set words i v) k 0 < limit
+words-fit words i v limit within before fits =
+    below_more _ _ (λ k less.
+    let other : k ≢ i = omega arith in rw (get_or-set_other words i k v 0 other) (before k less))
+    (rw (get_or-set_same words i v 0 within) fits)
+
 -- one more line of a slice
 pub entries-more : (c : Config) (own : Lines) (n : ℕ) (entries : List DirEntry) (block : Block) → AreInitialEntries c own n entries
     → IsInitialBlock c own (record { 0 = n }) block → AreInitialEntries c own (n + 1) (entries ++ unowned block ∷ [])

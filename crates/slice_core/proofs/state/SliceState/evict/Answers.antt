@@ -1,8 +1,7 @@
 use Rattle.std.proofs.Common.{arith, ap, length}
 use Rattle.slice_core_plan.specs.Parts.{PartsView}
 use Rattle.slice_core.specs.Sound.{IsSound}
-use Rattle.slice_core.proofs.Coherent.{coherent}
-use Rattle.slice_core.proofs.AccountsFacts as facts
+use Rattle.slice_core.proofs.Coherent.{holds}
 use Rattle.slice_core.proofs.SoundEvict.{sound-evict}
 use Rattle.slice_core.proofs.state.SliceState.evict.Given.{Over}
 use Rattle.slice_core.proofs.state.SliceState.evict.Goals as goal
@@ -18,14 +17,5 @@ sound g c =
 pub invariant_of-self : goal.invariant_of-self
 invariant_of-self g c = sound g c
 
-pub returns-clause-standing : goal.returns-clause-standing
-returns-clause-standing g c = facts.standing c.evict.new.self (sound g c)
-
-pub returns-clause-registers : goal.returns-clause-registers
-returns-clause-registers g c = facts.registers c.evict.new.self (sound g c)
-
-pub returns-clause-tags : goal.returns-clause-tags
-returns-clause-tags g c = facts.tags c.evict.new.self (sound g c)
-
-pub returns-clause-one_writer : goal.returns-clause-one_writer
-returns-clause-one_writer g c = coherent c.evict.new.self (sound g c)
+pub returns-clause-holds : goal.returns-clause-holds
+returns-clause-holds g c = holds c.evict.new.self (sound g c)

@@ -2,8 +2,7 @@ use Rattle.std.proofs.Common.{◌<◌, arith, ap, length, subst, sym}
 use Rattle.slice_core_plan.specs.Parts.{PartsView}
 use Rattle.slice_core.specs.Facts.{IsInverted}
 use Rattle.slice_core.specs.Sound.{IsSound}
-use Rattle.slice_core.proofs.Coherent.{coherent}
-use Rattle.slice_core.proofs.AccountsFacts as facts
+use Rattle.slice_core.proofs.Coherent.{holds}
 use Rattle.slice_core.proofs.LinksInverted.{needs-issue}
 use Rattle.slice_core.proofs.SoundIssue.{sound-issue}
 use Rattle.slice_core.proofs.state.SliceState.issue.Given.{Over}
@@ -31,20 +30,5 @@ returns-clause-unbounded g c inverted =
     (known g c) (subst (λ (p : PartsView). IsInverted p.view c.args.core) (sym c.self.view_is) inverted)
     c.issue.ensures.step
 
-pub returns-clause-standing : goal.returns-clause-standing
-returns-clause-standing g c = facts.standing c.issue.new.self (sound g c)
-
-pub returns-clause-ordered : goal.returns-clause-ordered
-returns-clause-ordered g c = facts.ordered c.issue.new.self (sound g c)
-
-pub returns-clause-registers : goal.returns-clause-registers
-returns-clause-registers g c = facts.registers c.issue.new.self (sound g c)
-
-pub returns-clause-tags : goal.returns-clause-tags
-returns-clause-tags g c = facts.tags c.issue.new.self (sound g c)
-
-pub returns-clause-counted : goal.returns-clause-counted
-returns-clause-counted g c = facts.counted c.issue.new.self (sound g c)
-
-pub returns-clause-one_writer : goal.returns-clause-one_writer
-returns-clause-one_writer g c = coherent c.issue.new.self (sound g c)
+pub returns-clause-holds : goal.returns-clause-holds
+returns-clause-holds g c = holds c.issue.new.self (sound g c)

@@ -1,0 +1,147 @@
+-- What each message that is taken keeps is kept by each delivery, and by one that takes none.
+use Rattle.std.proofs.Common.{◌≡◌, ℕ, ◌<◌, Bool, Option, Some, None, refl, sym, ap, ◌∙◌, subst}
+use Rattle.address_map.specs.Locator.{local_at}
+use Rattle.address_map.specs.declared.address.CoreId.{CoreId}
+use Rattle.address_map.specs.declared.address.Local.{Local}
+use Rattle.cache_table.specs.declared.row.CacheSends.{CacheSends}
+use Rattle.cache_table.specs.declared.state.CopyState.{CopyState}
+use Rattle.directory_table.specs.declared.row.DirSends.{DirSends}
+use Rattle.directory_table.specs.declared.state.DirState.{DirState}
+use Rattle.slice_core_answer.specs.declared.answer.Delivered.{Delivered}
+use Rattle.slice_core_answer.specs.declared.answer.Delivered.TheVariants as delivered
+use Rattle.slice_core_answer.specs.declared.answer.DeliveredNext.{DeliveredNext}
+use Rattle.slice_core_answer.specs.declared.answer.DeliveredNext.TheVariants as delivered_next
+use Rattle.slice_core_coherence.proofs.KeptByCalls.{located}
+use Rattle.slice_core_coherence.proofs.Planned.{IsFor, is_for}
+use Rattle.slice_core_coherence.proofs.Steps.{KeepsMessages}
+use Rattle.slice_core_coherence.specs.Whole.{IsWhole}
+use Rattle.slice_core_plan.specs.Parts.{PartsView, AfterDeliverNext, AfterDelivery, AfterPlan}
+use Rattle.slice_core_plan.specs.Plan.{plan_of}
+use Rattle.slice_core_plan.specs.View.{View}
+use Rattle.slice_core_plan.specs.declared.decide.Plan.{Plan}
+use Rattle.slice_core_plan.specs.declared.decide.Plan.TheVariants as plans
+use Rattle.slice_queues_message.specs.Pick.{channel_of, line_of}
+use Rattle.slice_queues_message.specs.declared.channel.Channel.{Channel}
+use Rattle.slice_queues_message.specs.declared.channel.Channel.TheVariants as channels
+use Rattle.slice_queues_message.specs.declared.channel.Class.{Class}
+use Rattle.slice_queues_message.specs.declared.channel.Pick.{Pick}
+
+module _ (Whole Fact : View → Type 0) (steps : KeepsMessages Whole Fact) (old : PartsView) (local : Local)
+    (answer : Delivered) (new : PartsView) (whole : IsWhole old.view) (more : Whole old.view)
+    (inside : local.0 < old.view.lines.lines) (all : Fact old.view) where
+  -- the slice's view is this one
+  seen : (view : View) (after : PartsView) → new ≡ after → after.view ≡ view → Fact view → Fact new.view
+  seen view after is same reached = subst Fact (sym (ap (λ (p : PartsView). p.view) is ∙ same)) reached
+
+  planned : (channel : Channel) (plan : Plan) → plan_of old.view local channel ≡ plan
+      → IsFor old.view channel local plan
+  planned = is_for old.view local whole.shaped inside
+
+  taken_request : (state : DirState) (owner : Option CoreId) (sharers : ℕ) (sent : DirSends) (writes : Bool)
+      (channel : Channel) → plan_of old.view local channel ≡ plans.Directory state owner sharers sent writes
+      → AfterPlan (plans.Directory state owner sharers sent writes) old local channel answer new → Fact new.view
+  taken_request state owner sharers sent writes (channels.Req core) is after =
+      seen _ _ after.1 refl
+      (steps.directory old.view local core state owner sharers sent writes more inside (planned (channels.Req core) _
+      is)
+      is all)
+  taken_request state owner sharers sent writes (channels.Fwd core) is after =
+      absurd (planned (channels.Fwd core) _ is)
+  taken_request state owner sharers sent writes (channels.Data core) is after =
+      absurd (planned (channels.Data core) _ is)
+  taken_request state owner sharers sent writes (channels.Ack to from) is after =
+      absurd (planned (channels.Ack to from) _ is)
+  taken_request state owner sharers sent writes channels.Home is after = absurd (planned channels.Home _ is)
+
+  taken_home : (state : DirState) (owner : Option CoreId) (sharers : ℕ) (channel : Channel)
+      → plan_of old.view local channel ≡ plans.Home state owner sharers
+      → AfterPlan (plans.Home state owner sharers) old local channel answer new → Fact new.view
+  taken_home state owner sharers channels.Home is after =
+      seen _ _ after.1 refl (steps.home old.view local state owner sharers more inside is all)
+  taken_home state owner sharers (channels.Req core) is after = absurd (planned (channels.Req core) _ is)
+  taken_home state owner sharers (channels.Fwd core) is after = absurd (planned (channels.Fwd core) _ is)
+  taken_home state owner sharers (channels.Data core) is after = absurd (planned (channels.Data core) _ is)
+  taken_home state owner sharers (channels.Ack to from) is after = absurd (planned (channels.Ack to from) _ is)
+
+  taken_forwarded : (next : CopyState) (sent : CacheSends) (requester : CoreId) (channel : Channel)
+      → plan_of old.view local channel ≡ plans.Forwarded next sent requester
+      → AfterPlan (plans.Forwarded next sent requester) old local channel answer new → Fact new.view
+  taken_forwarded next sent requester (channels.Fwd core) is after =
+      let for = planned (channels.Fwd core) _ is in
+      seen _ _ after.1 refl
+      (steps.forwarded old.view local core next sent requester more inside for.0 for.1 is all)
+  taken_forwarded next sent requester (channels.Req core) is after = absurd (planned (channels.Req core) _ is)
+  taken_forwarded next sent requester (channels.Data core) is after = absurd (planned (channels.Data core) _ is)
+  taken_forwarded next sent requester (channels.Ack to from) is after = absurd (planned (channels.Ack to from) _ is)
+  taken_forwarded next sent requester channels.Home is after = absurd (planned channels.Home _ is)
+
+  taken_data : (place : ℕ) (next : CopyState) (channel : Channel)
+      → plan_of old.view local channel ≡ plans.Fill place next
+      → AfterPlan (plans.Fill place next) old local channel answer new → Fact new.view
+  taken_data place next (channels.Data core) is after =
+      let there = planned (channels.Data core) _ is in
+      seen _ _ after.1.3 refl
+      (steps.filling old.view local core place next after.1.0 more inside there is all)
+  taken_data place next (channels.Req core) is after = absurd (planned (channels.Req core) _ is)
+  taken_data place next (channels.Fwd core) is after = absurd (planned (channels.Fwd core) _ is)
+  taken_data place next (channels.Ack to from) is after = absurd (planned (channels.Ack to from) _ is)
+  taken_data place next channels.Home is after = absurd (planned channels.Home _ is)
+
+  taken_ack : (place : ℕ) (next : CopyState) (channel : Channel)
+      → plan_of old.view local channel ≡ plans.Acknowledge place next
+      → AfterPlan (plans.Acknowledge place next) old local channel answer new → Fact new.view
+  taken_ack place next (channels.Ack to from) is after =
+      let there = planned (channels.Ack to from) _ is in
+      seen _ _ after.1.3 refl
+      (steps.counting old.view local to from place next after.1.0 more inside there is all)
+  taken_ack place next (channels.Req core) is after = absurd (planned (channels.Req core) _ is)
+  taken_ack place next (channels.Fwd core) is after = absurd (planned (channels.Fwd core) _ is)
+  taken_ack place next (channels.Data core) is after = absurd (planned (channels.Data core) _ is)
+  taken_ack place next channels.Home is after = absurd (planned channels.Home _ is)
+
+  -- What is planned at a channel keeps the fact.
+  pub planned_keeps : (plan : Plan) (channel : Channel) → plan_of old.view local channel ≡ plan
+      → AfterPlan plan old local channel answer new → Fact new.view
+  planned_keeps plans.Nothing channel is after = seen _ _ after.1 refl all
+  planned_keeps plans.Blocked channel is after = seen _ _ after.1 refl all
+  planned_keeps (plans.Broken cell) channel is after = seen _ _ after.1 refl all
+  planned_keeps (plans.Directory state owner sharers sent writes) channel is after =
+      taken_request state owner sharers sent writes channel is after
+  planned_keeps (plans.Home state owner sharers) channel is after = taken_home state owner sharers channel is after
+  planned_keeps (plans.Forwarded next sent requester) channel is after =
+      taken_forwarded next sent requester channel is after
+  planned_keeps (plans.Fill place next) channel is after = taken_data place next channel is after
+  planned_keeps (plans.Acknowledge place next) channel is after = taken_ack place next channel is after
+
+-- ---- the calls
+
+module _ (Whole Fact : View → Type 0) (steps : KeepsMessages Whole Fact) (old new : PartsView)
+    (whole : IsWhole old.view) (more : Whole old.view) (all : Fact old.view) where
+  unchanged : new ≡ old → Fact new.view
+  unchanged same = subst (λ (p : PartsView). Fact p.view) (sym same) all
+
+  -- what a delivery answers and leaves, by the line's place
+  abbrev by_line : Pick → Delivered → Option Local → Type 0
+  by_line pick answer None = (answer ≡ delivered.Nothing) × (new ≡ old)
+  by_line pick answer (Some local) =
+      AfterPlan (plan_of old.view local (channel_of pick)) old local (channel_of pick) answer new
+
+  at_place : (pick : Pick) (answer : Delivered) (place : Option Local)
+      → local_at old.view.lines (line_of pick).0 ≡ place → by_line pick answer place → Fact new.view
+  at_place pick answer None is after = unchanged after.1
+  at_place pick answer (Some local) is after =
+      planned_keeps Whole Fact steps old local answer new whole more (located old.view.lines (line_of pick).0 local
+      is) all
+      (plan_of old.view local (channel_of pick)) (channel_of pick) refl after
+
+  -- A delivery of a chosen message keeps the fact.
+  pub delivery_keeps : (pick : Pick) (answer : Delivered) → AfterDelivery old pick answer new → Fact new.view
+  delivery_keeps pick answer after = at_place pick answer (local_at old.view.lines (line_of pick).0) refl after
+
+  -- So does one of the next message of a class.
+  pub deliver_next_keeps : (class : Class) (answer : DeliveredNext) → AfterDeliverNext old class answer new
+      → Fact new.view
+  deliver_next_keeps class (delivered_next.Moved pick) after = delivery_keeps pick delivered.Moved after.1
+  deliver_next_keeps class delivered_next.Nothing after = unchanged after.0
+  deliver_next_keeps class delivered_next.Blocked after = unchanged after.0
+  deliver_next_keeps class (delivered_next.Broken cell) after = unchanged after.0

@@ -1,0 +1,73 @@
+-- What each step of a slice keeps, and with it each call: a fact of the slice's value, given what else is known of it.
+use Rattle.std.specs.Prelude.{◌≡◌, ℕ, ◌<◌, Bool, List, length, Option, Some, IsSome}
+use Rattle.address_map.specs.Locator.{local_at}
+use Rattle.address_map.specs.Place.{line_of}
+use Rattle.address_map.specs.declared.address.CoreId.{CoreId}
+use Rattle.address_map.specs.declared.address.Local.{Local}
+use Rattle.address_map.specs.declared.request.Request.{Request}
+use Rattle.cache_array.specs.Array.{held_at as array_at}
+use Rattle.cache_table.specs.Row.{row_of}
+use Rattle.cache_table.specs.declared.row.CacheSends.{CacheSends}
+use Rattle.cache_table.specs.declared.row.CacheSends.TheVariants as sends
+use Rattle.cache_table.specs.declared.row.Row.TheVariants as rows
+use Rattle.cache_table.specs.declared.state.CopyState.{CopyState}
+use Rattle.directory_table.specs.declared.row.DirSends.{DirSends}
+use Rattle.directory_table.specs.declared.state.DirState.{DirState}
+use Rattle.mshr_file.specs.declared.registers.Register.{Register}
+use Rattle.slice_core_coherence.proofs.Accesses.{HasPlaceFor, HasVictimFor, sends_for}
+use Rattle.slice_core_plan.specs.Within.{Stands as HasCopy}
+use Rattle.slice_core_plan.specs.Parts.{filled_by}
+use Rattle.slice_core_plan.specs.Plan.{plan_of}
+use Rattle.slice_core_plan.specs.Steps.{after_directory, after_evict, after_forwarded, after_hand, after_hit, after_home, after_join, after_open, after_settling}
+use Rattle.slice_core_plan.specs.View.{View, channels_at, side_at}
+use Rattle.slice_core_plan.specs.declared.decide.Plan.TheVariants as plans
+use Rattle.slice_core_side.specs.Access.{CanLeave, event_of}
+use Rattle.slice_core_side.specs.Side.{array_copy, state_of}
+use Rattle.slice_core_side.specs.Steps.{acknowledged}
+use Rattle.slice_core_side.specs.declared.access.Ask.{Ask}
+use Rattle.slice_core_side.specs.declared.access.Way.{Way}
+use Rattle.slice_queues.specs.Line.{core_at}
+use Rattle.slice_queues_message.specs.declared.channel.Channel.TheVariants as channels
+
+-- Each access, eviction and reply keeps the fact.
+pub record KeepsAccesses (Whole Fact : View → Type 0) : Type 0 where
+  pub hit : (v : View) (core : CoreId) (local : Local) (request : Request) (next : CopyState) → Whole v
+      → core.0 < length v.sides → local.0 < v.lines.lines → local_at v.lines (line_of request.word).0 ≡ Some local
+      → IsSome (array_at (side_at v core).array local)
+      → row_of (state_of (side_at v core) local) (event_of request.op) ≡ rows.Go next sends.Nothing → Fact v
+      → Fact (after_hit v core request local next)
+  pub opening : (v : View) (core : CoreId) (local : Local) (request : Request) (way : Way) (next : CopyState) (ask :
+      Ask)
+      (misses : List Register) → Whole v → core.0 < length v.sides → local.0 < v.lines.lines
+      → HasPlaceFor (side_at v core) local way → HasVictimFor v core local way
+      → row_of (state_of (side_at v core) local) (event_of request.op) ≡ rows.Go next (sends_for ask) → Fact v
+      → Fact (after_open v core request local way next ask misses)
+  pub join : (v : View) (core : CoreId) (request : Request) (misses : List Register) → core.0 < length v.sides
+      → Fact v → Fact (after_join v core request misses)
+  pub evict : (v : View) (core : CoreId) (local : Local) → Whole v → core.0 < length v.sides
+      → local.0 < v.lines.lines → CanLeave (side_at v core) local → Fact v → Fact (after_evict v core local)
+  pub hand : (v : View) (core : CoreId) (tag : ℕ) → core.0 < length v.sides → Fact v → Fact (after_hand v core tag)
+
+-- Each message that is taken keeps the fact.
+pub record KeepsMessages (Whole Fact : View → Type 0) : Type 0 where
+  pub directory : (v : View) (local : Local) (core : CoreId) (state : DirState) (owner : Option CoreId) (sharers : ℕ)
+      (sent : DirSends) (writes : Bool) → Whole v → local.0 < v.lines.lines → core.0 < length v.sides
+      → plan_of v local (channels.Req core) ≡ plans.Directory state owner sharers sent writes → Fact v
+      → Fact (after_directory v local core state owner sharers sent writes)
+  pub home : (v : View) (local : Local) (state : DirState) (owner : Option CoreId) (sharers : ℕ) → Whole v
+      → local.0 < v.lines.lines → plan_of v local channels.Home ≡ plans.Home state owner sharers → Fact v
+      → Fact (after_home v local state owner sharers)
+  pub forwarded : (v : View) (local : Local) (core : CoreId) (next : CopyState) (sent : CacheSends)
+      (requester : CoreId) → Whole v → local.0 < v.lines.lines → core.0 < length v.sides
+      → HasCopy (side_at v core) local → plan_of v local (channels.Fwd core) ≡ plans.Forwarded next sent requester
+      → Fact v → Fact (after_forwarded v local core next sent requester)
+  pub filling : (v : View) (local : Local) (core : CoreId) (place : ℕ) (next : CopyState) (misses : List Register)
+      → Whole v → local.0 < v.lines.lines → core.0 < length v.sides
+      → plan_of v local (channels.Data core) ≡ plans.Fill place next → Fact v
+      → Fact (after_settling v local core (channels.Data core)
+      (filled_by (array_copy (side_at v core) local) (core_at (channels_at v local) core.0).data next) misses)
+  pub counting : (v : View) (local : Local) (core from : CoreId) (place : ℕ) (next : CopyState)
+      (misses : List Register) → Whole v → local.0 < v.lines.lines → core.0 < length v.sides
+      → plan_of v local (channels.Ack core from) ≡ plans.Acknowledge place next → Fact v
+      → Fact (after_settling v local core (channels.Ack core from)
+      (acknowledged (array_copy (side_at v core) local) next) misses)

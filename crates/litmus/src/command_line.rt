@@ -1,6 +1,6 @@
 ghost use Rattle.std.specs.Prelude.{◌≡◌, map, IfOk, IfSome, string_bytes, false};
 ghost use Rattle.clap.specs.declared.builder.command.Command.TheViews.{out-Command as fields_of};
-ghost use Rattle.litmus.specs.CommandLine.{IsAsked, lockup_app, script_app};
+ghost use Rattle.litmus.specs.CommandLine.{IsAsked, check_app, lockup_app, script_app};
 ghost use Rattle.clap.specs.Words.{app_of, subcommand_of, subcommand_rows_of};
 
 use clap::error::ErrorKind;
@@ -12,6 +12,8 @@ use std::alloc::{AllocError, Global};
 pub enum CommandLine<'a> {
     /// Run the script in this file.
     Script { file: &'a str },
+    /// Judge the trace in this file.
+    Check { file: &'a str },
 }
 
 /// Reads the program's words, of which the first is its own name. What is refused, and help, is an error that
@@ -34,6 +36,7 @@ fn asked<'a>(matches: &ArgMatches<'a>) -> Option<CommandLine<'a>>
     let file = given.get_str("FILE")?;
     match name {
         "script" => Some(CommandLine::Script { file }),
+        "check" => Some(CommandLine::Check { file }),
         _ => None,
     }
 }
@@ -42,10 +45,12 @@ fn lockup<'a>(alloc: Global) -> Result<Command<'a>, AllocError>
     ensures { IfOk result (λ c. app_of c ≡ lockup_app) }
 {
     let script = script(alloc)?;
+    let check = check(alloc)?;
     Command::new(alloc, "lockup")
         .about("Runs a verified model of lockup-free caches under a directory protocol")
         .subcommand_required(true)
-        .subcommand(script)
+        .subcommand(script)?
+        .subcommand(check)
 }
 
 fn script<'a>(alloc: Global) -> Result<Command<'a>, AllocError>
@@ -59,6 +64,22 @@ fn script<'a>(alloc: Global) -> Result<Command<'a>, AllocError>
             Arg::new(alloc, "FILE")
                 .help("The script: one command a line")
                 .required(true),
+        )
+}
+
+fn check<'a>(alloc: Global) -> Result<Command<'a>, AllocError>
+    ensures reads { IfOk result (λ c. app_of c ≡ check_app) }
+    ensures plain { IfOk result (λ c. (fields_of c).has_globals ≡ false) }
+{
+    Command::new(alloc, "check")
+        .about(
+            "Judges a trace: whether its log is legal and ordered, or which entry is wrong, and why",
+        )
+        .after_help("Example: lockup check examples/illegal_trace.txt")
+        .arg(
+            Arg::new(alloc, "FILE")
+                .required(true)
+                .help("The trace: one entry a line"),
         )
 }
 
@@ -80,6 +101,18 @@ mod tests {
         let words = words(rt.alloc(), &["lockup", "script", "first.txt"])?;
         let line = read_line(rt.alloc(), &words)?;
         assert!(rt; line == CommandLine::Script { file: "first.txt" });
+        Ok(())
+    }
+
+    #[test]
+    fn reads_a_check(rt: HostRuntime) -> Result<(), Fail> {
+        let words = words(rt.alloc(), &["lockup", "check", "first.trace"])?;
+        let line = read_line(rt.alloc(), &words)?;
+        assert!(rt;
+            line == CommandLine::Check {
+                file: "first.trace"
+            }
+        );
         Ok(())
     }
 

@@ -8,6 +8,9 @@ use thiserror::Error;
 pub enum LineFault {
     #[error("not a command")]
     NotACommand,
+    /// The first line isn't that of a trace.
+    #[error("not a trace")]
+    NotATrace,
     #[error("bad number")]
     BadNumber,
     #[error("configuration after a command")]
@@ -66,6 +69,7 @@ mod tests {
     fn displays_the_fault(rt: HostRuntime) -> Result<(), Fail> {
         let cases = [
             (LineFault::NotACommand.at(3), "line 3: not a command"),
+            (LineFault::NotATrace.at(1), "line 1: not a trace"),
             (LineFault::BadNumber.at(1), "line 1: bad number"),
             (
                 LineFault::LateConfiguration.at(20),

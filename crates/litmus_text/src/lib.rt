@@ -5,7 +5,7 @@
 //! - [`ConfigLine`] is a line that configures a machine. At Ok of [`ConfigLine::parse`] the words write that line, and
 //!   [`ConfigLine::set`] sets what it names in the [`Settings`] and nothing else (specs/ConfigLine.antt).
 //! - [`parse_command`] reads a command of a script. At Ok the words write that command, and the machine has what it
-//!   names (specs/Command.antt).
+//!   names (specs/Command.antt). [`parse_access`] reads the access in it, which traces write alike.
 //! - [`LineFault`] and [`TextFault`] say what is wrong with a text, and with which status a program ends.
 //!
 //! No call copies a text or takes memory, but `ConfigLine::set` at an initial value or a counter. Each byte is looked
@@ -18,7 +18,7 @@ pub use fault::{LineFault, TextFault};
 pub use field::Count;
 pub use line::Lines;
 pub use number::parse_number;
-pub use parse::parse_command;
+pub use parse::{parse_access, parse_command};
 pub use row::{MOST_WORDS, first_words};
 pub use settings::{MissKind, Settings};
 pub use statement::{Statement, Statements};

@@ -129,9 +129,9 @@ fn parse_pump(words: &[&[u8]]) -> Result<Command, LineFault>
     Ok(Command::Pump(number(calls)?))
 }
 
-/// An access, by its name, its word and what else it takes.
+/// The access that words write, by its name, its word and what else it takes.
 #[tactic(auto, unfolding(crate::specs::Command::parts_of_op))]
-fn parse_access(words: &[&[u8]]) -> Result<(Op, WordAddr), LineFault>
+pub fn parse_access(words: &[&[u8]]) -> Result<(Op, WordAddr), LineFault>
     ensures { IfOk result (λ p. Writes (map (λ w. w.now) words.now) (parts_of_op p.0 p.1.0)) }
 {
     match words {

@@ -6,7 +6,7 @@
 
 use clap::Error;
 use clap::error::ErrorKind;
-use litmus::{CommandLine, read_line, run_script};
+use litmus::{CommandLine, read_line, run_check, run_script};
 use litmus_text::TextFault;
 use std::fmt::Display;
 use std::io::{BufWriter, Write};
@@ -28,14 +28,16 @@ fn run<R: Env + Files + AllocGlobal + Print + Eprint>(rt: &R) -> u8 {
         Err(error) => return report(rt, &error, "cannot read the command line"),
     };
     match read_line(rt.alloc(), &words) {
-        Ok(CommandLine::Script { file }) => script(rt, file),
+        Ok(line) => answer(rt, line),
         Err(error) => show(rt, &error),
     }
 }
 
-fn script<R: Files + AllocGlobal + Print + Eprint>(rt: &R, file: &str) -> u8 {
+/// Runs the text in the file that the command line names.
+fn answer<R: Files + AllocGlobal + Print + Eprint>(rt: &R, line: CommandLine<'_>) -> u8 {
+    let file = file_of(line);
     match fs::read(rt, file) {
-        Ok(input) => match print_script(rt, &input) {
+        Ok(input) => match print_answers(rt, line, &input) {
             Ok(status) => status,
             Err(fault) => {
                 complain(rt, fault);
@@ -46,12 +48,25 @@ fn script<R: Files + AllocGlobal + Print + Eprint>(rt: &R, file: &str) -> u8 {
     }
 }
 
-/// Runs a script and prints its answers, also those before a fault.
-fn print_script<R: AllocGlobal + Print>(rt: &R, input: &[u8]) -> Result<u8, TextFault> {
+fn file_of<'a>(line: CommandLine<'a>) -> &'a str {
+    match line {
+        CommandLine::Script { file } | CommandLine::Check { file } => file,
+    }
+}
+
+/// Prints the answers to a text, also those before a fault.
+fn print_answers<R: AllocGlobal + Print>(
+    rt: &R,
+    line: CommandLine<'_>,
+    input: &[u8],
+) -> Result<u8, TextFault> {
     let Ok(mut out) = BufWriter::new(rt.alloc(), io::writer(rt)) else {
         return Err(TextFault::NoMemory);
     };
-    let ran = run_script(rt.alloc(), input, &mut out);
+    let ran = match line {
+        CommandLine::Script { .. } => run_script(rt.alloc(), input, &mut out),
+        CommandLine::Check { .. } => run_check(rt.alloc(), input, &mut out),
+    };
     match out.flush() {
         Ok(()) => ran,
         Err(_) => Err(TextFault::CannotWrite),

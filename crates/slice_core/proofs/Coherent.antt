@@ -1,7 +1,9 @@
 -- What the protocol gives a sound slice: one writer or only readers, and a row and room for each message.
-use Rattle.std.proofs.Common.{◌≡◌, ◌≢◌, ◌<◌, ◌⊎◌, Bool, true, false, length, Option, Some, None, IsSome, refl, sym, ap, ◌∙◌}
-use Rattle.address_map.specs.Locator.{Lines, local_at}
+use Rattle.std.proofs.Common.{◌≡◌, ◌≢◌, ◌+◌, ◌%◌, ◌<◌, ℕ, Option, Some, None, arith, refl, sym, ap, ◌∙◌}
+use Rattle.address_map.specs.Locator.{line_at, local_at}
+use Rattle.address_map.specs.Place.{line_of as line_of_word}
 use Rattle.address_map.specs.declared.address.Local.{Local}
+use Rattle.address_map.specs.declared.address.WordAddr.{WordAddr}
 use Rattle.slice_core_answer.specs.declared.answer.Cell.{Cell}
 use Rattle.slice_core_answer.specs.declared.answer.Delivered.{Delivered}
 use Rattle.slice_core_answer.specs.declared.answer.Delivered.TheVariants as delivered
@@ -14,13 +16,17 @@ use Rattle.slice_core_coherence.proofs.Unbroken.{whole_is_unbroken}
 use Rattle.slice_core_coherence.specs.Coherent.{HasOneWriter, NothingIsBroken}
 use Rattle.slice_core_plan.specs.Parts.{PartsView, AfterDeliverNext, AfterDelivery, AfterPlan}
 use Rattle.slice_core_plan.specs.Plan.{plan_of}
-use Rattle.slice_core_plan.specs.View.{View}
+use Rattle.slice_core_plan.specs.View.{IsQuiet, first_word}
 use Rattle.slice_core_plan.specs.declared.decide.Plan.{Plan}
 use Rattle.slice_core_plan.specs.declared.decide.Plan.TheVariants as plans
 use Rattle.slice_core.proofs.AccountsCan.{can-deliver}
 use Rattle.slice_core.proofs.AccountsFacts as facts
-use Rattle.slice_core.specs.Facts.{Holds, IsNotBroken, IsNotBrokenNext}
+use Rattle.slice_core.specs.Facts.{Holds, IsNotBroken, IsNotBrokenNext, ShowsLast, ShowsWord}
+use Rattle.slice_core_coherence.proofs.BlocksAccesses.{word_of_line}
+use Rattle.slice_core_coherence.proofs.BlocksCalls.{line_located}
 use Rattle.slice_core_coherence.proofs.Current.{newest, reached_without}
+use Rattle.slice_core_coherence.proofs.QuietNewest.{quiet_newest}
+use Rattle.slice_core_log.specs.Log.{initially, value}
 use Rattle.slice_core.specs.Sound.{IsSound}
 use Rattle.slice_queues_message.specs.Pick.{channel_of, line_of}
 use Rattle.slice_queues_message.specs.declared.channel.Channel.{Channel}
@@ -61,6 +67,24 @@ holds p sound = record {
   newest = newest p.view sound.counted.some_core sound.counted.cores sound.faithful.reached;
   counted = facts.counted p sound;
 }
+
+-- ---- a quiet slice
+
+-- What a quiet slice shows of a word is the word's value after the whole log.
+pub shows_last : (p : PartsView) → IsSound p → IsQuiet p.view → (word : WordAddr) (place : Option Local) (shown : ℕ)
+    → local_at p.view.lines (line_of_word word).0 ≡ place → ShowsWord p.view word place shown
+    → ShowsLast p.view word place shown
+shows_last p sound quiet word None shown is shows = tt
+shows_last p sound quiet word (Some local) shown is shows =
+    let v = p.view in
+    let newest =
+    quiet_newest v (whole p sound) sound.counted.some_core sound.links.waits sound.faithful.reached quiet local
+    (located v.lines (line_of_word word).0 local is) in
+    let below : word.0 % 8 < 8 = omega arith in
+    let place : word.0 ≡ first_word v local + word.0 % 8 =
+    word_of_line word.0 (line_at v.lines local).0 (line_located v.lines (line_of_word word).0 local is) in
+    shows ∙ newest.words (word.0 % 8) below
+    ∙ ap (λ w. value (initially v.init w) v.log w) (sym place)
 
 -- ---- answers
 

@@ -17,7 +17,7 @@ use Rattle.slice_core_answer.specs.declared.answer.Refused.{Refused}
 use Rattle.slice_core_answer.specs.declared.answer.Stall.TheVariants as stalls
 use Rattle.slice_core_coherence.specs.Coherent.{HasOneWriter}
 use Rattle.slice_core_coherence.specs.Newest.{HasNewest}
-use Rattle.slice_core_log.specs.Log.{initially, IsLegal, IsOrdered}
+use Rattle.slice_core_log.specs.Log.{initially, value, IsLegal, IsOrdered}
 use Rattle.slice_core_log.specs.declared.entry.Entry.{Entry}
 use Rattle.slice_core_side.specs.Side.{state_of, tag_at}
 use Rattle.slice_core_side.specs.declared.tags.TagState.TheVariants as tags
@@ -71,6 +71,11 @@ pub record Holds (p : PartsView) : Type 0 where
 abbrev pub ShowsWord : View → WordAddr → Option Local → ℕ → Type 0
 ShowsWord v word None shown = Unit {0}
 ShowsWord v word (Some local) shown = shown ≡ word_now v local (offset_of word).0
+
+-- It is the word's value after the whole log.
+abbrev pub ShowsLast : View → WordAddr → Option Local → ℕ → Type 0
+ShowsLast v word None shown = Unit {0}
+ShowsLast v word (Some local) shown = shown ≡ value (initially v.init word.0) v.log word.0
 
 -- What a slice shows of a line: nothing of one that isn't its own, and else the directory's entry and each core's state.
 abbrev pub ShowsLine : View → Option Local → Option LineView → Type 0

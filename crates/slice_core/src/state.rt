@@ -1,7 +1,7 @@
 ghost use Rattle.std.specs.Prelude.{◌≡◌, ℕ, ◌<◌, ◌↔◌, length, IfOk, IsTrue, IsSome};
 ghost use Rattle.address_map.specs.Locator.{local_at};
 ghost use Rattle.address_map.specs.Place.{line_of};
-ghost use Rattle.slice_core.specs.Facts.{Holds, IsInverted, IsNotBroken, IsNotBrokenNext, NeedsNoRegister, ShowsLine, ShowsWord};
+ghost use Rattle.slice_core.specs.Facts.{Holds, IsInverted, IsNotBroken, IsNotBrokenNext, NeedsNoRegister, ShowsLast, ShowsLine, ShowsWord};
 ghost use Rattle.slice_core_plan.specs.Parts.{PartsView, AfterDeliverNext, AfterDelivery, AfterEvict, AfterHand, AfterIssue, IsNew};
 ghost use Rattle.slice_core_plan.specs.View.{View, IsQuiet};
 
@@ -133,7 +133,8 @@ impl<F: MissFile> SliceState<F> {
     pub fn word_now(&self, word: WordAddr) -> u64
         requires quiet { IsQuiet self.now.view }
         requires here { IsSome (local_at self.now.view.lines (line_of word).0) }
-        ensures { ShowsWord self.now.view word (local_at self.now.view.lines (line_of word).0) result }
+        ensures shown { ShowsWord self.now.view word (local_at self.now.view.lines (line_of word).0) result }
+        ensures newest { ShowsLast self.now.view word (local_at self.now.view.lines (line_of word).0) result }
     {
         match self.parts.lines().local_of(word.line()) {
             Some(local) => self.parts.word_now(local, word.offset()),

@@ -30,7 +30,7 @@ use Rattle.slice_core_side.specs.declared.access.Way.{Way}
 use Rattle.slice_core_side.specs.declared.access.Way.TheVariants as ways
 
 -- A line's place among the slice's own leads back to it.
-line_located : (own : Lines) (line : ℕ) (local : Local) → local_at own line ≡ Some local → line ≡ (line_at own local).0
+pub line_located : (own : Lines) (line : ℕ) (local : Local) → local_at own line ≡ Some local → line ≡ (line_at own local).0
 line_located own line local =
     by (line % own.slices == own.slice && nat_lt (line / own.slices) own.lines)
     (λ mine. eqb-true _ _ (and_parts _ _ mine).0)

@@ -1,0 +1,63 @@
+//! Makes random calls on small machines, and checks every answer, and what can be seen of the slice after it, against
+//! the definitions of `docs/DEFINITIONS.md` and `docs/PROTOCOL.md`.
+//!
+//! The checker knows the definitions alone: it keeps a memory, the requests that were accepted and the counts by itself,
+//! and it uses none of the functions that the slice is built of. It prints a line for each setting, or the first fault
+//! that it finds, and then it ends with status 1.
+#![tactic(auto)]
+
+use draw::CALLS;
+use mshr_file::{ExplicitFile, InvertedFile};
+use setting::{FileKind, SEEDS, SETTINGS, Setting};
+use std::alloc::Global;
+use std::io;
+use std::process::ExitCode;
+
+mod access;
+mod copies;
+mod draw;
+mod fault;
+mod ledger;
+mod lines;
+mod memory;
+mod run;
+mod setting;
+mod shape;
+mod tally;
+mod tester;
+
+use fault::Failure;
+
+fn main(rt: HostRuntime) -> ExitCode {
+    match test_settings(&rt) {
+        Ok(true) => ExitCode::SUCCESS,
+        Ok(false) | Err(_) => ExitCode::FAILURE,
+    }
+}
+
+/// Tests each setting, up to the first fault. Answers whether there was none.
+fn test_settings<R: AllocGlobal + Print>(rt: &R) -> io::Result<bool> {
+    for setting in SETTINGS {
+        match test_setting(rt.alloc(), setting) {
+            Ok(calls) => println!(rt; "{setting}: {SEEDS} seeds, {calls} calls: nothing found")?,
+            Err(failure) => {
+                println!(rt; "{setting}: {failure}")?;
+                return Ok(false);
+            }
+        }
+    }
+    Ok(true)
+}
+
+/// Answers how many calls were made.
+fn test_setting(alloc: Global, setting: Setting) -> Result<u64, Failure> {
+    let mut calls: u64 = 0;
+    for seed in 0..SEEDS {
+        match setting.file {
+            FileKind::Explicit => run::test_seed::<ExplicitFile>(alloc, setting, seed)?,
+            FileKind::Inverted => run::test_seed::<InvertedFile>(alloc, setting, seed)?,
+        }
+        calls = calls.saturating_add(CALLS);
+    }
+    Ok(calls)
+}

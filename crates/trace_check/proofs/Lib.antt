@@ -1,0 +1,6 @@
+mod SeqLemmas
+mod ValueLemmas
+mod VerdictLemmas
+mod FormLemmas
+mod CheckLemmas
+mod ExactLemmas

@@ -1,0 +1,4 @@
+pub mod Verdict
+pub mod Judge
+pub mod TraceLine
+pub mod Trace

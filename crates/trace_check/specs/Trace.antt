@@ -1,0 +1,96 @@
+-- What the text of a trace is.
+use Rattle.std.specs.Prelude.{◌≡◌, ℕ, List, [], ◌∷◌, ◌++◌, map, length, All, ◌<◌, ◌≤◌, IfSome, Option, Some, None}
+use Rattle.std.specs.Str.Lines.{lines}
+use Rattle.address_map.specs.declared.address.WordAddr.{WordAddr}
+use Rattle.address_map.specs.Words.{IsAscendingBy}
+use Rattle.slice_core_log.specs.Log.{initially}
+use Rattle.slice_core_log.specs.declared.entry.Entry.{Entry}
+use Rattle.litmus_text.specs.Form.{Writes}
+use Rattle.litmus_text.specs.Statement.{statements_from}
+use Rattle.trace_check.specs.declared.trace_line.Version.{Version}
+use Rattle.trace_check.specs.declared.trace_line.TraceLine.{TraceLine}
+use Rattle.trace_check.specs.declared.trace_line.TraceLine.TheVariants as trace_lines
+use Rattle.trace_check.specs.declared.judge.Judge.{Judge}
+use Rattle.trace_check.specs.declared.verdict.Reason.{Reason}
+use Rattle.trace_check.specs.declared.verdict.Verdict.{Verdict}
+use Rattle.trace_check.specs.declared.verdict.Verdict.TheVariants as verdicts
+use Rattle.trace_check.specs.declared.check.Check.{Check}
+use Rattle.trace_check.specs.TraceLine.{IsLineOf, parts_of_first}
+use Rattle.trace_check.specs.Verdict.{IsVerdict}
+use Rattle.trace_check.specs.Judge.{Knows}
+
+-- each statement, a number and words, is written as the line at its place
+unfoldable pub AreLines : Version → List (ℕ × List (List ℕ)) → List TraceLine → Type 0
+AreLines version [] [] = Unit {0}
+AreLines version [] (line ∷ lines) = ⊥
+AreLines version (statement ∷ statements) [] = ⊥
+AreLines version (statement ∷ statements) (line ∷ lines) = IsLineOf version statement.1 line × AreLines version statements lines
+
+-- the lines of a trace behind the first: what words begin with, and then the entries
+abbrev pub lines_of : List (WordAddr × ℕ) → List Entry → List TraceLine
+lines_of init entries = map (λ pair. trace_lines.Init pair.0 pair.1) init ++ map trace_lines.Entry entries
+
+-- the statements are such lines, and the words that begin with a value ascend
+pub record AreTrace (version : Version) (init : List (WordAddr × ℕ)) (entries : List Entry) (statements : List (ℕ × List (List ℕ))) : Type 0 where
+  pub written : AreLines version statements (lines_of init entries)
+  pub ascending : IsAscendingBy (λ pair. pair.0.0) init
+
+-- the text is a trace with these initial values and entries: its first line, and the others
+pub record IsTrace (version : Version) (init : List (WordAddr × ℕ)) (entries : List Entry) (text : List ℕ) : Type 0 where
+  pub number : ℕ
+  pub first : List (List ℕ)
+  pub rest : List (ℕ × List (List ℕ))
+  pub statements : statements_from 0 (lines text) ≡ (number, first) ∷ rest
+  pub begins : Writes first (parts_of_first version)
+  pub goes_on : AreTrace version init entries rest
+
+-- a trace whose entries come to this
+pub record IsJudged (text : List ℕ) (verdict : Verdict) : Type 0 where
+  pub version : Version
+  pub init : List (WordAddr × ℕ)
+  pub entries : List Entry
+  pub trace : IsTrace version init entries text
+  pub is : IsVerdict (initially init) entries verdict
+
+-- the words that were named are at most the last one
+abbrev pub AreNamedUpTo : Option WordAddr → List (WordAddr × ℕ) → Type 0
+AreNamedUpTo None init = init ≡ []
+AreNamedUpTo (Some last) init = All (λ pair. pair.0.0 ≤ last.0) init
+
+-- what the entries so far came to: a log that the judge knows, or a first entry at fault
+unfoldable pub IsSoFar : Judge → (ℕ → ℕ) → List Entry → Option (ℕ × Reason) → Type 0
+IsSoFar judge initial entries None = Knows judge initial entries
+IsSoFar judge initial entries (Some fault) = IsVerdict initial entries (verdicts.Illegal fault.0 fault.1)
+
+-- what is kept of the initial values and the entries that were read
+pub record Stands (check : Check) (init : List (WordAddr × ℕ)) (entries : List Entry) : Type 0 where
+  pub ascending : IsAscendingBy (λ pair. pair.0.0) init
+  pub last : AreNamedUpTo check.last init
+  pub count : check.entries ≡ length entries
+  pub so_far : IsSoFar check.judge (initially init) entries check.fault
+
+-- a word that may be named next
+pub record MayBegin (check : Check) (word : WordAddr) : Type 0 where
+  pub early : check.entries ≡ 0
+  pub above : IfSome check.last (λ last. last.0 < word.0)
+
+-- a line that may come next
+unfoldable pub MayFollow : Check → TraceLine → Type 0
+MayFollow check (trace_lines.Init word value) = MayBegin check word
+MayFollow check (trace_lines.Entry entry) = Unit {0}
+
+-- what was read of the statements, and what is left of them
+pub record IsReading (check : Check) (all left : List (ℕ × List (List ℕ))) : Type 0 where
+  pub init : List (WordAddr × ℕ)
+  pub entries : List Entry
+  pub done : List (ℕ × List (List ℕ))
+  pub split : done ++ left ≡ all
+  pub written : AreLines check.version done (lines_of init entries)
+  pub stands : Stands check init entries
+
+-- statements of a trace whose entries come to this
+pub record AreJudged (version : Version) (statements : List (ℕ × List (List ℕ))) (verdict : Verdict) : Type 0 where
+  pub init : List (WordAddr × ℕ)
+  pub entries : List Entry
+  pub trace : AreTrace version init entries statements
+  pub is : IsVerdict (initially init) entries verdict

@@ -1,0 +1,60 @@
+-- How the lines of a trace are written.
+use Rattle.std.specs.Prelude.{◌≡◌, ℕ, ◌<◌, List, [], ◌∷◌, ◌++◌, codes}
+use Rattle.address_map.specs.declared.request.Op.{Op}
+use Rattle.address_map.specs.declared.request.Op.TheVariants as ops
+use Rattle.slice_core_log.specs.declared.entry.Entry.{Entry}
+use Rattle.litmus_text.specs.Form.{Part, key, num, Writes}
+use Rattle.litmus_text.specs.Command.{parts_of_op}
+use Rattle.trace_check.specs.declared.judge.TheConstants.{MOST_WORDS}
+use Rattle.trace_check.specs.declared.trace_line.TheConstants.{MOST_TAGS}
+use Rattle.trace_check.specs.declared.trace_line.Version.{Version}
+use Rattle.trace_check.specs.declared.trace_line.Version.TheVariants as versions
+use Rattle.trace_check.specs.declared.trace_line.TraceLine.{TraceLine}
+use Rattle.trace_check.specs.declared.trace_line.TraceLine.TheVariants as lines
+
+-- the first line
+abbrev pub number_of : Version → List ℕ
+number_of versions.One = codes "1"
+number_of versions.Two = codes "2"
+
+abbrev pub parts_of_first : Version → List Part
+parts_of_first version = key (codes "lockup-trace") ∷ key (number_of version) ∷ []
+
+-- each other line
+abbrev pub parts_of_line : TraceLine → List Part
+parts_of_line (lines.Init word value) = key (codes "init") ∷ num word.0 ∷ num value ∷ []
+parts_of_line (lines.Entry e) =
+    key (codes "entry") ∷ num e.core.0 ∷ num e.seq ∷ num e.tag
+    ∷ (parts_of_op e.op e.word.0 ++ num e.reply ∷ num e.since ∷ [])
+
+-- how many cores a trace can name
+abbrev pub cores_of : Version → ℕ
+cores_of versions.One = 16
+cores_of versions.Two = 64
+
+-- version 1 has no words for a compare-exchange
+abbrev pub IsOfVersion : Version → Op → Type 0
+IsOfVersion versions.One (ops.Cas expect new) = ⊥
+IsOfVersion version op = Unit {0}
+
+-- the first of the words is this one
+abbrev pub BeginsWith : List ℕ → List (List ℕ) → Type 0
+BeginsWith text [] = ⊥
+BeginsWith text (word ∷ words) = word ≡ text
+
+-- what an entry may name
+pub record IsEntryOf (version : Version) (e : Entry) : Type 0 where
+  pub op : IsOfVersion version e.op
+  pub core : e.core.0 < cores_of version
+  pub tag : e.tag < MOST_TAGS
+  pub word : e.word.0 < MOST_WORDS
+
+-- what a line may name
+unfoldable pub IsInRange : Version → TraceLine → Type 0
+IsInRange version (lines.Init word value) = word.0 < MOST_WORDS
+IsInRange version (lines.Entry e) = IsEntryOf version e
+
+-- the words write the line
+pub record IsLineOf (version : Version) (words : List (List ℕ)) (line : TraceLine) : Type 0 where
+  pub written : Writes words (parts_of_line line)
+  pub in_range : IsInRange version line

@@ -1,0 +1,174 @@
+ghost use Rattle.std.specs.Prelude.{◌≡◌, ℕ, ◌<◌, List, [], ◌∷◌, ◌++◌, map, length, IfOk, OnOk, IsTrue, ◌↔◌};
+ghost use Rattle.address_map.specs.declared.address.WordAddr.{WordAddr};
+ghost use Rattle.slice_core_log.specs.Log.{initially};
+ghost use Rattle.slice_core_log.specs.declared.entry.Entry.{Entry};
+ghost use Rattle.trace_check.specs.Judge.{IsNameable};
+ghost use Rattle.trace_check.specs.declared.judge.TheConstants.{MOST_WORDS};
+ghost use Rattle.trace_check.specs.TraceLine.{IsLineOf};
+ghost use Rattle.trace_check.specs.Verdict.{IsVerdict};
+ghost use Rattle.trace_check.specs.Trace.{IsJudged, AreJudged, IsReading, IsSoFar, Stands, MayBegin, MayFollow};
+
+use super::judge::Judge;
+use super::trace_line::{TraceLine, Version};
+use super::verdict::{Reason, Verdict};
+use address_map::WordAddr;
+use litmus_text::{LineFault, Statement, Statements, TextFault};
+use slice_core_log::Entry;
+use std::alloc::{AllocError, Global};
+
+/// What was read of a trace.
+#[derive(Debug, Drop)]
+struct Check {
+    version: Version,
+    judge: Judge,
+    /// The last word that was given a value to begin with.
+    last: Option<WordAddr>,
+    /// How many entries were read.
+    entries: usize,
+    /// The first entry at fault, and why.
+    fault: Option<(usize, Reason)>,
+}
+
+/// Judges a trace. The whole text is read first, so a faulty line counts before an entry at fault.
+pub fn check_trace(alloc: Global, input: &[u8]) -> Result<Verdict, TextFault>
+    ensures { IfOk result (IsJudged input.now) }
+{
+    let mut statements = Statements::of(input);
+    let Some(first) = statements.next() else {
+        return Err(LineFault::NotATrace.at(1));
+    };
+    match Version::parse(first.words.as_slice()) {
+        Ok(version) => check_lines(alloc, version, statements),
+        Err(fault) => Err(fault.at(first.number)),
+    }
+}
+
+/// Judges the lines behind the first.
+fn check_lines(
+    alloc: Global,
+    version: Version,
+    statements: Statements<'_>,
+) -> Result<Verdict, TextFault>
+    ensures { IfOk result (AreJudged version statements.entry) }
+{
+    let mut check = Check::new(alloc, version);
+    for statement in statements {
+        check.take(&statement)?;
+    }
+    Ok(check.verdict())
+}
+
+impl Check {
+    fn new(alloc: Global, version: Version) -> Self
+        ensures stands { Stands result [] [] }
+        ensures version { result.version ≡ version }
+    {
+        Check {
+            version,
+            judge: Judge::new(alloc),
+            last: None,
+            entries: 0,
+            fault: None,
+        }
+    }
+
+    fn take(&mut self, statement: &Statement<'_>) -> Result<(), TextFault>
+        ensures reading { OnOk result ((all left : List (ℕ × List (List ℕ))) → IsReading self.old all ((statement.now.number, map (λ w. w.now) statement.now.words.items) ∷ left) → IsReading self.new all left) }
+        ensures version { self.new.version ≡ self.old.version }
+    {
+        match self.line(statement.words.as_slice()) {
+            Ok(TraceLine::Init(word, value)) => self.begin(word, value),
+            Ok(TraceLine::Entry(entry)) => self.judge(&entry),
+            Err(fault) => Err(fault.at(statement.number)),
+        }
+    }
+
+    /// The line that the words write, where it may come next.
+    #[tactic(auto, unfolding(crate::specs::Trace::MayFollow))]
+    fn line(&self, words: &[&[u8]]) -> Result<TraceLine, LineFault>
+        ensures written { IfOk result (IsLineOf self.now.version (map (λ w. w.now) words.now)) }
+        ensures follows { IfOk result (MayFollow self.now) }
+    {
+        match TraceLine::parse(self.version, words) {
+            Ok(TraceLine::Init(word, value)) if self.may_begin(word) => {
+                Ok(TraceLine::Init(word, value))
+            }
+            Ok(TraceLine::Init(..)) => Err(LineFault::NotACommand),
+            Ok(TraceLine::Entry(entry)) => Ok(TraceLine::Entry(entry)),
+            // it would be in the wrong place also if it were well formed
+            Err(_) if self.entries > 0 && words.first() == Some(&b"init".as_slice()) => {
+                Err(LineFault::NotACommand)
+            }
+            Err(fault) => Err(fault),
+        }
+    }
+
+    // Whether the word may be the next that is given a value to begin with.
+    fn may_begin(&self, word: WordAddr) -> bool
+        ensures { IsTrue result ↔ MayBegin self.now word }
+    {
+        let is_above = match self.last {
+            Some(last) => last.0 < word.0,
+            None => true,
+        };
+        is_above && self.entries == 0
+    }
+
+    fn begin(&mut self, word: WordAddr, value: u64) -> Result<(), TextFault>
+        requires word { word.0 < MOST_WORDS }
+        requires place { MayBegin self.old word }
+        ensures stands { OnOk result ((init : List (WordAddr × ℕ)) → Stands self.old init [] → Stands self.new (init ++ (word, value) ∷ []) []) }
+        ensures version { self.new.version ≡ self.old.version }
+    {
+        let Ok(()) = self.judge.begin(word, value) else {
+            return Err(TextFault::NoMemory);
+        };
+        self.last = Some(word);
+        Ok(())
+    }
+
+    fn judge(&mut self, entry: &Entry) -> Result<(), TextFault>
+        requires { IsNameable entry.now }
+        ensures stands { OnOk result ((init : List (WordAddr × ℕ)) (entries : List Entry) → Stands self.old init entries → Stands self.new init (entries ++ entry.now ∷ [])) }
+        ensures version { self.new.version ≡ self.old.version }
+    {
+        // so many entries are in no memory
+        let Some(entries) = self.entries.checked_add(1) else {
+            return Err(TextFault::NoMemory);
+        };
+        let Ok(()) = self.step(entry) else {
+            return Err(TextFault::NoMemory);
+        };
+        self.entries = entries;
+        Ok(())
+    }
+
+    // Judges one more entry, up to the first at fault.
+    fn step(&mut self, entry: &Entry) -> Result<(), AllocError>
+        requires { IsNameable entry.now }
+        ensures so_far { OnOk result ((initial : ℕ → ℕ) (entries : List Entry) → self.old.entries ≡ length entries → IsSoFar self.old.judge initial entries self.old.fault → IsSoFar self.new.judge initial (entries ++ entry.now ∷ []) self.new.fault) }
+        ensures version { self.new.version ≡ self.old.version }
+        ensures last { self.new.last ≡ self.old.last }
+        ensures entries { self.new.entries ≡ self.old.entries }
+    {
+        if let Some(_) = self.fault {
+            return Ok(());
+        }
+        match self.judge.fault(self.entries, entry) {
+            Some(reason) => {
+                self.fault = Some((self.entries, reason));
+                Ok(())
+            }
+            None => self.judge.take(entry),
+        }
+    }
+
+    fn verdict(&self) -> Verdict
+        ensures { (init : List (WordAddr × ℕ)) (entries : List Entry) → Stands self.now init entries → IsVerdict (initially init) entries result }
+    {
+        match self.fault {
+            Some((entry, reason)) => Verdict::Illegal(entry, reason),
+            None => Verdict::Legal(self.entries),
+        }
+    }
+}

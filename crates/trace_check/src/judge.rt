@@ -1,0 +1,144 @@
+ghost use Rattle.std.specs.Prelude.{◌≡◌, ◌<◌, ℕ, List, [], ◌∷◌, ◌++◌, length, All, OnOk, IfOk, MatchOption, slice_index, IsTrue, ◌↔◌, slice_index_or, None};
+ghost use Rattle.address_map.specs.declared.address.WordAddr.{WordAddr};
+ghost use Rattle.address_map.specs.Words.{IsAscendingBy};
+ghost use Rattle.slice_core_log.specs.Log.{initially};
+ghost use Rattle.slice_core_log.specs.declared.entry.Entry.{Entry};
+ghost use Rattle.trace_check.specs.declared.verdict.Verdict.{Verdict};
+ghost use Rattle.trace_check.specs.Verdict.{IsVerdict, IsWrong, IsRight, IsInOrder};
+ghost use Rattle.trace_check.specs.Judge.{Knows, AreGreatest, IsNameable, slot_of};
+
+use super::slots::set_slot;
+use super::verdict::{Reason, Verdict};
+use address_map::WordAddr;
+use slice_core_log::{Entry, performed, reply_to};
+use std::alloc::{AllocError, Global};
+
+/// How many cores a trace can name.
+pub const MOST_CORES: u64 = 64;
+
+/// How many words a trace can name.
+pub const MOST_WORDS: u64 = 524_288;
+
+/// What the entries of a trace have left so far.
+#[derive(Debug, Drop)]
+pub struct Judge {
+    /// The value of each word. Those past the last have 0.
+    values: Vec<u64>,
+    /// The greatest seq of each core and line, by line and then by core.
+    latest: Vec<Option<u64>>,
+}
+
+impl Judge {
+    /// Before the first entry.
+    pub fn new(alloc: Global) -> Self
+        ensures { Knows result (initially []) [] }
+    {
+        Judge {
+            values: Vec::new(alloc),
+            latest: Vec::new(alloc),
+        }
+    }
+
+    /// Names the value that a word begins with.
+    pub fn begin(&mut self, word: WordAddr, value: u64) -> Result<(), AllocError>
+        requires { word.0 < MOST_WORDS }
+        ensures { OnOk result ((init : List (WordAddr × ℕ)) → All (λ pair. pair.0.0 < word.0) init → Knows self.old (initially init) [] → Knows self.new (initially (init ++ (word, value) ∷ [])) []) }
+    {
+        set_slot(&mut self.values, 0, word.0 as usize, value)
+    }
+
+    /// Why an entry can't stand behind those that were taken, of which there are `number`.
+    pub fn fault(&self, number: usize, entry: &Entry) -> Option<Reason>
+        requires { IsNameable entry.now }
+        ensures { (initial : ℕ → ℕ) (log : List Entry) → number ≡ length log → Knows self.now initial log → MatchOption result (IsRight initial log entry.now) (IsWrong initial log entry.now) }
+    {
+        if entry.reply != reply_to(entry.op, self.value(entry.word)) {
+            return Some(Reason::Reply);
+        }
+        if !self.is_in_order(entry) {
+            return Some(Reason::Order);
+        }
+        if entry.since > number as u64 {
+            return Some(Reason::Since);
+        }
+        None
+    }
+
+    /// Takes an entry that can stand behind those that were taken.
+    pub fn take(&mut self, entry: &Entry) -> Result<(), AllocError>
+        requires { IsNameable entry.now }
+        ensures { OnOk result ((initial : ℕ → ℕ) (log : List Entry) → Knows self.old initial log → IsRight initial log entry.now → Knows self.new initial (log ++ entry.now ∷ [])) }
+    {
+        let value = performed(entry.op, self.value(entry.word));
+        set_slot(&mut self.values, 0, entry.word.0 as usize, value)?;
+        set_slot(&mut self.latest, None, slot(entry), Some(entry.seq))
+    }
+
+    fn value(&self, word: WordAddr) -> u64
+        ensures { result ≡ slice_index self.now.values.items word.0 }
+    {
+        match self.values.get(word.0 as usize) {
+            Some(value) => *value,
+            None => 0,
+        }
+    }
+
+    // Whether the entry was asked for after all of its core and line that were taken.
+    fn is_in_order(&self, entry: &Entry) -> bool
+        requires { IsNameable entry.now }
+        ensures { (log : List Entry) → AreGreatest self.now.latest.items log → (IsTrue result ↔ IsInOrder log entry.now) }
+    {
+        match self.latest(entry) {
+            Some(seq) => seq < entry.seq,
+            None => true,
+        }
+    }
+
+    // The greatest seq of the entry's core and line.
+    fn latest(&self, entry: &Entry) -> Option<u64>
+        requires { IsNameable entry.now }
+        ensures { result ≡ slice_index_or self.now.latest.items (slot_of entry.now) None }
+    {
+        match self.latest.get(slot(entry)) {
+            Some(seq) => *seq,
+            None => None,
+        }
+    }
+}
+
+// Where the seqs of the entry's core and line are kept.
+fn slot(entry: &Entry) -> usize
+    requires { IsNameable entry.now }
+    ensures { result ≡ slot_of entry.now }
+{
+    (MOST_CORES * entry.word.line().0 + entry.core.0 as u64) as usize
+}
+
+/// Judges a log, in which words begin with these values.
+pub fn judge_log(
+    alloc: Global,
+    init: &[(WordAddr, u64)],
+    entries: &[Entry],
+) -> Result<Verdict, AllocError>
+    requires ascending { IsAscendingBy (λ pair. pair.0.0) init.now }
+    requires words { All (λ pair. pair.0.0 < MOST_WORDS) init.now }
+    requires entries { All IsNameable entries.now }
+    ensures { IfOk result (IsVerdict (initially init.now) entries.now) }
+{
+    let mut judge = Judge::new(alloc);
+    for (word, value) in init {
+        judge.begin(*word, *value)?;
+    }
+    for (number, entry) in entries.iter().enumerate() {
+        if let Some(reason) = judge.fault(number, entry) {
+            return Ok(Verdict::Illegal(number, reason));
+        }
+        judge.take(entry)?;
+    }
+    Ok(Verdict::Legal(entries.len()))
+}
+
+/// A log has one verdict alone, so one that is legal and ordered is judged legal, and no other is.
+pub fn one_verdict()
+    ensures { (initial : ℕ → ℕ) (entries : List Entry) (a b : Verdict) → IsVerdict initial entries a → IsVerdict initial entries b → a ≡ b }
+{}

@@ -1,0 +1,28 @@
+//! Reads and judges traces: whether the log that a trace tells is legal and ordered, and otherwise which entry is the
+//! first at fault, and why.
+//!
+//! - [`check_trace`] judges a text. At Ok its lines write a trace's initial values and entries, and the verdict is that
+//!   on these entries (specs/Trace.antt).
+//! - [`judge_log`] judges a log that is at hand (specs/Verdict.antt), and [`one_verdict`] says that no log has two
+//!   verdicts.
+//! - [`TraceLine`] is a line of a trace. At Ok of [`TraceLine::parse`] the words write that line, and it names only what
+//!   a trace of this version can (specs/TraceLine.antt).
+//! - [`Judge`] has the value of each word and the greatest seq of each core and line (specs/Judge.antt), so an entry is
+//!   judged without a look at earlier ones.
+//!
+//! `check_trace` goes over the text once and keeps no entry. Its memory grows with the greatest word that is named and
+//! with the greatest line, of which each has room for 64 cores.
+#![tactic(auto)]
+
+pub use check::check_trace;
+pub use judge::{Judge, MOST_CORES, MOST_WORDS, judge_log, one_verdict};
+pub use trace_line::{MOST_TAGS, TraceLine, Version};
+pub use verdict::{Reason, Verdict};
+
+mod check;
+mod judge;
+mod slots;
+#[cfg(test)]
+mod tests;
+mod trace_line;
+mod verdict;

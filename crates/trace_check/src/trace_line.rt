@@ -1,0 +1,202 @@
+ghost use Rattle.std.specs.Prelude.{◌≡◌, ◌∷◌, [], ◌++◌, ◌<◌, ◌↔◌, IfOk, IfErr, IfSome, IsTrue, map, codes, ℕ, List};
+ghost use Rattle.std.specs.Result.{OkIff};
+ghost use Rattle.std.specs.Str.Parse.{digits_value};
+ghost use Rattle.litmus_text.specs.Number.{IsNumber};
+ghost use Rattle.trace_check.specs.TraceLine.{IsLineOf, IsOfVersion, BeginsWith, cores_of, number_of, parts_of_first};
+ghost use Rattle.litmus_text.specs.Form.{Writes, key};
+ghost use Rattle.litmus_text.specs.Command.{parts_of_op};
+ghost use Rattle.address_map.specs.declared.request.Op.{Op};
+ghost use Rattle.trace_check.specs.declared.trace_line.Version.{Version};
+
+use super::judge::{MOST_CORES, MOST_WORDS};
+use address_map::{CoreId, WordAddr};
+use litmus_text::{LineFault, parse_access, parse_number};
+use slice_core_log::Entry;
+
+/// How many tags a core has.
+pub const MOST_TAGS: u64 = 64;
+
+/// How a trace is written.
+#[derive(Clone, Copy, Debug, PartialEq, Eq)]
+pub enum Version {
+    /// For 16 cores, without compare-exchanges.
+    One,
+    /// For 64 cores.
+    Two,
+}
+
+/// What a line of a trace says, behind the first.
+#[derive(Clone, Copy, Debug, PartialEq, Eq)]
+pub enum TraceLine {
+    /// A word and the value that it begins with.
+    Init(WordAddr, u64),
+    /// An access that was performed.
+    Entry(Entry),
+}
+
+impl Version {
+    /// The version that the words of the first line name.
+    pub fn parse(words: &[&[u8]]) -> Result<Self, LineFault>
+        ensures { IfOk result (λ version. Writes (map (λ w. w.now) words.now) (parts_of_first version)) }
+    {
+        let Some((name, rest)) = words.split_first() else {
+            return Err(LineFault::NotATrace);
+        };
+        if *name != b"lockup-trace".as_slice() {
+            return Err(LineFault::NotATrace);
+        }
+        version_of(rest)
+    }
+
+    /// Whether a trace of this version can have the access, by its name.
+    fn has_access(self, access: &[&[u8]]) -> bool
+        ensures { IsTrue result → (op : Op) (word : ℕ) → Writes (map (λ w. w.now) access.now) (parts_of_op op word) → IsOfVersion self op }
+    {
+        match self {
+            Version::One => !is_compare_exchange(access),
+            Version::Two => true,
+        }
+    }
+
+    /// How many cores a trace of this version can name.
+    const fn cores(self) -> u64
+        ensures { result ≡ cores_of self }
+    {
+        match self {
+            Version::One => 16,
+            Version::Two => MOST_CORES,
+        }
+    }
+}
+
+// The version, behind the word that all traces begin with.
+fn version_of(words: &[&[u8]]) -> Result<Version, LineFault>
+    ensures { IfOk result (λ version. Writes (map (λ w. w.now) words.now) (key (number_of version) ∷ [])) }
+{
+    match words {
+        [number] => numbered(number),
+        _ => Err(LineFault::NotATrace),
+    }
+}
+
+fn numbered(number: &[u8]) -> Result<Version, LineFault>
+    ensures { IfOk result (λ version. number.now ≡ number_of version) }
+{
+    match number {
+        b"1" => Ok(Version::One),
+        b"2" => Ok(Version::Two),
+        _ => Err(LineFault::NotATrace),
+    }
+}
+
+impl TraceLine {
+    /// The line that these words write. They are judged first by their keywords and their count, then as numbers, and
+    /// last by what a trace can name.
+    pub fn parse(version: Version, words: &[&[u8]]) -> Result<Self, LineFault>
+        ensures { IfOk result (IsLineOf version (map (λ w. w.now) words.now)) }
+    {
+        let Some((name, rest)) = words.split_first() else {
+            return Err(LineFault::NotACommand);
+        };
+        match *name {
+            b"init" => parse_init(rest),
+            b"entry" => parse_entry(version, rest),
+            _ => Err(LineFault::NotACommand),
+        }
+    }
+}
+
+#[tactic(auto, unfolding(crate::specs::TraceLine::IsInRange))]
+fn parse_init(words: &[&[u8]]) -> Result<TraceLine, LineFault>
+    ensures { (version : Version) → IfOk result (IsLineOf version (codes "init" ∷ map (λ w. w.now) words.now)) }
+{
+    let [word, value] = words else {
+        return Err(LineFault::NotACommand);
+    };
+    let word = number(word)?;
+    let value = number(value)?;
+    if word >= MOST_WORDS {
+        return Err(LineFault::OutOfRange);
+    }
+    Ok(TraceLine::Init(WordAddr(word), value))
+}
+
+/// The words of an entry, behind its name.
+#[derive(Clone, Copy)]
+struct EntryWords<'a> {
+    core: &'a [u8],
+    seq: &'a [u8],
+    tag: &'a [u8],
+    access: &'a [&'a [u8]],
+    reply: &'a [u8],
+    since: &'a [u8],
+}
+
+fn entry_words<'a>(words: &'a [&'a [u8]]) -> Option<EntryWords<'a>>
+    ensures { IfSome result (λ e. map (λ w. w.now) words.now ≡ e.core.now ∷ e.seq.now ∷ e.tag.now ∷ (map (λ w. w.now) e.access.now ++ e.reply.now ∷ e.since.now ∷ [])) }
+{
+    let [core, seq, tag, access @ .., reply, since] = words else {
+        return None;
+    };
+    Some(EntryWords {
+        core,
+        seq,
+        tag,
+        access,
+        reply,
+        since,
+    })
+}
+
+fn parse_entry(version: Version, words: &[&[u8]]) -> Result<TraceLine, LineFault>
+    ensures { IfOk result (IsLineOf version (codes "entry" ∷ map (λ w. w.now) words.now)) }
+{
+    let Some(words) = entry_words(words) else {
+        return Err(LineFault::NotACommand);
+    };
+    if !version.has_access(words.access) {
+        return Err(LineFault::NotACommand);
+    }
+    let (op, word) = parse_access(words.access)?;
+    let core = number(words.core)?;
+    let seq = number(words.seq)?;
+    let tag = number(words.tag)?;
+    let reply = number(words.reply)?;
+    let since = number(words.since)?;
+    if core >= version.cores() || tag >= MOST_TAGS || word.0 >= MOST_WORDS {
+        return Err(LineFault::OutOfRange);
+    }
+    Ok(TraceLine::Entry(Entry {
+        op,
+        word,
+        seq,
+        reply,
+        since,
+        core: CoreId(core as u8),
+        tag: tag as u8,
+    }))
+}
+
+// Whether an access is named as a compare-exchange.
+fn is_compare_exchange(access: &[&[u8]]) -> bool
+    ensures { IsTrue result ↔ BeginsWith (codes "cas") (map (λ w. w.now) access.now) }
+{
+    match access.split_first() {
+        Some((name, _)) => is_cas(name),
+        None => false,
+    }
+}
+
+fn is_cas(name: &[u8]) -> bool
+    ensures { IsTrue result ↔ (name.now ≡ codes "cas") }
+{
+    name == b"cas".as_slice()
+}
+
+// The number that a word has to spell.
+fn number(word: &[u8]) -> Result<u64, LineFault>
+    ensures ok { OkIff result (IsNumber word.now) (digits_value 10 word.now) }
+    ensures err { IfErr result (λ fault. fault ≡ LineFault.BadNumber) }
+{
+    parse_number(word).ok_or(LineFault::BadNumber)
+}

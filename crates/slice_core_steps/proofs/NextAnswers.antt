@@ -1,22 +1,22 @@
 -- What the next delivery of a class answers, by what is best to be done.
-use Rattle.std.proofs.Common.{◌≡◌, ℕ, ◌<◌, ◌⊎◌, true, refl, sym, ◌∙◌, ap, subst, inl, inr}
+use Rattle.std.proofs.Common.{◌≡◌, ◌<◌, ◌⊎◌, refl, sym, ap, subst, inl, inr}
 use Rattle.std.specs.Prelude.{IsTrue, Some}
-use Rattle.address_map.specs.Locator.{line_at, local_at}
+use Rattle.address_map.specs.Locator.{local_at}
 use Rattle.address_map.specs.declared.address.LineAddr.{LineAddr}
 use Rattle.address_map.specs.declared.address.Local.{Local}
 use Rattle.slice_core_answer.specs.declared.answer.Cell.{Cell}
 use Rattle.slice_core_answer.specs.declared.answer.Delivered.{Delivered}
 use Rattle.slice_core_answer.specs.declared.answer.Delivered.TheVariants as delivered
 use Rattle.slice_core_answer.specs.declared.answer.DeliveredNext.TheVariants as delivered_next
-use Rattle.slice_core_plan.specs.Next.{next_by, next_or, IsNextIn, IsNoBetter}
-use Rattle.slice_core_plan.specs.Parts.{PartsView, AfterDeliverNext, AfterDelivery, AfterPlan, AllPlans, SomePlan, IsStuck}
+use Rattle.slice_core_plan.specs.Next.{next_by, IsNextIn, IsNoBetter}
+use Rattle.slice_core_plan.specs.Parts.{PartsView, AfterDeliverNext, AfterPlan, SomePlan, IsStuck}
 use Rattle.slice_core_plan.specs.Plan.{plan_of}
 use Rattle.slice_core_plan.specs.View.{View}
 use Rattle.slice_core_plan.specs.declared.decide.Next.TheVariants as nexts
 use Rattle.slice_core_plan.specs.declared.decide.Plan.{Plan}
 use Rattle.slice_core_plan.specs.declared.decide.Plan.TheVariants as plans
 use Rattle.slice_queues_message.specs.Class.{is_of_class}
-use Rattle.slice_queues_message.specs.Pick.{channel_of, line_of, pick_at}
+use Rattle.slice_queues_message.specs.Pick.{pick_at}
 use Rattle.slice_queues_message.specs.declared.channel.Channel.{Channel}
 use Rattle.slice_queues_message.specs.declared.channel.Channel.TheVariants as channels
 use Rattle.slice_queues_message.specs.declared.channel.Class.{Class}
@@ -173,10 +173,10 @@ moved-at old new class local (channels.Ack to from) line of_class found after = 
 moved-at old new class local channels.Home line of_class found after = (of_class, rw found after)
 
 -- a message that could be moved was moved
-pub next-moved : (old new : PartsView) (class : Class) (local : Local) (channel : Channel) (line : LineAddr) (answer : Delivered)
-    → CanMove old.view class local channel → local_at old.view.lines line.0 ≡ Some local
-    → AfterPlan (plan_of old.view local channel) old local channel answer new
-    → AfterDeliverNext old class (delivered_next.Moved (pick_at line channel)) new
-next-moved old new class local channel line answer can found after =
+pub next-moved : (old new : PartsView) (class : Class) (local : Local) (channel : Channel) (line : LineAddr) (answer : Delivered) (plan : Plan)
+    → CanMove old.view class local channel → local_at old.view.lines line.0 ≡ Some local → plan ≡ plan_of old.view local channel
+    → AfterPlan plan old local channel answer new → AfterDeliverNext old class (delivered_next.Moved (pick_at line channel)) new
+next-moved old new class local channel line answer plan can found planned after =
+    let P : Plan → Type 0 = λ p. AfterPlan p old local channel answer new in
     moved-at old new class local channel line can.of_class found
-    (moved-by local local channel channel (plan_of old.view local channel) old new answer can.planned after)
+    (moved-by local local channel channel (plan_of old.view local channel) old new answer can.planned (subst P planned after))

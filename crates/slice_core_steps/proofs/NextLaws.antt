@@ -1,17 +1,15 @@
 -- What is delivered next: nothing that was looked at is better, and what wasn't looked at has no message.
-use Rattle.std.proofs.Common.{◌≡◌, ◌≢◌, ℕ, zero, suc, ◌+◌, ◌<◌, ◌≤◌, ◌⊎◌, Bool, true, false, ◌&&◌, ◌||◌, if◌then◌else◌, List, [], ◌∷◌, length, drop, get_or, eqb, refl, sym, ◌∙◌, ap, subst, inl, inr, arith}
+use Rattle.std.proofs.Common.{◌≡◌, ◌≢◌, ℕ, suc, ◌+◌, ◌<◌, ◌≤◌, ◌⊎◌, Bool, true, false, ◌&&◌, if◌then◌else◌, List, [], ◌∷◌, length, drop, get_or, eqb, refl, sym, ◌∙◌, ap, subst, inl, inr, arith}
 use Rattle.std.specs.Prelude.{IsTrue, Option, Some, None, is_some, slice_get, map, nat_lt}
-use Rattle.std.specs.List.{count_by, list_any}
+use Rattle.std.specs.List.{count_by}
 use Rattle.std.proofs.Common.{add-one, drop-cons}
 use Rattle.std.proofs.lemmas.Bool.{eqb-true, ltb-false}
 use Rattle.slice_queues.specs.Ring.{QueuesView, has_mail_at, is_listed, IsRing}
 use Rattle.std.proofs.lemmas.List.Sums.{sum_by-cons}
 use Rattle.slice_queues.proofs.LineLaws.{same_itself, same-from_name}
 use Rattle.slice_queues.proofs.MailLaws.{IsEmptyLine-from_no_mail}
-use Rattle.address_map.specs.declared.address.CoreId.{CoreId}
 use Rattle.address_map.specs.declared.address.Local.{Local}
 use Rattle.slice_core_plan.specs.Next.{next_by, next_or, IsNextAt, IsNextIn, IsNoBetter}
-use Rattle.address_map.specs.CoreSet.{has}
 use Rattle.address_map.specs.declared.block.Block.{Block}
 use Rattle.cache_table.specs.Row.{row_of}
 use Rattle.cache_table.specs.declared.row.CacheEvent.TheVariants as events
@@ -19,12 +17,13 @@ use Rattle.directory_table.specs.Row.{row_of as dir_row_of}
 use Rattle.directory_table.specs.declared.row.DirEvent.TheVariants as dir_events
 use Rattle.slice_core_side.specs.Side.{copy_of}
 use Rattle.slice_core_plan.specs.Plan.{by_ack_row, by_home_row, data_by, forwarded_by, plan_of, request_by}
+use Rattle.slice_core_steps.specs.Found.{IsPlanFor}
 use Rattle.slice_core_plan.specs.View.{View, channels_at, entry_at, side_at, IsShaped}
 use Rattle.slice_core_plan.specs.declared.decide.Next.{Next}
 use Rattle.slice_core_plan.specs.declared.decide.Next.TheVariants as nexts
 use Rattle.slice_core_plan.specs.declared.decide.Plan.{Plan}
 use Rattle.slice_core_plan.specs.declared.decide.Plan.TheVariants as plans
-use Rattle.slice_queues.specs.Line.{LineChannels, empty_line, core_at, messages_at, request_messages, data_messages, ack_messages, home_messages}
+use Rattle.slice_queues.specs.Line.{LineChannels, empty_line, messages_at, request_messages, data_messages, ack_messages, home_messages}
 use Rattle.slice_queues.specs.Waiting.{is_same_channel, is_waiting, HasEachOnceIn}
 use Rattle.slice_queues_message.specs.Class.{is_of_class}
 use Rattle.slice_queues_message.specs.declared.channel.Channel.{Channel}
@@ -200,6 +199,14 @@ count-head channel first rest same e =
     number : Bool → ℕ
     number b = if b then 1 else 0
 
+-- a channel that is left is of the class
+first-of_class : (v : View) (local : Local) (class : Class) (next : Next) (first : Channel) (rest : List Channel)
+    → IsNextOf v local class next (first ∷ rest) → IsTrue (is_of_class class first)
+first-of_class v local class next first rest so_far =
+    let is_there : 0 < count_by (is_same_channel first) (first ∷ rest) =
+    (let more = count-head first first rest true (same_itself first) in omega arith) in
+    class-from_count _ _ _ is_there (so_far.part first)
+
 -- one more channel
 pub next-more : (v : View) (local : Local) (class : Class) (next : Next) (first : Channel) (rest : List Channel)
     → IsNextOf v local class next (first ∷ rest)
@@ -220,25 +227,17 @@ next-more v local class next first rest so_far = record {
         no_better-first next (next_by local first (plan_of v local first)) (next_by local channel (plan_of v local channel))
         (so_far.covered channel of_class (let more = count-head channel first rest false e in omega (arith, more, none)))
 
-    is_there : 0 < count_by (is_same_channel first) (first ∷ rest)
-    is_there = let more = count-head first first rest true (same_itself first) in omega arith
-
     by_better : (next_or next (next_by local first (plan_of v local first)) ≡ next)
         ⊎ (next_or next (next_by local first (plan_of v local first)) ≡ next_by local first (plan_of v local first))
         → (next_or next (next_by local first (plan_of v local first)) ≡ nexts.Nothing)
         ⊎ ((channel : Channel) × IsTrue (is_of_class class channel)
         × (next_or next (next_by local first (plan_of v local first)) ≡ next_by local channel (plan_of v local channel)))
     by_better (inl e) = elim so_far.met [ inl none ↦ inl (e ∙ none) | inr some ↦ inr (some.0, some.1, e ∙ some.2) ]
-    by_better (inr e) = inr (first, class-from_count _ _ _ is_there (so_far.part first), e)
+    by_better (inr e) = inr (first, first-of_class v local class next first rest so_far, e)
 
 -- behind the last channel
 pub next-done : (v : View) (local : Local) (class : Class) (next : Next) → IsNextOf v local class next [] → IsNextAt v local class next
 next-done v local class next so_far = ((λ channel of_class. so_far.covered channel of_class refl), so_far.met)
-
--- a message that can be moved is as good as any
-pub next-moves : (v : View) (local at : Local) (class : Class) (channel : Channel) (left : List Channel)
-    → IsNextOf v local class (nexts.Move at channel) left → IsNextAt v local class (nexts.Move at channel)
-next-moves v local at class channel left so_far = ((λ other of_class. refl), so_far.met)
 
 -- a list whose first element was taken
 pub taken-first : (left : List Channel) (channel : Channel) → slice_get left 0 ≡ Some channel → left ≡ channel ∷ drop 1 left
@@ -263,12 +262,29 @@ next-more_taken v local class next one after_next left after channel plan so_far
     subst Q (sym next_is) (subst R (sym rest) (next-more v local class next channel (drop 1 left) (subst P begins so_far)))
 
 -- what can be moved is as good as any
-pub next-moves_is : (v : View) (local at : Local) (class : Class) (channel : Channel) (next : Next) (left : List Channel)
-    → IsNextOf v local class next left → next ≡ nexts.Move at channel → IsNextAt v local class next
-next-moves_is v local at class channel next left so_far is =
-    let P : Next → Type 0 = λ n. IsNextOf v local class n left in
-    let Q : Next → Type 0 = λ n. IsNextAt v local class n in
-    subst Q (sym is) (next-moves v local at class channel left (subst P is so_far))
+pub next-moves : (v : View) (local at : Local) (class : Class) (channel other : Channel) (next one : Next) (left : List Channel) (plan : Plan)
+    → IsNextOf v local class next left → Some channel ≡ slice_get left 0 → plan ≡ plan_of v local channel
+    → one ≡ next_by local channel plan → one ≡ nexts.Move at other → IsNextAt v local class one
+next-moves v local at class channel other next one left plan so_far first planned is moves =
+    let P : List Channel → Type 0 = λ names. IsNextOf v local class next names in
+    let of_class = first-of_class v local class next channel (drop 1 left) (subst P (taken-first left channel (sym first)) so_far) in
+    ((λ third of_third. rw moves refl), inr (channel, of_class, is ∙ ap (next_by local channel) planned))
+
+-- where neither of two can be moved, no plan comes with the better
+pub plan-for_stuck : (v : View) (next one after_next : Next) → IsPlanFor v next plans.Nothing
+    → ((local : Local) (channel : Channel) → one ≢ nexts.Move local channel)
+    → after_next ≡ next_or next one → IsPlanFor v after_next plans.Nothing
+plan-for_stuck v next one after_next stuck stays better = rw better (by_better (either-one next one))
+  where
+    by_one : (other : Next) → one ≡ other → IsPlanFor v other plans.Nothing
+    by_one nexts.Nothing e = tt
+    by_one nexts.Blocked e = tt
+    by_one (nexts.Broken cell) e = tt
+    by_one (nexts.Move local channel) e = absurd (stays local channel e)
+
+    by_better : (next_or next one ≡ next) ⊎ (next_or next one ≡ one) → IsPlanFor v (next_or next one) plans.Nothing
+    by_better (inl e) = rw e stuck
+    by_better (inr e) = rw e (by_one one refl)
 
 -- before the first channel of a line that was looked up
 pub next-begins_at : (v : View) (local : Local) (class : Class) (line : LineChannels) (names : List Channel) → line ≡ channels_at v local
@@ -340,9 +356,17 @@ pub ring-done : (v : View) (class : Class) (next : Next) → IsNextSoFar v class
 ring-done v class next so_far = ((λ local channel there of_class. so_far.covered local channel of_class refl), so_far.met)
 
 -- what can be moved is as good as any
-pub ring-moves : (v : View) (class : Class) (next : Next) (at : Local) (channel : Channel) (left : List ℕ) → next ≡ nexts.Move at channel
-    → IsNextSoFar v class next left → IsNextIn v class next
-ring-moves v class next at channel left is so_far = ((λ local other there of_class. rw is refl), so_far.met)
+pub ring-moves : (v : View) (class : Class) (one : Next) (local at : Local) (channel : Channel) → local.0 < v.lines.lines
+    → one ≡ nexts.Move at channel → IsNextAt v local class one → IsNextIn v class one
+ring-moves v class one local at channel there is found = ((λ other third within of_class. rw is refl), by_met found.1)
+  where
+    by_met : (one ≡ nexts.Nothing)
+        ⊎ ((third : Channel) × IsTrue (is_of_class class third) × (one ≡ next_by local third (plan_of v local third)))
+        → (one ≡ nexts.Nothing)
+        ⊎ ((other : Local) × (third : Channel) × (other.0 < v.lines.lines) × IsTrue (is_of_class class third)
+        × (one ≡ next_by other third (plan_of v other third)))
+    by_met (inl none) = inl none
+    by_met (inr some) = inr (local, some.0, there, some.1, some.2)
 
 -- one more line, as it stands in the ring
 pub ring-more_at : (v : View) (class : Class) (next one after_next : Next) (ring : List ℕ) (index : ℕ) (local : Local)

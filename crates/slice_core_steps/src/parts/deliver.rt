@@ -5,11 +5,10 @@ ghost use Rattle.slice_core_side.specs.Side.{array_copy};
 ghost use Rattle.slice_core_side.specs.Steps.{acknowledged, after_change, after_settle};
 ghost use Rattle.slice_core_side.specs.Targets.{IsPerformable};
 ghost use Rattle.slice_core_plan.specs.Parts.{AfterDelivery, AfterPlan, CanDeliver, Moves, Settles, core_of, filled_by};
-ghost use Rattle.slice_core_plan.specs.Plan.{plan_of};
 ghost use Rattle.slice_core_plan.specs.Sends.{cache_room, directory_room, directory_sent};
 ghost use Rattle.slice_core_plan.specs.Steps.{after_directory, after_forwarded, after_home, asked_by, block_in};
 ghost use Rattle.slice_core_plan.specs.View.{channels_at, side_at, IsShaped};
-ghost use Rattle.slice_core_plan.specs.Within.{Stands, StandsAt, is_shared};
+ghost use Rattle.slice_core_plan.specs.Within.{IsPlanned, Stands, StandsAt, is_shared};
 ghost use Rattle.slice_queues.specs.Line.{after_take, core_at};
 ghost use Rattle.slice_queues_message.specs.declared.channel.Channel.TheVariants as channels;
 
@@ -31,18 +30,22 @@ impl<F: MissFile> Parts<F> {
         ensures { AfterDelivery self.old pick result self.new }
     {
         match self.lines.local_of(pick.line()) {
-            Some(local) => self.deliver_at(local, pick.channel()),
+            Some(local) => {
+                let plan = self.plan(local, pick.channel());
+                self.carry_out(local, pick.channel(), plan)
+            }
             None => Delivered::Nothing,
         }
     }
 
-    /// Takes the front message of a channel of a line and does its row, where the table has one.
-    pub(super) fn deliver_at(&mut self, local: Local, channel: Channel) -> Delivered
+    /// Does what is planned for the front message of a channel of a line.
+    pub(super) fn carry_out(&mut self, local: Local, channel: Channel, plan: Plan) -> Delivered
         requires line { local.0 < self.old.view.lines.lines }
         requires delivers { CanDeliver self.old }
-        ensures { AfterPlan (plan_of self.old.view local channel) self.old local channel result self.new }
+        requires planned { IsPlanned self.old.view local channel plan }
+        ensures { AfterPlan plan self.old local channel result self.new }
     {
-        match self.plan(local, channel) {
+        match plan {
             Plan::Nothing => return Delivered::Nothing,
             Plan::Blocked => return Delivered::Blocked,
             Plan::Broken(cell) => return Delivered::Broken(cell),

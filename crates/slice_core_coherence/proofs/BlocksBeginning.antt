@@ -86,7 +86,7 @@ module _ (c : Config) (slice : SliceId) (machine : IsOfMachine (lines_of c slice
         let same = initial_same local i below in
         let began = initial.words i below ∙ ap (initially c.init) place ∙ sym same in
         let few : initially (filter of_slice c.init) word < 2 ^ 64 =
-            subst (λ n. n < 2 ^ 64) began (initial.fits i below) in
+        subst (λ n. n < 2 ^ 64) began (initial.fits i below) in
         began ∙ sym (value-nil (initially (filter of_slice c.init) word) word few);
   }
 

@@ -30,3 +30,5 @@ pub mod SoundIssue
 pub mod SoundEvict
 pub mod SoundDelivery
 pub mod SoundBegin
+pub mod Shape
+pub mod Runs

@@ -5,10 +5,12 @@
 //! `specs/Facts.antt`: each accepted request stands in exactly one target, reply or hand-out; a core's entries of a line
 //! stand in the log in the order in which it asked for them; each copy that waits has its one miss register; each tag
 //! names what was asked for under it; and a core whose miss file is bounded by tags alone waits for no miss register.
-//! `specs/Sound.antt` is the invariant that shows it.
+//! `specs/Sound.antt` is the invariant that shows it. [`SliceState::run`] makes a list of calls; by `specs/Run.antt` it
+//! answers and leaves what its calls do one after another.
 #![tactic(auto)]
 
 pub use address_map::{Block, CoreId, LineAddr, Op, Request, SliceId, WordAddr};
+pub use run::{Call, CallAnswer};
 pub use slice_core_answer::{
     Cell, Delivered, DeliveredNext, Evicted, Issue, Refused, Stall, Stats,
 };
@@ -17,4 +19,5 @@ pub use slice_core_steps::LineView;
 pub use slice_queues_message::{Class, Pick};
 pub use state::SliceState;
 
+mod run;
 mod state;

@@ -2,9 +2,11 @@ ghost use Rattle.std.specs.Prelude.{◌≡◌, ℕ, ◌<◌, ◌↔◌, length, 
 ghost use Rattle.address_map.specs.Locator.{local_at};
 ghost use Rattle.address_map.specs.Place.{line_of};
 ghost use Rattle.slice_core.specs.Facts.{Holds, IsInverted, IsNotBroken, IsNotBrokenNext, NeedsNoRegister, ShowsLast, ShowsLine, ShowsWord};
+ghost use Rattle.slice_core.specs.Run.{AfterCall, HasCore, HasCores, Runs};
 ghost use Rattle.slice_core_plan.specs.Parts.{PartsView, AfterDeliverNext, AfterDelivery, AfterEvict, AfterHand, AfterIssue, IsNew};
 ghost use Rattle.slice_core_plan.specs.View.{View, IsQuiet};
 
+use super::run::{Call, CallAnswer};
 use address_map::{Checked, CoreId, LineAddr, Request, SliceId, WordAddr};
 use mshr_file::MissFile;
 use slice_core_answer::{Delivered, DeliveredNext, Evicted, Issue, Refused, Stats};
@@ -90,6 +92,35 @@ impl<F: MissFile> SliceState<F> {
         ensures holds { Holds self.new }
     {
         self.parts.hand(core)
+    }
+
+    /// Makes the calls in order, and writes each one's answer at its place.
+    pub fn run(&mut self, calls: &[Call], answers: &mut [CallAnswer])
+        requires places { length answers.old ≡ length calls.now }
+        requires known { HasCores (length self.old.view.sides) calls.now }
+        ensures run { Runs self.old calls.now answers.new self.new }
+        ensures cores { length self.new.view.sides ≡ length self.old.view.sides }
+        ensures holds { Holds self.new }
+    {
+        for (place, call) in calls.iter().enumerate() {
+            answers[place] = self.call(call);
+        }
+        // What holds after every call holds where none was made, by the invariant.
+        let _ = &self.parts;
+    }
+
+    /// Makes one call.
+    fn call(&mut self, call: &Call) -> CallAnswer
+        requires { HasCore (length self.old.view.sides) call.now }
+        ensures { AfterCall self.old call.now result self.new }
+    {
+        match *call {
+            Call::Issue { core, request } => CallAnswer::Issue(self.issue(core, request)),
+            Call::Evict { core, line } => CallAnswer::Evict(self.evict(core, line)),
+            Call::Deliver(pick) => CallAnswer::Deliver(self.deliver(pick)),
+            Call::DeliverNext(class) => CallAnswer::DeliverNext(self.deliver_next(class)),
+            Call::Hand(core) => CallAnswer::Hand(self.hand(core)),
+        }
     }
 
     /// How many cores the slice knows.

@@ -1,0 +1,24 @@
+use address_map::{CoreId, LineAddr, Request};
+use slice_core_answer::{Delivered, DeliveredNext, Evicted, Issue, Refused};
+use slice_core_log::Numbered;
+use slice_queues_message::{Class, Pick};
+
+/// A call of a slice, with its arguments.
+#[derive(Clone, Copy, Debug, PartialEq, Eq)]
+pub enum Call {
+    Issue { core: CoreId, request: Request },
+    Evict { core: CoreId, line: LineAddr },
+    Deliver(Pick),
+    DeliverNext(Class),
+    Hand(CoreId),
+}
+
+/// What a call was answered. The answer to a call is of the call's variant.
+#[derive(Clone, Copy, Debug, PartialEq, Eq)]
+pub enum CallAnswer {
+    Issue(Result<Issue, Refused>),
+    Evict(Evicted),
+    Deliver(Delivered),
+    DeliverNext(DeliveredNext),
+    Hand(Option<Numbered>),
+}

@@ -1,0 +1,193 @@
+-- A delivery performs as many requests as the log grows by: those that a settled copy allows, and else none.
+use Rattle.std.proofs.Common.{◌≡◌, ℕ, ◌<◌, Bool, true, false, if◌then◌else◌, [], length, Option, Some, None, IsSome, refl, sym, ap, ◌∙◌, subst, arith}
+use Rattle.std.specs.Prelude.{is_some, unwrap_or}
+use Rattle.address_map.specs.Locator.{local_at}
+use Rattle.address_map.specs.declared.address.CoreId.{CoreId}
+use Rattle.address_map.specs.declared.address.Local.{Local}
+use Rattle.cache_array.proofs.Held.{written_held}
+use Rattle.cache_array.specs.Array.{IsArray, held_at as array_at}
+use Rattle.mshr_file.specs.Miss.{TakesTargets, targets_of}
+use Rattle.slice_core_answer.specs.declared.answer.Delivered.{Delivered}
+use Rattle.slice_core_answer.specs.declared.answer.Delivered.TheVariants as delivered
+use Rattle.slice_core_answer.specs.declared.answer.DeliveredNext.{DeliveredNext}
+use Rattle.slice_core_answer.specs.declared.answer.DeliveredNext.TheVariants as delivered_next
+use Rattle.slice_core_coherence.specs.Whole.{IsWhole}
+use Rattle.slice_core_log.specs.Log.{IsLegal, initially}
+use Rattle.slice_core_machine.proofs.Kept.{ShowsSame, kept-of, leads-same, same-view, side-here, side-there}
+use Rattle.slice_core_machine.proofs.Planned.{held-at_place, is_for_copy, place_in, planned-core, planned-place}
+use Rattle.slice_core_machine.proofs.Settled.{settled_performs}
+use Rattle.slice_core_machine.specs.Shows.{IsAccounted, Performs}
+use Rattle.slice_core_plan.specs.Parts.{PartsView, core_of, AfterDeliverNext, AfterDelivery, AfterPlan, Settles}
+use Rattle.slice_core_plan.specs.Plan.{plan_of}
+use Rattle.slice_core_plan.specs.Steps.{after_forwarded, after_settling}
+use Rattle.slice_core_plan.specs.View.{View, side_at}
+use Rattle.slice_core_plan.specs.declared.decide.Plan.{Plan}
+use Rattle.slice_core_plan.specs.declared.decide.Plan.TheVariants as plans
+use Rattle.slice_core_side.specs.Copy.{is_gone, no_copy}
+use Rattle.slice_core_side.specs.Perform.{performed_in, tags_after}
+use Rattle.slice_core_side.specs.Side.{SideView, array_copy}
+use Rattle.slice_core_side.specs.Steps as sides
+use Rattle.slice_core_side.specs.Steps.{acknowledged}
+use Rattle.slice_core_side.specs.declared.copy.CacheCopy.{CacheCopy}
+use Rattle.cache_table.specs.declared.row.CacheSends.{CacheSends}
+use Rattle.cache_table.specs.declared.state.CopyState.{CopyState}
+use Rattle.slice_queues_message.specs.Pick.{channel_of, line_of}
+use Rattle.slice_queues_message.specs.declared.channel.Channel.{Channel}
+use Rattle.slice_queues_message.specs.declared.channel.Class.{Class}
+use Rattle.slice_queues_message.specs.declared.channel.Pick.{Pick}
+
+-- Where the same is shown nothing was performed.
+performs-none : (old new : View) → ShowsSame old new → Performs old new
+performs-none old new same = record {
+  requests = [];
+  grows = let long = ap (λ l. length l) same.log in omega (arith, long);
+  leads = leads-same old new same;
+}
+
+-- ---- a copy that goes on
+
+kept-if : {A : Type 0} (f : SideView → A) (b : Bool) (old one other : SideView) → f one ≡ f old → f other ≡ f old
+    → f (if b then one else other) ≡ f old
+kept-if f true old one other first second = first
+kept-if f false old one other first second = second
+
+-- Wherever it stands, the core's misses and tags are as they were.
+misses-advance : (side : SideView) (local : Local) (next : CopyState)
+    → (sides.after_advance side local next).misses ≡ side.misses
+misses-advance side local next =
+    kept-if (λ (s : SideView). s.misses) (is_some (array_at side.array local)) side
+    (sides.advanced_in_array side local next) (sides.advanced_in_buffer side local next)
+    (kept-if (λ (s : SideView). s.misses) (is_gone next) side _ _ refl refl)
+    (kept-if (λ (s : SideView). s.misses) (is_gone next) side _ _ refl refl)
+
+tags-advance : (side : SideView) (local : Local) (next : CopyState)
+    → (sides.after_advance side local next).tags ≡ side.tags
+tags-advance side local next =
+    kept-if (λ (s : SideView). s.tags) (is_some (array_at side.array local)) side
+    (sides.advanced_in_array side local next) (sides.advanced_in_buffer side local next)
+    (kept-if (λ (s : SideView). s.tags) (is_gone next) side _ _ refl refl)
+    (kept-if (λ (s : SideView). s.tags) (is_gone next) side _ _ refl refl)
+
+-- ---- a copy that settles
+
+-- The array holds the copy that was put there.
+put-there : (side : SideView) (local : Local) (copy : CacheCopy) → IsArray side.array
+    → IsSome (array_at side.array local) → array_copy (sides.after_change side local copy) local ≡ copy
+put-there side local copy sound held =
+    ap (λ (found : Option CacheCopy). unwrap_or found no_copy) (written_held side.array local sound copy held)
+
+module _ (old : PartsView) (local : Local) (channel : Channel) (new : PartsView) (accounted : IsAccounted old.view)
+    (whole : IsWhole old.view) (legal : IsLegal (initially old.view.init) new.view.log) where
+  -- The slice shows the same.
+  quiet : (after : PartsView) → new ≡ after → ShowsSame old.view after.view → Performs old.view new.view
+  quiet after is same =
+      subst (λ (p : PartsView). Performs old.view p.view) (sym is) (performs-none old.view after.view same)
+
+  settled : (core : CoreId) (copy : CacheCopy) → core.0 < length old.view.sides
+      → IsSome (array_at (side_at old.view core).array local) → Settles old local core channel copy new
+      → Performs old.view new.view
+  settled core copy known held done =
+      let view = after_settling old.view local core channel copy done.0 in
+      let before = sides.after_change (side_at old.view core) local copy in
+      let side = sides.after_settle before local (length old.view.log) done.0 in
+      let targets = targets_of (side_at old.view core).misses local.0 in
+      let taken = performed_in copy.state targets in
+      let here = side-here old.view core side known core refl in
+      subst (λ (p : PartsView). Performs old.view p.view) (sym done.3)
+      (settled_performs old.view view core local taken copy.block accounted known
+      (record {
+        lines = refl;
+        init = refl;
+        log = refl;
+        takes =
+            subst (λ (s : SideView). TakesTargets (side_at old.view core).misses s.misses local.0 taken) (sym here)
+            done.1;
+        tags =
+            ap (λ (s : SideView). s.tags) here
+            ∙ ap (λ (c : CacheCopy). tags_after (side_at old.view core).tags (length old.view.log)
+            (performed_in c.state targets))
+            (put-there (side_at old.view core) local copy (whole.kept core known).array held);
+        misses = λ other apart. ap (λ (s : SideView). s.misses) (side-there old.view core side other apart);
+        names = λ other apart. ap (λ (s : SideView). s.tags) (side-there old.view core side other apart);
+      })
+      (subst (λ (p : PartsView). IsLegal (initially old.view.init) p.view.log) done.3 legal))
+
+  forwarded : (core requester : CoreId) (next : CopyState) (sent : CacheSends) → core.0 < length old.view.sides
+      → ShowsSame old.view (after_forwarded old.view local core next sent requester)
+  forwarded core requester next sent known =
+      let side = sides.after_advance (side_at old.view core) local next in record {
+        lines = refl;
+        init = refl;
+        log = refl;
+        misses =
+            kept-of (λ (s : SideView). s.misses) old.view core side known
+            (misses-advance (side_at old.view core) local next);
+        tags =
+            kept-of (λ (s : SideView). s.tags) old.view core side known
+            (tags-advance (side_at old.view core) local next);
+      }
+
+  -- A copy that is changed by data or by an acknowledgement stands in its core's array.
+  held : (place : ℕ) (plan : Plan) → plan_of old.view local channel ≡ plan → place_in plan ≡ Some place
+      → IsSome (array_at (side_at old.view (core_of channel)).array local)
+  held place plan is stands =
+      held-at_place (side_at old.view (core_of channel)) local place
+      (planned-place old.view local channel place (ap place_in is ∙ stands))
+
+  there : (plan : Plan) → plan_of old.view local channel ≡ plan → is_for_copy plan ≡ true
+      → (core_of channel).0 < length old.view.sides
+  there plan is passes = planned-core old.view local whole.shaped channel (ap is_for_copy is ∙ passes)
+
+  pub planned_performs : (plan : Plan) (answer : Delivered) → plan_of old.view local channel ≡ plan
+      → AfterPlan plan old local channel answer new → Performs old.view new.view
+  planned_performs plans.Nothing answer is done = quiet old done.1 (same-view old.view)
+  planned_performs plans.Blocked answer is done = quiet old done.1 (same-view old.view)
+  planned_performs (plans.Broken cell) answer is done = quiet old done.1 (same-view old.view)
+  planned_performs (plans.Directory state owner sharers sent writes) answer is done =
+      quiet _ done.1 (record { lines = refl; init = refl; log = refl; misses = λ core. refl; tags = λ core. refl })
+  planned_performs (plans.Home state owner sharers) answer is done =
+      quiet _ done.1 (record { lines = refl; init = refl; log = refl; misses = λ core. refl; tags = λ core. refl })
+  planned_performs (plans.Forwarded next sent requester) answer is done =
+      quiet _ done.1
+      (forwarded (core_of channel) requester next sent (there (plans.Forwarded next sent requester) is refl))
+  planned_performs (plans.Fill place next) answer is done =
+      settled (core_of channel) _ (there (plans.Fill place next) is refl) (held place (plans.Fill place next) is refl)
+      done.1
+  planned_performs (plans.Acknowledge place next) answer is done =
+      settled (core_of channel) _ (there (plans.Acknowledge place next) is refl)
+      (held place (plans.Acknowledge place next) is refl) done.1
+
+-- ---- the calls
+
+module _ (old new : PartsView) (accounted : IsAccounted old.view) (whole : IsWhole old.view)
+    (legal : IsLegal (initially old.view.init) new.view.log) where
+  unchanged : new ≡ old → Performs old.view new.view
+  unchanged is =
+      subst (λ (p : PartsView). Performs old.view p.view) (sym is)
+      (performs-none old.view old.view (same-view old.view))
+
+  -- what a delivery answers and leaves, by the line's place
+  abbrev by_line : Pick → Delivered → Option Local → Type 0
+  by_line pick answer None = (answer ≡ delivered.Nothing) × (new ≡ old)
+  by_line pick answer (Some local) =
+      AfterPlan (plan_of old.view local (channel_of pick)) old local (channel_of pick) answer new
+
+  at_place : (pick : Pick) (answer : Delivered) (place : Option Local) → by_line pick answer place
+      → Performs old.view new.view
+  at_place pick answer None done = unchanged done.1
+  at_place pick answer (Some local) done =
+      planned_performs old local (channel_of pick) new accounted whole legal
+      (plan_of old.view local (channel_of pick)) answer refl done
+
+  -- A delivery of a chosen message performs as many as it logs.
+  pub delivery_performs : (pick : Pick) (answer : Delivered) → AfterDelivery old pick answer new
+      → Performs old.view new.view
+  delivery_performs pick answer done = at_place pick answer (local_at old.view.lines (line_of pick).0) done
+
+  -- So does one of the next message of a class.
+  pub deliver_next_performs : (class : Class) (answer : DeliveredNext) → AfterDeliverNext old class answer new
+      → Performs old.view new.view
+  deliver_next_performs class (delivered_next.Moved pick) done = delivery_performs pick delivered.Moved done.1
+  deliver_next_performs class delivered_next.Nothing done = unchanged done.0
+  deliver_next_performs class delivered_next.Blocked done = unchanged done.0
+  deliver_next_performs class (delivered_next.Broken cell) done = unchanged done.0

@@ -1,0 +1,15 @@
+pub mod Kept
+pub mod Handed
+pub mod Judged
+pub mod Requests
+pub mod Accepted
+pub mod Done
+pub mod Issued
+pub mod Evicted
+pub mod Performed
+pub mod Planned
+pub mod Named
+pub mod Settled
+pub mod Delivered
+pub mod Runs
+pub mod Beginning

@@ -1,3 +1,2 @@
 pub mod MachineLemmas
 pub mod AskedLemmas
-pub mod ShapeLemmas

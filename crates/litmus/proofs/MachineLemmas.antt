@@ -17,7 +17,7 @@ use Rattle.slice_core_plan.specs.Parts.{PartsView, IsNew}
 use Rattle.slice_core_answer.specs.Stats.{StatsView}
 use Rattle.stats_report.specs.Report.{AreAlike, IsLike}
 use Rattle.litmus.specs.Machine.{IsSliceOf, AreSlicesOf, IsMachine, IsCountOf}
-use Rattle.litmus.proofs.ShapeLemmas.{SameShape}
+use Rattle.slice_core.proofs.Shape.{SameShape}
 
 -- the machine with one state replaced by one of the same shape
 pub is_machine-after : (config : Config) (slices : List PartsView) (i : ℕ) (old new : PartsView) → IsMachine config slices

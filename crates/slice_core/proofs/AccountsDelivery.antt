@@ -28,7 +28,7 @@ use Rattle.slice_core_side.specs.Steps as sides
 use Rattle.slice_core_side.specs.Steps.{acknowledged}
 use Rattle.slice_core_side.specs.declared.copy.CacheCopy.{CacheCopy}
 use Rattle.slice_core.proofs.AccountsKept.{HasSame, Keeps, counts-before, keeps-from_sound, keeps-posted, keeps-settled, keeps-side}
-use Rattle.slice_core.proofs.AccountsPlanned.{held-at_place, is_for_copy, place_in, planned-core, planned-place}
+use Rattle.slice_core_machine.proofs.Planned.{held-at_place, is_for_copy, place_in, planned-core, planned-place}
 use Rattle.slice_core.proofs.CountedLines.{cores-asked, cores-cache, cores-directory, cores-taken}
 use Rattle.slice_core.proofs.CountedStats.{counts-same, same-message}
 use Rattle.slice_core.proofs.CountedSteps.{after_step, shaped-channels, shaped-entry}

@@ -26,7 +26,7 @@ use Rattle.slice_core_side.specs.declared.access.Ask.{Ask}
 use Rattle.slice_core_side.specs.declared.access.Way.{Way}
 use Rattle.slice_core_side.specs.declared.access.Way.TheVariants as ways
 use Rattle.slice_core_side.specs.declared.tags.TagState.TheVariants as tags
-use Rattle.slice_core.proofs.AccountsDecision.{hit-alone, judged, IsJudged}
+use Rattle.slice_core_machine.proofs.Judged.{hit-alone, judged, IsJudged}
 use Rattle.slice_core.proofs.AccountsKept.{HasSame, Keeps, counts-before, keeps-added, keeps-hit, keeps-posted, keeps-side}
 use Rattle.slice_core.proofs.CountedLines.{cores-sent}
 use Rattle.slice_core.proofs.CountedStats.{accepted-within, counts-eviction, counts-hit, counts-primary, counts-secondary, same-none, same-stall}

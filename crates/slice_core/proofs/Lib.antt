@@ -13,11 +13,9 @@ pub mod CountedLines
 pub mod CountedStats
 pub mod AccountsSteps
 pub mod AccountsKept
-pub mod AccountsDecision
 pub mod AccountsIssue
 pub mod AccountsEvict
 pub mod AccountsHand
-pub mod AccountsPlanned
 pub mod AccountsDelivery
 pub mod AccountsBegin
 pub mod AccountsFacts

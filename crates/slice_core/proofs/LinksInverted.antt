@@ -39,7 +39,7 @@ use Rattle.slice_core_side.specs.declared.copy.CacheCopy.{CacheCopy}
 use Rattle.slice_core_side.specs.declared.tags.TagState.{TagState}
 use Rattle.slice_core_side.specs.declared.tags.TagState.TheVariants as tags
 use Rattle.slice_core_standing.specs.Standing.{is_open}
-use Rattle.slice_core.proofs.AccountsDecision.{judged, IsJudged}
+use Rattle.slice_core_machine.proofs.Judged.{judged, IsJudged}
 use Rattle.slice_core.specs.Facts.{IsInverted, NeedsNoRegister}
 use Rattle.slice_core.specs.Sound.{HasAccounts, IsSound}
 use Rattle.writeback_buffer.specs.Buffer.{held_at as buffer_at}

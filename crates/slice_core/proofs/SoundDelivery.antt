@@ -37,7 +37,7 @@ use Rattle.slice_core_side.specs.Steps.{acknowledged}
 use Rattle.slice_core_side.specs.declared.copy.CacheCopy.{CacheCopy}
 use Rattle.slice_core.proofs.AccountsDelivery.{keeps-plan}
 use Rattle.slice_core.proofs.AccountsKept.{sound-from_keeps}
-use Rattle.slice_core.proofs.AccountsPlanned.{is_for_copy, nothing-past, planned-core}
+use Rattle.slice_core_machine.proofs.Planned.{is_for_copy, nothing-past, planned-core}
 use Rattle.slice_core.proofs.LinksDirectory.{links_directory, links_home}
 use Rattle.slice_core.proofs.LinksForwarded.{links_forwarded}
 use Rattle.slice_core.proofs.LinksSettling.{links_acknowledge, links_fill, state-filled_by}

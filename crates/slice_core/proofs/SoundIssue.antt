@@ -21,7 +21,7 @@ use Rattle.slice_core_side.specs.declared.access.Access.TheVariants as accesses
 use Rattle.slice_core_side.specs.declared.access.Ask.{Ask}
 use Rattle.slice_core_side.specs.declared.access.Way.{Way}
 use Rattle.slice_core_side.specs.declared.access.Way.TheVariants as ways
-use Rattle.slice_core.proofs.AccountsDecision.{judged, IsJudged}
+use Rattle.slice_core_machine.proofs.Judged.{judged, IsJudged}
 use Rattle.slice_core.proofs.AccountsIssue.{keeps-issue}
 use Rattle.slice_core.proofs.AccountsKept.{keeps-from_sound, sound-from_keeps}
 use Rattle.slice_core.proofs.LinksAccesses.{links_hit, links_join, links_open}

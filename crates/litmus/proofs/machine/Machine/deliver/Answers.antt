@@ -1,5 +1,5 @@
 use Rattle.litmus.proofs.MachineLemmas.{is_machine-after}
-use Rattle.litmus.proofs.ShapeLemmas.{shape-deliver}
+use Rattle.slice_core.proofs.Shape.{shape-deliver}
 use Rattle.litmus.proofs.machine.Machine.deliver.Goals as goal
 
 pub invariant_of-self : goal.invariant_of-self

@@ -1,5 +1,5 @@
 use Rattle.litmus.proofs.MachineLemmas.{is_machine-after}
-use Rattle.litmus.proofs.ShapeLemmas.{shape-issue}
+use Rattle.slice_core.proofs.Shape.{shape-issue}
 use Rattle.litmus.proofs.machine.Machine.issue.Goals as goal
 
 pub invariant_of-self : goal.invariant_of-self

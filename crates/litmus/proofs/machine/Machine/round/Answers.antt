@@ -2,7 +2,7 @@ use Rattle.std.proofs.Common.{◌≡◌, ◌<◌, length, ap, arith}
 use Rattle.address_map.specs.declared.config.Config.{Config}
 use Rattle.slice_queues_message.specs.declared.channel.Class.TheVariants as classes
 use Rattle.litmus.proofs.MachineLemmas.{is_machine-after}
-use Rattle.litmus.proofs.ShapeLemmas.{shape-next}
+use Rattle.slice_core.proofs.Shape.{shape-next}
 use Rattle.litmus.proofs.machine.Machine.round.Goals as goal
 
 pub invariant_of-self : goal.invariant_of-self

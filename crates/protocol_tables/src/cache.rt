@@ -39,17 +39,56 @@ const ANSWERED: [CacheEvent; 8] = [
     CacheEvent::DataE { all_loads: false },
 ];
 
-/// One cell as text: what is sent, and the next state.
+/// One cell as text: what is done, what is sent, and the next state.
 #[derive(Clone, Copy)]
-struct Cell(Row);
+struct Cell {
+    state: CopyState,
+    event: CacheEvent,
+}
 
 impl fmt::Display for Cell {
     fn fmt<W: fmt::Write>(&self, f: &mut fmt::Formatter<W>) -> fmt::Result {
-        match self.0 {
-            Row::Go(next, sends) => write!(f, "{}{next}", text_of(sends)),
-            Row::Blocked => f.write_str("blocked"),
-            Row::NoEntry => f.write_str("-"),
+        if let Some(word) = before_the_table(self.state, self.event) {
+            return f.write_str(word);
         }
+        match (cache_row(self.state, self.event), self.event) {
+            (Row::Go(next, CacheSends::Nothing), CacheEvent::Load | CacheEvent::Write) => {
+                write!(f, "hit; {next}")
+            }
+            (Row::Go(next, _), CacheEvent::InvAck { .. }) => write!(f, "k + 1; {next}"),
+            (Row::Go(next, sends), _) => write!(f, "{}{next}", text_of(sends)),
+            (Row::Blocked, _) => f.write_str("blocked"),
+            (Row::NoEntry, _) => f.write_str("-"),
+        }
+    }
+}
+
+/// What becomes of an access or an eviction that never comes to the table: the line has a miss register, or leaves.
+const fn before_the_table(state: CopyState, event: CacheEvent) -> Option<&'static str> {
+    match (state, event) {
+        (
+            CopyState::IS_D
+            | CopyState::IM_AD
+            | CopyState::IM_A
+            | CopyState::SM_AD
+            | CopyState::SM_A,
+            CacheEvent::Load | CacheEvent::Write,
+        ) => Some("joins"),
+        (
+            CopyState::MI_A | CopyState::SI_A | CopyState::II_A,
+            CacheEvent::Load | CacheEvent::Write,
+        ) => Some("stalls"),
+        (CopyState::I | CopyState::S | CopyState::M | CopyState::E, _) => None,
+        (_, CacheEvent::Eviction) => Some("busy"),
+        _ => None,
+    }
+}
+
+/// The setting without which no copy comes to the state.
+const fn setting_of(state: CopyState) -> &'static str {
+    match state {
+        CopyState::E => " (exclusive on)",
+        _ => "",
     }
 }
 
@@ -72,7 +111,7 @@ pub fn print(rt: &impl Print) -> io::Result<()> {
     print_part(rt, &ASKED)?;
     println!(rt;)?;
     println!(rt;
-        "| Cache | Data, k = n | Data, k < n | Data, k > n | Inv-Ack, k + 1 = n | Inv-Ack, k + 1 < n | Inv-Ack, k + 1 > n | Data-E, loads alone | Data-E, a write too |"
+        "| Cache | Data, k = n | Data, k < n | Data, k > n | Inv-Ack, k + 1 = n | Inv-Ack, k + 1 < n | Inv-Ack, k + 1 > n | Data-E (exclusive on), loads alone | Data-E (exclusive on), a write too |"
     )?;
     println!(rt; "|---|---|---|---|---|---|---|---|---|")?;
     print_part(rt, &ANSWERED)
@@ -80,9 +119,9 @@ pub fn print(rt: &impl Print) -> io::Result<()> {
 
 fn print_part(rt: &impl Print, events: &[CacheEvent]) -> io::Result<()> {
     for state in STATES {
-        print!(rt; "| {state} |")?;
-        for event in events {
-            print!(rt; " {} |", Cell(cache_row(state, *event)))?;
+        print!(rt; "| {state}{} |", setting_of(state))?;
+        for &event in events {
+            print!(rt; " {} |", Cell { state, event })?;
         }
         println!(rt;)?;
     }

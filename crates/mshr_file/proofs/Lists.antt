@@ -3,7 +3,7 @@ use Rattle.std.proofs.Common.{◌≡◌, ℕ, zero, suc, ◌+◌, ◌<◌, ◌�
 use Rattle.std.specs.Prelude.{sum_by, ◌&&◌, All, IsTrue, IsSome, is_some, nat_lt}
 use Rattle.std.specs.List.{flat_map, count_by, find, list_any, position, position_or_len, prefix_len, remove}
 use Rattle.std.proofs.lemmas.List.{length-map}
-use Rattle.std.proofs.lemmas.Bool.{cases_Bool, lt-ltb}
+use Rattle.std.proofs.lemmas.Bool.{cases_Bool, lt-ltb, le-ltb}
 use Rattle.std.proofs.lemmas.List.Elements.{All-cons, All-nil}
 use Rattle.std.proofs.lemmas.List.Sums.{sum_by-cons}
 
@@ -101,6 +101,34 @@ module _ {X : Type 0} where
 
   pub position_found : (p : X → Bool) (xs : List X) → list_any p xs ≡ true → IsSome (position p xs)
   position_found p xs there = let inside : nat_lt (position_or_len p xs) (length xs) ≡ true = lt-ltb _ _ (first-inside p xs there) in rw inside refl
+
+  -- What a list does not have is not found.
+  past-all : (p : X → Bool) (xs : List X) → list_any p xs ≡ false → position_or_len p xs ≡ length xs
+  past-all p [] none = refl
+  past-all p (x ∷ xs) none =
+      ⊎_elim
+      (λ passes. let clash : true ≡ false = rw passes at none in absurd cc)
+      (λ fails.
+      let later = past-all p xs (rw fails at none) in
+      let next : position_or_len p (x ∷ xs) ≡ 1 + position_or_len p xs = rw fails refl in
+      omega (arith, later, next))
+      (cases_Bool (p x))
+
+  pub position_none : (p : X → Bool) (xs : List X) → list_any p xs ≡ false → position p xs ≡ None
+  position_none p xs none =
+      let past : nat_lt (position_or_len p xs) (length xs) ≡ false = not_less (position_or_len p xs) (length xs) (past-all p xs none) in
+      rw past refl
+    where
+      not_less : (m n : ℕ) → m ≡ n → nat_lt m n ≡ false
+      not_less m n same = le-ltb m n (omega (arith, same))
+
+  -- Whether an element is found is whether there is one.
+  pub found-any : (p : X → Bool) (xs : List X) → is_some (position p xs) ≡ list_any p xs
+  found-any p xs =
+      ⊎_elim
+      (λ there. position_found p xs there ∙ sym there)
+      (λ none. ap is_some (position_none p xs none) ∙ sym none)
+      (cases_Bool (list_any p xs))
 
   -- Where fewer than all pass, one fails.
   pub one_fails : (p : X → Bool) (xs : List X) → count_by p xs < length xs → list_any (λ x. not (p x)) xs ≡ true

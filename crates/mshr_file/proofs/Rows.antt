@@ -1,4 +1,5 @@
 -- What a search of the rows says of their registers, and how rows and registers change together.
+use mir.Val.{bool_byte}
 use Rattle.std.proofs.Common.{◌≡◌, ℕ, zero, suc, ◌<◌, ◌≤◌, ◌==◌, Bool, true, false, not, nat_lt, if◌then◌else◌, List, [], ◌∷◌, length, filter, map, replicate, get_or, set, Some, None, refl, sym, ap, ⊎_elim, arith, ◌∙◌}
 use Rattle.std.specs.Prelude.{◌&&◌, All, IsSome}
 use Rattle.std.specs.List.{list_any, position, position_or_len}
@@ -14,8 +15,8 @@ use Rattle.mshr_file.specs.declared.registers.RegisterTable.{RegisterTable}
 use Rattle.mshr_file.specs.declared.registers.Row.{Row}
 use Rattle.mshr_file.specs.Miss.{is_for, is_waited, targets_of, has_miss}
 use Rattle.mshr_file.specs.Register.{misses_of, serves, no_register, row_of, no_row, row_serves, is_free_row, IsKept, HasEachLineOnce}
-use Rattle.mshr_file.proofs.Lists.{any-map, kept-map, position_found, first-inside}
-use Rattle.mshr_file.proofs.Steps.{has_miss_is, register_serving, waits_for}
+use Rattle.mshr_file.proofs.Lists.{any-map, kept-map, position_found, position_none, first-inside}
+use Rattle.mshr_file.proofs.Steps.{has_miss_is, register_serving, waits_for, none_open}
 use Rattle.mshr_file.proofs.Table.{nothing_waits}
 
 -- A row is free where no target waits in its register.
@@ -107,6 +108,27 @@ unserved table line kept missing =
         let some : Some (position_or_len p rows) ≡ None = rw inside at missing in
         none-some _ (sym some)
 
+-- Where a line is waited for, some register is open.
+pub some_open : (table : RegisterTable) (line : ℕ) → IsKept table →
+    has_miss (misses_of table.registers.items) line ≡ true → 1 ≤ table.open_count
+some_open table line kept there =
+    let some = not_empty (misses_of table.registers.items) there in
+    let counted = kept.counted in
+    omega (arith, some, counted)
+  where
+    not_empty : (misses : List Register) → has_miss misses line ≡ true → 1 ≤ length misses
+    not_empty [] there = absurd cc
+    not_empty (first ∷ rest) there = omega arith
+
+-- Where none is, no row serves a line.
+pub none_serves : (table : RegisterTable) (line : ℕ) → IsKept table → table.open_count ≡ 0 →
+    position (row_serves line) table.rows.items ≡ None
+none_serves table line kept closed =
+    ⊎_elim
+    (λ there. absurd (let some = some_open table line kept there in omega (arith, some, closed)))
+    (λ nobody. position_none (row_serves line) table.rows.items (row_for table line kept ∙ nobody))
+    (cases_Bool (has_miss (misses_of table.registers.items) line))
+
 -- A miss is found.
 pub row_found : (table : RegisterTable) (line : ℕ) → IsKept table →
     has_miss (misses_of table.registers.items) line ≡ true →
@@ -161,8 +183,8 @@ free_at table place kept found = record {
 
 -- A table of free registers and free rows is kept.
 pub free_kept : (count : ℕ) (table : RegisterTable) → table.rows.items ≡ replicate count no_row →
-    table.registers.items ≡ replicate count no_register → IsKept table
-free_kept count table rows registers = record {
+    table.registers.items ≡ replicate count no_register → table.open_count ≡ 0 → IsKept table
+free_kept count table rows registers closed = record {
   few = rw rows (all_free count);
   rows = rows ∙ free_rows count ∙ ap (map row_of) (sym registers);
   single = rw registers
@@ -170,6 +192,7 @@ free_kept count table rows registers = record {
         once = λ line. let none = sum_by-replicate (λ r. if serves line r then 1 else 0) count no_register in
             omega (arith, none);
       });
+  counted = closed ∙ sym (ap (λ all. length (misses_of all)) registers ∙ ap length (none_open count));
 }
   where
     free_rows : (count : ℕ) → replicate count no_row ≡ map row_of (replicate count no_register)
@@ -181,13 +204,28 @@ free_kept count table rows registers = record {
     all_free (suc count) =
         All-cons (λ row. row.waiting ≤ 64) no_row (replicate count no_row) (omega arith) (all_free count)
 
--- A table is kept where a register and its row change together.
+-- The row of a register tells whether it is closed now, which is counted as 1.
+pub closed_one : (row : Row) (register : Register) (free : Bool) → free ≡ is_free_row row → row ≡ row_of register →
+    bool_byte free ≡ (if is_waited register.targets then 0 else 1)
+closed_one row register free is for =
+    ap bool_byte (is ∙ ap is_free_row for ∙ free_row register) ∙ turned (is_waited register.targets)
+  where
+    turned : (b : Bool) → bool_byte (not b) ≡ (if b then 0 else 1)
+    turned true = refl
+    turned false = refl
+
+pub one_at_most : (b : Bool) → bool_byte b ≤ 1
+one_at_most true = omega arith
+one_at_most false = omega arith
+
+-- A table is kept where a register and its row change together, and the open ones are counted.
 pub kept_after : (table after : RegisterTable) (place : ℕ) (register : Register) (row : Row) → IsKept table →
     HasEachLineOnce (set table.registers.items place register) →
     after.registers.items ≡ set table.registers.items place register →
     after.rows.items ≡ set table.rows.items place row →
-    row ≡ row_of register → row.waiting ≤ 64 → IsKept after
-kept_after table after place register row kept single registers rows for few = record {
+    row ≡ row_of register → row.waiting ≤ 64 →
+    after.open_count ≡ length (misses_of (set table.registers.items place register)) → IsKept after
+kept_after table after place register row kept single registers rows for few count = record {
   few = rw rows (All-set (λ row. row.waiting ≤ 64) table.rows.items place row few kept.few);
   rows =
       rows
@@ -196,4 +234,5 @@ kept_after table after place register row kept single registers rows for few = r
       ∙ sym (map-set row_of table.registers.items place register)
       ∙ ap (map row_of) (sym registers);
   single = rw registers single;
+  counted = count ∙ ap (λ all. length (misses_of all)) (sym registers);
 }

@@ -69,11 +69,14 @@ impl Row {
     }
 }
 
-/// Registers, and a row for each of them. Registers are large, and lie far apart: a search looks at the rows alone.
+/// Registers, and a row for each of them. Registers are large, and lie far apart: a search looks at the rows alone, and
+/// at none while no register is open.
 #[derive(Drop)]
 pub struct RegisterTable {
     pub rows: Vec<Row>,
     pub registers: Vec<Register>,
+    /// How many registers are open.
+    pub open_count: usize,
 }
 
 impl RegisterTable {
@@ -84,7 +87,11 @@ impl RegisterTable {
     {
         let rows = free_rows(alloc, count)?;
         let registers = free_registers(alloc, count)?;
-        Ok(RegisterTable { rows, registers })
+        Ok(RegisterTable {
+            rows,
+            registers,
+            open_count: 0,
+        })
     }
 
     /// How many registers there are.
@@ -100,7 +107,7 @@ impl RegisterTable {
         ensures served { result ≡ has_miss (misses_of self.now.registers.items) line.0 }
         ensures sound { IsMissFile (misses_of self.now.registers.items) }
     {
-        any_serves(&self.rows, line)
+        self.search(line).is_some()
     }
 
     /// How many targets wait for the line.
@@ -109,7 +116,7 @@ impl RegisterTable {
         ensures count { result ≡ length (targets_of (misses_of self.now.registers.items) line.0) }
         ensures few { result ≤ 64 }
     {
-        match first_serving(&self.rows, line) {
+        match self.search(line) {
             Some(place) => self.rows[place].waiting,
             None => 0,
         }
@@ -121,7 +128,7 @@ impl RegisterTable {
         ensures count { result ≡ length (front_loads (targets_of (misses_of self.now.registers.items) line.0)) }
         ensures within { result ≤ length (targets_of (misses_of self.now.registers.items) line.0) }
     {
-        match first_serving(&self.rows, line) {
+        match self.search(line) {
             Some(place) => self.registers[place].targets.front_loads(),
             None => 0,
         }
@@ -132,7 +139,7 @@ impl RegisterTable {
         requires { IsKept self.now }
         ensures { result ≡ length (misses_of self.now.registers.items) }
     {
-        count_rows(&self.rows)
+        self.open_count
     }
 
     /// Opens a free register for the line.
@@ -152,6 +159,7 @@ impl RegisterTable {
         register.targets.push(target);
         let row = register.row();
         self.rows[place] = row;
+        self.open_count += 1;
     }
 
     /// Adds a target to the line's register.
@@ -187,6 +195,7 @@ impl RegisterTable {
         let first = register.targets.take_first();
         let row = register.row();
         self.rows[place] = row;
+        self.open_count -= usize::from(row.is_free());
         first
     }
 
@@ -206,6 +215,7 @@ impl RegisterTable {
         let loads = register.targets.take_loads();
         let row = register.row();
         self.rows[place] = row;
+        self.open_count -= usize::from(row.is_free());
         loads
     }
 
@@ -225,7 +235,19 @@ impl RegisterTable {
         let all = register.targets.take_all();
         let row = register.row();
         self.rows[place] = row;
+        self.open_count -= 1;
         all
+    }
+
+    /// Where the line's row stands, if it has one.
+    fn search(&self, line: Local) -> Option<usize>
+        requires { IsKept self.now }
+        ensures { result ≡ position (row_serves line.0) self.now.rows.items }
+    {
+        if self.open_count == 0 {
+            return None;
+        }
+        first_serving(&self.rows, line)
     }
 
     /// The place of the register for the line.
@@ -271,12 +293,6 @@ fn free_rows(alloc: Global, count: usize) -> Result<Vec<Row>, AllocError>
     Ok(rows)
 }
 
-fn any_serves(rows: &[Row], line: Local) -> bool
-    ensures { result ≡ list_any (row_serves line.0) rows.now }
-{
-    rows.iter().any(|row| row.serves(line))
-}
-
 fn first_serving(rows: &[Row], line: Local) -> Option<usize>
     ensures { result ≡ position (row_serves line.0) rows.now }
 {
@@ -287,10 +303,4 @@ fn first_free(rows: &[Row]) -> Option<usize>
     ensures { result ≡ position is_free_row rows.now }
 {
     rows.iter().position(|row| row.is_free())
-}
-
-fn count_rows(rows: &[Row]) -> usize
-    ensures { result ≡ length (filter (λ row. not (is_free_row row)) rows.now) }
-{
-    rows.iter().filter(|row| !row.is_free()).count()
 }

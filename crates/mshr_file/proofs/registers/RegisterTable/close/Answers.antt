@@ -2,17 +2,17 @@ use Rattle.std.proofs.Common.{refl, sym, ap, arith, ◌∙◌, ◌≡◌, ◌++�
 use Rattle.std.proofs.lemmas.List.{get_or_default, append-nil}
 use Rattle.mshr_file.specs.Register.{no_register}
 use Rattle.mshr_file.proofs.Calls.{IsTaken, took, nothing_left}
-use Rattle.mshr_file.proofs.Rows.{kept_after}
+use Rattle.mshr_file.proofs.Rows.{kept_after, some_open}
 use Rattle.mshr_file.proofs.Steps.{sound}
 use Rattle.mshr_file.proofs.registers.RegisterTable.close.Goals as goal
 
-same : (c : goal.After-self-2-1) →
+same : (c : goal.After-self-3-1) →
     c.index_mut-register.result.now ≡ slice_index_or c.args.self.now.registers.items c.place_of-place.result no_register
 same c =
     c.index_mut-register.ensures.value
     ∙ get_or_default c.args.self.now.registers.items c.place_of-place.result c.index_mut-register.result.now no_register c.place_of-place.ensures.inside
 
-step : (c : goal.After-self-2-1) →
+step : (c : goal.After-self-3-1) →
     IsTaken c.args.self.now.registers.items
     (slice_set c.args.self.now.registers.items c.place_of-place.result
     (record { targets = c.take_all-all.new.self; line = c.index_mut-register.result.now.line }))
@@ -47,6 +47,10 @@ returns-clause-kept c =
     refl
     c.row-row.ensures.value
     c.row-row.ensures.few
+    (let count = (step c).count in
+    let none = nothing_left c.take_all-all.new.self c.take_all-all.ensures.left in
+    let counted = c.requires.kept.counted in
+    omega (arith, count, none, counted))
 
 pub returns-clause-sound : goal.returns-clause-sound
 returns-clause-sound c = sound _ (step c).single
@@ -62,3 +66,8 @@ returns-clause-count c =
     let count = (step c).count in
     let none = nothing_left c.take_all-all.new.self c.take_all-all.ensures.left in
     omega (arith, count, none)
+
+pub overflow_sub-self : goal.overflow_sub-self
+overflow_sub-self c =
+    let some = some_open c.args.self.now c.args.line.0 c.requires.kept c.requires.served in
+    omega (arith, some)

@@ -58,6 +58,7 @@ returns-clause-kept c =
     refl
     c.row-row.ensures.value
     c.row-row.ensures.few
+    (let count = (step c).count in let counted = c.requires.kept.counted in omega (arith, count, counted))
 
 pub returns-clause-sound : goal.returns-clause-sound
 returns-clause-sound c = sound _ (step c).single

@@ -1,4 +1,4 @@
-use Rattle.std.proofs.Common.{refl, ◌∙◌, ◌≡◌, slice_index_or, slice_set}
+use Rattle.std.proofs.Common.{refl, arith, ◌∙◌, ◌≡◌, slice_index_or, slice_set}
 use Rattle.std.proofs.lemmas.List.{get_or_default}
 use Rattle.mshr_file.specs.Register.{no_register}
 use Rattle.mshr_file.proofs.Calls.{IsAdded, opened}
@@ -6,14 +6,14 @@ use Rattle.mshr_file.proofs.Rows.{kept_after}
 use Rattle.mshr_file.proofs.Steps.{sound}
 use Rattle.mshr_file.proofs.registers.RegisterTable.open.Goals as goal
 
-same : (c : goal.After-self-2-1) →
+same : (c : goal.After-self-3-1) →
     c.index_mut-register.result.now
     ≡ slice_index_or c.args.self.now.registers.items c.free_place-place.result no_register
 same c =
     c.index_mut-register.ensures.value
     ∙ get_or_default c.args.self.now.registers.items c.free_place-place.result c.index_mut-register.result.now no_register c.free_place-place.ensures.inside
 
-step : (c : goal.After-self-2-1) →
+step : (c : goal.After-self-3-1) →
     IsAdded c.args.self.now.registers.items
     (slice_set c.args.self.now.registers.items c.free_place-place.result
     (record { targets = c.push.new.self; line = c.args.line }))
@@ -47,6 +47,7 @@ returns-clause-kept c =
     refl
     c.row-row.ensures.value
     c.row-row.ensures.few
+    (let count = (step c).count in let counted = c.requires.kept.counted in omega (arith, count, counted))
 
 pub returns-clause-sound : goal.returns-clause-sound
 returns-clause-sound c = sound _ (step c).single

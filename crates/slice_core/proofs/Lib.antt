@@ -30,3 +30,4 @@ pub mod SoundDelivery
 pub mod SoundBegin
 pub mod Shape
 pub mod Runs
+pub mod Machine

@@ -1,4 +1,4 @@
--- Each call on a slice leaves it the cores, the lines and the setting that it had.
+-- Each call on a slice leaves it the cores, the lines, the initial values and the setting that it had.
 use Rattle.std.proofs.Common.{◌≡◌, List, length, Option, Some, None, Result, Err, refl, sym, ◌∙◌, subst, inl, inr, length-set}
 use Rattle.address_map.specs.Locator.{local_at}
 use Rattle.address_map.specs.declared.address.CoreId.{CoreId}
@@ -38,19 +38,21 @@ use Rattle.slice_queues_message.specs.declared.channel.Channel.{Channel}
 use Rattle.slice_queues_message.specs.declared.channel.Class.{Class}
 use Rattle.slice_queues_message.specs.declared.channel.Pick.{Pick}
 
--- the new view has the cores and the lines of the old one
+-- the new view has the cores, the lines and the initial values of the old one
 record HasShape (old new : View) : Type 0 where
   sides : length new.sides ≡ length old.sides
   lines : new.lines ≡ old.lines
+  init : new.init ≡ old.init
 
--- the new state has the cores, the lines and the setting of the old one
+-- the new state has the cores, the lines, the initial values and the setting of the old one
 pub record SameShape (old new : PartsView) : Type 0 where
   pub sides : length new.view.sides ≡ length old.view.sides
   pub lines : new.view.lines ≡ old.view.lines
+  pub init : new.view.init ≡ old.view.init
   pub exclusive : new.stats.exclusive ≡ old.stats.exclusive
 
 same-is : (old new : PartsView) → new ≡ old → SameShape old new
-same-is old new e = subst (SameShape old) (sym e) (record { sides = refl; lines = refl; exclusive = refl })
+same-is old new e = subst (SameShape old) (sym e) (record { sides = refl; lines = refl; init = refl; exclusive = refl })
 
 opened-exclusive : (stats : StatsView) (core : CoreId) (way : Way)
     → (opened_stats stats core way).exclusive ≡ stats.exclusive
@@ -59,9 +61,9 @@ opened-exclusive stats core ways.Held = refl
 opened-exclusive stats core ways.Free = refl
 
 with-way : (v : View) (core : CoreId) (local : Local) (way : Way) → HasShape v (with_way v core local way)
-with-way v core local ways.Victim = record { sides = simp length-set; lines = refl }
-with-way v core local ways.Held = record { sides = refl; lines = refl }
-with-way v core local ways.Free = record { sides = refl; lines = refl }
+with-way v core local ways.Victim = record { sides = simp length-set; lines = refl; init = refl }
+with-way v core local ways.Held = record { sides = refl; lines = refl; init = refl }
+with-way v core local ways.Free = record { sides = refl; lines = refl; init = refl }
 
 opened : (v : View) (core : CoreId) (request : Request) (local : Local) (way : Way) (next : CopyState) (ask : Ask)
     (misses : List Register) → HasShape v (after_open v core request local way next ask misses)
@@ -70,39 +72,45 @@ opened v core request local way next ask misses =
     record {
       sides = let kept : _ ≡ length (with_way v core local way).sides = simp length-set in kept ∙ before.sides;
       lines = before.lines;
+      init = before.init;
     }
 
 accepted : (access : Access) (old : PartsView) (core : CoreId) (request : Request) (local : Local) (answer : Issue)
     (new : PartsView) → AfterAccepting access old core request local answer new → SameShape old new
 accepted (accesses.Stall stall) old core request local answer new h = same-is old new h.1
 accepted (accesses.Hit place next silent) old core request local answer new h =
-    subst (SameShape old) (sym h.1) (record { sides = simp length-set; lines = refl; exclusive = refl })
+    subst (SameShape old) (sym h.1) (record { sides = simp length-set; lines = refl; init = refl; exclusive = refl })
 accepted accesses.Join old core request local answer new h =
-    subst (SameShape old) (sym h.3.1) (record { sides = simp length-set; lines = refl; exclusive = refl })
+    subst (SameShape old) (sym h.3.1) (record { sides = simp length-set; lines = refl; init = refl; exclusive = refl })
 accepted (accesses.Open next ask way) old core request local answer new h =
     let shape = opened old.view core request local way next ask h.0 in
     subst (SameShape old) (sym h.3.1)
-    (record { sides = shape.sides; lines = shape.lines; exclusive = opened-exclusive old.stats core way })
+    (record {
+      sides = shape.sides;
+      lines = shape.lines;
+      init = shape.init;
+      exclusive = opened-exclusive old.stats core way;
+    })
 
 accessed : (access : Access) (old : PartsView) (core : CoreId) (request : Request) (local : Local)
     (answer : Result Issue Refused) (new : PartsView) → AfterAccess access old core request local answer new
     → SameShape old new
 accessed (accesses.Stall stall) old core request local answer new h =
-    subst (SameShape old) (sym h.1) (record { sides = refl; lines = refl; exclusive = refl })
+    subst (SameShape old) (sym h.1) (record { sides = refl; lines = refl; init = refl; exclusive = refl })
 accessed (accesses.Hit place next silent) old core request local answer new (inl lacks) =
     same-is old new lacks.unchanged
 accessed (accesses.Hit place next silent) old core request local answer new (inr is) =
     let after =
     accepted (accesses.Hit place next silent) (record old { room = is.0 }) core request local is.1 new is.5 in
-    record { sides = after.sides; lines = after.lines; exclusive = after.exclusive }
+    record { sides = after.sides; lines = after.lines; init = after.init; exclusive = after.exclusive }
 accessed accesses.Join old core request local answer new (inl lacks) = same-is old new lacks.unchanged
 accessed accesses.Join old core request local answer new (inr is) =
     let after = accepted accesses.Join (record old { room = is.0 }) core request local is.1 new is.5 in
-    record { sides = after.sides; lines = after.lines; exclusive = after.exclusive }
+    record { sides = after.sides; lines = after.lines; init = after.init; exclusive = after.exclusive }
 accessed (accesses.Open next ask way) old core request local answer new (inl lacks) = same-is old new lacks.unchanged
 accessed (accesses.Open next ask way) old core request local answer new (inr is) =
     let after = accepted (accesses.Open next ask way) (record old { room = is.0 }) core request local is.1 new is.5 in
-    record { sides = after.sides; lines = after.lines; exclusive = after.exclusive }
+    record { sides = after.sides; lines = after.lines; init = after.init; exclusive = after.exclusive }
 
 module _ (old : PartsView) (core : CoreId) (request : Request) (answer : Result Issue Refused) (new : PartsView) where
   -- what an issue answers and leaves, by what was decided
@@ -131,7 +139,8 @@ module _ (old : PartsView) (core : CoreId) (line : LineAddr) (answer : Evicted) 
 
   answered : (local : Local) (given : Evicted) → by_answer local given → SameShape old new
   answered local evictions.Evicting after =
-      subst (SameShape old) (sym after) (record { sides = simp length-set; lines = refl; exclusive = refl })
+      subst (SameShape old) (sym after)
+      (record { sides = simp length-set; lines = refl; init = refl; exclusive = refl })
   answered local evictions.Busy after = same-is old new after
   answered local evictions.NotHeld after = same-is old new after
   answered local evictions.WriteBackFull after = same-is old new after
@@ -146,7 +155,7 @@ module _ (old : PartsView) (core : CoreId) (line : LineAddr) (answer : Evicted) 
 settled : (old : PartsView) (local : Local) (core : CoreId) (channel : Channel) (copy : CacheCopy) (new : PartsView)
     → Settles old local core channel copy new → SameShape old new
 settled old local core channel copy new h =
-    subst (SameShape old) (sym h.3) (record { sides = simp length-set; lines = refl; exclusive = refl })
+    subst (SameShape old) (sym h.3) (record { sides = simp length-set; lines = refl; init = refl; exclusive = refl })
 
 planned : (plan : Plan) (old : PartsView) (local : Local) (channel : Channel) (answer : Delivered) (new : PartsView)
     → AfterPlan plan old local channel answer new → SameShape old new
@@ -154,11 +163,11 @@ planned plans.Nothing old local channel answer new h = same-is old new h.1
 planned plans.Blocked old local channel answer new h = same-is old new h.1
 planned (plans.Broken cell) old local channel answer new h = same-is old new h.1
 planned (plans.Directory state owner sharers sent writes) old local channel answer new h =
-    subst (SameShape old) (sym h.1) (record { sides = refl; lines = refl; exclusive = refl })
+    subst (SameShape old) (sym h.1) (record { sides = refl; lines = refl; init = refl; exclusive = refl })
 planned (plans.Home state owner sharers) old local channel answer new h =
-    subst (SameShape old) (sym h.1) (record { sides = refl; lines = refl; exclusive = refl })
+    subst (SameShape old) (sym h.1) (record { sides = refl; lines = refl; init = refl; exclusive = refl })
 planned (plans.Forwarded next sent requester) old local channel answer new h =
-    subst (SameShape old) (sym h.1) (record { sides = simp length-set; lines = refl; exclusive = refl })
+    subst (SameShape old) (sym h.1) (record { sides = simp length-set; lines = refl; init = refl; exclusive = refl })
 planned (plans.Fill place next) old local channel answer new h = settled old local _ channel _ new h.1
 planned (plans.Acknowledge place next) old local channel answer new h = settled old local _ channel _ new h.1
 
@@ -187,4 +196,4 @@ pub shape-hand : (old : PartsView) (core : CoreId) (answer : Option Numbered) (n
     → AfterHand old core answer new → SameShape old new
 shape-hand old core None new h = same-is old new h.1
 shape-hand old core (Some given) new h =
-    subst (SameShape old) (sym h.3) (record { sides = simp length-set; lines = refl; exclusive = refl })
+    subst (SameShape old) (sym h.3) (record { sides = simp length-set; lines = refl; init = refl; exclusive = refl })

@@ -1,10 +1,13 @@
--- What a list of calls answers and leaves.
-use Rattle.std.specs.Prelude.{◌≡◌, ℕ, ◌<◌, List, [], ◌∷◌, All}
+-- What a list of calls answers and leaves, and which run of the small machine it is.
+use Rattle.std.specs.Prelude.{◌≡◌, ℕ, ◌<◌, List, [], ◌∷◌, ◌++◌, map, All}
 use Rattle.slice_core.specs.declared.run.Call.{Call}
 use Rattle.slice_core.specs.declared.run.Call.TheVariants as calls
 use Rattle.slice_core.specs.declared.run.CallAnswer.{CallAnswer}
 use Rattle.slice_core.specs.declared.run.CallAnswer.TheVariants as answers
+use Rattle.slice_core_machine.specs.Machine.{Step, perform}
+use Rattle.slice_core_machine.specs.Shows.{Leads, Performs, hand_steps, issue_steps, next_of}
 use Rattle.slice_core_plan.specs.Parts.{PartsView, AfterDeliverNext, AfterDelivery, AfterEvict, AfterHand, AfterIssue}
+use Rattle.slice_core_plan.specs.View.{View}
 
 -- the core that the call names, where it names one, is one of so many
 abbrev pub HasCore : ℕ → Call → Type 0
@@ -34,3 +37,35 @@ Runs old [] [] new = new ≡ old
 Runs old (call ∷ calls) (answer ∷ answers) new =
     (next : PartsView) × AfterCall old call answer next × Runs next calls answers new
 Runs old calls answers new = ⊥
+
+-- ---- a run of the small machine
+
+-- The steps of a call, as its answer says: a request that is done at once is accepted, performed and handed out; one
+-- that is pending is accepted; a delivery performs as many requests as the log grows by; a hand-out hands out; and all
+-- else is no step.
+abbrev pub AreSteps : View → Call → CallAnswer → View → List Step → Type 0
+AreSteps old (calls.Issue core request) (answers.Issue answer) new steps =
+    steps ≡ issue_steps (next_of old core request) answer
+AreSteps old (calls.Evict core line) (answers.Evict answer) new steps = steps ≡ []
+AreSteps old (calls.Deliver pick) (answers.Deliver answer) new steps =
+    (done : Performs old new) × (steps ≡ map perform done.requests)
+AreSteps old (calls.DeliverNext class) (answers.DeliverNext answer) new steps =
+    (done : Performs old new) × (steps ≡ map perform done.requests)
+AreSteps old (calls.Hand core) (answers.Hand answer) new steps = steps ≡ hand_steps answer
+AreSteps old call answer new steps = ⊥
+
+-- The steps of calls made in order, one call's after another's: those of each call lead from what the slice showed
+-- before it to what it shows after it.
+abbrev pub AreStepsOfEach : PartsView → List Call → List CallAnswer → PartsView → List Step → Type 0
+AreStepsOfEach old [] [] new steps = (new ≡ old) × (steps ≡ [])
+AreStepsOfEach old (call ∷ calls) (answer ∷ answers) new steps =
+    (next : PartsView) × (first : List Step) × (rest : List Step) × (steps ≡ first ++ rest)
+    × AfterCall old call answer next × AreSteps old.view call answer next.view first × Leads first old.view next.view
+    × AreStepsOfEach next calls answers new rest
+AreStepsOfEach old calls answers new steps = ⊥
+
+-- Calls made in order are one run of the small machine.
+pub record IsOneRun (old : PartsView) (calls : List Call) (answers : List CallAnswer) (new : PartsView) : Type 0 where
+  pub steps : List Step
+  pub each : AreStepsOfEach old calls answers new steps
+  pub leads : Leads steps old.view new.view

@@ -1,8 +1,10 @@
-ghost use Rattle.std.specs.Prelude.{◌≡◌, ℕ, ◌<◌, ◌↔◌, length, IfOk, IsTrue, IsSome};
+ghost use Rattle.std.specs.Prelude.{◌≡◌, ℕ, ◌<◌, ◌↔◌, [], ◌∷◌, length, IfOk, IsTrue, IsSome};
 ghost use Rattle.address_map.specs.Locator.{local_at};
 ghost use Rattle.address_map.specs.Place.{line_of};
 ghost use Rattle.slice_core.specs.Facts.{Holds, IsInverted, IsNotBroken, IsNotBrokenNext, NeedsNoRegister, ShowsLast, ShowsLine, ShowsWord};
-ghost use Rattle.slice_core.specs.Run.{AfterCall, HasCore, HasCores, Runs};
+ghost use Rattle.slice_core.specs.Run.{AfterCall, HasCore, HasCores, IsOneRun, Runs};
+ghost use Rattle.slice_core_machine.specs.Machine.{IsSame, new_machine};
+ghost use Rattle.slice_core_machine.specs.Shows.{Leads, Performs, hand_steps, issue_steps, next_of, shown};
 ghost use Rattle.slice_core_plan.specs.Parts.{PartsView, AfterDeliverNext, AfterDelivery, AfterEvict, AfterHand, AfterIssue, IsNew};
 ghost use Rattle.slice_core_plan.specs.View.{View, IsQuiet};
 
@@ -39,6 +41,7 @@ impl<F: MissFile> SliceState<F> {
     pub fn build(alloc: Global, config: &Checked, slice: SliceId) -> Result<Self, AllocError>
         requires { slice.0 < config.now.slices }
         ensures new { IfOk result (IsNew config.now (F.bound_by config.now) slice) }
+        ensures machine { IfOk result (λ p. IsSame new_machine (shown p.view)) }
         ensures holds { IfOk result Holds }
     {
         Ok(SliceState {
@@ -52,6 +55,7 @@ impl<F: MissFile> SliceState<F> {
     pub fn issue(&mut self, core: CoreId, request: Request) -> Result<Issue, Refused>
         requires { core.0 < length self.old.view.sides }
         ensures step { AfterIssue self.old core request result self.new }
+        ensures machine { Leads (issue_steps (next_of self.old.view core request) result) self.old.view self.new.view }
         ensures unbounded { IsInverted self.old.view core → NeedsNoRegister result }
         ensures holds { Holds self.new }
     {
@@ -62,6 +66,7 @@ impl<F: MissFile> SliceState<F> {
     pub fn evict(&mut self, core: CoreId, line: LineAddr) -> Evicted
         requires { core.0 < length self.old.view.sides }
         ensures step { AfterEvict self.old core line result self.new }
+        ensures machine { Leads [] self.old.view self.new.view }
         ensures holds { Holds self.new }
     {
         self.parts.evict(core, line)
@@ -70,6 +75,7 @@ impl<F: MissFile> SliceState<F> {
     /// Takes the front message of a channel and does its row of the tables, where there is one.
     pub fn deliver(&mut self, pick: Pick) -> Delivered
         ensures step { AfterDelivery self.old pick result self.new }
+        ensures machine { Performs self.old.view self.new.view }
         ensures unbroken { IsNotBroken result }
         ensures holds { Holds self.new }
     {
@@ -79,6 +85,7 @@ impl<F: MissFile> SliceState<F> {
     /// Makes one delivery of the class, where one can be made.
     pub fn deliver_next(&mut self, class: Class) -> DeliveredNext
         ensures step { AfterDeliverNext self.old class result self.new }
+        ensures machine { Performs self.old.view self.new.view }
         ensures unbroken { IsNotBrokenNext result }
         ensures holds { Holds self.new }
     {
@@ -89,6 +96,7 @@ impl<F: MissFile> SliceState<F> {
     pub fn hand(&mut self, core: CoreId) -> Option<Numbered>
         requires { core.0 < length self.old.view.sides }
         ensures step { AfterHand self.old core result self.new }
+        ensures machine { Leads (hand_steps result) self.old.view self.new.view }
         ensures holds { Holds self.new }
     {
         self.parts.hand(core)
@@ -99,6 +107,7 @@ impl<F: MissFile> SliceState<F> {
         requires places { length answers.old ≡ length calls.now }
         requires known { HasCores (length self.old.view.sides) calls.now }
         ensures run { Runs self.old calls.now answers.new self.new }
+        ensures machine { IsOneRun self.old calls.now answers.new self.new }
         ensures cores { length self.new.view.sides ≡ length self.old.view.sides }
         ensures holds { Holds self.new }
     {
@@ -112,7 +121,8 @@ impl<F: MissFile> SliceState<F> {
     /// Makes one call.
     fn call(&mut self, call: &Call) -> CallAnswer
         requires { HasCore (length self.old.view.sides) call.now }
-        ensures { AfterCall self.old call.now result self.new }
+        ensures step { AfterCall self.old call.now result self.new }
+        ensures machine { IsOneRun self.old (call.now ∷ []) (result ∷ []) self.new }
     {
         match *call {
             Call::Issue { core, request } => CallAnswer::Issue(self.issue(core, request)),

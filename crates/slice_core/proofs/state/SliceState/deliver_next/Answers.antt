@@ -1,9 +1,13 @@
+use Rattle.std.proofs.Common.{subst}
 use Rattle.slice_core.specs.Sound.{IsSound}
 use Rattle.slice_core.proofs.Coherent.{holds, unbroken_next}
 use Rattle.slice_core.proofs.AccountsCan.{can-deliver}
 use Rattle.slice_core.proofs.SoundDelivery.{sound-deliver_next}
 use Rattle.slice_core.proofs.state.SliceState.deliver_next.Given.{Over}
 use Rattle.slice_core.proofs.state.SliceState.deliver_next.Goals as goal
+use Rattle.slice_core.proofs.Machine.{machine-next}
+use Rattle.slice_core_machine.specs.Shows.{Performs}
+use Rattle.slice_core_plan.specs.Parts.{PartsView}
 
 -- the slice that the step leaves
 sound : (g : Over) (c : goal.After-deliver_next g) → IsSound c.deliver_next.new.self
@@ -21,6 +25,12 @@ pub returns-clause-unbroken : goal.returns-clause-unbroken
 returns-clause-unbroken g c =
     unbroken_next c.self.inside.parts c.self.invariant c.deliver_next.new.self c.args.class c.deliver_next.result
     c.deliver_next.ensures
+
+pub returns-clause-machine : goal.returns-clause-machine
+returns-clause-machine g c =
+    subst (λ (p : PartsView). Performs p.view c.deliver_next.new.self.view) c.self.view_is
+    (machine-next c.self.inside.parts c.self.invariant c.deliver_next.new.self c.args.class c.deliver_next.result
+    (sound g c) c.deliver_next.ensures)
 
 pub returns-clause-holds : goal.returns-clause-holds
 returns-clause-holds g c = holds c.deliver_next.new.self (sound g c)

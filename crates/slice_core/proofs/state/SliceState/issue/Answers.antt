@@ -7,6 +7,8 @@ use Rattle.slice_core.proofs.LinksInverted.{needs-issue}
 use Rattle.slice_core.proofs.SoundIssue.{sound-issue}
 use Rattle.slice_core.proofs.state.SliceState.issue.Given.{Over}
 use Rattle.slice_core.proofs.state.SliceState.issue.Goals as goal
+use Rattle.slice_core.proofs.Machine.{machine-issue}
+use Rattle.slice_core_machine.specs.Shows.{Leads, issue_steps, next_of}
 
 -- the core is one of the slice's
 known : (g : Over) (c : goal.After-issue g) → c.args.core.0 < length c.self.inside.parts.view.sides
@@ -29,6 +31,14 @@ returns-clause-unbounded g c inverted =
     needs-issue c.self.inside.parts c.args.core c.args.request c.issue.result c.issue.new.self c.self.invariant
     (known g c) (subst (λ (p : PartsView). IsInverted p.view c.args.core) (sym c.self.view_is) inverted)
     c.issue.ensures.step
+
+pub returns-clause-machine : goal.returns-clause-machine
+returns-clause-machine g c =
+    subst (λ (p : PartsView).
+    Leads (issue_steps (next_of p.view c.args.core c.args.request) c.issue.result) p.view c.issue.new.self.view)
+    c.self.view_is
+    (machine-issue c.self.inside.parts c.self.invariant c.issue.new.self c.args.core c.args.request c.issue.result
+    (known g c) (sound g c) c.issue.ensures.step)
 
 pub returns-clause-holds : goal.returns-clause-holds
 returns-clause-holds g c = holds c.issue.new.self (sound g c)

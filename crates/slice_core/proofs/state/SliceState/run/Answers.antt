@@ -1,17 +1,22 @@
-use Rattle.std.proofs.Common.{◌∙◌, subst}
+use Rattle.std.proofs.Common.{◌∙◌, refl, subst}
 use Rattle.slice_core.proofs.Coherent.{holds}
-use Rattle.slice_core.proofs.Runs.{cores_kept, run_more}
+use Rattle.slice_core.proofs.Runs.{cores_kept, no_run, run_more, runs}
 use Rattle.slice_core.proofs.state.SliceState.run.Goals as goal
 use Rattle.slice_core.specs.Facts.{Holds}
+
+pub loop-place-init : goal.loop-place-init
+loop-place-init g c = record { cores = refl; run = refl; machine = no_run c.args.self.now }
 
 pub loop-place-preserved : goal.loop-place-preserved
 loop-place-preserved g c =
     let before = c.loop-place in
+    let machine =
+    run_more c.args.self.now c.args.calls.now before.answers before.self before.place _ c.call.result c.call.new.self
+    c.loop-place-test.true (before.auto.answers ∙ c.requires.places) before.invariant.machine c.call.ensures.machine in
     record {
-      cores = cores_kept before.self _ c.call.result c.call.new.self c.call.ensures ∙ before.invariant.cores;
-      run = run_more c.args.self.now c.args.calls.now before.answers before.self before.place _ c.call.result
-          c.call.new.self c.loop-place-test.true (before.auto.answers ∙ c.requires.places) before.invariant.run
-          c.call.ensures;
+      cores = cores_kept before.self _ c.call.result c.call.new.self c.call.ensures.step ∙ before.invariant.cores;
+      run = runs c.args.self.now _ _ c.call.new.self machine;
+      machine = machine;
     }
 
 pub returns-clause-holds : goal.returns-clause-holds

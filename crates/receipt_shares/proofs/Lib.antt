@@ -1,0 +1,4 @@
+pub mod Sums
+pub mod Totals
+pub mod CounterWords
+pub mod Places

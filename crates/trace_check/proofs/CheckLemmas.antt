@@ -1,11 +1,13 @@
 -- What a check knows of the entries, and of the lines that it read.
-use Rattle.std.proofs.Common.{◌≡◌, ℕ, ◌<◌, ◌≤◌, List, [], ◌∷◌, ◌++◌, length, Option, Some, None, refl, sym, ap, ◌∙◌, arith, subst, append_assoc, append-nil}
+use Rattle.std.proofs.Common.{◌≡◌, ℕ, ◌<◌, ◌≤◌, List, [], ◌∷◌, ◌++◌, length, Option, Some, None, refl, sym, ap, ◌∙◌, ◌+◌, arith, subst, append_assoc, append-nil, length-append}
 use Rattle.std.specs.Prelude.{slice_get, All, IfSome}
-use Rattle.std.proofs.lemmas.List.{take-append-le, take_at, map-append}
-use Rattle.std.proofs.lemmas.List.Elements.{All-nil, All-push, All-weaker}
+use Rattle.std.proofs.Math.Seq.{get_or-append_seam}
+use Rattle.std.proofs.lemmas.List.{take-append-le, take_at, map-append, get_or_append_left}
+use Rattle.std.proofs.lemmas.List.Elements.{All-nil, All-push}
 use Rattle.std.proofs.lemmas.List.Quantifiers.{all_pairs_push}
 use Rattle.std.proofs.lemmas.Option.{slice_get_within}
 use Rattle.address_map.specs.declared.address.WordAddr.{WordAddr}
+use Rattle.address_map.specs.Words.{IsAscendingBy}
 use Rattle.slice_core_log.specs.Log.{initially}
 use Rattle.slice_core_log.specs.declared.entry.Entry.{Entry}
 use Rattle.trace_check.specs.declared.judge.Judge.{Judge}
@@ -20,7 +22,7 @@ use Rattle.trace_check.specs.declared.trace_line.TraceLine.TheVariants as trace_
 use Rattle.trace_check.specs.Verdict.{IsVerdict, IsWrong}
 use Rattle.trace_check.specs.Judge.{Knows}
 use Rattle.trace_check.specs.TraceLine.{IsLineOf, cores_of}
-use Rattle.trace_check.specs.Trace.{AreLines, lines_of, AreNamedUpTo, IsSoFar, Stands, MayBegin, IsReading, AreJudged}
+use Rattle.trace_check.specs.Trace.{AreLines, lines_of, IsLastNamed, IsSoFar, Stands, MayBegin, IsReading, AreJudged}
 use Rattle.trace_check.proofs.SeqLemmas.{slice_get-append, slice_get-last}
 
 -- the first entry at fault stays so, whatever comes behind it
@@ -73,11 +75,21 @@ verdict_legal judge initial entries fault n is count h =
     let knows : Knows judge initial entries = rw is at h in
     (count, knows.legal, knows.ordered)
 
-named_above : (last : Option WordAddr) (init : List (WordAddr × ℕ)) (word : WordAddr) → AreNamedUpTo last init
-    → IfSome last (λ l. l.0 < word.0) → All (λ pair. pair.0.0 < word.0) init
-named_above None init word none above = rw none (All-nil (λ pair. pair.0.0 < word.0))
-named_above (Some l) init word named above =
-    All-weaker (λ pair. pair.0.0 ≤ l.0) (λ pair. pair.0.0 < word.0) (λ pair h. let below : pair.0.0 ≤ l.0 = h in omega arith) init named
+-- a word above the last that was named is above all of them
+named_above : (last : Option WordAddr) (init : List (WordAddr × ℕ)) (word : WordAddr) → IsLastNamed last init
+    → IsAscendingBy (λ pair. pair.0.0) init → IfSome last (λ l. l.0 < word.0) → All (λ pair. pair.0.0 < word.0) init
+named_above None init word none ascending above = rw none (All-nil (λ pair. pair.0.0 < word.0))
+named_above (Some l) init word named ascending above =
+    let before : List (WordAddr × ℕ) = named.0 in
+    let last : WordAddr × ℕ = (l, named.1.0) in
+    let shape : init ≡ before ++ last ∷ [] = named.1.1 in
+    let sorted : IsAscendingBy (λ pair. pair.0.0) (before ++ last ∷ []) = subst (λ xs. IsAscendingBy (λ pair. pair.0.0) xs) shape ascending in
+    let under : All (λ pair. pair.0.0 < word.0) before = λ k d within.
+    (let long : length (before ++ last ∷ []) ≡ length before + 1 = simp length-append refl in
+    let lower = rw (get_or_append_left before (last ∷ []) d k within, get_or-append_seam before last [] d)
+    at (sorted k (length before) d within (omega arith)) in
+    omega arith) in
+    rw shape (All-push (λ pair. pair.0.0 < word.0) before last under above)
 
 so_far_named : (judge now : Judge) (was is : ℕ → ℕ) (fault : Option (ℕ × Reason)) → (Knows judge was [] → Knows now is [])
     → IsSoFar judge was [] fault → IsSoFar now is [] fault
@@ -91,11 +103,10 @@ pub stands-begin : (was now : Check) (init : List (WordAddr × ℕ)) (word : Wor
     → (All (λ pair. pair.0.0 < word.0) init → Knows was.judge (initially init) [] → Knows now.judge (initially (init ++ (word, v) ∷ [])) [])
     → Stands was init [] → Stands now (init ++ (word, v) ∷ []) []
 stands-begin was now init word v may last entries fault named stands =
-    let below = named_above was.last init word stands.last may.above in
-    let weaker = All-weaker (λ pair. pair.0.0 < word.0) (λ pair. pair.0.0 ≤ word.0) (λ pair h. let under : pair.0.0 < word.0 = h in omega arith) init below in
+    let below = named_above was.last init word stands.last stands.ascending may.above in
     record {
       ascending = all_pairs_push (λ a b. a.0.0 < b.0.0) init (word, v) stands.ascending (λ k d within. below k d within);
-      last = rw last (All-push (λ pair. pair.0.0 ≤ word.0) init (word, v) weaker (omega arith));
+      last = rw last (init, (v, refl));
       count = entries ∙ stands.count;
       so_far = rw fault (so_far_named was.judge now.judge (initially init) (initially (init ++ (word, v) ∷ [])) was.fault (named below) stands.so_far);
     }

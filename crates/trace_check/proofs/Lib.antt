@@ -4,3 +4,4 @@ mod VerdictLemmas
 mod FormLemmas
 mod CheckLemmas
 mod ExactLemmas
+mod RefusalLemmas

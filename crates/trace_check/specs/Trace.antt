@@ -1,5 +1,5 @@
 -- What the text of a trace is.
-use Rattle.std.specs.Prelude.{◌≡◌, ℕ, List, [], ◌∷◌, ◌++◌, map, length, All, ◌<◌, ◌≤◌, IfSome, Option, Some, None}
+use Rattle.std.specs.Prelude.{◌≡◌, ℕ, List, [], ◌∷◌, ◌++◌, map, length, ◌<◌, IfSome, Option, Some, None}
 use Rattle.std.specs.Str.Lines.{lines}
 use Rattle.address_map.specs.declared.address.WordAddr.{WordAddr}
 use Rattle.address_map.specs.Words.{IsAscendingBy}
@@ -7,6 +7,8 @@ use Rattle.slice_core_log.specs.Log.{initially}
 use Rattle.slice_core_log.specs.declared.entry.Entry.{Entry}
 use Rattle.litmus_text.specs.Form.{Writes}
 use Rattle.litmus_text.specs.Statement.{statements_from}
+use Rattle.litmus_text.specs.declared.fault.TextFault.{TextFault}
+use Rattle.litmus_text.specs.declared.fault.TextFault.TheVariants as faults
 use Rattle.trace_check.specs.declared.trace_line.Version.{Version}
 use Rattle.trace_check.specs.declared.trace_line.TraceLine.{TraceLine}
 use Rattle.trace_check.specs.declared.trace_line.TraceLine.TheVariants as trace_lines
@@ -52,10 +54,25 @@ pub record IsJudged (text : List ℕ) (verdict : Verdict) : Type 0 where
   pub trace : IsTrace version init entries text
   pub is : IsVerdict (initially init) entries verdict
 
--- the words that were named are at most the last one
-abbrev pub AreNamedUpTo : Option WordAddr → List (WordAddr × ℕ) → Type 0
-AreNamedUpTo None init = init ≡ []
-AreNamedUpTo (Some last) init = All (λ pair. pair.0.0 ≤ last.0) init
+-- the text is no trace, whatever values it were to begin with and whatever entries it were to have
+abbrev pub IsNoTrace : List ℕ → Type 0
+IsNoTrace text = (version : Version) (init : List (WordAddr × ℕ)) (entries : List Entry) → ¬ IsTrace version init entries text
+
+-- the statements are no trace of this version behind its first line
+abbrev pub AreNoTrace : Version → List (ℕ × List (List ℕ)) → Type 0
+AreNoTrace version statements = (init : List (WordAddr × ℕ)) (entries : List Entry) → ¬ AreTrace version init entries statements
+
+-- why a text was read no further: there was no memory, or a line is at fault, and then it is refused for this
+abbrev pub IsNoMemoryOr : Type 0 → TextFault → Type 0
+IsNoMemoryOr refused faults.NoMemory = Unit {0}
+IsNoMemoryOr refused (faults.Line number fault) = refused
+IsNoMemoryOr refused (faults.Config error) = ⊥
+IsNoMemoryOr refused faults.CannotWrite = ⊥
+
+-- the word that was named last
+abbrev pub IsLastNamed : Option WordAddr → List (WordAddr × ℕ) → Type 0
+IsLastNamed None init = init ≡ []
+IsLastNamed (Some last) init = (before : List (WordAddr × ℕ)) × ((value : ℕ) × (init ≡ before ++ (last, value) ∷ []))
 
 -- what the entries so far came to: a log that the judge knows, or a first entry at fault
 unfoldable pub IsSoFar : Judge → (ℕ → ℕ) → List Entry → Option (ℕ × Reason) → Type 0
@@ -65,7 +82,7 @@ IsSoFar judge initial entries (Some fault) = IsVerdict initial entries (verdicts
 -- what is kept of the initial values and the entries that were read
 pub record Stands (check : Check) (init : List (WordAddr × ℕ)) (entries : List Entry) : Type 0 where
   pub ascending : IsAscendingBy (λ pair. pair.0.0) init
-  pub last : AreNamedUpTo check.last init
+  pub last : IsLastNamed check.last init
   pub count : check.entries ≡ length entries
   pub so_far : IsSoFar check.judge (initially init) entries check.fault
 
@@ -78,6 +95,10 @@ pub record MayBegin (check : Check) (word : WordAddr) : Type 0 where
 unfoldable pub MayFollow : Check → TraceLine → Type 0
 MayFollow check (trace_lines.Init word value) = MayBegin check word
 MayFollow check (trace_lines.Entry entry) = Unit {0}
+
+-- the words write no line that may come next
+abbrev pub IsNoNextLine : Check → List (List ℕ) → Type 0
+IsNoNextLine check words = (line : TraceLine) → IsLineOf check.version words line → ¬ MayFollow check line
 
 -- what was read of the statements, and what is left of them
 pub record IsReading (check : Check) (all left : List (ℕ × List (List ℕ))) : Type 0 where

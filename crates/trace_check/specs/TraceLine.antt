@@ -20,6 +20,10 @@ number_of versions.Two = codes "2"
 abbrev pub parts_of_first : Version → List Part
 parts_of_first version = key (codes "lockup-trace") ∷ key (number_of version) ∷ []
 
+-- the words are the first line of no version
+abbrev pub IsNoFirstLine : List (List ℕ) → Type 0
+IsNoFirstLine words = (version : Version) → ¬ Writes words (parts_of_first version)
+
 -- each other line
 abbrev pub parts_of_line : TraceLine → List Part
 parts_of_line (lines.Init word value) = key (codes "init") ∷ num word.0 ∷ num value ∷ []
@@ -58,3 +62,7 @@ IsInRange version (lines.Entry e) = IsEntryOf version e
 pub record IsLineOf (version : Version) (words : List (List ℕ)) (line : TraceLine) : Type 0 where
   pub written : Writes words (parts_of_line line)
   pub in_range : IsInRange version line
+
+-- the words write no line of a trace of this version
+abbrev pub IsNoLineOf : Version → List (List ℕ) → Type 0
+IsNoLineOf version words = (line : TraceLine) → ¬ IsLineOf version words line

@@ -1,4 +1,4 @@
-ghost use Rattle.std.specs.Prelude.{◌≡◌, ℕ, ◌<◌, List, [], ◌∷◌, ◌++◌, map, length, IfOk, OnOk, IsTrue, ◌↔◌};
+ghost use Rattle.std.specs.Prelude.{◌≡◌, ℕ, ◌<◌, List, [], ◌∷◌, ◌++◌, map, length, IfOk, IfErr, OnOk, IsTrue, ◌↔◌};
 ghost use Rattle.address_map.specs.declared.address.WordAddr.{WordAddr};
 ghost use Rattle.slice_core_log.specs.Log.{initially};
 ghost use Rattle.slice_core_log.specs.declared.entry.Entry.{Entry};
@@ -6,7 +6,7 @@ ghost use Rattle.trace_check.specs.Judge.{IsNameable};
 ghost use Rattle.trace_check.specs.declared.judge.TheConstants.{MOST_WORDS};
 ghost use Rattle.trace_check.specs.TraceLine.{IsLineOf};
 ghost use Rattle.trace_check.specs.Verdict.{IsVerdict};
-ghost use Rattle.trace_check.specs.Trace.{IsJudged, AreJudged, IsReading, IsSoFar, Stands, MayBegin, MayFollow};
+ghost use Rattle.trace_check.specs.Trace.{IsJudged, AreJudged, IsNoTrace, AreNoTrace, IsNoMemoryOr, IsNoNextLine, IsReading, IsSoFar, Stands, MayBegin, MayFollow};
 
 use super::judge::Judge;
 use super::trace_line::{TraceLine, Version};
@@ -29,9 +29,11 @@ struct Check {
     fault: Option<(usize, Reason)>,
 }
 
-/// Judges a trace. The whole text is read first, so a faulty line counts before an entry at fault.
+/// Judges a trace. The whole text is read first, so a faulty line counts before an entry at fault. The only faults are
+/// want of memory and a faulty line.
 pub fn check_trace(alloc: Global, input: &[u8]) -> Result<Verdict, TextFault>
-    ensures { IfOk result (IsJudged input.now) }
+    ensures judged { IfOk result (IsJudged input.now) }
+    ensures refused { IfErr result (IsNoMemoryOr (IsNoTrace input.now)) }
 {
     let mut statements = Statements::of(input);
     let Some(first) = statements.next() else {
@@ -49,7 +51,8 @@ fn check_lines(
     version: Version,
     statements: Statements<'_>,
 ) -> Result<Verdict, TextFault>
-    ensures { IfOk result (AreJudged version statements.entry) }
+    ensures judged { IfOk result (AreJudged version statements.entry) }
+    ensures refused { IfErr result (IsNoMemoryOr (AreNoTrace version statements.entry)) }
 {
     let mut check = Check::new(alloc, version);
     for statement in statements {
@@ -74,6 +77,7 @@ impl Check {
 
     fn take(&mut self, statement: &Statement<'_>) -> Result<(), TextFault>
         ensures reading { OnOk result ((all left : List (ℕ × List (List ℕ))) → IsReading self.old all ((statement.now.number, map (λ w. w.now) statement.now.words.items) ∷ left) → IsReading self.new all left) }
+        ensures refused { IfErr result (IsNoMemoryOr (IsNoNextLine self.old (map (λ w. w.now) statement.now.words.items))) }
         ensures version { self.new.version ≡ self.old.version }
     {
         match self.line(statement.words.as_slice()) {
@@ -88,6 +92,7 @@ impl Check {
     fn line(&self, words: &[&[u8]]) -> Result<TraceLine, LineFault>
         ensures written { IfOk result (IsLineOf self.now.version (map (λ w. w.now) words.now)) }
         ensures follows { IfOk result (MayFollow self.now) }
+        ensures refused { IfErr result (λ fault. IsNoNextLine self.now (map (λ w. w.now) words.now)) }
     {
         match TraceLine::parse(self.version, words) {
             Ok(TraceLine::Init(word, value)) if self.may_begin(word) => {
@@ -118,6 +123,7 @@ impl Check {
         requires word { word.0 < MOST_WORDS }
         requires place { MayBegin self.old word }
         ensures stands { OnOk result ((init : List (WordAddr × ℕ)) → Stands self.old init [] → Stands self.new (init ++ (word, value) ∷ []) []) }
+        ensures refused { IfErr result (λ fault. fault ≡ TextFault.NoMemory) }
         ensures version { self.new.version ≡ self.old.version }
     {
         let Ok(()) = self.judge.begin(word, value) else {
@@ -130,6 +136,7 @@ impl Check {
     fn judge(&mut self, entry: &Entry) -> Result<(), TextFault>
         requires { IsNameable entry.now }
         ensures stands { OnOk result ((init : List (WordAddr × ℕ)) (entries : List Entry) → Stands self.old init entries → Stands self.new init (entries ++ entry.now ∷ [])) }
+        ensures refused { IfErr result (λ fault. fault ≡ TextFault.NoMemory) }
         ensures version { self.new.version ≡ self.old.version }
     {
         // so many entries are in no memory

@@ -2,11 +2,12 @@
 //! first at fault, and why.
 //!
 //! - [`check_trace`] judges a text. At Ok its lines write a trace's initial values and entries, and the verdict is that
-//!   on these entries (specs/Trace.antt).
+//!   on these entries. A text is refused only where it is no trace, with any initial values and entries; want of memory
+//!   is a fault of its own (specs/Trace.antt).
 //! - [`judge_log`] judges a log that is at hand (specs/Verdict.antt), and [`one_verdict`] says that no log has two
 //!   verdicts.
 //! - [`TraceLine`] is a line of a trace. At Ok of [`TraceLine::parse`] the words write that line, and it names only what
-//!   a trace of this version can (specs/TraceLine.antt).
+//!   a trace of this version can; they are refused only where they write no such line (specs/TraceLine.antt).
 //! - [`Judge`] has the value of each word and the greatest seq of each core and line (specs/Judge.antt), so an entry is
 //!   judged without a look at earlier ones.
 //!

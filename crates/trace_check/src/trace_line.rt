@@ -1,8 +1,8 @@
-ghost use Rattle.std.specs.Prelude.{◌≡◌, ◌∷◌, [], ◌++◌, ◌<◌, ◌↔◌, IfOk, IfErr, IfSome, IsTrue, map, codes, ℕ, List};
+ghost use Rattle.std.specs.Prelude.{◌≡◌, ◌∷◌, [], ◌++◌, ◌<◌, ◌↔◌, IfOk, IfErr, IfSome, IfNone, IsTrue, map, length, codes, ℕ, List};
 ghost use Rattle.std.specs.Result.{OkIff};
 ghost use Rattle.std.specs.Str.Parse.{digits_value};
 ghost use Rattle.litmus_text.specs.Number.{IsNumber};
-ghost use Rattle.trace_check.specs.TraceLine.{IsLineOf, IsOfVersion, BeginsWith, cores_of, number_of, parts_of_first};
+ghost use Rattle.trace_check.specs.TraceLine.{IsLineOf, IsNoLineOf, IsNoFirstLine, IsOfVersion, BeginsWith, cores_of, number_of, parts_of_first};
 ghost use Rattle.litmus_text.specs.Form.{Writes, key};
 ghost use Rattle.litmus_text.specs.Command.{parts_of_op};
 ghost use Rattle.address_map.specs.declared.request.Op.{Op};
@@ -37,7 +37,8 @@ pub enum TraceLine {
 impl Version {
     /// The version that the words of the first line name.
     pub fn parse(words: &[&[u8]]) -> Result<Self, LineFault>
-        ensures { IfOk result (λ version. Writes (map (λ w. w.now) words.now) (parts_of_first version)) }
+        ensures written { IfOk result (λ version. Writes (map (λ w. w.now) words.now) (parts_of_first version)) }
+        ensures refused { IfErr result (λ fault. IsNoFirstLine (map (λ w. w.now) words.now)) }
     {
         let Some((name, rest)) = words.split_first() else {
             return Err(LineFault::NotATrace);
@@ -50,7 +51,7 @@ impl Version {
 
     /// Whether a trace of this version can have the access, by its name.
     fn has_access(self, access: &[&[u8]]) -> bool
-        ensures { IsTrue result → (op : Op) (word : ℕ) → Writes (map (λ w. w.now) access.now) (parts_of_op op word) → IsOfVersion self op }
+        ensures { (op : Op) (word : ℕ) → Writes (map (λ w. w.now) access.now) (parts_of_op op word) → (IsTrue result ↔ IsOfVersion self op) }
     {
         match self {
             Version::One => !is_compare_exchange(access),
@@ -70,17 +71,20 @@ impl Version {
 }
 
 // The version, behind the word that all traces begin with.
+#[tactic(auto, using(litmus_text::proofs::FormLemmas::wrong_count))]
 fn version_of(words: &[&[u8]]) -> Result<Version, LineFault>
-    ensures { IfOk result (λ version. Writes (map (λ w. w.now) words.now) (key (number_of version) ∷ [])) }
+    ensures written { IfOk result (λ version. Writes (map (λ w. w.now) words.now) (key (number_of version) ∷ [])) }
+    ensures refused { IfErr result (λ fault. (version : Version) → Writes (map (λ w. w.now) words.now) (key (number_of version) ∷ []) → ⊥) }
 {
-    match words {
-        [number] => numbered(number),
-        _ => Err(LineFault::NotATrace),
-    }
+    let [number] = words else {
+        return Err(LineFault::NotATrace);
+    };
+    numbered(number)
 }
 
 fn numbered(number: &[u8]) -> Result<Version, LineFault>
-    ensures { IfOk result (λ version. number.now ≡ number_of version) }
+    ensures written { IfOk result (λ version. number.now ≡ number_of version) }
+    ensures refused { IfErr result (λ fault. (version : Version) → number.now ≡ number_of version → ⊥) }
 {
     match number {
         b"1" => Ok(Version::One),
@@ -93,7 +97,8 @@ impl TraceLine {
     /// The line that these words write. They are judged first by their keywords and their count, then as numbers, and
     /// last by what a trace can name.
     pub fn parse(version: Version, words: &[&[u8]]) -> Result<Self, LineFault>
-        ensures { IfOk result (IsLineOf version (map (λ w. w.now) words.now)) }
+        ensures written { IfOk result (IsLineOf version (map (λ w. w.now) words.now)) }
+        ensures refused { IfErr result (λ fault. IsNoLineOf version (map (λ w. w.now) words.now)) }
     {
         let Some((name, rest)) = words.split_first() else {
             return Err(LineFault::NotACommand);
@@ -108,7 +113,8 @@ impl TraceLine {
 
 #[tactic(auto, unfolding(crate::specs::TraceLine::IsInRange))]
 fn parse_init(words: &[&[u8]]) -> Result<TraceLine, LineFault>
-    ensures { (version : Version) → IfOk result (IsLineOf version (codes "init" ∷ map (λ w. w.now) words.now)) }
+    ensures written { (version : Version) → IfOk result (IsLineOf version (codes "init" ∷ map (λ w. w.now) words.now)) }
+    ensures refused { (version : Version) → IfErr result (λ fault. IsNoLineOf version (codes "init" ∷ map (λ w. w.now) words.now)) }
 {
     let [word, value] = words else {
         return Err(LineFault::NotACommand);
@@ -133,7 +139,8 @@ struct EntryWords<'a> {
 }
 
 fn entry_words<'a>(words: &'a [&'a [u8]]) -> Option<EntryWords<'a>>
-    ensures { IfSome result (λ e. map (λ w. w.now) words.now ≡ e.core.now ∷ e.seq.now ∷ e.tag.now ∷ (map (λ w. w.now) e.access.now ++ e.reply.now ∷ e.since.now ∷ [])) }
+    ensures parts { IfSome result (λ e. map (λ w. w.now) words.now ≡ e.core.now ∷ e.seq.now ∷ e.tag.now ∷ (map (λ w. w.now) e.access.now ++ e.reply.now ∷ e.since.now ∷ [])) }
+    ensures short { IfNone result (length words.now < 5) }
 {
     let [core, seq, tag, access @ .., reply, since] = words else {
         return None;
@@ -149,7 +156,8 @@ fn entry_words<'a>(words: &'a [&'a [u8]]) -> Option<EntryWords<'a>>
 }
 
 fn parse_entry(version: Version, words: &[&[u8]]) -> Result<TraceLine, LineFault>
-    ensures { IfOk result (IsLineOf version (codes "entry" ∷ map (λ w. w.now) words.now)) }
+    ensures written { IfOk result (IsLineOf version (codes "entry" ∷ map (λ w. w.now) words.now)) }
+    ensures refused { IfErr result (λ fault. IsNoLineOf version (codes "entry" ∷ map (λ w. w.now) words.now)) }
 {
     let Some(words) = entry_words(words) else {
         return Err(LineFault::NotACommand);

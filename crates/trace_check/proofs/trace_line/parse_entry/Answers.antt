@@ -1,19 +1,60 @@
-use Rattle.std.proofs.Common.{arith}
+use Rattle.std.proofs.Common.{◌≡◌, ◌<◌, true, length, map, arith}
+use Rattle.std.proofs.lemmas.List.{length-map}
+use Rattle.std.proofs.lemmas.Result.{err_from_is_err_and}
 use Rattle.trace_check.specs.TraceLine.{IsInRange}
-use Rattle.trace_check.proofs.FormLemmas.{entry_written}
+use Rattle.trace_check.proofs.FormLemmas.{entry_written, entry_refused, entry_too_short, one_word, one_number}
 use Rattle.trace_check.proofs.trace_line.parse_entry.Goals as goal
+use Rattle.trace_check.proofs.trace_line.parse_entry.Goals.{then-core-cores-via-then-core-cores, then-core-cores-via-else-core-cores+then-tag-ge-MOST_TAGS, then-core-cores-via-else-core-cores+else-tag-ge-MOST_TAGS+then-word-ge-MOST_WORDS}
 
-pub returns : goal.returns
+pub returns-clause-written : goal.returns-clause-written
 unfolding IsInRange
-returns c =
+returns-clause-written c =
     let words = c.in-Some.words in
     record {
-      written = entry_written _ words.core.now words.seq.now words.tag.now _ words.reply.now words.since.now _ c.in-Some.ensures
-          c.in_ok-core.ensures.ok c.in_ok-seq.ensures.ok c.in_ok-tag.ensures.ok c.in_ok-op.ensures c.in_ok-reply.ensures.ok c.in_ok-since.ensures.ok;
+      written = entry_written _ words.core.now words.seq.now words.tag.now _ words.reply.now words.since.now _ c.in-Some.ensures.parts
+          c.in_ok-core.ensures.ok c.in_ok-seq.ensures.ok c.in_ok-tag.ensures.ok c.in_ok-op.ensures.written c.in_ok-reply.ensures.ok c.in_ok-since.ensures.ok;
       in_range = record {
-        op = c.has_access.ensures c.if-not-has_access.false c.in_ok-op.op c.in_ok-op.word.0 c.in_ok-op.ensures;
+        op = (c.has_access.ensures c.in_ok-op.op c.in_ok-op.word.0 c.in_ok-op.ensures.written).0 c.if-not-has_access.false;
         core = omega arith;
         tag = omega arith;
         word = omega arith;
       };
     }
+
+pub returns-in_default-clause-refused : goal.returns-in_default-clause-refused
+returns-in_default-clause-refused c =
+    let few : length (map (λ w. w.now) c.args.words.now) < 5 = rw length-map c.in_default.ensures.short in
+    entry_too_short c.args.version _ few
+
+pub returns-then-not-has_access-clause-refused : goal.returns-then-not-has_access-clause-refused
+returns-then-not-has_access-clause-refused c =
+    entry_refused c.args.version _ _ _ _ _ _ _ c.in-Some.ensures.parts
+    (λ e words range. let has : c.has_access.result ≡ true = (c.has_access.ensures e.op e.word.0 words.written).1 range.op in cc)
+
+pub returns-in_err-op-clause-refused : goal.returns-in_err-op-clause-refused
+returns-in_err-op-clause-refused c =
+    let p = err_from_is_err_and c.from_residual.result c.from_residual.ensures.1 in
+    rw p.1 (entry_refused c.args.version _ _ _ _ _ _ _ c.in-Some.ensures.parts (λ e words range. c.in_err-op.ensures.refused e.op e.word.0 words.written))
+
+pub returns-in_err-reply-clause-refused : goal.returns-in_err-reply-clause-refused
+returns-in_err-reply-clause-refused c =
+    let p = err_from_is_err_and c.from_residual-in_err-reply.result c.from_residual-in_err-reply.ensures.1 in
+    rw p.1 (entry_refused c.args.version _ _ _ _ _ _ _ c.in-Some.ensures.parts (λ e words range. c.in_err-reply.ensures.ok words.reply.0))
+
+pub returns-in_err-since-clause-refused : goal.returns-in_err-since-clause-refused
+returns-in_err-since-clause-refused c =
+    let p = err_from_is_err_and c.from_residual-in_err-since.result c.from_residual-in_err-since.ensures.1 in
+    rw p.1 (entry_refused c.args.version _ _ _ _ _ _ _ c.in-Some.ensures.parts (λ e words range. c.in_err-since.ensures.ok words.since.0))
+
+pub returns-then-core-cores-clause-refused : goal.returns-then-core-cores-clause-refused
+returns-then-core-cores-clause-refused c =
+    entry_refused c.args.version _ _ _ _ _ _ _ c.in-Some.ensures.parts
+    (λ e words range.
+    let core : e.core.0 ≡ c.in_ok-core.core = one_number c.in-Some.words.core.now _ _ words.core c.in_ok-core.ensures.ok.1 in
+    let tag : e.tag ≡ c.in_ok-tag.tag = one_number c.in-Some.words.tag.now _ _ words.tag c.in_ok-tag.ensures.ok.1 in
+    let word : e.word.0 ≡ c.in_ok-op.word.0 = one_word _ e.op c.in_ok-op.op e.word.0 c.in_ok-op.word.0 words.written c.in_ok-op.ensures.written in
+    elim c.then-core-cores.branch [
+      | then-core-cores-via-then-core-cores w ↦ omega arith
+      | then-core-cores-via-else-core-cores+then-tag-ge-MOST_TAGS w ↦ omega arith
+      | then-core-cores-via-else-core-cores+else-tag-ge-MOST_TAGS+then-word-ge-MOST_WORDS w ↦ omega arith
+    ])

@@ -1,4 +1,4 @@
--- A run of calls goes on by one call, and so does its run of the small machine; and each call leaves the slice its cores.
+-- Calls made in order go on by one call, as one run of the small machine, and each call leaves the slice its cores.
 use Rattle.std.proofs.Common.{◌≡◌, ℕ, ◌+◌, ◌<◌, ◌∙◌, List, [], ◌∷◌, ◌++◌, ap, append_assoc, append-nil, arith, get_or, length, refl, set, subst, sym, take}
 use Rattle.std.proofs.lemmas.List.{take_more, take_more_set}
 use Rattle.slice_core.proofs.Shape.{shape-deliver, shape-evict, shape-hand, shape-issue, shape-next}

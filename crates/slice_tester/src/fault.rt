@@ -1,6 +1,7 @@
 use super::draw::Call;
 use address_map::{ConfigError, LineAddr, WordAddr};
 use cache_table::CopyState;
+use slice_core::CallAnswer;
 use slice_core_answer::{Cell, Evicted, Issue, Refused};
 use slice_queues_message::Pick;
 use std::alloc::{AllocError, AllocFailed};
@@ -29,6 +30,8 @@ pub enum Fault {
     Class(Pick),
     /// An answer names another request or another entry.
     Number(u64),
+    /// The call at this place of a run is to be answered otherwise.
+    RunAnswer(usize, CallAnswer),
     /// More or fewer entries were added to the log than the answer says.
     Entries(u64),
     /// The entry of this number replies something else than its word has.

@@ -1,5 +1,6 @@
 //! Makes random calls on small machines, and checks every answer, and what can be seen of the slice after it, against
-//! the definitions of `docs/DEFINITIONS.md` and `docs/PROTOCOL.md`.
+//! the definitions of `docs/DEFINITIONS.md` and `docs/PROTOCOL.md`. Before that it makes a few runs whose answers were
+//! worked out by hand, and compares each.
 //!
 //! The checker knows the definitions alone: it keeps a memory, the requests that were accepted and the counts by itself,
 //! and it uses none of the functions that the slice is built of. It prints a line for each setting, or the first fault
@@ -12,6 +13,7 @@ use setting::{FileKind, SEEDS, SETTINGS, Setting};
 use std::alloc::Global;
 use std::io;
 use std::process::ExitCode;
+use worked::WORKED;
 
 mod access;
 mod copies;
@@ -25,14 +27,34 @@ mod setting;
 mod shape;
 mod tally;
 mod tester;
+mod worked;
 
 use fault::Failure;
 
 fn main(rt: HostRuntime) -> ExitCode {
-    match test_settings(&rt) {
+    match test_all(&rt) {
         Ok(true) => ExitCode::SUCCESS,
         Ok(false) | Err(_) => ExitCode::FAILURE,
     }
+}
+
+/// Answers whether no fault was found.
+fn test_all<R: AllocGlobal + Print>(rt: &R) -> io::Result<bool> {
+    Ok(test_worked(rt)? && test_settings(rt)?)
+}
+
+/// Tests each run whose answers are known, up to the first fault. Answers whether there was none.
+fn test_worked<R: AllocGlobal + Print>(rt: &R) -> io::Result<bool> {
+    for run in WORKED {
+        match run.test(rt.alloc()) {
+            Ok(calls) => println!(rt; "{run}: one run of {calls} calls: nothing found")?,
+            Err(fault) => {
+                println!(rt; "{run}: {fault:?}")?;
+                return Ok(false);
+            }
+        }
+    }
+    Ok(true)
 }
 
 /// Tests each setting, up to the first fault. Answers whether there was none.

@@ -18,7 +18,8 @@ pub returns-in-DeliverNext-clause-machine : goal.returns-in-DeliverNext-clause-m
 returns-in-DeliverNext-clause-machine g c =
     let made = c.deliver_next.ensures in
     subst
-    (λ call. IsOneRun c.args.self.now (call ∷ []) (answers.DeliverNext c.deliver_next.result ∷ []) c.deliver_next.new.self)
+    (λ call.
+    IsOneRun c.args.self.now (call ∷ []) (answers.DeliverNext c.deliver_next.result ∷ []) c.deliver_next.new.self)
     (sym c.in-DeliverNext.is)
     (one_run c.args.self.now (calls.DeliverNext c.in-DeliverNext.class) (answers.DeliverNext c.deliver_next.result)
     c.deliver_next.new.self (map perform made.machine.requests) made.step (made.machine, refl) made.machine.leads)

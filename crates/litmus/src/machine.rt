@@ -4,7 +4,7 @@ ghost use Rattle.address_map.specs.Config.{IsAllowed};
 ghost use Rattle.stats_report.specs.Report.{AreAlike, views_of};
 ghost use Rattle.litmus.specs.Machine.{IsMachine};
 
-use super::answers::Answers;
+use super::answers::{Answers, write_done};
 use super::line::write_line;
 use super::trace::write_trace;
 use address_map::{Checked, CoreId, LineAddr, Request, SliceId, WordAddr};
@@ -96,7 +96,7 @@ impl<F: MissFile> Machine<F> {
         let written = match state.issue(core, request) {
             Ok(Issue::Done(number)) => {
                 let reply = state.log()[number as usize].reply;
-                writeln!(out, "done {number} reply {reply}")
+                write_done(number, reply, out)
             }
             Ok(Issue::Pending(seq)) => writeln!(out, "pending {seq}"),
             Ok(Issue::Stall(stall)) => writeln!(out, "stall {stall}"),

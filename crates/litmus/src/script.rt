@@ -99,20 +99,20 @@ fn run_statement<F: MissFile, W: Write>(
     out: &mut Answers<'_, W>,
 ) -> Result<(), TextFault> {
     let words = statement.words.as_slice();
-    if is_config(words) {
-        return Err(late(words).at(statement.number));
-    }
     match parse_command(&machine.config, words) {
         Ok(command) => machine.run(command, out),
-        Err(fault) => Err(fault.at(statement.number)),
+        Err(fault) => Err(late(words).unwrap_or(fault).at(statement.number)),
     }
 }
 
 /// What is wrong with a configuration line behind a command: its form, or its place.
-fn late(words: &[&[u8]]) -> LineFault {
+fn late(words: &[&[u8]]) -> Option<LineFault> {
+    if !is_config(words) {
+        return None;
+    }
     match ConfigLine::parse(words) {
-        Ok(_) => LineFault::LateConfiguration,
-        Err(fault) => fault,
+        Ok(_) => Some(LineFault::LateConfiguration),
+        Err(fault) => Some(fault),
     }
 }
 

@@ -4,3 +4,4 @@ pub mod WordLemmas
 pub mod NumberLemmas
 pub mod RowLemmas
 pub mod FieldNames
+pub mod FormLemmas

@@ -1,8 +1,8 @@
 -- A line's words, one after the other.
-use Rattle.std.proofs.Common.{◌≡◌, ℕ, zero, suc, ◌+◌, ◌<◌, ◌≤◌, Bool, true, false, not, ltb, List, [], ◌∷◌, length, get_or, take, drop, Some, None, refl, arith, inl, inr, ◌∙◌, ap, sym, add-one, drop-cons, length-take, length-drop, get_or-drop, add-zero}
+use Rattle.std.proofs.Common.{◌≡◌, ℕ, zero, suc, ◌+◌, ◌<◌, ◌≤◌, Bool, true, false, not, ltb, List, [], ◌∷◌, length, get_or, take, drop, Some, None, refl, arith, inl, inr, ◌∙◌, ap, sym, length-take, length-drop, get_or-drop, add-zero}
 use Rattle.std.specs.List.{position, position_or_len, slice_split, filter, All}
 use Rattle.std.proofs.lemmas.List.{drop_all}
-use Rattle.std.proofs.lemmas.List.Splits.{slice_split_first, slice_split_none, slice_split-cons_yes}
+use Rattle.std.proofs.lemmas.List.Splits.{slice_split_first, slice_split_none}
 use Rattle.std.proofs.lemmas.List.Sums.{fails_before_first, passes_at_first}
 use Rattle.std.proofs.lemmas.Bool.{cases_Bool, not-true, false≢true}
 use Rattle.std.proofs.lemmas.Bool.Decides.{nat_tests}
@@ -61,23 +61,15 @@ after_begin : (bs : List ℕ) (end : ℕ) → is_blank (get_or bs 0 0) ≡ false
 after_begin bs zero begins ends = absurd (false≢true (sym begins ∙ ends))
 after_begin bs (suc n) begins ends = omega arith
 
-words_at_blank : (bs : List ℕ) (end : ℕ) → end < length bs → is_blank (get_or bs end 0) ≡ true → words (drop end bs) ≡ words (drop (end + 1) bs)
-words_at_blank bs end h ends =
-    ap words (drop-cons bs end 0 h)
-    ∙ ap (filter (λ w. ltb 0 (length w))) (slice_split-cons_yes is_blank (get_or bs end 0) (drop (suc end) bs) ends)
-    ∙ ap (λ k. words (drop k bs)) (sym (add-one end))
-
 -- what stands before the first blank is the first word, where that isn't empty
-pub words_to_blank : (bs : List ℕ) (end : ℕ) → is_blank (get_or bs 0 0) ≡ false → position is_blank bs ≡ Some end → words bs ≡ take end bs ∷ words (drop end bs)
+pub words_to_blank : (bs : List ℕ) (end : ℕ) → is_blank (get_or bs 0 0) ≡ false → position is_blank bs ≡ Some end → words bs ≡ take end bs ∷ words (drop (end + 1) bs)
 words_to_blank bs end begins e =
     let p = position_or_len is_blank bs in
     let at = found_at p (length bs) end e in
     let ends : is_blank (get_or bs end 0) ≡ true = rw at.1 at (passes_at_first is_blank bs 0 at.0) in
-    let below : end < length bs = omega arith in
     let begun : 0 < end = after_begin bs end begins ends in
     let some : 0 < length (take end bs) = simp length-take (omega arith) in
     let split : words bs ≡ filter (λ w. ltb 0 (length w)) (take p bs ∷ slice_split is_blank (drop (p + 1) bs)) = ap (filter (λ w. ltb 0 (length w))) (slice_split_first is_blank bs 0 at.0) in
     split
     ∙ ap (λ k. filter (λ w. ltb 0 (length w)) (take k bs ∷ slice_split is_blank (drop (k + 1) bs))) at.1
     ∙ filter_some (take end bs) (slice_split is_blank (drop (end + 1) bs)) some
-    ∙ ap (λ ws. take end bs ∷ ws) (sym (words_at_blank bs end below ends))

@@ -66,7 +66,13 @@ IsInRange config (commands.Log slice) = slice.0 < config.slices
 IsInRange config commands.Stats = Unit {0}
 IsInRange config (commands.Pump calls) = Unit {0}
 
+-- a tag is a number below 256
+abbrev pub HasTag : Command → Type 0
+HasTag (commands.Issue core request) = request.tag < 256
+HasTag command = Unit {0}
+
 -- what a script's line that was read says, at a machine that has all it names
 pub record IsRead (config : Config) (words : List (List ℕ)) (command : Command) : Type 0 where
   pub written : Writes words (parts_of command)
+  pub tag : HasTag command
   pub in_range : IsInRange config command

@@ -15,3 +15,11 @@ Writes [] (part ∷ parts) = ⊥
 Writes (word ∷ rest) [] = ⊥
 Writes (word ∷ rest) (key text ∷ parts) = (word ≡ text) × Writes rest parts
 Writes (word ∷ rest) (num n ∷ parts) = IsNumber word × (digits_value 10 word ≡ n) × Writes rest parts
+
+-- the words have the form of the parts: one word a part, with the keywords in their places, and any words for numbers
+abbrev pub HasForm : List (List ℕ) → List Part → Type 0
+HasForm [] [] = Unit {0}
+HasForm [] (part ∷ parts) = ⊥
+HasForm (word ∷ rest) [] = ⊥
+HasForm (word ∷ rest) (key text ∷ parts) = (word ≡ text) × HasForm rest parts
+HasForm (word ∷ rest) (num n ∷ parts) = HasForm rest parts

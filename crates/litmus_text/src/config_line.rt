@@ -1,11 +1,13 @@
-ghost use Rattle.std.specs.Prelude.{◌≡◌, ◌↔◌, IsTrue, ◌≢◌, IfOk, IfSome, IfNone, OnOk, OnErr, map};
+ghost use Rattle.std.specs.Prelude.{◌≡◌, ◌↔◌, IsTrue, ◌≢◌, ℕ, Bool, IfOk, IfErr, OnOk, OnErr, map};
 ghost use Rattle.std.specs.Prelude.{[], ◌∷◌, codes};
-ghost use Rattle.litmus_text.specs.Form.{Writes, key, num};
+ghost use Rattle.litmus_text.specs.Form.{Writes, HasForm, key};
 ghost use Rattle.litmus_text.specs.ConfigLine.{parts_of_policy, name_of_misses, parts_of_setting};
+ghost use Rattle.address_map.specs.declared.config.PolicyKind.{PolicyKind};
+ghost use Rattle.litmus_text.specs.declared.settings.MissKind.{MissKind};
 
 use super::fault::LineFault;
 use super::field::{Count, Field};
-use super::number::number;
+use super::number::{no_numbers, one_number, two_numbers};
 use super::settings::{MissKind, Settings};
 use address_map::{PolicyKind, WordAddr};
 use std::alloc::AllocError;
@@ -26,6 +28,7 @@ pub enum ConfigLine {
 impl ConfigLine {
     ghost use Rattle.litmus_text.specs.ConfigLine.{parts_of_config_line, configured};
     ghost use Rattle.litmus_text.specs.Field.{IsFieldName};
+    ghost use Rattle.litmus_text.specs.declared.config_line.ConfigLine.{ConfigLine};
 
     /// Whether a line that begins with this word configures the machine, or would if it were well formed.
     pub fn is_named(name: &[u8]) -> bool
@@ -36,7 +39,9 @@ impl ConfigLine {
 
     /// The configuration line that these words write.
     pub fn parse(words: &[&[u8]]) -> Result<Self, LineFault>
-        ensures { IfOk result (λ line. Writes (map (λ w. w.now) words.now) (parts_of_config_line line)) }
+        ensures written { IfOk result (λ line. Writes (map (λ w. w.now) words.now) (parts_of_config_line line)) }
+        ensures refused { IfErr result (λ fault. (line : ConfigLine) → Writes (map (λ w. w.now) words.now) (parts_of_config_line line) → ⊥) }
+        ensures form { IfErr result (λ fault. (line : ConfigLine) → HasForm (map (λ w. w.now) words.now) (parts_of_config_line line) → fault ≡ LineFault.BadNumber) }
     {
         let Some((name, rest)) = words.split_first() else {
             return Err(LineFault::NotACommand);
@@ -75,55 +80,34 @@ impl ConfigLine {
     }
 }
 
-// The one number that is all of these words.
-fn one_number(words: &[&[u8]]) -> Result<u64, LineFault>
-    ensures { IfOk result (λ n. Writes (map (λ w. w.now) words.now) (num n ∷ [])) }
-{
-    match words {
-        [word] => number(word),
-        _ => Err(LineFault::NotACommand),
-    }
-}
-
-fn two_numbers(words: &[&[u8]]) -> Result<(u64, u64), LineFault>
-    ensures { IfOk result (λ p. Writes (map (λ w. w.now) words.now) (num p.0 ∷ num p.1 ∷ [])) }
-{
-    match words {
-        [first, second] => {
-            let first = number(first)?;
-            let second = number(second)?;
-            Ok((first, second))
-        }
-        _ => Err(LineFault::NotACommand),
-    }
-}
-
 // A replacement policy, by its name and its seed where it has one.
 fn policy(words: &[&[u8]]) -> Result<PolicyKind, LineFault>
-    ensures { IfOk result (λ kind. Writes (map (λ w. w.now) words.now) (parts_of_policy kind)) }
-{
-    match words {
-        [b"lru"] => Ok(PolicyKind::Lru),
-        [b"fifo"] => Ok(PolicyKind::Fifo),
-        _ => Ok(PolicyKind::Random(seed(words)?)),
-    }
-}
-
-// The seed of the random policy, behind its name.
-fn seed(words: &[&[u8]]) -> Result<u64, LineFault>
-    ensures { IfOk result (λ n. Writes (map (λ w. w.now) words.now) (key (codes "random") ∷ num n ∷ [])) }
+    ensures written { IfOk result (λ kind. Writes (map (λ w. w.now) words.now) (parts_of_policy kind)) }
+    ensures refused { IfErr result (λ fault. (kind : PolicyKind) → Writes (map (λ w. w.now) words.now) (parts_of_policy kind) → ⊥) }
+    ensures form { IfErr result (λ fault. (kind : PolicyKind) → HasForm (map (λ w. w.now) words.now) (parts_of_policy kind) → fault ≡ LineFault.BadNumber) }
 {
     let Some((name, rest)) = words.split_first() else {
         return Err(LineFault::NotACommand);
     };
-    if *name != b"random".as_slice() {
-        return Err(LineFault::NotACommand);
+    match *name {
+        b"lru" => {
+            no_numbers(rest)?;
+            Ok(PolicyKind::Lru)
+        }
+        b"fifo" => {
+            no_numbers(rest)?;
+            Ok(PolicyKind::Fifo)
+        }
+        b"random" => Ok(PolicyKind::Random(one_number(rest)?)),
+        _ => Err(LineFault::NotACommand),
     }
-    one_number(rest)
 }
 
+#[tactic(auto, using(crate::proofs::FormLemmas::wrong_count, crate::proofs::FormLemmas::wrong_form))]
 fn misses(words: &[&[u8]]) -> Result<MissKind, LineFault>
-    ensures { IfOk result (λ kind. Writes (map (λ w. w.now) words.now) (key (name_of_misses kind) ∷ [])) }
+    ensures written { IfOk result (λ kind. Writes (map (λ w. w.now) words.now) (key (name_of_misses kind) ∷ [])) }
+    ensures refused { IfErr result (λ fault. (kind : MissKind) → Writes (map (λ w. w.now) words.now) (key (name_of_misses kind) ∷ []) → ⊥) }
+    ensures form { IfErr result (λ fault. (kind : MissKind) → HasForm (map (λ w. w.now) words.now) (key (name_of_misses kind) ∷ []) → ⊥) }
 {
     match words {
         [name] => miss_kind(name),
@@ -132,7 +116,8 @@ fn misses(words: &[&[u8]]) -> Result<MissKind, LineFault>
 }
 
 fn miss_kind(name: &[u8]) -> Result<MissKind, LineFault>
-    ensures { IfOk result (λ kind. name.now ≡ name_of_misses kind) }
+    ensures named { IfOk result (λ kind. name.now ≡ name_of_misses kind) }
+    ensures refused { IfErr result (λ fault. (kind : MissKind) → name.now ≢ name_of_misses kind) }
 {
     match name {
         b"explicit" => Ok(MissKind::Explicit),
@@ -141,8 +126,11 @@ fn miss_kind(name: &[u8]) -> Result<MissKind, LineFault>
     }
 }
 
+#[tactic(auto, using(crate::proofs::FormLemmas::wrong_count, crate::proofs::FormLemmas::wrong_form))]
 fn setting(words: &[&[u8]]) -> Result<bool, LineFault>
-    ensures { IfOk result (λ is_on. Writes (map (λ w. w.now) words.now) (parts_of_setting is_on)) }
+    ensures written { IfOk result (λ is_on. Writes (map (λ w. w.now) words.now) (parts_of_setting is_on)) }
+    ensures refused { IfErr result (λ fault. (is_on : Bool) → Writes (map (λ w. w.now) words.now) (parts_of_setting is_on) → ⊥) }
+    ensures form { IfErr result (λ fault. (is_on : Bool) → HasForm (map (λ w. w.now) words.now) (parts_of_setting is_on) → ⊥) }
 {
     match words {
         [b"on"] => Ok(true),

@@ -3,9 +3,12 @@
 //! - [`Lines`], [`Words`] and [`Statements`] take a text apart (specs/Text.antt, specs/Statement.antt): a statement is
 //!   a line that has words, with its number.
 //! - [`ConfigLine`] is a line that configures a machine. At Ok of [`ConfigLine::parse`] the words write that line, and
-//!   [`ConfigLine::set`] sets what it names in the [`Settings`] and nothing else (specs/ConfigLine.antt).
+//!   at Err they write none. [`ConfigLine::set`] sets what the line names in the [`Settings`] and nothing else
+//!   (specs/ConfigLine.antt).
 //! - [`parse_command`] reads a command of a script. At Ok the words write that command, and the machine has what it
-//!   names (specs/Command.antt). [`parse_access`] reads the access in it, which traces write alike.
+//!   names; at Err there is no such command (specs/Command.antt). Words that have the form of a command, with any words
+//!   for numbers, aren't refused as no command; words that write one are refused only as out of range.
+//!   [`parse_access`] reads the access in it, which traces write alike.
 //! - [`LineFault`] and [`TextFault`] say what is wrong with a text, and with which status a program ends.
 //!
 //! No call copies a text or takes memory, but `ConfigLine::set` at an initial value or a counter. Each byte is looked

@@ -3,6 +3,7 @@ ghost use Rattle.std.specs.List.{position};
 ghost use Rattle.std.specs.Iterator.{YieldsFirstRef, item_count};
 ghost use Rattle.std.specs.Str.Lines.{lines, strip_carriage_return};
 
+use memchr::memchr;
 use std::marker::Model;
 
 /// The lines of a text that are left to read.
@@ -59,7 +60,7 @@ fn split_line(text: &[u8]) -> (&[u8], &[u8])
 fn line_feed_at(text: &[u8]) -> Option<usize>
     ensures { result ≡ position (λ b. b == 10) text.now }
 {
-    text.iter().position(|byte| *byte == b'\n')
+    memchr(b'\n', text)
 }
 
 fn without_carriage_return(line: &[u8]) -> &[u8]

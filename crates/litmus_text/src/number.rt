@@ -1,11 +1,12 @@
-ghost use Rattle.std.specs.Prelude.{◌≡◌, ◌<◌, IfErr};
+ghost use Rattle.std.specs.Prelude.{◌≡◌, ℕ, ◌+◌, ◌*◌, ◌^◌, ◌<◌, [], ◌∷◌, map, IfOk, IfErr};
 ghost use Rattle.std.specs.Option.{SomeIff};
 ghost use Rattle.std.specs.Result.{OkIff};
+ghost use Rattle.std.specs.Char.{digit_value};
 ghost use Rattle.std.specs.Str.Parse.{digits_value};
+ghost use Rattle.litmus_text.specs.Form.{Writes, HasForm, num};
 ghost use Rattle.litmus_text.specs.Number.{IsNumber};
 
 use super::fault::LineFault;
-use std::str;
 
 /// The most digits that a number may have.
 const MOST_DIGITS: usize = 20;
@@ -14,13 +15,24 @@ const MOST_DIGITS: usize = 20;
 pub fn parse_number(word: &[u8]) -> Option<u64>
     ensures { SomeIff result (IsNumber word.now) (digits_value 10 word.now) }
 {
-    if word.len() > MOST_DIGITS || word.first() == Some(&b'+') {
+    if word.is_empty() || word.len() > MOST_DIGITS {
         return None;
     }
-    match str::from_utf8(word) {
-        Ok(text) => text.parse().ok(),
-        Err(_) => None,
+    let mut number = 0;
+    for byte in word {
+        number = with_digit(number, *byte)?;
     }
+    Some(number)
+}
+
+// The number with one more digit, where the byte is one and the number still fits.
+fn with_digit(number: u64, byte: u8) -> Option<u64>
+    ensures { SomeIff result ((digit_value byte < 10) × (number * 10 + digit_value byte < 2 ^ 64)) (number * 10 + digit_value byte) }
+{
+    if !byte.is_ascii_digit() {
+        return None;
+    }
+    number.checked_mul(10)?.checked_add((byte - b'0') as u64)
 }
 
 /// The number that a word has to spell.
@@ -42,4 +54,61 @@ pub(super) fn tag_number(word: &[u8]) -> Result<u8, LineFault>
     } else {
         Err(LineFault::BadNumber)
     }
+}
+
+/// There are no words.
+#[tactic(auto, using(crate::proofs::FormLemmas::wrong_count, crate::proofs::FormLemmas::wrong_form))]
+pub(super) fn no_numbers(words: &[&[u8]]) -> Result<(), LineFault>
+    ensures written { IfOk result (λ unit. Writes (map (λ w. w.now) words.now) []) }
+    ensures refused { IfErr result (λ fault. Writes (map (λ w. w.now) words.now) [] → ⊥) }
+    ensures form { IfErr result (λ fault. HasForm (map (λ w. w.now) words.now) [] → ⊥) }
+{
+    if words.is_empty() {
+        Ok(())
+    } else {
+        Err(LineFault::NotACommand)
+    }
+}
+
+/// The number that is all of these words.
+#[tactic(auto, using(crate::proofs::FormLemmas::wrong_count, crate::proofs::FormLemmas::wrong_form))]
+pub(super) fn one_number(words: &[&[u8]]) -> Result<u64, LineFault>
+    ensures written { IfOk result (λ n. Writes (map (λ w. w.now) words.now) (num n ∷ [])) }
+    ensures only { IfOk result (λ n. (m : ℕ) → Writes (map (λ w. w.now) words.now) (num m ∷ []) → m ≡ n) }
+    ensures refused { IfErr result (λ fault. (n : ℕ) → Writes (map (λ w. w.now) words.now) (num n ∷ []) → ⊥) }
+    ensures form { IfErr result (λ fault. (n : ℕ) → HasForm (map (λ w. w.now) words.now) (num n ∷ []) → fault ≡ LineFault.BadNumber) }
+{
+    let [word] = words else {
+        return Err(LineFault::NotACommand);
+    };
+    number(word)
+}
+
+/// The two numbers that are all of these words.
+#[tactic(auto, using(crate::proofs::FormLemmas::wrong_count, crate::proofs::FormLemmas::wrong_form))]
+pub(super) fn two_numbers(words: &[&[u8]]) -> Result<(u64, u64), LineFault>
+    ensures written { IfOk result (λ p. Writes (map (λ w. w.now) words.now) (num p.0 ∷ num p.1 ∷ [])) }
+    ensures only { IfOk result (λ p. (n m : ℕ) → Writes (map (λ w. w.now) words.now) (num n ∷ num m ∷ []) → (n ≡ p.0) × (m ≡ p.1)) }
+    ensures refused { IfErr result (λ fault. (n m : ℕ) → Writes (map (λ w. w.now) words.now) (num n ∷ num m ∷ []) → ⊥) }
+    ensures form { IfErr result (λ fault. (n m : ℕ) → HasForm (map (λ w. w.now) words.now) (num n ∷ num m ∷ []) → fault ≡ LineFault.BadNumber) }
+{
+    let [first, second] = words else {
+        return Err(LineFault::NotACommand);
+    };
+    Ok((number(first)?, number(second)?))
+}
+
+/// The three numbers that are all of these words.
+#[tactic(auto, using(crate::proofs::FormLemmas::wrong_count, crate::proofs::FormLemmas::wrong_form))]
+pub(super) fn three_numbers(words: &[&[u8]]) -> Result<(u64, u64, u64), LineFault>
+    ensures written { IfOk result (λ p. Writes (map (λ w. w.now) words.now) (num p.0 ∷ num p.1 ∷ num p.2 ∷ [])) }
+    ensures only { IfOk result (λ p. (n m k : ℕ) → Writes (map (λ w. w.now) words.now) (num n ∷ num m ∷ num k ∷ [])
+        → (n ≡ p.0) × (m ≡ p.1) × (k ≡ p.2)) }
+    ensures refused { IfErr result (λ fault. (n m k : ℕ) → Writes (map (λ w. w.now) words.now) (num n ∷ num m ∷ num k ∷ []) → ⊥) }
+    ensures form { IfErr result (λ fault. (n m k : ℕ) → HasForm (map (λ w. w.now) words.now) (num n ∷ num m ∷ num k ∷ []) → fault ≡ LineFault.BadNumber) }
+{
+    let [first, second, third] = words else {
+        return Err(LineFault::NotACommand);
+    };
+    Ok((number(first)?, number(second)?, number(third)?))
 }

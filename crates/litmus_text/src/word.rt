@@ -71,14 +71,14 @@ fn first_word(text: &[u8]) -> Option<(&[u8], &[u8])>
     Some(split_word(text))
 }
 
-/// The word that a text begins with, and what follows it.
+/// The word that a text begins with, and what follows the blank behind it.
 fn split_word(text: &[u8]) -> (&[u8], &[u8])
     requires some { 0 < length text.now }
     requires begins { is_blank_byte (slice_index text.now 0) ≡ false }
     ensures { words text.now ≡ result.0.now ∷ words result.1.now }
 {
     match blank_at(text) {
-        Some(end) => text.split_at(end),
+        Some(end) => (&text[..end], &text[end + 1..]),
         None => (text, &[]),
     }
 }

@@ -5,3 +5,4 @@ mod FormLemmas
 mod CheckLemmas
 mod ExactLemmas
 mod RefusalLemmas
+mod ReadingLemmas

@@ -1,6 +1,6 @@
 -- Where a line can't come next, the text is no trace.
 use Rattle.std.proofs.Common.{◌≡◌, ℕ, ◌+◌, ◌<◌, List, [], ◌∷◌, ◌++◌, length, get_or, Option, Some, None, map, refl, sym, ap, subst, ◌∙◌, arith, length-append, append_assoc}
-use Rattle.std.specs.Prelude.{codes, IfSome}
+use Rattle.std.specs.Prelude.{IfSome}
 use Rattle.std.specs.Str.Lines.{lines}
 use Rattle.std.proofs.Math.Seq.{get_or-append_seam}
 use Rattle.std.proofs.lemmas.List.{map-append}
@@ -13,76 +13,33 @@ use Rattle.litmus_text.specs.declared.fault.TextFault.{TextFault}
 use Rattle.litmus_text.specs.declared.fault.TextFault.TheVariants as faults
 use Rattle.trace_check.specs.declared.check.Check.{Check}
 use Rattle.trace_check.specs.declared.trace_line.Version.{Version}
-use Rattle.trace_check.specs.declared.trace_line.Version.TheVariants as versions
 use Rattle.trace_check.specs.declared.trace_line.TraceLine.{TraceLine}
 use Rattle.trace_check.specs.declared.trace_line.TraceLine.TheVariants as trace_lines
 use Rattle.trace_check.specs.TraceLine.{IsLineOf, parts_of_first, parts_of_line}
 use Rattle.trace_check.specs.Trace.{AreLines, lines_of, AreTrace, AreNoTrace, IsNoTrace, IsLastNamed, IsNoMemoryOr, IsNoNextLine, IsReading, MayBegin, MayFollow, Stands}
-use Rattle.trace_check.proofs.FormLemmas.{two_names}
-
--- the words of the first line name one version
-pub one_version : (words : List (List ℕ)) (a b : Version) → Writes words (parts_of_first a) → Writes words (parts_of_first b) → a ≡ b
-one_version words versions.One versions.One h k = refl
-one_version words versions.Two versions.Two h k = refl
-one_version [] versions.One versions.Two h k = absurd h
-one_version (w ∷ []) versions.One versions.Two h k = absurd h.1
-one_version (w ∷ v ∷ ws) versions.One versions.Two h k = absurd (two_names v (codes "1") (codes "2") h.1.0 k.1.0 refl)
-one_version [] versions.Two versions.One h k = absurd h
-one_version (w ∷ []) versions.Two versions.One h k = absurd h.1
-one_version (w ∷ v ∷ ws) versions.Two versions.One h k = absurd (two_names v (codes "2") (codes "1") h.1.0 k.1.0 refl)
+use Rattle.trace_check.proofs.ReadingLemmas.{one_version, one_line, same_lines, not_both}
 
 -- the word and the value that a line names, where it names them
 abbrev pub named : TraceLine → Option (WordAddr × ℕ)
 named (trace_lines.Init word value) = Some (word, value)
 named (trace_lines.Entry e) = None
 
-same_pair : (a b : WordAddr) (x y : ℕ) → a.0 ≡ b.0 → x ≡ y → named (trace_lines.Init a x) ≡ named (trace_lines.Init b y)
-same_pair a b x y word value =
-    ap (λ (n : ℕ). let w : WordAddr = record { 0 = n } in named (trace_lines.Init w x)) word
-    ∙ ap (λ v. named (trace_lines.Init b v)) value
-
--- words that write two lines name the same by both
-same_named : (ws : List (List ℕ)) (a b : TraceLine) → Writes ws (parts_of_line a) → Writes ws (parts_of_line b) → named a ≡ named b
-same_named [] (trace_lines.Init v x) (trace_lines.Init w y) h k = absurd h
-same_named (n ∷ []) (trace_lines.Init v x) (trace_lines.Init w y) h k = absurd h.1
-same_named (n ∷ i ∷ []) (trace_lines.Init v x) (trace_lines.Init w y) h k = absurd h.1.2
-same_named (n ∷ i ∷ j ∷ ws) (trace_lines.Init v x) (trace_lines.Init w y) h k =
-    same_pair v w x y (sym h.1.1 ∙ k.1.1) (sym h.1.2.1 ∙ k.1.2.1)
-same_named [] (trace_lines.Init v x) (trace_lines.Entry e) h k = absurd h
-same_named (n ∷ ws) (trace_lines.Init v x) (trace_lines.Entry e) h k = absurd (two_names n (codes "init") (codes "entry") h.0 k.0 refl)
-same_named [] (trace_lines.Entry d) (trace_lines.Init w y) h k = absurd h
-same_named (n ∷ ws) (trace_lines.Entry d) (trace_lines.Init w y) h k = absurd (two_names n (codes "entry") (codes "init") h.0 k.0 refl)
-same_named ws (trace_lines.Entry d) (trace_lines.Entry e) h k = refl
-
-not_nothing : (pair : WordAddr × ℕ) → Some pair ≡ None → ⊥
-not_nothing pair h = cc
-
 -- where a line that the words write may come next, so may a word's value that they write
 pub may_begin : (check : Check) (ws : List (List ℕ)) (word : WordAddr) (value : ℕ) (line : TraceLine)
-    → Writes ws (parts_of_line (trace_lines.Init word value)) → Writes ws (parts_of_line line) → MayFollow check line → MayBegin check word
+    → Writes ws (parts_of_line (trace_lines.Init word value)) → Writes ws (parts_of_line line) → MayFollow check line
+    → MayBegin check word
 unfolding MayFollow
 may_begin check ws word value (trace_lines.Entry e) h k may =
-    absurd (not_nothing (word, value) (same_named ws (trace_lines.Init word value) (trace_lines.Entry e) h k))
+    absurd (not_both word value e (one_line ws (trace_lines.Init word value) (trace_lines.Entry e) h k))
 may_begin check ws word value (trace_lines.Init w v) h k may =
-    let both : Some (word, value) ≡ Some (w, v) = same_named ws (trace_lines.Init word value) (trace_lines.Init w v) h k in
-    let same : (word, value) ≡ (w, v) = cc in
-    subst (λ (p : WordAddr × ℕ). MayBegin check p.0) (sym same) may
-
-all_same_named : (version : Version) (ss : List (ℕ × List (List ℕ))) (ks ls : List TraceLine) → AreLines version ss ks → AreLines version ss ls
-    → map named ks ≡ map named ls
-unfolding AreLines
-all_same_named version [] [] [] h k = refl
-all_same_named version [] (a ∷ ks) ls h k = absurd h
-all_same_named version [] [] (b ∷ ls) h k = absurd k
-all_same_named version (s ∷ ss) [] ls h k = absurd h
-all_same_named version (s ∷ ss) (a ∷ ks) [] h k = absurd k
-all_same_named version (s ∷ ss) (a ∷ ks) (b ∷ ls) h k =
-    let first = same_named s.1 a b h.0.written k.0.written in
-    let rest = all_same_named version ss ks ls h.1 k.1 in
-    ap (λ x. x ∷ map named ks) first ∙ ap (λ xs. named b ∷ xs) rest
+    let both : trace_lines.Init word value ≡ trace_lines.Init w v =
+    one_line ws (trace_lines.Init word value) (trace_lines.Init w v) h k in
+    let same : word ≡ w = cc in
+    subst (MayBegin check) (sym same) may
 
 -- lines that stand before a statement's, the line that it writes, and those behind it
-record Parts (version : Version) (done : List (ℕ × List (List ℕ))) (s : ℕ × List (List ℕ)) (ls : List TraceLine) : Type 0 where
+record Parts (version : Version) (done : List (ℕ × List (List ℕ))) (s : ℕ × List (List ℕ))
+    (ls : List TraceLine) : Type 0 where
   before : List TraceLine
   line : TraceLine
   after : List TraceLine
@@ -94,7 +51,8 @@ parts_of : (version : Version) (done left : List (ℕ × List (List ℕ))) (s : 
     → AreLines version (done ++ s ∷ left) ls → Parts version done s ls
 unfolding AreLines
 parts_of version [] left s [] h = absurd h
-parts_of version [] left s (l ∷ ls) h = record { before = []; line = l; after = ls; shape = refl; first = tt; next = h.0 }
+parts_of version [] left s (l ∷ ls) h =
+    record { before = []; line = l; after = ls; shape = refl; first = tt; next = h.0 }
 parts_of version (d ∷ done) left s [] h = absurd h
 parts_of version (d ∷ done) left s (l ∷ ls) h =
     let r = parts_of version done left s ls h.1 in
@@ -118,12 +76,14 @@ named_entries : (entries : List Entry) → map named (map trace_lines.Entry entr
 named_entries [] = refl
 named_entries (e ∷ entries) = ap (λ xs. None ∷ xs) (named_entries entries)
 
-named_lines : (init : List (WordAddr × ℕ)) (entries : List Entry) → map named (lines_of init entries) ≡ map some init ++ map nothing entries
+named_lines : (init : List (WordAddr × ℕ)) (entries : List Entry)
+    → map named (lines_of init entries) ≡ map some init ++ map nothing entries
 named_lines [] entries = named_entries entries
 named_lines (p ∷ init) entries = ap (λ xs. Some p ∷ xs) (named_lines init entries)
 
 -- behind an entry no line names a word
-none_named : (a b : List Entry) (p : WordAddr × ℕ) (rest : List (Option (WordAddr × ℕ))) → map nothing b ≡ map nothing a ++ Some p ∷ rest → ⊥
+none_named : (a b : List Entry) (p : WordAddr × ℕ) (rest : List (Option (WordAddr × ℕ)))
+    → map nothing b ≡ map nothing a ++ Some p ∷ rest → ⊥
 none_named [] [] p rest h = cc
 none_named [] (e ∷ b) p rest h = cc
 none_named (d ∷ a) [] p rest h = cc
@@ -135,10 +95,12 @@ record IsNext (init all : List (WordAddr × ℕ)) (entries : List Entry) (p : Wo
   more : List (WordAddr × ℕ)
   shape : all ≡ init ++ p ∷ more
 
-next_named : (init all : List (WordAddr × ℕ)) (a b : List Entry) (p : WordAddr × ℕ) (rest : List (Option (WordAddr × ℕ)))
+next_named : (init all : List (WordAddr × ℕ)) (a b : List Entry) (p : WordAddr × ℕ)
+    (rest : List (Option (WordAddr × ℕ)))
     → map some all ++ map nothing b ≡ (map some init ++ map nothing a) ++ Some p ∷ rest → IsNext init all a p
 next_named [] [] a b p rest h = absurd (none_named a b p rest h)
-next_named [] (q ∷ all) [] b p rest h = record { early = refl; more = all; shape = let same : q ≡ p = cc in ap (λ x. x ∷ all) same }
+next_named [] (q ∷ all) [] b p rest h =
+    record { early = refl; more = all; shape = let same : q ≡ p = cc in ap (λ x. x ∷ all) same }
 next_named [] (q ∷ all) (e ∷ a) b p rest h = let other : Some q ≡ None = cc in cc
 next_named (r ∷ init) [] a b p rest h = absurd (none_named [] b r ((map some init ++ map nothing a) ++ Some p ∷ rest) h)
 next_named (r ∷ init) (q ∷ all) a b p rest h =
@@ -156,43 +118,55 @@ last_below None init more p is ascending = tt
 last_below (Some l) init more p is ascending =
     let before : List (WordAddr × ℕ) = is.0 in
     let q : WordAddr × ℕ = (l, is.1.0) in
-    let shape : init ++ p ∷ more ≡ before ++ q ∷ (p ∷ more) = ap (λ xs. xs ++ p ∷ more) is.1.1 ∙ append_assoc before (q ∷ []) (p ∷ more) in
-    let long : length (init ++ p ∷ more) ≡ length before + (2 + length more) = ap length shape ∙ simp length-append (omega arith) in
+    let shape : init ++ p ∷ more ≡ before ++ q ∷ (p ∷ more) = ap (λ xs. xs ++ p ∷ more) is.1.1
+    ∙ append_assoc before (q ∷ []) (p ∷ more) in
+    let long : length (init ++ p ∷ more) ≡ length before + (2 + length more) = ap length shape
+    ∙ simp length-append (omega arith) in
     let count : length init ≡ length before + 1 = ap length is.1.1 ∙ simp length-append refl in
     let under = ascending (length before) (length init) p (omega arith) (omega arith) in
-    let at_last : get_or (init ++ p ∷ more) (length before) p ≡ q = ap (λ xs. get_or xs (length before) p) shape ∙ get_or-append_seam before q (p ∷ more) p in
+    let at_last : get_or (init ++ p ∷ more) (length before) p ≡ q = ap (λ xs. get_or xs (length before) p) shape
+    ∙ get_or-append_seam before q (p ∷ more) p in
     let at_next : get_or (init ++ p ∷ more) (length init) p ≡ p = get_or-append_seam init p more p in
     rw (at_last, at_next) at under
 
 -- the line of a trace behind those that were read may come next
-may_follow : (check : Check) (init all : List (WordAddr × ℕ)) (entries more : List Entry) (before after : List TraceLine) (line : TraceLine)
-    → Stands check init entries → IsAscendingBy (λ pair. pair.0.0) all → map named before ≡ map named (lines_of init entries)
+may_follow : (check : Check) (init all : List (WordAddr × ℕ)) (entries more : List Entry)
+    (before after : List TraceLine) (line : TraceLine)
+    → Stands check init entries → IsAscendingBy (λ pair. pair.0.0) all
+    → map named before ≡ map named (lines_of init entries)
     → lines_of all more ≡ before ++ line ∷ after → MayFollow check line
 unfolding MayFollow
 may_follow check init all entries more before after (trace_lines.Entry e) stands ascending same shape = tt
 may_follow check init all entries more before after (trace_lines.Init word value) stands ascending same shape =
-    let names : map named (lines_of all more) ≡ map named before ++ Some (word, value) ∷ map named after = ap (map named) shape ∙ map-append named before (trace_lines.Init word value ∷ after) in
+    let names : map named (lines_of all more) ≡ map named before ++ Some (word, value) ∷ map named after =
+    ap (map named) shape ∙ map-append named before (trace_lines.Init word value ∷ after) in
     let next = next_named init all entries more (word, value) (map named after)
-    (sym (named_lines all more) ∙ names ∙ ap (λ xs. xs ++ Some (word, value) ∷ map named after) (same ∙ named_lines init entries)) in
+    (sym (named_lines all more) ∙ names
+    ∙ ap (λ xs. xs ++ Some (word, value) ∷ map named after) (same ∙ named_lines init entries)) in
     record {
       early = stands.count ∙ ap length next.early;
-      above = last_below check.last init next.more (word, value) stands.last (subst (λ xs. IsAscendingBy (λ pair. pair.0.0) xs) next.shape ascending);
+      above = last_below check.last init next.more (word, value) stands.last
+          (subst (λ xs. IsAscendingBy (λ pair. pair.0.0) xs) next.shape ascending);
     }
 
 -- where the next statement writes no line that may come next, all statements are no trace
-pub no_trace : (check : Check) (version : Version) (all left : List (ℕ × List (List ℕ))) (s : ℕ × List (List ℕ)) → check.version ≡ version
+pub no_trace : (check : Check) (version : Version) (all left : List (ℕ × List (List ℕ))) (s : ℕ × List (List ℕ))
+    → check.version ≡ version
     → IsReading check all (s ∷ left) → IsNoNextLine check s.1 → AreNoTrace version all
 no_trace check version all left s same reading none init entries trace =
     let written : AreLines check.version (reading.done ++ s ∷ left) (lines_of init entries) =
     rw (same, reading.split) trace.written in
     let parts = parts_of check.version reading.done left s (lines_of init entries) written in
-    let names = all_same_named check.version reading.done parts.before (lines_of reading.init reading.entries) parts.first reading.written in
+    let names = ap (map named)
+    (same_lines check.version reading.done parts.before
+    (lines_of reading.init reading.entries) parts.first reading.written) in
     none parts.line parts.next
     (may_follow check reading.init init reading.entries entries parts.before parts.after parts.line reading.stands trace.ascending names parts.shape)
 
 -- a text with a first line, and no trace behind it, is no trace
 pub no_text : (text : List ℕ) (number : ℕ) (first : List (List ℕ)) (rest : List (ℕ × List (List ℕ))) (version : Version)
-    → statements_from 0 (lines text) ≡ (number, first) ∷ rest → Writes first (parts_of_first version) → AreNoTrace version rest → IsNoTrace text
+    → statements_from 0 (lines text) ≡ (number, first) ∷ rest → Writes first (parts_of_first version)
+    → AreNoTrace version rest → IsNoTrace text
 no_text text number first rest version is begins none other init entries trace =
     let same : (number, first) ∷ rest ≡ (trace.number, trace.first) ∷ trace.rest = sym is ∙ trace.statements in
     let here : ℕ × List (List ℕ) = (number, first) in
@@ -200,8 +174,11 @@ no_text text number first rest version is begins none other init entries trace =
     let pair : here ≡ there = cc in
     let same_first : first ≡ trace.first = ap (λ (p : ℕ × List (List ℕ)). p.1) pair in
     let same_rest : trace.rest ≡ rest = cc in
-    let one : other ≡ version = one_version trace.first other version trace.begins (subst (λ ws. Writes ws (parts_of_first version)) same_first begins) in
-    none init entries (subst (λ ss. AreTrace version init entries ss) same_rest (subst (λ v. AreTrace v init entries trace.rest) one trace.goes_on))
+    let one : other ≡ version =
+    one_version trace.first other version trace.begins
+    (subst (λ ws. Writes ws (parts_of_first version)) same_first begins) in
+    none init entries (subst (λ ss. AreTrace version init entries ss) same_rest
+    (subst (λ v. AreTrace v init entries trace.rest) one trace.goes_on))
 
 -- a fault that is no want of memory comes also where less is refused
 pub IsNoMemoryOr-weaker : (P Q : Type 0) (fault : TextFault) → (P → Q) → IsNoMemoryOr P fault → IsNoMemoryOr Q fault

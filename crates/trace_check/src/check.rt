@@ -5,6 +5,7 @@ ghost use Rattle.slice_core_log.specs.declared.entry.Entry.{Entry};
 ghost use Rattle.trace_check.specs.Judge.{IsNameable};
 ghost use Rattle.trace_check.specs.declared.judge.TheConstants.{MOST_WORDS};
 ghost use Rattle.trace_check.specs.TraceLine.{IsLineOf};
+ghost use Rattle.trace_check.specs.declared.verdict.Verdict.{Verdict};
 ghost use Rattle.trace_check.specs.Verdict.{IsVerdict};
 ghost use Rattle.trace_check.specs.Trace.{IsJudged, AreJudged, IsNoTrace, AreNoTrace, IsNoMemoryOr, IsNoNextLine, IsReading, IsSoFar, Stands, MayBegin, MayFollow};
 
@@ -44,6 +45,11 @@ pub fn check_trace(alloc: Global, input: &[u8]) -> Result<Verdict, TextFault>
         Err(fault) => Err(fault.at(first.number)),
     }
 }
+
+/// A text has one verdict alone: its words are one trace's at most.
+pub fn one_judgement()
+    ensures { (text : List ℕ) (a b : Verdict) → IsJudged text a → IsJudged text b → a ≡ b }
+{}
 
 /// Judges the lines behind the first.
 fn check_lines(

@@ -7,5 +7,8 @@ pub returns-in-Ok-clause-refused : goal.returns-in-Ok-clause-refused
 returns-in-Ok-clause-refused c =
     IfErr-weaker c.check_lines.result _ _
     (λ fault. IsNoMemoryOr-weaker _ _ fault
-    (no_text c.args.input.now c.in-Some.first.number (map (λ w. w.now) c.in-Some.first.words.items) c.next.new.self c.in-Ok.version (sym c.of-statements.ensures ∙ c.in-Some.ensures.steps) (rw c.as_slice.ensures.value at c.in-Ok.ensures.written)))
+    (no_text c.args.input.now c.in-Some.first.number
+    (map (λ w. w.now) c.in-Some.first.words.items) c.next.new.self c.in-Ok.version
+    (sym c.of-statements.ensures ∙ c.in-Some.ensures.steps)
+    (rw c.as_slice.ensures.value at c.in-Ok.ensures.written)))
     c.check_lines.ensures.refused

@@ -29,30 +29,36 @@ returns-in_default-clause-refused c =
 pub returns-then-not-has_access-clause-refused : goal.returns-then-not-has_access-clause-refused
 returns-then-not-has_access-clause-refused c =
     entry_refused c.args.version _ _ _ _ _ _ _ c.in-Some.ensures.parts
-    (λ e words range. let has : c.has_access.result ≡ true = (c.has_access.ensures e.op e.word.0 words.written).1 range.op in cc)
+    (λ e words range. let has : c.has_access.result ≡ true =
+    (c.has_access.ensures e.op e.word.0 words.written).1 range.op in cc)
 
 pub returns-in_err-op-clause-refused : goal.returns-in_err-op-clause-refused
 returns-in_err-op-clause-refused c =
     let p = err_from_is_err_and c.from_residual.result c.from_residual.ensures.1 in
-    rw p.1 (entry_refused c.args.version _ _ _ _ _ _ _ c.in-Some.ensures.parts (λ e words range. c.in_err-op.ensures.refused e.op e.word.0 words.written))
+    rw p.1 (entry_refused c.args.version _ _ _ _ _ _ _ c.in-Some.ensures.parts
+    (λ e words range. c.in_err-op.ensures.refused e.op e.word.0 words.written))
 
 pub returns-in_err-reply-clause-refused : goal.returns-in_err-reply-clause-refused
 returns-in_err-reply-clause-refused c =
     let p = err_from_is_err_and c.from_residual-in_err-reply.result c.from_residual-in_err-reply.ensures.1 in
-    rw p.1 (entry_refused c.args.version _ _ _ _ _ _ _ c.in-Some.ensures.parts (λ e words range. c.in_err-reply.ensures.ok words.reply.0))
+    rw p.1 (entry_refused c.args.version _ _ _ _ _ _ _ c.in-Some.ensures.parts
+    (λ e words range. c.in_err-reply.ensures.ok words.reply.0))
 
 pub returns-in_err-since-clause-refused : goal.returns-in_err-since-clause-refused
 returns-in_err-since-clause-refused c =
     let p = err_from_is_err_and c.from_residual-in_err-since.result c.from_residual-in_err-since.ensures.1 in
-    rw p.1 (entry_refused c.args.version _ _ _ _ _ _ _ c.in-Some.ensures.parts (λ e words range. c.in_err-since.ensures.ok words.since.0))
+    rw p.1 (entry_refused c.args.version _ _ _ _ _ _ _ c.in-Some.ensures.parts
+    (λ e words range. c.in_err-since.ensures.ok words.since.0))
 
 pub returns-then-core-cores-clause-refused : goal.returns-then-core-cores-clause-refused
 returns-then-core-cores-clause-refused c =
     entry_refused c.args.version _ _ _ _ _ _ _ c.in-Some.ensures.parts
     (λ e words range.
-    let core : e.core.0 ≡ c.in_ok-core.core = one_number c.in-Some.words.core.now _ _ words.core c.in_ok-core.ensures.ok.1 in
+    let core : e.core.0 ≡ c.in_ok-core.core =
+    one_number c.in-Some.words.core.now _ _ words.core c.in_ok-core.ensures.ok.1 in
     let tag : e.tag ≡ c.in_ok-tag.tag = one_number c.in-Some.words.tag.now _ _ words.tag c.in_ok-tag.ensures.ok.1 in
-    let word : e.word.0 ≡ c.in_ok-op.word.0 = one_word _ e.op c.in_ok-op.op e.word.0 c.in_ok-op.word.0 words.written c.in_ok-op.ensures.written in
+    let word : e.word.0 ≡ c.in_ok-op.word.0 =
+    one_word _ e.op c.in_ok-op.op e.word.0 c.in_ok-op.word.0 words.written c.in_ok-op.ensures.written in
     elim c.then-core-cores.branch [
       | then-core-cores-via-then-core-cores w ↦ omega arith
       | then-core-cores-via-else-core-cores+then-tag-ge-MOST_TAGS w ↦ omega arith

@@ -7,8 +7,10 @@ pub returns-in-One : goal.returns-in-One
 returns-in-One c = λ op word written. rw c.in-One.is (
   (λ other.
       no_compare_exchange _ op word
-      (λ cas. false≢true (sym (not-true c.is_compare_exchange.result other) ∙ c.is_compare_exchange.ensures.1 cas)) written),
+      (λ cas. false≢true (sym (not-true c.is_compare_exchange.result other)
+      ∙ c.is_compare_exchange.ensures.1 cas)) written),
   λ of.
       not_from_false c.is_compare_exchange.result
-      (false_from_ne_true c.is_compare_exchange.result (λ cas. begins_otherwise _ op word written of (c.is_compare_exchange.ensures.0 cas))),
+      (false_from_ne_true c.is_compare_exchange.result
+      (λ cas. begins_otherwise _ op word written of (c.is_compare_exchange.ensures.0 cas))),
 )

@@ -1,0 +1,131 @@
+-- What each step of the small machine makes of a book.
+use Rattle.std.proofs.Common.{◌≡◌, ℕ, ◌+◌, ◌⊎◌, false, List, [], ◌∷◌, ◌++◌, length, map, inl, inr, sym, ap, ◌∙◌, subst, ⊎_elim, Some, set, true, zero-add, arith}
+use Rattle.std.specs.Prelude.{slice_get}
+use Rattle.std.proofs.lemmas.Bool.{cases_lt}
+use Rattle.std.proofs.lemmas.List.{get_or_append_left, get_or_push, length-append}
+use Rattle.std.proofs.lemmas.Option.{get_or_from_slice_get, slice_get-get_or, slice_get_within}
+use Rattle.address_map.specs.declared.address.WordAddr.{WordAddr}
+use Rattle.receipt_ledger.proofs.Counts.{accept-counted, hand-counted, new-counted, perform-counted, same-counted}
+use Rattle.receipt_ledger.proofs.Marks.{OneMore, handed_out-marked, handed_out-waiting}
+use Rattle.receipt_ledger.specs.Booked.{IsBooked, stores_to}
+use Rattle.receipt_ledger.specs.Counted.{handed_out}
+use Rattle.receipt_shares.proofs.Totals.{together_assoc, totals_accepted, totals_append, totals_cons, totals_nil}
+use Rattle.receipt_shares.specs.Totals.{Totals, nothing, only_accepted, only_handed, together, totals}
+use Rattle.slice_core_log.specs.declared.entry.Entry.{Entry}
+use Rattle.slice_core_machine.specs.Machine.{Asked, Can, IsSame, Machine, Run, accept, after, entry_for, hand, new_machine, perform}
+
+-- an entry of a log with one more is one of the log, or that one
+pushed : (log : List Entry) (last : Entry) (number : ℕ) (e : Entry) → slice_get (log ++ last ∷ []) number ≡ Some e
+    → (slice_get log number ≡ Some e) ⊎ (e ≡ last)
+pushed log last number e there =
+    ⊎_elim
+    (λ inside.
+    inl (slice_get-get_or log number e inside
+    ∙ ap (λ d. Some d)
+    (sym (get_or_append_left log (last ∷ []) e number inside) ∙ get_or_from_slice_get (log ++ last ∷ []) number e e there)))
+    (λ past.
+    let within = slice_get_within (log ++ last ∷ []) number e there in
+    let long = length-append log (last ∷ []) in
+    let here : length log ≡ number = omega (arith, past, within, long) in
+    inr (sym (get_or_from_slice_get (log ++ last ∷ []) number e e there) ∙ get_or_push log last e number here))
+    (cases_lt number (length log))
+
+-- one more that is handed out is counted as such, wherever it stands
+pub totals-one_more : (words : List WordAddr) (n : ℕ) (e : Entry) (old new : List Entry) → OneMore e old new
+    → totals words n new ≡ together (totals words n old) (only_handed words e)
+totals-one_more words n e old new one =
+    ap (λ k. totals words k new) (sym (zero-add n))
+    ∙ ap (totals words (0 + n)) one.is
+    ∙ totals_append words 0 n one.before (e ∷ one.later)
+    ∙ ap (together (totals words 0 one.before)) (totals_cons words n one.later e)
+    ∙ sym (together_assoc (totals words 0 one.before) (totals words n one.later) (only_handed words e))
+    ∙ ap (λ t. together t (only_handed words e))
+    (sym (totals_append words 0 n one.before one.later) ∙ ap (totals words (0 + n)) (sym one.was)
+    ∙ ap (λ k. totals words k old) (zero-add n))
+
+-- Where nothing was asked for, the totals are nothing.
+pub new-booked : (counters : List WordAddr) → IsBooked counters nothing new_machine
+new-booked counters = record {
+  waiting = [];
+  marks = [];
+  counted = new-counted;
+  totals_are = sym (totals_nil counters);
+  asked = λ r none. absurd none;
+  logged = λ number e there. absurd (cc);
+}
+
+module _ (counters : List WordAddr) (t : Totals) (m : Machine) (booked : IsBooked counters t m) where
+  pub same-booked : (n : Machine) → IsSame m n → IsBooked counters t n
+  same-booked n same = record {
+    waiting = booked.waiting;
+    marks = booked.marks;
+    counted = same-counted m booked.waiting booked.marks booked.counted n same;
+    totals_are =
+        booked.totals_are
+        ∙ ap (λ (log : List Entry). totals counters (length booked.waiting + length log) (handed_out log booked.marks)) same.log;
+    asked = λ r waits. booked.asked r ((same.waiting r).1 waits);
+    logged = λ number e there. booked.logged number e (ap (λ log. slice_get log number) same.log ∙ there);
+  }
+
+  pub accept-booked : (initial : ℕ → ℕ) (r : Asked) → Can m (accept r) → stores_to counters r.op r.word ≡ false
+      → IsBooked counters (together t (only_accepted 1)) (after initial m (accept r))
+  accept-booked initial r can spares = record {
+    waiting = booked.waiting ++ r ∷ [];
+    marks = booked.marks;
+    counted = accept-counted m booked.waiting booked.marks booked.counted initial r can;
+    totals_are =
+        ap (λ u. together u (only_accepted 1)) booked.totals_are
+        ∙ sym (totals_accepted counters (length booked.waiting + length m.log) 1 (handed_out m.log booked.marks))
+        ∙ ap (λ n. totals counters n (handed_out m.log booked.marks))
+        (let long = length-append booked.waiting (r ∷ []) in omega (arith, long));
+    asked = λ other waits.
+        ⊎_elim (λ before. booked.asked other before)
+        (λ is. subst (λ (o : Asked). stores_to counters o.op o.word ≡ false) (sym is) spares) waits;
+    logged = booked.logged;
+  }
+
+  pub perform-booked : (initial : ℕ → ℕ) (r : Asked) → Can m (perform r)
+      → IsBooked counters t (after initial m (perform r))
+  perform-booked initial r can =
+      let done = perform-counted m booked.waiting booked.marks booked.counted initial r can in
+      let e = entry_for initial m.log r in record {
+        waiting = done.0;
+        marks = booked.marks ++ false ∷ [];
+        counted = done.2;
+        totals_are =
+            booked.totals_are
+            ∙ ap (λ n. totals counters n (handed_out m.log booked.marks))
+            (let long = length-append m.log (e ∷ []) in let less = done.1 in omega (arith, long, less))
+            ∙ ap (totals counters (length done.0 + length (m.log ++ e ∷ [])))
+            (sym (handed_out-waiting m.log booked.marks e booked.counted.sized));
+        asked = λ other waits. booked.asked other waits.0;
+        logged = λ number given there.
+            ⊎_elim (λ before. booked.logged number given before)
+            (λ is.
+            subst (λ (d : Entry). stores_to counters d.op d.word ≡ false) (sym is) (booked.asked r can.0))
+            (pushed m.log e number given there);
+      }
+
+  pub hand-booked : (initial : ℕ → ℕ) (number : ℕ) (e : Entry) → Can m (hand number) → slice_get m.log number ≡ Some e
+      → IsBooked counters (together t (only_handed counters e)) (after initial m (hand number))
+  hand-booked initial number e can there =
+      let accepted = length booked.waiting + length m.log in record {
+        waiting = booked.waiting;
+        marks = set booked.marks number true;
+        counted = hand-counted m booked.waiting booked.marks booked.counted initial number can;
+        totals_are =
+            ap (λ u. together u (only_handed counters e)) booked.totals_are
+            ∙ sym (totals-one_more counters accepted e (handed_out m.log booked.marks)
+            (handed_out m.log (set booked.marks number true))
+            (handed_out-marked m.log booked.marks number e there ((booked.counted.replies number).0 can)));
+        asked = booked.asked;
+        logged = booked.logged;
+      }
+
+-- What is performed changes no totals.
+pub performs-booked : (initial : ℕ → ℕ) (counters : List WordAddr) (t : Totals) (requests : List Asked) (m now : Machine)
+    → IsBooked counters t m → Run initial (map perform requests) m now → IsBooked counters t now
+performs-booked initial counters t [] m now booked run = same-booked counters t m booked now run
+performs-booked initial counters t (r ∷ requests) m now booked run =
+    performs-booked initial counters t requests (after initial m (perform r)) now
+    (perform-booked counters t m booked initial r run.0) run.1

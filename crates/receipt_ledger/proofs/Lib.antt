@@ -1,0 +1,13 @@
+pub mod Booked
+pub mod Counts
+pub mod Gathered
+pub mod Marks
+pub mod Moved
+pub mod New
+pub mod Ports
+pub mod Quiet
+pub mod Removed
+pub mod Settled
+pub mod Stays
+pub mod Tied
+pub mod Values

@@ -1,0 +1,132 @@
+-- State and book go on belonging together: what each call makes of the totals.
+use Rattle.std.proofs.Common.{◌≡◌, ℕ, ◌<◌, false, List, [], ◌∷◌, ◌++◌, length, Some, Ok, refl, sym, ap, ◌∙◌, subst, arith}
+use Rattle.std.specs.Prelude.{slice_get}
+use Rattle.std.proofs.lemmas.List.{get_or_push, length-append}
+use Rattle.std.proofs.lemmas.Option.{get_or_from_slice_get}
+use Rattle.address_map.specs.declared.address.CoreId.{CoreId}
+use Rattle.address_map.specs.declared.config.Config.{Config}
+use Rattle.address_map.specs.declared.request.Request.{Request}
+use Rattle.receipt_ledger.proofs.Booked.{accept-booked, hand-booked, perform-booked, performs-booked, same-booked}
+use Rattle.receipt_ledger.proofs.Stays.{issue-stays}
+use Rattle.receipt_ledger.specs.Booked.{IsTied, stores_to}
+use Rattle.receipt_ledger.specs.Slice.{IsSameSlice, IsSliceOf}
+use Rattle.receipt_shares.specs.Names.{counters_of}
+use Rattle.receipt_shares.specs.Totals.{Totals, only_accepted, only_handed, together}
+use Rattle.slice_core_answer.specs.declared.answer.Issue.TheVariants as issues
+use Rattle.slice_core_log.specs.Log.{initially}
+use Rattle.slice_core_log.specs.declared.entry.Entry.{Entry}
+use Rattle.slice_core_machine.specs.Machine.{Asked, accept, after, entry_for, hand, perform}
+use Rattle.slice_core_machine.specs.Shows.{Leads, Performs, issue_steps, next_of, shown}
+use Rattle.slice_core_plan.specs.Parts.{AfterIssue, PartsView}
+use Rattle.slice_core_plan.specs.View.{View}
+
+-- A later state of a slice is one of it.
+pub slice-kept : (c : Config) (number : ℕ) (old new : View) → IsSliceOf c number old → IsSameSlice old new
+    → IsSliceOf c number new
+slice-kept c number old new slice same = record {
+  allowed = slice.allowed;
+  named = slice.named;
+  lines = same.lines ∙ slice.lines;
+  init = same.init ∙ slice.init;
+  counters = same.counters ∙ slice.counters;
+  cores = same.cores ∙ slice.cores;
+}
+
+module _ (c : Config) (number : ℕ) (t : Totals) (old new : PartsView) (tied : IsTied c number t old) where
+  -- Where no step was made, the totals are the same.
+  pub same-tied : IsSameSlice old.view new.view → Leads [] old.view new.view → IsTied c number t new
+  same-tied same leads = record {
+    slice = slice-kept c number old.view new.view tied.slice same;
+    booked = same-booked (counters_of c number) t (shown old.view) tied.booked (shown new.view) leads.run;
+  }
+
+  -- What a delivery performs changes no totals.
+  pub performs-tied : IsSameSlice old.view new.view → Performs old.view new.view → IsTied c number t new
+  performs-tied same performs = record {
+    slice = slice-kept c number old.view new.view tied.slice same;
+    booked =
+        performs-booked (initially old.view.init) (counters_of c number) t performs.requests (shown old.view)
+        (shown new.view) tied.booked performs.leads.run;
+  }
+
+  -- A reply that is handed out is one more entry of the totals.
+  pub hand-tied : (given : ℕ) (e : Entry) → IsSameSlice old.view new.view → Leads (hand given ∷ []) old.view new.view
+      → slice_get new.view.log given ≡ Some e → IsTied c number (together t (only_handed (counters_of c number) e)) new
+  hand-tied given e same leads there =
+      let initial = initially old.view.init in
+      let counters = counters_of c number in
+      let m = shown old.view in record {
+        slice = slice-kept c number old.view new.view tied.slice same;
+        booked =
+            same-booked counters (together t (only_handed counters e)) (after initial m (hand given))
+            (hand-booked counters t m tied.booked initial given e leads.run.0
+            (ap (λ log. slice_get log given) leads.run.1.log ∙ there))
+            (shown new.view) leads.run.1;
+      }
+
+  module _ (core : CoreId) (request : Request) where
+    abbrev asked : Asked
+    asked = next_of old.view core request
+
+    -- A request that is pending is one more that was accepted.
+    pub pending-tied : (seq : ℕ) → AfterIssue old core request (Ok (issues.Pending seq)) new
+        → Leads (accept asked ∷ []) old.view new.view → IsTied c number (together t (only_accepted 1)) new
+    pending-tied seq step leads =
+        let stays = issue-stays old core request (Ok (issues.Pending seq)) new step in
+        let initial = initially old.view.init in
+        let counters = counters_of c number in
+        let m = shown old.view in
+        let spares = subst (λ words. stores_to words request.op request.word ≡ false) tied.slice.counters (stays.spares tt) in
+        record {
+          slice = slice-kept c number old.view new.view tied.slice stays.slice;
+          booked =
+              same-booked counters (together t (only_accepted 1)) (after initial m (accept asked))
+              (accept-booked counters t m tied.booked initial asked leads.run.0 spares) (shown new.view) leads.run.1;
+        }
+
+    -- What is done at once is one more that was accepted, and one more entry.
+    pub done-tied : (given : ℕ) (e : Entry) → AfterIssue old core request (Ok (issues.Done given)) new
+        → Leads (accept asked ∷ perform asked ∷ hand given ∷ []) old.view new.view → slice_get new.view.log given ≡ Some e
+        → IsTied c number (together (together t (only_accepted 1)) (only_handed (counters_of c number) e)) new
+    done-tied given e step leads there =
+        let stays = issue-stays old core request (Ok (issues.Done given)) new step in
+        let initial = initially old.view.init in
+        let counters = counters_of c number in
+        let spares = subst (λ words. stores_to words request.op request.word ≡ false) tied.slice.counters (stays.spares tt) in
+        let m = shown old.view in
+        let more = together t (only_accepted 1) in
+        let accepted = after initial m (accept asked) in
+        let performed = after initial accepted (perform asked) in
+        record {
+          slice = slice-kept c number old.view new.view tied.slice stays.slice;
+          booked =
+              same-booked counters (together more (only_handed counters e)) (after initial performed (hand given))
+              (hand-booked counters more performed
+              (perform-booked counters more accepted (accept-booked counters t m tied.booked initial asked leads.run.0 spares)
+              initial asked leads.run.1.0)
+              initial given e leads.run.1.1.0 (ap (λ log. slice_get log given) leads.run.1.1.1.log ∙ there))
+              (shown new.view) leads.run.1.1.1;
+        }
+
+-- What is done at once is logged last, as the entry of its request.
+pub record IsLast (old new : PartsView) (core : CoreId) (request : Request) (number : ℕ) : Type 0 where
+  pub within : number < length new.view.log
+  pub is : (e : Entry) → slice_get new.view.log number ≡ Some e
+      → e ≡ entry_for (initially old.view.init) old.view.log (next_of old.view core request)
+
+pub done-last : (old new : PartsView) (core : CoreId) (request : Request) (number : ℕ)
+    → AfterIssue old core request (Ok (issues.Done number)) new
+    → Leads (issue_steps (next_of old.view core request) (Ok (issues.Done number))) old.view new.view
+    → IsLast old new core request number
+done-last old new core request number step leads =
+    let stays = issue-stays old core request (Ok (issues.Done number)) new step in
+    let last = stays.last number refl in
+    let e = entry_for (initially old.view.init) old.view.log (next_of old.view core request) in
+    let log : old.view.log ++ e ∷ [] ≡ new.view.log = leads.run.1.1.1.log in
+    let long = length-append old.view.log (e ∷ []) in
+    let same = ap (λ (l : List Entry). length l) log in record {
+      within = omega (arith, last, long, same);
+      is = λ given there.
+          sym (get_or_from_slice_get (old.view.log ++ e ∷ []) number given e (ap (λ l. slice_get l number) log ∙ there))
+          ∙ get_or_push old.view.log e e number (sym last);
+    }

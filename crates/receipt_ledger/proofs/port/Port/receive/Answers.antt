@@ -1,0 +1,14 @@
+use Rattle.std.proofs.Common.{◌<◌, ◌∙◌, ap, length, subst, sym}
+use Rattle.receipt_ledger.proofs.Ports.{receipt-port}
+use Rattle.receipt_ledger.specs.Port.{PortView}
+use Rattle.receipt_shares.specs.Totals.{only_handed, together}
+use Rattle.receipt_ledger.proofs.port.Port.receive.Goals as goal
+
+pub invariant_of-self : goal.invariant_of-self
+invariant_of-self g c =
+    rw (c.push_reserved.ensures.items, c.push_reserved.ensures.capacity, c.max-self-inside.ensures, c.after.ensures)
+    (receipt-port g.N.SliceNames.setup g.N.SliceNames.number _ c.self.inside.shares c.hand.new.shares c.self.invariant
+    c.hand.ensures.parts c.args.receipt
+    (subst (λ (p : PortView). length p.receipts < p.accepted) (sym c.self.view_is) c.requires.waiting)
+    (c.hand.ensures.held
+    ∙ ap (λ words. together c.self.inside.shares.held (only_handed words c.args.receipt.entry)) c.requires.words.are))

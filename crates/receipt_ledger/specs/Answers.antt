@@ -1,0 +1,70 @@
+-- What a port's calls answer, and what they leave.
+use Rattle.std.specs.Prelude.{◌≡◌, ◌⊎◌, ◌<◌, ◌≤◌, List, length, slice_get, Option, Some, None, Result, Ok, Err}
+use Rattle.std.specs.Option.{option_map}
+use Rattle.address_map.specs.declared.address.SliceId.{SliceId}
+use Rattle.address_map.specs.declared.request.Request.{Request}
+use Rattle.receipt_ledger.specs.Port.{PortView, IsWithRoom, with_receipt, with_request}
+use Rattle.receipt_ledger.specs.declared.receipt.Answer.{Answer}
+use Rattle.receipt_ledger.specs.declared.receipt.Answer.TheVariants as answers
+use Rattle.receipt_ledger.specs.declared.receipt.Receipt.{Receipt}
+use Rattle.slice_core_answer.specs.declared.answer.Issue.{Issue}
+use Rattle.slice_core_answer.specs.declared.answer.Issue.TheVariants as issues
+use Rattle.slice_core_answer.specs.declared.answer.Refused.{Refused}
+use Rattle.slice_core_answer.specs.declared.answer.Refused.TheVariants as refusals
+use Rattle.slice_core_log.specs.declared.entry.Entry.{Entry}
+use Rattle.slice_core_log.specs.declared.entry.Numbered.{Numbered}
+use Rattle.slice_core_plan.specs.Parts.{PartsView, AfterHand, AfterIssue}
+
+-- The receipt is of this slice, and of a request that the port's core made, under its tag.
+pub record IsReceiptFor (p : PortView) (request : Request) (r : Receipt) : Type 0 where
+  pub slice : r.slice ≡ p.slice
+  pub core : r.entry.core ≡ p.core
+  pub tag : r.entry.tag ≡ request.tag
+  pub word : r.entry.word ≡ request.word
+  pub op : r.entry.op ≡ request.op
+
+-- The receipt is of the entry that the log has at its number.
+abbrev pub IsGenuine : List Entry → Receipt → Type 0
+IsGenuine log r = slice_get log r.number ≡ Some r.entry
+
+-- The port's answer tells what the slice's does.
+abbrev pub Tells : Result Issue Refused → Result Answer Refused → Type 0
+Tells (Ok (issues.Done number)) (Ok (answers.Done r)) = r.number ≡ number
+Tells (Ok (issues.Pending seq)) (Ok answers.Pending) = Unit {0}
+Tells (Ok (issues.Stall stall)) (Ok (answers.Stall told)) = told ≡ stall
+Tells (Err refused) (Err told) = told ≡ refused
+Tells issue answer = ⊥
+
+-- The slice was asked, and its answer is told; or there was no room for a receipt, and nothing has changed.
+abbrev pub AsksSlice : PartsView → PortView → Request → Result Answer Refused → PartsView → Type 0
+AsksSlice old port request answer new =
+    ((issue : Result Issue Refused) × AfterIssue old port.core request issue new × Tells issue answer)
+    ⊎ ((answer ≡ Err refusals.Memory) × (new ≡ old))
+
+-- What a port has after a request that was answered so: what is accepted is counted, and what is done at once is
+-- handed out.
+abbrev pub AfterRequest : PortView → Request → Result Answer Refused → PortView → Type 0
+AfterRequest old request (Ok (answers.Done r)) new = IsReceiptFor old request r × IsWithRoom (with_receipt (with_request old) r) new
+AfterRequest old request (Ok answers.Pending) new = IsWithRoom (with_request old) new
+AfterRequest old request (Ok (answers.Stall stall)) new = IsWithRoom old new
+AfterRequest old request (Err refused) new = IsWithRoom old new
+
+-- the receipt of an entry with its number
+abbrev pub receipt_of : SliceId → Numbered → Receipt
+receipt_of slice given = record { slice = slice; number = given.number; entry = given.entry }
+
+-- The slice is asked for a reply where the port has a request in flight, and what it hands out is told; where the port
+-- has none, nothing is asked.
+pub record AsksReply (old : PartsView) (port : PortView) (answer : Option Receipt) (new : PartsView) : Type 0 where
+  pub flying : length port.receipts < port.accepted
+      → (given : Option Numbered) × AfterHand old port.core given new × (answer ≡ option_map (receipt_of port.slice) given)
+  pub landed : port.accepted ≤ length port.receipts → (answer ≡ None) × (new ≡ old)
+
+-- What a port has after that: one more receipt, or what it had.
+abbrev pub AfterReply : PortView → Option Receipt → PortView → Type 0
+AfterReply old (Some r) new = new ≡ with_receipt old r
+AfterReply old None new = new ≡ old
+
+abbrev pub IsGenuineAnswer : List Entry → Result Answer Refused → Type 0
+IsGenuineAnswer log (Ok (answers.Done r)) = IsGenuine log r
+IsGenuineAnswer log answer = Unit {0}

@@ -1,0 +1,33 @@
+//! The receipts that a slice's callers hold, and the book that goes with them.
+//!
+//! A [`Port`] is that through which one core asks one slice: it counts the requests that were accepted, and keeps a
+//! [`Receipt`] of each one that was handed out. A [`Book`] lies beside the slice's state and has the totals of all its
+//! ports. Each port holds a share of every total (`receipt_shares`), and a share moves only with the book, so what the
+//! ports hold together is what the slice accepted and handed out: no request is lost, doubled or made up, and no sum of
+//! a counter is off.
+//!
+//! - [`Book::open`] makes a slice, its book and a port for each core.
+//! - [`Book::accept`] asks the slice for a port. Its contract says that state and answer are those of the slice's own
+//!   call, and what the port has then.
+//! - [`Book::hand_out`] hands out a reply, as the slice does.
+//! - [`Book::settle`] looks at a quiet slice with all its ports, each lent by whoever holds it ([`Lends`]): the ports
+//!   hold a receipt of each entry of the log, and the value of each counter is its initial value and the sum of what
+//!   their receipts add to it, modulo 2^64.
+//!
+//! That a state and a book belong together (`IsTied` of `specs/Booked.antt`) is asked of whoever calls, and kept. The
+//! slice is seen there as the small machine of `slice_core_machine`: how many requests wait and were performed, and
+//! which entries of the log are handed out. What deliveries and evictions keep of it stands in `proofs/Tied.antt`.
+#![tactic(auto)]
+
+pub use book::Book;
+pub use lends::{Alone, Lends};
+pub use port::Port;
+pub use receipt::{Answer, Receipt};
+
+mod book;
+mod gather;
+mod lends;
+mod open;
+mod port;
+mod receipt;
+mod settle;

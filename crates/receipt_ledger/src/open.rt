@@ -1,0 +1,80 @@
+ghost use Rattle.std.specs.Prelude.{◌≡◌, ◌<◌, ◌≤◌, filter, IfOk};
+ghost use Rattle.receipt_ledger.specs.Booked.{IsTied};
+ghost use Rattle.receipt_ledger.specs.Port.{AreFreshPorts};
+ghost use Rattle.receipt_shares.specs.Names.{AreLedgersOf};
+ghost use Rattle.receipt_shares.specs.Totals.{nothing};
+ghost use Rattle.slice_core_plan.specs.Initial.{is_of_slice};
+ghost use Rattle.slice_core_plan.specs.Parts.{IsNew};
+
+use super::book::Book;
+use super::port::Port;
+use address_map::{Checked, CoreId, SliceId, WordAddr};
+use mshr_file::MissFile;
+use receipt_shares::{Blanks, Books, Shares, SliceNames};
+use slice_core::SliceState;
+use std::alloc::{AllocError, Global};
+
+impl<N: SliceNames> Book<N> {
+    /// A slice of the configured machine in which nothing was asked for yet, its book, and a port for each core,
+    /// ascending.
+    pub fn open<F: MissFile>(
+        alloc: Global,
+        config: &Checked,
+        slice: SliceId,
+        blanks: Blanks,
+    ) -> Result<(SliceState<F>, Book<N>, Vec<Port<N>>), AllocError>
+        requires slice { slice.0 < config.now.slices }
+        requires setup { config.now ≡ N.setup }
+        requires number { slice.0 ≡ N.number }
+        requires ledgers { AreLedgersOf N.setup N.names blanks }
+        ensures state { IfOk result (λ r. IsNew config.now (F.bound_by config.now) slice r.0) }
+        ensures tied { IfOk result (λ r. IsTied N.setup N.number r.1 r.0) }
+        ensures ports { IfOk result (λ r. AreFreshPorts slice N.setup.cores r.2.items) }
+    {
+        let state = SliceState::build(alloc, config, slice)?;
+        let counters = counters_of_slice(alloc, config, slice)?;
+        let (books, shares) = Books::open(blanks);
+        let ports = cut_ports(alloc, config.cores(), slice, shares)?;
+        Ok((state, Book { books, counters }, ports))
+    }
+}
+
+fn counters_of_slice(
+    alloc: Global,
+    config: &Checked,
+    slice: SliceId,
+) -> Result<Vec<WordAddr>, AllocError>
+    requires { slice.0 < config.now.slices }
+    ensures { IfOk result (λ v. v.items ≡ filter (is_of_slice config.now slice.0) config.now.counters) }
+{
+    let slices = config.slices() as u64;
+    config
+        .counters()
+        .iter()
+        .copied()
+        .filter(|word| word.0 / 8 % slices == u64::from(slice.0))
+        .collect(alloc)
+}
+
+// A port for each core, each with one part of a share that has all.
+fn cut_ports<N: SliceNames>(
+    alloc: Global,
+    cores: usize,
+    slice: SliceId,
+    shares: Shares<N>,
+) -> Result<Vec<Port<N>>, AllocError>
+    requires cores { cores ≡ N.setup.cores }
+    requires few { cores ≤ 64 }
+    requires number { slice.0 ≡ N.number }
+    requires parts { shares.parts ≡ cores }
+    requires nothing { shares.held ≡ nothing }
+    ensures { IfOk result (λ v. AreFreshPorts slice cores v.items) }
+{
+    let mut shares = shares;
+    let mut ports = Vec::new(alloc);
+    for core in 0..cores {
+        let part = shares.split_part();
+        ports.push(Port::fresh(alloc, CoreId(core as u8), slice, part))?;
+    }
+    Ok(ports)
+}

@@ -1,9 +1,10 @@
 -- The first element of a list that passes a test: where it stands, and the list without it or with it at the end.
-use Rattle.std.proofs.Common.{◌≡◌, ℕ, ◌+◌, ◌<◌, ◌≤◌, Bool, true, false, cond, not, List, [], ◌∷◌, ◌++◌, length, map, get_or, set, suc, refl, ap, sym, ◌∙◌, arith, Some, None, option_to_list, find, position, remove, drop, nat_lt}
-use Rattle.std.specs.List.{position_or_len, refill}
+use Rattle.std.proofs.Common.{◌≡◌, ℕ, ◌+◌, ◌<◌, ◌≤◌, Bool, true, false, cond, not, List, [], ◌∷◌, ◌++◌, length, map, get_or, set, zero, suc, refl, ap, sym, ◌∙◌, arith, Some, None, option_to_list, find, position, remove, drop, nat_lt}
+use Rattle.std.specs.List.{position_or_len, refill, swap}
 use Rattle.std.specs.Set.{remove_key}
 use Rattle.std.proofs.lemmas.Bool.{ltb-true, ltb-false}
 use Rattle.std.proofs.lemmas.List.{map-append, take_at, length-set}
+use Rattle.std.proofs.lemmas.List.Edits.{swap_is}
 use Rattle.std.proofs.lemmas.List.Folds.{find_at}
 use Rattle.std.proofs.lemmas.Option.{slice_get-get_or, slice_get_past}
 use Rattle.cache_array.specs.History.{moved_to_end}
@@ -123,6 +124,28 @@ pub moved_at : {X : Type 0} (p : X → Bool) (xs ys : List X) (i : ℕ) → posi
 moved_at p [] ys i e moved = cc
 moved_at p (x ∷ xs) ys i e moved =
     rw (← removed_at p (x ∷ xs) i e, found_at p (x ∷ xs) i x e) (sym (moved x))
+
+-- the last element is at the end
+pub last_stays : {X : Type 0} (xs : List X) (i : ℕ) (d : X) → i + 1 ≡ length xs → xs ≡ remove xs i ++ get_or xs i d ∷ []
+last_stays [] i d one = absurd (omega (arith, one))
+last_stays (x ∷ []) zero d one = refl
+last_stays (x ∷ z ∷ xs) zero d one = absurd (omega (arith, one))
+last_stays (x ∷ xs) (suc i) d one = ap (λ ys. x ∷ ys) (last_stays xs i d (omega (arith, one)))
+
+-- an element with one behind it changes places with that one
+passed : {X : Type 0} (xs : List X) (i : ℕ) (d y : X) → length xs ≡ suc (suc i) →
+    set (set xs i (get_or xs (suc i) d)) (suc i) y ≡ remove xs i ++ y ∷ []
+passed [] i d y two = absurd (omega (arith, two))
+passed (x ∷ []) i d y two = absurd (omega (arith, two))
+passed (x ∷ z ∷ []) zero d y two = refl
+passed (x ∷ z ∷ w ∷ xs) zero d y two = absurd (omega (arith, two))
+passed (x ∷ z ∷ xs) (suc i) d y two = ap (λ ys. x ∷ ys) (passed (z ∷ xs) i d y (omega (arith, two)))
+
+pub swapped_last : {X : Type 0} (xs : List X) (i : ℕ) (d : X) → i + 2 ≡ length xs →
+    swap xs i (i + 1) ≡ remove xs i ++ get_or xs i d ∷ []
+swapped_last xs i d two =
+    sym (swap_is xs i (i + 1) d (omega (arith, two)) (omega (arith, two)))
+    ∙ (let next : i + 1 ≡ suc i = omega arith in rw next (passed xs i d (get_or xs i d) (omega (arith, two))))
 
 -- the same of a list that is written back through a slice of it
 pub moved_within : {X : Type 0} (p : X → Bool) (now items old new : List X) (i : ℕ) → items ≡ now → old ≡ items →

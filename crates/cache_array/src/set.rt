@@ -1,4 +1,4 @@
-ghost use Rattle.std.specs.Prelude.{◌≡◌, ◌<◌, ◌≤◌, ◌↔◌, Bool, true, List, [], ◌∷◌, ◌++◌, length, remove, position, option_copied, slice_index_or, Some, IsTrue, IsSome, IfSome, IfOk};
+ghost use Rattle.std.specs.Prelude.{◌≡◌, ◌<◌, ◌≤◌, ◌↔◌, Bool, true, List, [], ◌∷◌, ◌++◌, length, take, drop, remove, position, option_copied, slice_index_or, Some, IsTrue, IsSome, IfSome, IfOk};
 ghost use Rattle.std.specs.Borrow.{sem};
 ghost use Rattle.std.specs.List.{AllZip};
 ghost use Rattle.std.specs.Fn.{FnReturnsAt};
@@ -197,10 +197,28 @@ fn place_of<V>(slots: &[Slot<V>], line: Local) -> Option<usize>
     slots.iter().position(|slot| slot.line == line)
 }
 
-// Moves the slot behind those that follow it. Nothing moves where it is the last.
+// Moves the slot behind those that follow it. Nothing moves where it is the last, and one slot is passed at less cost
+// than several.
 fn move_to_end<V>(slots: &mut [Slot<V>], place: usize)
     requires { place < length slots.old }
     ensures { (d : Slot V) → slots.new ≡ remove slots.old place ++ slice_index_or slots.old place d ∷ [] }
 {
-    slots[place..].rotate_left(1);
+    let behind = slots.len() - place - 1;
+    if behind == 0 {
+        return;
+    }
+    if behind == 1 {
+        slots.swap(place, place + 1);
+    } else {
+        turn(&mut slots[place..]);
+    }
+}
+
+// Moves the first slot behind the others. Were it inlined, a use that moves one slot or none would cost more.
+#[inline(never)]
+fn turn<V>(slots: &mut [Slot<V>])
+    requires { 0 < length slots.old }
+    ensures { slots.new ≡ drop 1 slots.old ++ take 1 slots.old }
+{
+    slots.rotate_left(1);
 }

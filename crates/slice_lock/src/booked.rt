@@ -1,0 +1,110 @@
+ghost use Rattle.std.specs.Prelude.{◌≡◌, ◌<◌, ◌↔◌, length, map, IfSome, IsSome, IsTrue};
+ghost use Rattle.receipt_ledger.specs.Answers.{AfterReply, AfterRequest, AsksReply, AsksSlice};
+ghost use Rattle.slice_core.specs.Facts.{IsNotBroken, IsNotBrokenNext};
+ghost use Rattle.slice_core_plan.specs.Parts.{AfterDeliverNext, AfterDelivery, AfterEvict};
+ghost use Rattle.slice_core_plan.specs.View.{IsQuiet};
+ghost use Rattle.slice_lock.specs.Booked.{IsShown};
+ghost use Rattle.slice_lock.specs.Settled.{AreSettled};
+
+use address_map::{CoreId, LineAddr, Request};
+use arrayvec::ArrayVec;
+use mshr_file::MissFile;
+use receipt_ledger::{Answer, Book, Lends, Port, Receipt};
+use receipt_shares::SliceNames;
+use slice_core::SliceState;
+use slice_core_answer::{Delivered, DeliveredNext, Evicted, Refused};
+use slice_queues_message::{Class, Pick};
+use std::marker::Model;
+
+/// A slice's state and its book, which belong together. Contracts see both as a `BookedView`.
+#[derive(Drop)]
+pub(crate) struct Booked<F: MissFile, N: SliceNames> {
+    pub state: SliceState<F>,
+    pub book: Book<N>,
+}
+
+impl<F: MissFile, N: SliceNames> Model for Booked<F, N> {
+    ghost use Rattle.receipt_ledger.specs.Booked.{IsTied};
+    ghost use Rattle.slice_lock.specs.Booked.{BookedView};
+
+    ghost Value = { BookedView };
+
+    ghost view = { λ b. record { state = b.state; totals = b.book } };
+
+    ghost invariant = { λ b. IsTied N.setup N.number b.book b.state };
+}
+
+impl<F: MissFile, N: SliceNames> Booked<F, N> {
+    /// Asks the slice for a word.
+    pub fn issue(&mut self, port: &mut Port<N>, request: Request) -> Result<Answer, Refused>
+        ensures slice { AsksSlice self.old.state port.old request result self.new.state }
+        ensures port { AfterRequest port.old request result port.new }
+    {
+        self.book.accept(&mut self.state, port, request)
+    }
+
+    /// Hands out a reply.
+    pub fn collect(&mut self, port: &mut Port<N>) -> Option<Receipt>
+        ensures slice { AsksReply self.old.state port.old result self.new.state }
+        ensures port { AfterReply port.old result port.new }
+    {
+        self.book.hand_out(&mut self.state, port)
+    }
+
+    /// Gives up a core's copy of a line.
+    pub fn evict(&mut self, core: CoreId, line: LineAddr) -> Evicted
+        requires { core.0 < N.setup.cores }
+        ensures step { AfterEvict self.old.state core line result self.new.state }
+        ensures totals { self.new.totals ≡ self.old.totals }
+    {
+        self.state.evict(core, line)
+    }
+
+    /// Delivers the front message of a channel.
+    pub fn deliver(&mut self, pick: Pick) -> Delivered
+        ensures step { AfterDelivery self.old.state pick result self.new.state }
+        ensures unbroken { IsNotBroken result }
+        ensures totals { self.new.totals ≡ self.old.totals }
+    {
+        self.state.deliver(pick)
+    }
+
+    /// Makes one delivery of the class, where one can be made.
+    pub fn deliver_next(&mut self, class: Class) -> DeliveredNext
+        ensures step { AfterDeliverNext self.old.state class result self.new.state }
+        ensures unbroken { IsNotBrokenNext result }
+        ensures totals { self.new.totals ≡ self.old.totals }
+    {
+        self.state.deliver_next(class)
+    }
+
+    /// Whether nothing is under way.
+    pub fn is_quiet(&self) -> bool
+        ensures { IsTrue result ↔ IsQuiet self.now.state.view }
+    {
+        self.state.is_quiet()
+    }
+
+    /// Settles the slice with all its ports, where it is quiet.
+    pub fn settle<T: Lends<Port<N>, K>, const K: usize>(
+        &mut self,
+        ports: &mut [T],
+    ) -> Option<ArrayVec<u64, 8>>
+        requires whole { length ports.old ≡ N.setup.cores }
+        ensures quiet { IsSome result ↔ IsQuiet self.old.state.view }
+        ensures settled { IfSome result (λ values. AreSettled N.setup N.number (map T.part ports.old) values.items) }
+        ensures same { self.new ≡ self.old }
+        ensures ports { ports.new ≡ ports.old }
+    {
+        self.book.settle(&self.state, ports)
+    }
+
+    /// The state, of which all that holds after every call holds.
+    pub fn state(&self) -> &SliceState<F>
+        ensures same { result.now ≡ self.now.state }
+        ensures shown { IsShown N.setup N.number result.now }
+    {
+        let _log = self.state.log();
+        &self.state
+    }
+}

@@ -1,0 +1,136 @@
+ghost use Rattle.std.specs.Prelude.{◌≡◌, ◌<◌, length, map, IfOk};
+ghost use Rattle.receipt_ledger.specs.Answers.{AfterReply, AfterRequest};
+ghost use Rattle.receipt_ledger.specs.Port.{AreFreshPorts};
+ghost use Rattle.receipt_shares.specs.Names.{AreLedgersOf};
+ghost use Rattle.slice_core.specs.Facts.{IsNotBroken, IsNotBrokenNext};
+ghost use Rattle.slice_lock.specs.Booked.{IsShown};
+ghost use Rattle.slice_lock.specs.Settled.{AreSettled};
+
+use super::booked::Booked;
+use address_map::{Checked, LineAddr, Request, SliceId};
+use arrayvec::ArrayVec;
+use mshr_file::MissFile;
+use receipt_ledger::{Answer, Book, Lends, Port, Receipt};
+use receipt_shares::{Blanks, SliceNames};
+use slice_core::SliceState;
+use slice_core_answer::{Delivered, DeliveredNext, Evicted, Refused};
+use slice_queues_message::{Class, Pick};
+use std::alloc::{AllocError, Global};
+use std::sync::{Mutex, MutexGuard, Wait};
+
+/// Why a slice isn't settled.
+#[derive(Clone, Copy, Debug, PartialEq, Eq)]
+pub enum Unsettled {
+    /// A message is in flight, a miss register is held, a line leaves, or a reply isn't handed out.
+    NotQuiet,
+}
+
+/// One slice of a machine that threads share.
+pub struct Slice<F: MissFile, N: SliceNames> {
+    booked: Mutex<Booked<F, N>>,
+}
+
+impl<F: MissFile, N: SliceNames> Slice<F, N> {
+    /// A slice of the configured machine in which nothing was asked for yet, and a port for each core, ascending.
+    pub fn build(
+        alloc: Global,
+        config: &Checked,
+        slice: SliceId,
+        blanks: Blanks,
+    ) -> Result<(Slice<F, N>, Vec<Port<N>>), AllocError>
+        requires slice { slice.0 < config.now.slices }
+        requires setup { config.now ≡ N.setup }
+        requires number { slice.0 ≡ N.number }
+        requires ledgers { AreLedgersOf N.setup N.names blanks }
+        ensures ports { IfOk result (λ r. AreFreshPorts slice N.setup.cores r.1.items) }
+    {
+        let (state, book, ports) = Book::open(alloc, config, slice, blanks)?;
+        let booked = Mutex::new(Booked { state, book });
+        Ok((Slice { booked }, ports))
+    }
+
+    /// Asks the slice for a word, as the port's core. The port's list first gets room for the receipts of all requests
+    /// in flight and of this one; where it gets none the answer is `Memory`, and nothing has changed.
+    pub fn issue<R: Wait>(
+        &self,
+        rt: &R,
+        port: &mut Port<N>,
+        request: Request,
+    ) -> Result<Answer, Refused>
+        ensures { AfterRequest port.old request result port.new }
+    {
+        self.booked.lock(rt).issue(port, request)
+    }
+
+    /// Hands out the reply of the least number that waits for the port's core, if any does.
+    pub fn collect<R: Wait>(&self, rt: &R, port: &mut Port<N>) -> Option<Receipt>
+        ensures { AfterReply port.old result port.new }
+    {
+        self.booked.lock(rt).collect(port)
+    }
+
+    /// Gives up the copy of a line that the port's core has, or says why not.
+    pub fn evict<R: Wait>(&self, rt: &R, port: &mut Port<N>, line: LineAddr) -> Evicted
+        ensures { port.new ≡ port.old }
+    {
+        self.booked.lock(rt).evict(port.core(), line)
+    }
+
+    /// Takes the front message of a channel and does its row of the tables, where there is one.
+    pub fn deliver<R: Wait>(&self, rt: &R, pick: Pick) -> Delivered
+        ensures { IsNotBroken result }
+    {
+        self.booked.lock(rt).deliver(pick)
+    }
+
+    /// Makes one delivery of the class, where one can be made.
+    pub fn deliver_next<R: Wait>(&self, rt: &R, class: Class) -> DeliveredNext
+        ensures { IsNotBrokenNext result }
+    {
+        self.booked.lock(rt).deliver_next(class)
+    }
+
+    /// Whether no message is in flight, no miss register is held, no line leaves and each reply is handed out.
+    pub fn quiet<R: Wait>(&self, rt: &R) -> bool {
+        self.booked.lock(rt).is_quiet()
+    }
+
+    /// Settles the slice with all its ports, each lent by whoever holds it: the value of each counter of the slice,
+    /// ascending by word. It takes no memory, and leaves the ports as they were.
+    pub fn settle<R: Wait, T: Lends<Port<N>, K>, const K: usize>(
+        &self,
+        rt: &R,
+        ports: &mut [T],
+    ) -> Result<ArrayVec<u64, 8>, Unsettled>
+        requires whole { length ports.old ≡ N.setup.cores }
+        ensures settled { IfOk result (λ values. AreSettled N.setup N.number (map T.part ports.old) values.items) }
+        ensures ports { ports.new ≡ ports.old }
+    {
+        self.booked
+            .lock(rt)
+            .settle(ports)
+            .ok_or(Unsettled::NotQuiet)
+    }
+
+    /// Takes the lock for a look at the state, and keeps it until the look is dropped. No other call on this slice gets
+    /// on meanwhile.
+    pub fn look<R: Wait>(&self, rt: &R) -> Look<'_, F, N> {
+        Look {
+            booked: self.booked.lock(rt),
+        }
+    }
+}
+
+/// A look at a slice's state while its lock is held.
+pub struct Look<'a, F: MissFile, N: SliceNames> {
+    booked: MutexGuard<'a, Booked<F, N>>,
+}
+
+impl<F: MissFile, N: SliceNames> Look<'_, F, N> {
+    /// The state. Whoever looks may rely on all that holds of it after every call.
+    pub fn state(&self) -> &SliceState<F>
+        ensures { IsShown N.setup N.number result.now }
+    {
+        self.booked.state()
+    }
+}

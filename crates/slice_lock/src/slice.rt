@@ -26,6 +26,7 @@ pub enum Unsettled {
 }
 
 /// One slice of a machine that threads share.
+#[derive(Drop)]
 pub struct Slice<F: MissFile, N: SliceNames> {
     booked: Mutex<Booked<F, N>>,
 }
@@ -122,6 +123,7 @@ impl<F: MissFile, N: SliceNames> Slice<F, N> {
 }
 
 /// A look at a slice's state while its lock is held.
+#[derive(Drop)]
 pub struct Look<'a, F: MissFile, N: SliceNames> {
     booked: MutexGuard<'a, Booked<F, N>>,
 }

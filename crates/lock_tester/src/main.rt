@@ -1,0 +1,85 @@
+//! Lets two threads share one slice, many times over. Each asks for words through its core's port, collects replies and
+//! delivers messages until all that it asked for is handed out. Then the slice is settled with both ports: there is a
+//! receipt of each request, and each counter is what was added to it.
+//!
+//! It prints a line for each setting, or the first difference, and then it ends with status 1.
+#![tactic(auto)]
+
+use mshr_file::{ExplicitFile, InvertedFile, MissFile};
+use std::alloc::AllocError;
+use std::io;
+use std::process::ExitCode;
+use std::sync::Wait;
+use std::thread::Threads;
+
+mod round;
+mod setting;
+mod work;
+mod worked;
+
+use round::one_round;
+use setting::configure;
+use worked::WORKED;
+
+/// How many times the slice of a setting is built, shared and settled.
+const ROUNDS: u32 = 100;
+
+fn main(rt: HostRuntime) -> ExitCode {
+    match test_all(&rt) {
+        Ok(true) => ExitCode::SUCCESS,
+        Ok(false) | Err(_) => ExitCode::FAILURE,
+    }
+}
+
+/// Answers whether nothing was found.
+fn test_all<R: AllocGlobal + Print + Threads + Wait + Sync>(rt: &R) -> io::Result<bool> {
+    Ok(test_worked(rt)? && test_settings(rt)?)
+}
+
+/// Makes the calls whose answers are known. Answers whether each was answered so.
+fn test_worked<R: AllocGlobal + Print + Wait>(rt: &R) -> io::Result<bool> {
+    for worked in WORKED {
+        let is_right = worked.test(rt)?;
+        let said = if is_right {
+            "as wanted"
+        } else {
+            "not as wanted"
+        };
+        println!(rt; "{worked}: {said}")?;
+        if !is_right {
+            return Ok(false);
+        }
+    }
+    Ok(true)
+}
+
+/// Answers whether all rounds of all settings were settled.
+fn test_settings<R: AllocGlobal + Print + Threads + Wait + Sync>(rt: &R) -> io::Result<bool> {
+    for exclusive in [false, true] {
+        let explicit = test_rounds::<ExplicitFile, R>(rt, exclusive)?;
+        let inverted = test_rounds::<InvertedFile, R>(rt, exclusive)?;
+        let setting = if exclusive { "on" } else { "off" };
+        if explicit != ROUNDS || inverted != ROUNDS {
+            println!(rt; "exclusive {setting}: settled {explicit} and {inverted} of {ROUNDS}")?;
+            return Ok(false);
+        }
+        println!(rt; "exclusive {setting}: settled {ROUNDS} times with each miss file")?;
+    }
+    Ok(true)
+}
+
+/// Answers how many rounds were settled, up to the first that wasn't.
+fn test_rounds<F: MissFile + Send, R: AllocGlobal + Threads + Wait + Sync>(
+    rt: &R,
+    exclusive: bool,
+) -> Result<u32, AllocError> {
+    for round in 0..ROUNDS {
+        let Some(config) = configure(rt.alloc(), exclusive)? else {
+            return Ok(round);
+        };
+        if !one_round::<F, R>(rt, &config)? {
+            return Ok(round);
+        }
+    }
+    Ok(ROUNDS)
+}

@@ -1,0 +1,89 @@
+//! The program `lock_bench`: how much a slice's lock costs. It makes loads that hit, on a slice's state, on a slice behind
+//! its lock, by two threads on one slice, and by two threads on a slice each, and prints how long each takes.
+//!
+//! Nothing is promised here but that no call is faulty. Times are those of the clock, so they are right only where nothing
+//! else runs beside.
+#![tactic(auto)]
+
+use hits::{Fault, hit_apart, hit_locked, hit_shared, hit_state};
+use std::process::ExitCode;
+use std::rt::{Clock, Env};
+use std::sync::Wait;
+use std::thread::Threads;
+use std::time::Instant;
+use std::{env, io};
+
+mod hits;
+mod slices;
+
+/// The exit status where the command line is refused, or a slice answered otherwise than a load wants.
+const REFUSED: u8 = 2;
+
+/// What is measured.
+#[derive(Clone, Copy, Debug)]
+enum Work {
+    State,
+    Locked,
+    Shared,
+    Apart,
+}
+
+impl Work {
+    const fn name(self) -> &'static str {
+        match self {
+            Work::State => "state",
+            Work::Locked => "locked",
+            Work::Shared => "two-threads-one-slice",
+            Work::Apart => "two-threads-two-slices",
+        }
+    }
+}
+
+fn main(rt: HostRuntime) -> ExitCode {
+    ExitCode::from(match run(&rt) {
+        Ok(status) => status,
+        Err(_) => REFUSED,
+    })
+}
+
+/// Does what the command line asks for, and answers the exit status.
+fn run<R: AllocGlobal + Clock + Env + Eprint + Print + Threads + Wait + Sync>(
+    rt: &R,
+) -> io::Result<u8> {
+    let words: Vec<String> = env::args(rt)?.collect(rt.alloc())?;
+    let Some(word) = words.get(1) else {
+        println!(rt; "lock_bench LOADS")?;
+        println!(rt;
+            "Times so many loads that hit: on a slice's state, behind its lock, and by two threads."
+        )?;
+        return Ok(0);
+    };
+    let Ok(loads) = word.parse::<u64>() else {
+        eprintln!(rt; "lock_bench: LOADS is a number")?;
+        return Ok(REFUSED);
+    };
+    for work in [Work::State, Work::Locked, Work::Shared, Work::Apart] {
+        let start = Instant::now(rt)?;
+        if measured(rt, work, loads).is_err() {
+            eprintln!(rt; "lock_bench: a load wasn't answered as a hit")?;
+            return Ok(REFUSED);
+        }
+        let name = work.name();
+        let time = start.elapsed(rt)?.as_micros();
+        println!(rt; "{name} {loads} loads a thread {time} us")?;
+    }
+    Ok(0)
+}
+
+fn measured<R: AllocGlobal + Threads + Wait + Sync>(
+    rt: &R,
+    work: Work,
+    loads: u64,
+) -> Result<(), Fault> {
+    match work {
+        Work::State => hit_state(rt.alloc(), loads),
+        Work::Locked => hit_locked(rt, loads),
+        Work::Shared => hit_shared(rt, loads),
+        Work::Apart => hit_apart(rt, loads),
+    }
+}

@@ -1,10 +1,12 @@
-/* Preloaded into the program by tests/memory: refuses one allocation, the one that REFUSED counts to, from 1.
-   With REFUSED=0 it refuses none. At the end it says on descriptor 3 how many there were. */
+/* Preloaded into the program by tests/memory and tests/lock_memory: refuses one allocation, the one that REFUSED counts
+   to, from 1. With REFUSED=0 it refuses none. It says on descriptor 3 that it refused one, and at the end how many there
+   were; a program that starts threads may end without that. */
 #define _GNU_SOURCE
 #include <dlfcn.h>
 #include <errno.h>
 #include <stdio.h>
 #include <stdlib.h>
+#include <unistd.h>
 
 static unsigned long made;
 static unsigned long refused;
@@ -20,6 +22,8 @@ __attribute__((destructor)) static void end(void) { dprintf(3, "%lu\n", made); }
 static int is_refused(void) {
     made++;
     if (refused != 0 && made == refused) {
+        static const char said[] = "refused\n";
+        if (write(3, said, sizeof said - 1) < 0) abort();
         errno = ENOMEM;
         return 1;
     }

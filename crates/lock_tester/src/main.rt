@@ -3,20 +3,26 @@
 //! receipt of each request, and each counter is what was added to it.
 //!
 //! It prints a line for each setting, or the first difference, and then it ends with status 1.
+//!
+//! `lock_tester memory` makes requests of one core instead, each again where memory was refused for it, and prints how many
+//! were. Nothing refuses memory to it of itself: whoever runs it so does (tests/memory).
 #![tactic(auto)]
 
 use mshr_file::{ExplicitFile, InvertedFile, MissFile};
 use std::alloc::AllocError;
-use std::io;
 use std::process::ExitCode;
+use std::rt::Env;
 use std::sync::Wait;
 use std::thread::Threads;
+use std::{env, io};
 
+mod memory;
 mod round;
 mod setting;
 mod work;
 mod worked;
 
+use memory::ask_again;
 use round::one_round;
 use setting::configure;
 use worked::WORKED;
@@ -25,15 +31,33 @@ use worked::WORKED;
 const ROUNDS: u32 = 100;
 
 fn main(rt: HostRuntime) -> ExitCode {
-    match test_all(&rt) {
+    match run(&rt) {
         Ok(true) => ExitCode::SUCCESS,
         Ok(false) | Err(_) => ExitCode::FAILURE,
     }
 }
 
-/// Answers whether nothing was found.
-fn test_all<R: AllocGlobal + Print + Threads + Wait + Sync>(rt: &R) -> io::Result<bool> {
-    Ok(test_worked(rt)? && test_settings(rt)?)
+/// Does what the command line asks for. Answers whether nothing was found.
+fn run<R: AllocGlobal + Env + Print + Threads + Wait + Sync>(rt: &R) -> io::Result<bool> {
+    let words: Vec<String> = env::args(rt)?.collect(rt.alloc())?;
+    match words.get(1) {
+        Some(word) if word.as_str() == "memory" => test_memory(rt),
+        _ => Ok(test_worked(rt)? && test_settings(rt)?),
+    }
+}
+
+/// Answers whether each request was accepted, at the latest when it was made again.
+fn test_memory<R: AllocGlobal + Print + Wait>(rt: &R) -> io::Result<bool> {
+    match ask_again(rt)? {
+        Some(refused) => {
+            println!(rt; "all accepted, and {refused} of them made again for want of memory")?;
+            Ok(true)
+        }
+        None => {
+            println!(rt; "not as wanted")?;
+            Ok(false)
+        }
+    }
 }
 
 /// Makes the calls whose answers are known. Answers whether each was answered so.

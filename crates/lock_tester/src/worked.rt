@@ -23,15 +23,21 @@ const LINE: LineAddr = LineAddr(0);
 pub enum Worked {
     SumPastTheWord,
     MissHitAndEviction,
+    BlockOnItsWayHome,
 }
 
-pub const WORKED: [Worked; 2] = [Worked::SumPastTheWord, Worked::MissHitAndEviction];
+pub const WORKED: [Worked; 3] = [
+    Worked::SumPastTheWord,
+    Worked::MissHitAndEviction,
+    Worked::BlockOnItsWayHome,
+];
 
 impl fmt::Display for Worked {
     fn fmt<W: fmt::Write>(&self, f: &mut fmt::Formatter<W>) -> fmt::Result {
         f.write_str(match self {
             Worked::SumPastTheWord => "a sum of receipts past 2^64",
             Worked::MissHitAndEviction => "a miss, a hit and an eviction",
+            Worked::BlockOnItsWayHome => "all receipts in, and the block on its way home",
         })
     }
 }
@@ -68,6 +74,7 @@ fn named_test<N: SliceNames, R: AllocGlobal + Wait>(
         Some(port) => Ok(match worked {
             Worked::SumPastTheWord => sums_past_the_word(rt, &slice, port),
             Worked::MissHitAndEviction => misses_hits_and_evicts(rt, &slice, port),
+            Worked::BlockOnItsWayHome => settles_once_home(rt, &slice, port),
         }),
         None => Ok(false),
     }
@@ -132,6 +139,28 @@ fn misses_hits_and_evicts<N: SliceNames, R: Wait>(
     let both = slice.look(rt).state().log().len() == 2;
     let served = pending && asked && filled && missed && logged && hit;
     served && leaving && put && acknowledged && gone && both
+}
+
+/// An add whose receipt is in, while its block leaves: the slice isn't settled before the block is home and that is
+/// acknowledged.
+fn settles_once_home<N: SliceNames, R: Wait>(
+    rt: &R,
+    slice: &Slice<ExplicitFile, N>,
+    port: Port<N>,
+) -> bool
+    requires { N.setup.cores ≡ 1 }
+{
+    let mut ports = [Alone { port }];
+    let pending = slice.issue(rt, &mut ports[0].port, add(0, 5)) == Ok(Answer::Pending);
+    let asked = moved(slice.deliver_next(rt, Class::Req));
+    let filled = moved(slice.deliver_next(rt, Class::Data));
+    let received = is_receipt(slice.collect(rt, &mut ports[0].port), 0);
+    let before = settled(rt, slice, &mut ports) == Some(5);
+    let leaving = slice.evict(rt, &mut ports[0].port, LINE) == Evicted::Evicting;
+    let put = settled(rt, slice, &mut ports).is_none() && moved(slice.deliver_next(rt, Class::Req));
+    let home = settled(rt, slice, &mut ports).is_none() && moved(slice.deliver_next(rt, Class::Fwd));
+    let after = settled(rt, slice, &mut ports) == Some(5);
+    pending && asked && filled && received && before && leaving && put && home && after
 }
 
 const fn moved(answer: DeliveredNext) -> bool {

@@ -15,10 +15,14 @@ use Rattle.slice_core_log.specs.declared.entry.Entry.{Entry}
 use Rattle.slice_core_log.specs.declared.entry.Numbered.{Numbered}
 use Rattle.slice_core_plan.specs.Parts.{PartsView, AfterHand, AfterIssue}
 
--- The receipt is of this slice, and of a request that the port's core made, under its tag.
-pub record IsReceiptFor (p : PortView) (request : Request) (r : Receipt) : Type 0 where
+-- The receipt is of the port's slice, and of a request that the port's core made.
+pub record IsReceiptOf (p : PortView) (r : Receipt) : Type 0 where
   pub slice : r.slice ≡ p.slice
   pub core : r.entry.core ≡ p.core
+
+-- The receipt is of the port's slice, and of this request of the port's core.
+pub record IsReceiptFor (p : PortView) (request : Request) (r : Receipt) : Type 0 where
+  pub of : IsReceiptOf p r
   pub tag : r.entry.tag ≡ request.tag
   pub word : r.entry.word ≡ request.word
   pub op : r.entry.op ≡ request.op
@@ -60,9 +64,9 @@ pub record AsksReply (old : PartsView) (port : PortView) (answer : Option Receip
       → (given : Option Numbered) × AfterHand old port.core given new × (answer ≡ option_map (receipt_of port.slice) given)
   pub landed : port.accepted ≤ length port.receipts → (answer ≡ None) × (new ≡ old)
 
--- What a port has after that: one more receipt, or what it had.
+-- What a port has after that: one more receipt, of a request of its core, or what it had.
 abbrev pub AfterReply : PortView → Option Receipt → PortView → Type 0
-AfterReply old (Some r) new = new ≡ with_receipt old r
+AfterReply old (Some r) new = IsReceiptOf old r × (new ≡ with_receipt old r)
 AfterReply old None new = new ≡ old
 
 abbrev pub IsGenuineAnswer : List Entry → Result Answer Refused → Type 0

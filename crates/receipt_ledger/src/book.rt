@@ -112,12 +112,6 @@ impl<N: SliceNames> Book<N> {
         ensures port { port.new ≡ with_receipt port.old result }
         ensures book { self.new ≡ together self.old (only_handed (counters_of N.setup N.number) result.entry) }
     {
-        let receipt = Receipt {
-            slice: port.slice(),
-            number,
-            entry: state.log()[number as usize],
-        };
-        port.receive(&mut self.books, &self.counters, state.log(), receipt);
-        receipt
+        port.receive(&mut self.books, &self.counters, state.log(), number)
     }
 }

@@ -1,4 +1,4 @@
-ghost use Rattle.std.specs.Prelude.{◌≡◌, ◌+◌, ◌<◌, ◌≤◌, true, false, length, vec_capacity, vec_len, OnOk};
+ghost use Rattle.std.specs.Prelude.{◌≡◌, ◌+◌, ◌<◌, ◌≤◌, true, false, length, slice_get, vec_capacity, vec_len, OnOk, Some};
 ghost use Rattle.receipt_ledger.specs.Answers.{IsGenuine};
 ghost use Rattle.receipt_ledger.specs.Port.{IsWithRoom, fresh_port, with_receipt, with_request};
 ghost use Rattle.receipt_shares.specs.Names.{AreCounters};
@@ -119,23 +119,33 @@ impl<N: SliceNames> Port<N> {
         self.accepted += 1;
     }
 
-    /// Takes the receipt of an entry of the log, and counts it in the book too.
+    /// Takes the receipt of the entry of the log with this number, and counts it in the book too.
     pub(crate) fn receive(
         &mut self,
         books: &mut Books<N>,
         words: &[WordAddr],
         log: &[Entry],
-        receipt: Receipt,
-    )
+        number: u64,
+    ) -> Receipt
         requires waiting { length self.old.receipts < self.old.accepted }
         requires words { AreCounters N.setup N.number words.now }
-        requires genuine { IsGenuine log.now receipt }
-        ensures port { self.new ≡ with_receipt self.old receipt }
-        ensures books { books.new ≡ together books.old (only_handed words.now receipt.entry) }
+        requires within { number < length log.now }
+        ensures slice { result.slice ≡ self.old.slice }
+        ensures number { result.number ≡ number }
+        ensures genuine { IsGenuine log.now result }
+        ensures port { self.new ≡ with_receipt self.old result }
+        ensures books { books.new ≡ together books.old (only_handed words.now result.entry) }
     {
-        books.hand(&mut self.shares, words, &receipt.entry);
-        self.seen = self.seen.max(after(log, receipt.number));
+        let entry = entry_at(log, number);
+        books.hand(&mut self.shares, words, entry);
+        let receipt = Receipt {
+            number,
+            entry: *entry,
+            slice: self.slice,
+        };
+        self.seen = self.seen.max(after(log, number));
         self.receipts.push_reserved(receipt);
+        receipt
     }
 }
 
@@ -149,6 +159,14 @@ fn reserve(receipts: &mut Vec<Receipt>, accepted: u64) -> Result<(), AllocError>
 {
     let in_flight = accepted as usize - receipts.len();
     receipts.reserve(in_flight + 1)
+}
+
+// The entry of the log with this number.
+fn entry_at(log: &[Entry], number: u64) -> &Entry
+    requires { number < length log.now }
+    ensures { slice_get log.now number ≡ Some result.now }
+{
+    &log[number as usize]
 }
 
 // The number after that of an entry of the log.

@@ -5,10 +5,10 @@ use slice_core_log::Entry;
 /// A performed request in the hands of the core that made it.
 #[derive(Clone, Copy, Debug, PartialEq, Eq)]
 pub struct Receipt {
-    pub slice: SliceId,
     /// Its place in the slice's log, from 0.
     pub number: u64,
     pub entry: Entry,
+    pub slice: SliceId,
 }
 
 /// What became of a request that wasn't refused.

@@ -1,11 +1,14 @@
 -- What callers of a slice may rely on, from its invariant.
-use Rattle.std.proofs.Common.{◌≡◌, ℕ, ◌≤◌, Bool, length, sym, ap, ◌∙◌, ⊎_elim, refl, arith}
-use Rattle.std.specs.Prelude.{if◌then◌else◌, nat_lt}
+use Rattle.std.proofs.Common.{◌≡◌, ℕ, ◌<◌, ◌≤◌, Bool, length, Option, Some, None, sym, ap, ◌∙◌, ⊎_elim, refl, arith}
+use Rattle.std.specs.Prelude.{if◌then◌else◌, nat_lt, IfSome}
 use Rattle.std.proofs.lemmas.Bool.{cases_lt, le-ltb}
 use Rattle.std.proofs.lemmas.List.{get_or_past}
+use Rattle.std.proofs.lemmas.Option.{get_or_from_slice_get}
 use Rattle.address_map.specs.declared.address.CoreId.{CoreId}
 use Rattle.slice_core_log.specs.Log.{IsOrdered}
-use Rattle.slice_core_plan.specs.Parts.{PartsView}
+use Rattle.slice_core_log.specs.declared.entry.Entry.{Entry}
+use Rattle.slice_core_log.specs.declared.entry.Numbered.{Numbered}
+use Rattle.slice_core_plan.specs.Parts.{PartsView, AfterHand}
 use Rattle.slice_core_plan.specs.View.{View, no_side, side_at}
 use Rattle.slice_core_side.specs.Side.{SideView}
 use Rattle.slice_core_standing.proofs.Grown.{no_entry-standings}
@@ -65,3 +68,14 @@ module _ (p : PartsView) (sound : IsSound p) where
 
   pub counted : CountsAccepted p
   counted = sound.counted.accepted
+
+  -- What is handed out to a core is an entry that it asked for.
+  pub handed-core : (core : CoreId) (answer : Option Numbered) (new : PartsView) → core.0 < length p.view.sides
+      → AfterHand p core answer new → IfSome answer (λ (given : Numbered). given.entry.core ≡ core)
+  handed-core core None new known after = tt
+  handed-core core (Some given) new known after =
+      let asked = tags.replies core after.0 given.number known after.1.0 in
+      let same : asked.0 ≡ given.entry =
+      sym (get_or_from_slice_get p.view.log given.number asked.0 given.entry asked.1)
+      ∙ get_or_from_slice_get p.view.log given.number given.entry given.entry after.2 in
+      sym (ap (λ (e : Entry). e.core) same) ∙ ap (λ n. record { 0 = n }) asked.2

@@ -1,4 +1,4 @@
-ghost use Rattle.std.specs.Prelude.{◌≡◌, ℕ, ◌<◌, ◌↔◌, [], ◌∷◌, length, IfOk, IsTrue, IsSome};
+ghost use Rattle.std.specs.Prelude.{◌≡◌, ℕ, ◌<◌, ◌↔◌, [], ◌∷◌, length, IfOk, IfSome, IsTrue, IsSome};
 ghost use Rattle.address_map.specs.Locator.{local_at};
 ghost use Rattle.address_map.specs.Place.{line_of};
 ghost use Rattle.slice_core.specs.Facts.{Holds, IsInverted, IsNotBroken, IsNotBrokenNext, NeedsNoRegister, ShowsLast, ShowsLine, ShowsWord};
@@ -96,6 +96,7 @@ impl<F: MissFile> SliceState<F> {
     pub fn hand(&mut self, core: CoreId) -> Option<Numbered>
         requires { core.0 < length self.old.view.sides }
         ensures step { AfterHand self.old core result self.new }
+        ensures core { IfSome result (λ given. given.entry.core ≡ core) }
         ensures machine { Leads (hand_steps result) self.old.view self.new.view }
         ensures holds { Holds self.new }
     {

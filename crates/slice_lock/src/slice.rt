@@ -1,4 +1,4 @@
-ghost use Rattle.std.specs.Prelude.{◌≡◌, ◌<◌, length, map, IfOk};
+ghost use Rattle.std.specs.Prelude.{◌≡◌, ◌<◌, ◌≤◌, length, map, IfOk, None};
 ghost use Rattle.receipt_ledger.specs.Answers.{AfterReply, AfterRequest};
 ghost use Rattle.receipt_ledger.specs.Port.{AreFreshPorts};
 ghost use Rattle.receipt_shares.specs.Names.{AreLedgersOf};
@@ -65,7 +65,8 @@ impl<F: MissFile, N: SliceNames> Slice<F, N> {
 
     /// Hands out the reply of the least number that waits for the port's core, if any does.
     pub fn collect<R: Wait>(&self, rt: &R, port: &mut Port<N>) -> Option<Receipt>
-        ensures { AfterReply port.old result port.new }
+        ensures port { AfterReply port.old result port.new }
+        ensures idle { port.old.accepted ≤ length port.old.receipts → result ≡ None }
     {
         self.booked.lock(rt).collect(port)
     }

@@ -25,10 +25,12 @@ returns-in-Ok-Done-clause-port g c =
     let is = last.is c.give.result.entry (there g c) in
     let same = c.make_room.ensures.same in (
       record {
-        slice =
-            c.give.ensures.slice
-            ∙ ap (λ (p : PortView). p.slice) c.count.ensures.port ∙ ap (λ (p : PortView). p.slice) same;
-        core = ap (λ (e : Entry). e.core) is ∙ c.core.ensures.core ∙ ap (λ (p : PortView). p.core) same;
+        of = record {
+          slice =
+              c.give.ensures.slice
+              ∙ ap (λ (p : PortView). p.slice) c.count.ensures.port ∙ ap (λ (p : PortView). p.slice) same;
+          core = ap (λ (e : Entry). e.core) is ∙ c.core.ensures.core ∙ ap (λ (p : PortView). p.core) same;
+        };
         tag = ap (λ (e : Entry). e.tag) is;
         word = ap (λ (e : Entry). e.word) is;
         op = ap (λ (e : Entry). e.op) is;

@@ -1,9 +1,34 @@
-use Rattle.std.proofs.Common.{Some, ap, subst, sym, ◌∙◌}
+use Rattle.std.proofs.Common.{◌≡◌, Some, ap, subst, sym, ◌∙◌}
 use Rattle.std.specs.Prelude.{slice_get}
+use Rattle.std.proofs.lemmas.Option.{get_or_from_slice_get}
 use Rattle.receipt_ledger.proofs.Stays.{hand-stays}
 use Rattle.receipt_ledger.proofs.Tied.{hand-tied}
 use Rattle.receipt_ledger.specs.Booked.{IsTied}
+use Rattle.receipt_ledger.specs.Port.{PortView}
+use Rattle.slice_core_log.specs.declared.entry.Entry.{Entry}
+use Rattle.slice_core_plan.specs.Parts.{PartsView}
+use Rattle.receipt_ledger.proofs.book.Book.hand_out.Given.{Over}
 use Rattle.receipt_ledger.proofs.book.Book.hand_out.Goals as goal
+
+-- the receipt is of the entry that the slice hands out
+entry-is : (g : Over) (c : goal.After-give g) → c.give.result.entry ≡ c.in-Some.given.entry
+entry-is g c =
+    let log = c.args.state.now.view.log in
+    let given = c.in-Some.given in
+    let r = c.give.result in
+    let step = c.in-Some.ensures.step in
+    sym (get_or_from_slice_get log given.number r.entry given.entry
+    (ap (slice_get log) (sym c.give.ensures.number)
+    ∙ ap (λ l. slice_get l r.number) (sym (ap (λ (p : PartsView). p.view.log) step.3))
+    ∙ c.give.ensures.genuine))
+    ∙ get_or_from_slice_get log given.number given.entry given.entry step.2
+
+pub returns-in-Some-clause-port : goal.returns-in-Some-clause-port
+returns-in-Some-clause-port g c =
+    (record {
+      slice = c.give.ensures.slice;
+      core = ap (λ (e : Entry). e.core) (entry-is g c) ∙ c.in-Some.ensures.core ∙ c.core.ensures.core;
+    }, c.give.ensures.port)
 
 pub returns-in-Some-clause-tied : goal.returns-in-Some-clause-tied
 returns-in-Some-clause-tied g c =

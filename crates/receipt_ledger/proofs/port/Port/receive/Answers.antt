@@ -1,14 +1,16 @@
 use Rattle.std.proofs.Common.{◌<◌, ◌∙◌, ap, length, subst, sym}
 use Rattle.receipt_ledger.proofs.Ports.{receipt-port}
 use Rattle.receipt_ledger.specs.Port.{PortView}
+use Rattle.receipt_ledger.specs.declared.receipt.Receipt.{Receipt}
 use Rattle.receipt_shares.specs.Totals.{only_handed, together}
 use Rattle.receipt_ledger.proofs.port.Port.receive.Goals as goal
 
 pub invariant_of-self : goal.invariant_of-self
 invariant_of-self g c =
+    let r : Receipt = record { number = c.args.number; entry = c.entry_at-entry.result.now; slice = c.self.inside.slice } in
     rw (c.push_reserved.ensures.items, c.push_reserved.ensures.capacity, c.max-self-inside.ensures, c.after.ensures)
     (receipt-port g.N.SliceNames.setup g.N.SliceNames.number _ c.self.inside.shares c.hand.new.shares c.self.invariant
-    c.hand.ensures.parts c.args.receipt
+    c.hand.ensures.parts r
     (subst (λ (p : PortView). length p.receipts < p.accepted) (sym c.self.view_is) c.requires.waiting)
     (c.hand.ensures.held
-    ∙ ap (λ words. together c.self.inside.shares.held (only_handed words c.args.receipt.entry)) c.requires.words.are))
+    ∙ ap (λ words. together c.self.inside.shares.held (only_handed words r.entry)) c.requires.words.are))

@@ -1,6 +1,7 @@
 use Rattle.std.proofs.Common.{◌<◌, arith, ap, length, subst}
 use Rattle.slice_core_plan.specs.Parts.{PartsView}
 use Rattle.slice_core.specs.Sound.{IsSound}
+use Rattle.slice_core.proofs.AccountsFacts.{handed-core}
 use Rattle.slice_core.proofs.Coherent.{holds}
 use Rattle.slice_core.proofs.SoundEvict.{sound-hand}
 use Rattle.slice_core.proofs.state.SliceState.hand.Given.{Over}
@@ -23,6 +24,11 @@ sound g c =
 
 pub invariant_of-self : goal.invariant_of-self
 invariant_of-self g c = sound g c
+
+pub returns-clause-core : goal.returns-clause-core
+returns-clause-core g c =
+    handed-core c.self.inside.parts c.self.invariant c.args.core c.hand.result c.hand.new.self (known g c)
+    c.hand.ensures
 
 pub returns-clause-machine : goal.returns-clause-machine
 returns-clause-machine g c =

@@ -1,13 +1,12 @@
 pub mod Booked
 pub mod Counts
 pub mod Gathered
+pub mod Issued
 pub mod Marks
-pub mod Moved
 pub mod New
 pub mod Ports
 pub mod Quiet
 pub mod Removed
 pub mod Settled
-pub mod Stays
 pub mod Tied
 pub mod Values

@@ -1,5 +1,5 @@
 -- State and book go on belonging together: what each call makes of the totals.
-use Rattle.std.proofs.Common.{◌≡◌, ℕ, ◌<◌, false, List, [], ◌∷◌, ◌++◌, length, Some, Ok, refl, sym, ap, ◌∙◌, subst, arith}
+use Rattle.std.proofs.Common.{◌≡◌, ℕ, ◌<◌, false, List, [], ◌∷◌, ◌++◌, length, Some, Ok, sym, ap, ◌∙◌, subst, arith}
 use Rattle.std.specs.Prelude.{slice_get}
 use Rattle.std.proofs.lemmas.List.{get_or_push, length-append}
 use Rattle.std.proofs.lemmas.Option.{get_or_from_slice_get}
@@ -7,22 +7,23 @@ use Rattle.address_map.specs.declared.address.CoreId.{CoreId}
 use Rattle.address_map.specs.declared.config.Config.{Config}
 use Rattle.address_map.specs.declared.request.Request.{Request}
 use Rattle.receipt_ledger.proofs.Booked.{accept-booked, hand-booked, perform-booked, performs-booked, same-booked}
-use Rattle.receipt_ledger.proofs.Stays.{issue-stays}
+use Rattle.receipt_ledger.proofs.Issued.{issued-last, issued-spares}
 use Rattle.receipt_ledger.specs.Booked.{IsTied, stores_to}
-use Rattle.receipt_ledger.specs.Slice.{IsSameSlice, IsSliceOf}
+use Rattle.receipt_ledger.specs.Slice.{IsSliceOf}
 use Rattle.receipt_shares.specs.Names.{counters_of}
 use Rattle.receipt_shares.specs.Totals.{Totals, only_accepted, only_handed, together}
+use Rattle.slice_core.specs.Facts.{IsSameSlice}
+use Rattle.slice_core_answer.specs.declared.answer.Issue.{Issue}
 use Rattle.slice_core_answer.specs.declared.answer.Issue.TheVariants as issues
 use Rattle.slice_core_log.specs.Log.{initially}
 use Rattle.slice_core_log.specs.declared.entry.Entry.{Entry}
 use Rattle.slice_core_machine.specs.Machine.{Asked, accept, after, entry_for, hand, perform}
 use Rattle.slice_core_machine.specs.Shows.{Leads, Performs, issue_steps, next_of, shown}
 use Rattle.slice_core_plan.specs.Parts.{AfterIssue, PartsView}
-use Rattle.slice_core_plan.specs.View.{View}
 
 -- A later state of a slice is one of it.
-pub slice-kept : (c : Config) (number : ℕ) (old new : View) → IsSliceOf c number old → IsSameSlice old new
-    → IsSliceOf c number new
+pub slice-kept : (c : Config) (number : ℕ) (old new : PartsView) → IsSliceOf c number old.view → IsSameSlice old new
+    → IsSliceOf c number new.view
 slice-kept c number old new slice same = record {
   allowed = slice.allowed;
   named = slice.named;
@@ -34,29 +35,29 @@ slice-kept c number old new slice same = record {
 
 module _ (c : Config) (number : ℕ) (t : Totals) (old new : PartsView) (tied : IsTied c number t old) where
   -- Where no step was made, the totals are the same.
-  pub same-tied : IsSameSlice old.view new.view → Leads [] old.view new.view → IsTied c number t new
+  pub same-tied : IsSameSlice old new → Leads [] old.view new.view → IsTied c number t new
   same-tied same leads = record {
-    slice = slice-kept c number old.view new.view tied.slice same;
+    slice = slice-kept c number old new tied.slice same;
     booked = same-booked (counters_of c number) t (shown old.view) tied.booked (shown new.view) leads.run;
   }
 
   -- What a delivery performs changes no totals.
-  pub performs-tied : IsSameSlice old.view new.view → Performs old.view new.view → IsTied c number t new
+  pub performs-tied : IsSameSlice old new → Performs old.view new.view → IsTied c number t new
   performs-tied same performs = record {
-    slice = slice-kept c number old.view new.view tied.slice same;
+    slice = slice-kept c number old new tied.slice same;
     booked =
         performs-booked (initially old.view.init) (counters_of c number) t performs.requests (shown old.view)
         (shown new.view) tied.booked performs.leads.run;
   }
 
   -- A reply that is handed out is one more entry of the totals.
-  pub hand-tied : (given : ℕ) (e : Entry) → IsSameSlice old.view new.view → Leads (hand given ∷ []) old.view new.view
+  pub hand-tied : (given : ℕ) (e : Entry) → IsSameSlice old new → Leads (hand given ∷ []) old.view new.view
       → slice_get new.view.log given ≡ Some e → IsTied c number (together t (only_handed (counters_of c number) e)) new
   hand-tied given e same leads there =
       let initial = initially old.view.init in
       let counters = counters_of c number in
       let m = shown old.view in record {
-        slice = slice-kept c number old.view new.view tied.slice same;
+        slice = slice-kept c number old new tied.slice same;
         booked =
             same-booked counters (together t (only_handed counters e)) (after initial m (hand given))
             (hand-booked counters t m tied.booked initial given e leads.run.0
@@ -68,17 +69,23 @@ module _ (c : Config) (number : ℕ) (t : Totals) (old new : PartsView) (tied : 
     abbrev asked : Asked
     asked = next_of old.view core request
 
+    -- It stores to none of the configured counters.
+    spared : (issue : Issue) → AfterIssue old core request (Ok issue) new
+        → stores_to (counters_of c number) request.op request.word ≡ false
+    spared issue step =
+        subst (λ words. stores_to words request.op request.word ≡ false) tied.slice.counters
+        (issued-spares old core request issue new step)
+
     -- A request that is pending is one more that was accepted.
-    pub pending-tied : (seq : ℕ) → AfterIssue old core request (Ok (issues.Pending seq)) new
+    pub pending-tied : (seq : ℕ) → AfterIssue old core request (Ok (issues.Pending seq)) new → IsSameSlice old new
         → Leads (accept asked ∷ []) old.view new.view → IsTied c number (together t (only_accepted 1)) new
-    pending-tied seq step leads =
-        let stays = issue-stays old core request (Ok (issues.Pending seq)) new step in
+    pending-tied seq step same leads =
         let initial = initially old.view.init in
         let counters = counters_of c number in
         let m = shown old.view in
-        let spares = subst (λ words. stores_to words request.op request.word ≡ false) tied.slice.counters (stays.spares tt) in
+        let spares = spared (issues.Pending seq) step in
         record {
-          slice = slice-kept c number old.view new.view tied.slice stays.slice;
+          slice = slice-kept c number old new tied.slice same;
           booked =
               same-booked counters (together t (only_accepted 1)) (after initial m (accept asked))
               (accept-booked counters t m tied.booked initial asked leads.run.0 spares) (shown new.view) leads.run.1;
@@ -86,19 +93,19 @@ module _ (c : Config) (number : ℕ) (t : Totals) (old new : PartsView) (tied : 
 
     -- What is done at once is one more that was accepted, and one more entry.
     pub done-tied : (given : ℕ) (e : Entry) → AfterIssue old core request (Ok (issues.Done given)) new
-        → Leads (accept asked ∷ perform asked ∷ hand given ∷ []) old.view new.view → slice_get new.view.log given ≡ Some e
+        → IsSameSlice old new → Leads (accept asked ∷ perform asked ∷ hand given ∷ []) old.view new.view
+        → slice_get new.view.log given ≡ Some e
         → IsTied c number (together (together t (only_accepted 1)) (only_handed (counters_of c number) e)) new
-    done-tied given e step leads there =
-        let stays = issue-stays old core request (Ok (issues.Done given)) new step in
+    done-tied given e step same leads there =
         let initial = initially old.view.init in
         let counters = counters_of c number in
-        let spares = subst (λ words. stores_to words request.op request.word ≡ false) tied.slice.counters (stays.spares tt) in
+        let spares = spared (issues.Done given) step in
         let m = shown old.view in
         let more = together t (only_accepted 1) in
         let accepted = after initial m (accept asked) in
         let performed = after initial accepted (perform asked) in
         record {
-          slice = slice-kept c number old.view new.view tied.slice stays.slice;
+          slice = slice-kept c number old new tied.slice same;
           booked =
               same-booked counters (together more (only_handed counters e)) (after initial performed (hand given))
               (hand-booked counters more performed
@@ -119,8 +126,7 @@ pub done-last : (old new : PartsView) (core : CoreId) (request : Request) (numbe
     → Leads (issue_steps (next_of old.view core request) (Ok (issues.Done number))) old.view new.view
     → IsLast old new core request number
 done-last old new core request number step leads =
-    let stays = issue-stays old core request (Ok (issues.Done number)) new step in
-    let last = stays.last number refl in
+    let last = issued-last old core request number new step in
     let e = entry_for (initially old.view.init) old.view.log (next_of old.view core request) in
     let log : old.view.log ++ e ∷ [] ≡ new.view.log = leads.run.1.1.1.log in
     let long = length-append old.view.log (e ∷ []) in

@@ -1,4 +1,4 @@
--- Which slice a state is of: what its calls leave alone.
+-- Which slice a state is of.
 use Rattle.std.specs.Prelude.{◌≡◌, ℕ, ◌<◌, length, filter}
 use Rattle.address_map.specs.Config.{IsAllowed}
 use Rattle.address_map.specs.Locator.{lines_of}
@@ -6,13 +6,6 @@ use Rattle.address_map.specs.declared.config.Config.{Config}
 use Rattle.receipt_shares.specs.Names.{counters_of}
 use Rattle.slice_core_plan.specs.Initial.{is_of_slice}
 use Rattle.slice_core_plan.specs.View.{View}
-
--- The two are states of one slice: it has the same lines, the same initial values and counters, and as many cores.
-pub record IsSameSlice (old new : View) : Type 0 where
-  pub lines : new.lines ≡ old.lines
-  pub init : new.init ≡ old.init
-  pub counters : new.counters ≡ old.counters
-  pub cores : length new.sides ≡ length old.sides
 
 -- It is a state of the slice of this number, of a machine that is configured so.
 pub record IsSliceOf (c : Config) (number : ℕ) (v : View) : Type 0 where

@@ -28,6 +28,6 @@ pub mod SoundIssue
 pub mod SoundEvict
 pub mod SoundDelivery
 pub mod SoundBegin
-pub mod Shape
+pub mod SameSlice
 pub mod Runs
 pub mod Machine

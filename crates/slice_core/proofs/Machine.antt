@@ -3,7 +3,7 @@ use Rattle.std.proofs.Common.{◌≡◌, ◌<◌, Option, Result, length, subst}
 use Rattle.address_map.specs.declared.address.CoreId.{CoreId}
 use Rattle.address_map.specs.declared.request.Request.{Request}
 use Rattle.slice_core.proofs.Coherent.{whole}
-use Rattle.slice_core.proofs.Shape.{shape-deliver, shape-issue, shape-next}
+use Rattle.slice_core.proofs.SameSlice.{same-deliver, same-issue, same-next}
 use Rattle.slice_core.specs.Sound.{IsSound}
 use Rattle.slice_core_answer.specs.declared.answer.Delivered.{Delivered}
 use Rattle.slice_core_answer.specs.declared.answer.DeliveredNext.{DeliveredNext}
@@ -34,7 +34,7 @@ module _ (old : PartsView) (sound : IsSound old) (new : PartsView) where
       → Leads (issue_steps (next_of old.view core request) answer) old.view new.view
   machine-issue core request answer known left after =
       issue_leads old core request answer new (accounted old sound) known
-      (legal old new (shape-issue old core request answer new after).init left) after
+      (legal old new (same-issue old core request answer new after).init left) after
 
   pub machine-hand : (core : CoreId) (answer : Option Numbered) → core.0 < length old.view.sides
       → AfterHand old core answer new → Leads (hand_steps answer) old.view new.view
@@ -44,10 +44,10 @@ module _ (old : PartsView) (sound : IsSound old) (new : PartsView) where
       → Performs old.view new.view
   machine-deliver pick answer left after =
       delivery_performs old new (accounted old sound) (whole old sound)
-      (legal old new (shape-deliver old pick answer new after).init left) pick answer after
+      (legal old new (same-deliver old pick answer new after).init left) pick answer after
 
   pub machine-next : (class : Class) (answer : DeliveredNext) → IsSound new → AfterDeliverNext old class answer new
       → Performs old.view new.view
   machine-next class answer left after =
       deliver_next_performs old new (accounted old sound) (whole old sound)
-      (legal old new (shape-next old class answer new after).init left) class answer after
+      (legal old new (same-next old class answer new after).init left) class answer after

@@ -1,30 +1,14 @@
--- Calls made in order go on by one call, as one run of the small machine, and each call leaves the slice its cores.
+-- Calls made in order go on by one call, as one run of the small machine.
 use Rattle.std.proofs.Common.{◌≡◌, ℕ, ◌+◌, ◌<◌, ◌∙◌, List, [], ◌∷◌, ◌++◌, ap, append_assoc, append-nil, arith, get_or, length, refl, set, subst, sym, take}
 use Rattle.std.proofs.lemmas.List.{take_more, take_more_set}
-use Rattle.slice_core.proofs.Shape.{shape-deliver, shape-evict, shape-hand, shape-issue, shape-next}
 use Rattle.slice_core.specs.Run.{AfterCall, AreSteps, AreStepsOfEach, IsOneRun, Runs}
 use Rattle.slice_core.specs.declared.run.Call.{Call}
-use Rattle.slice_core.specs.declared.run.Call.TheVariants as calls
 use Rattle.slice_core.specs.declared.run.CallAnswer.{CallAnswer}
-use Rattle.slice_core.specs.declared.run.CallAnswer.TheVariants as answers
 use Rattle.slice_core_machine.proofs.Kept.{leads-same, same-view}
 use Rattle.slice_core_machine.proofs.Runs.{leads-on}
 use Rattle.slice_core_machine.specs.Machine.{Step}
 use Rattle.slice_core_machine.specs.Shows.{Leads}
 use Rattle.slice_core_plan.specs.Parts.{PartsView}
-
--- A call leaves as many cores as there were.
-pub cores_kept : (old : PartsView) (call : Call) (answer : CallAnswer) (new : PartsView)
-    → AfterCall old call answer new → length new.view.sides ≡ length old.view.sides
-cores_kept old (calls.Issue core request) (answers.Issue answer) new after =
-    (shape-issue old core request answer new after).sides
-cores_kept old (calls.Evict core line) (answers.Evict answer) new after =
-    (shape-evict old core line answer new after).sides
-cores_kept old (calls.Deliver pick) (answers.Deliver answer) new after = (shape-deliver old pick answer new after).sides
-cores_kept old (calls.DeliverNext class) (answers.DeliverNext answer) new after =
-    (shape-next old class answer new after).sides
-cores_kept old (calls.Hand core) (answers.Hand answer) new after = (shape-hand old core answer new after).sides
-cores_kept old call answer new after = absurd after
 
 -- No call is an empty run, and one call with its steps is a run.
 pub no_run : (old : PartsView) → IsOneRun old [] [] old

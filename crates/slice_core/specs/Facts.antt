@@ -67,6 +67,16 @@ pub record Holds (p : PartsView) : Type 0 where
   -- what is counted of a core's requests adds up
   pub counted : CountsAccepted p
 
+-- The two are states of one slice: which slice it is stays as it was built.
+pub record IsSameSlice (old new : PartsView) : Type 0 where
+  pub lines : new.view.lines ≡ old.view.lines
+  pub init : new.view.init ≡ old.view.init
+  pub counters : new.view.counters ≡ old.view.counters
+  pub cores : length new.view.sides ≡ length old.view.sides
+  -- whether the machine has the exclusive state, as the slice's steps and its statistics have it
+  pub exclusive : new.view.exclusive ≡ old.view.exclusive
+  pub reported : new.stats.exclusive ≡ old.stats.exclusive
+
 -- What a slice shows of a word, whose line it has: the value that the word has while the slice is quiet.
 abbrev pub ShowsWord : View → WordAddr → Option Local → ℕ → Type 0
 ShowsWord v word None shown = Unit {0}

@@ -1,7 +1,7 @@
 ghost use Rattle.std.specs.Prelude.{◌≡◌, ℕ, ◌<◌, ◌↔◌, [], ◌∷◌, length, IfOk, IfSome, IsTrue, IsSome};
 ghost use Rattle.address_map.specs.Locator.{local_at};
 ghost use Rattle.address_map.specs.Place.{line_of};
-ghost use Rattle.slice_core.specs.Facts.{Holds, IsInverted, IsNotBroken, IsNotBrokenNext, NeedsNoRegister, ShowsLast, ShowsLine, ShowsWord};
+ghost use Rattle.slice_core.specs.Facts.{Holds, IsInverted, IsNotBroken, IsNotBrokenNext, IsSameSlice, NeedsNoRegister, ShowsLast, ShowsLine, ShowsWord};
 ghost use Rattle.slice_core.specs.Run.{AfterCall, HasCore, HasCores, IsOneRun, Runs};
 ghost use Rattle.slice_core_machine.specs.Machine.{IsSame, new_machine};
 ghost use Rattle.slice_core_machine.specs.Shows.{Leads, Performs, hand_steps, issue_steps, next_of, shown};
@@ -57,6 +57,7 @@ impl<F: MissFile> SliceState<F> {
         ensures step { AfterIssue self.old core request result self.new }
         ensures machine { Leads (issue_steps (next_of self.old.view core request) result) self.old.view self.new.view }
         ensures unbounded { IsInverted self.old.view core → NeedsNoRegister result }
+        ensures same { IsSameSlice self.old self.new }
         ensures holds { Holds self.new }
     {
         self.parts.issue(core, request)
@@ -67,6 +68,7 @@ impl<F: MissFile> SliceState<F> {
         requires { core.0 < length self.old.view.sides }
         ensures step { AfterEvict self.old core line result self.new }
         ensures machine { Leads [] self.old.view self.new.view }
+        ensures same { IsSameSlice self.old self.new }
         ensures holds { Holds self.new }
     {
         self.parts.evict(core, line)
@@ -77,6 +79,7 @@ impl<F: MissFile> SliceState<F> {
         ensures step { AfterDelivery self.old pick result self.new }
         ensures machine { Performs self.old.view self.new.view }
         ensures unbroken { IsNotBroken result }
+        ensures same { IsSameSlice self.old self.new }
         ensures holds { Holds self.new }
     {
         self.parts.deliver(pick)
@@ -87,6 +90,7 @@ impl<F: MissFile> SliceState<F> {
         ensures step { AfterDeliverNext self.old class result self.new }
         ensures machine { Performs self.old.view self.new.view }
         ensures unbroken { IsNotBrokenNext result }
+        ensures same { IsSameSlice self.old self.new }
         ensures holds { Holds self.new }
     {
         self.parts.deliver_next(class)
@@ -98,6 +102,7 @@ impl<F: MissFile> SliceState<F> {
         ensures step { AfterHand self.old core result self.new }
         ensures core { IfSome result (λ given. given.entry.core ≡ core) }
         ensures machine { Leads (hand_steps result) self.old.view self.new.view }
+        ensures same { IsSameSlice self.old self.new }
         ensures holds { Holds self.new }
     {
         self.parts.hand(core)
@@ -109,7 +114,7 @@ impl<F: MissFile> SliceState<F> {
         requires known { HasCores (length self.old.view.sides) calls.now }
         ensures run { Runs self.old calls.now answers.new self.new }
         ensures machine { IsOneRun self.old calls.now answers.new self.new }
-        ensures cores { length self.new.view.sides ≡ length self.old.view.sides }
+        ensures same { IsSameSlice self.old self.new }
         ensures holds { Holds self.new }
     {
         for (place, call) in calls.iter().enumerate() {
@@ -124,6 +129,7 @@ impl<F: MissFile> SliceState<F> {
         requires { HasCore (length self.old.view.sides) call.now }
         ensures step { AfterCall self.old call.now result self.new }
         ensures machine { IsOneRun self.old (call.now ∷ []) (result ∷ []) self.new }
+        ensures same { IsSameSlice self.old self.new }
     {
         match *call {
             Call::Issue { core, request } => CallAnswer::Issue(self.issue(core, request)),

@@ -1,13 +1,11 @@
-use Rattle.std.proofs.Common.{◌≡◌, Err, Ok, Some, ap, subst, sym, ◌∙◌}
+use Rattle.std.proofs.Common.{◌≡◌, Some, ap, subst, sym, ◌∙◌}
 use Rattle.std.specs.Prelude.{slice_get}
 use Rattle.receipt_ledger.proofs.Ports.{with-room}
-use Rattle.receipt_ledger.proofs.Stays.{issue-stays}
 use Rattle.receipt_ledger.proofs.Tied.{done-last, done-tied, pending-tied, same-tied}
 use Rattle.receipt_ledger.specs.Booked.{IsTied}
 use Rattle.receipt_ledger.specs.Port.{PortView, with_receipt, with_request}
 use Rattle.receipt_shares.specs.Names.{counters_of}
 use Rattle.receipt_shares.specs.Totals.{only_handed, together}
-use Rattle.slice_core_answer.specs.declared.answer.Issue.TheVariants as issues
 use Rattle.slice_core_log.specs.declared.entry.Entry.{Entry}
 use Rattle.receipt_ledger.proofs.book.Book.accept.Given.{Over}
 use Rattle.receipt_ledger.proofs.book.Book.accept.Goals as goal
@@ -50,7 +48,7 @@ returns-in-Ok-Done-clause-tied g c =
     (sym (c.give.ensures.book
     ∙ ap (λ t. together t (only_handed (counters_of setup number) c.give.result.entry)) c.count.ensures.book))
     (done-tied setup number c.args.self.now c.args.state.now new c.requires c.core.result c.args.request
-    c.in-Ok-Done.number c.give.result.entry told.step told.machine (there g c))
+    c.in-Ok-Done.number c.give.result.entry told.step told.same told.machine (there g c))
 
 pub returns-in-Ok-Pending-clause-tied : goal.returns-in-Ok-Pending-clause-tied
 returns-in-Ok-Pending-clause-tied g c =
@@ -60,17 +58,15 @@ returns-in-Ok-Pending-clause-tied g c =
     let told = rw c.in-Ok-Pending.field-0-is at c.in-Ok-Pending.ensures in
     subst (λ t. IsTied setup number t new) (sym c.count-in-Ok-Pending.ensures.book)
     (pending-tied setup number c.args.self.now c.args.state.now new c.requires c.core.result c.args.request
-    c.in-Ok-Pending.field-0-0 told.step told.machine)
+    c.in-Ok-Pending.field-0-0 told.step told.same told.machine)
 
 pub returns-in-Ok-Stall-clause-tied : goal.returns-in-Ok-Stall-clause-tied
 returns-in-Ok-Stall-clause-tied g c =
     let told = rw c.in-Ok-Stall.field-0-is at c.in-Ok-Stall.ensures in
     same-tied g.N.SliceNames.setup g.N.SliceNames.number c.args.self.now c.args.state.now c.issue.new.self c.requires
-    (issue-stays c.args.state.now c.core.result c.args.request (Ok (issues.Stall c.in-Ok-Stall.stall)) c.issue.new.self
-    told.step).slice told.machine
+    told.same told.machine
 
 pub returns-in-Err-clause-tied : goal.returns-in-Err-clause-tied
 returns-in-Err-clause-tied g c =
     same-tied g.N.SliceNames.setup g.N.SliceNames.number c.args.self.now c.args.state.now c.issue.new.self c.requires
-    (issue-stays c.args.state.now c.core.result c.args.request (Err c.in-Err.refused) c.issue.new.self
-    c.in-Err.ensures.step).slice c.in-Err.ensures.machine
+    c.in-Err.ensures.same c.in-Err.ensures.machine

@@ -1,7 +1,6 @@
-use Rattle.std.proofs.Common.{◌≡◌, Some, ap, subst, sym, ◌∙◌}
+use Rattle.std.proofs.Common.{◌≡◌, ap, subst, sym, ◌∙◌}
 use Rattle.std.specs.Prelude.{slice_get}
 use Rattle.std.proofs.lemmas.Option.{get_or_from_slice_get}
-use Rattle.receipt_ledger.proofs.Stays.{hand-stays}
 use Rattle.receipt_ledger.proofs.Tied.{hand-tied}
 use Rattle.receipt_ledger.specs.Booked.{IsTied}
 use Rattle.receipt_ledger.specs.Port.{PortView}
@@ -39,5 +38,5 @@ returns-in-Some-clause-tied g c =
     let given = c.in-Some.given in
     subst (λ t. IsTied setup number t new) (sym c.give.ensures.book)
     (hand-tied setup number c.args.self.now old new c.requires given.number c.give.result.entry
-    (hand-stays old new c.core.result (Some given) c.in-Some.ensures.step) c.in-Some.ensures.machine
+    c.in-Some.ensures.same c.in-Some.ensures.machine
     (ap (slice_get new.view.log) (sym c.give.ensures.number) ∙ c.give.ensures.genuine))

@@ -1,10 +1,12 @@
 use Rattle.std.proofs.Common.{subst}
+use Rattle.slice_core.specs.Facts.{IsSameSlice}
 use Rattle.slice_core.specs.Sound.{IsSound}
 use Rattle.slice_core.proofs.Coherent.{holds, unbroken_delivery}
 use Rattle.slice_core.proofs.AccountsCan.{can-deliver}
 use Rattle.slice_core.proofs.SoundDelivery.{sound-delivery}
 use Rattle.slice_core.proofs.state.SliceState.deliver.Given.{Over}
 use Rattle.slice_core.proofs.state.SliceState.deliver.Goals as goal
+use Rattle.slice_core.proofs.SameSlice.{same-deliver}
 use Rattle.slice_core.proofs.Machine.{machine-deliver}
 use Rattle.slice_core_machine.specs.Shows.{Performs}
 use Rattle.slice_core_plan.specs.Parts.{PartsView}
@@ -30,6 +32,11 @@ returns-clause-machine g c =
     subst (λ (p : PartsView). Performs p.view c.deliver.new.self.view) c.self.view_is
     (machine-deliver c.self.inside.parts c.self.invariant c.deliver.new.self c.args.pick c.deliver.result (sound g c)
     c.deliver.ensures)
+
+pub returns-clause-same : goal.returns-clause-same
+returns-clause-same g c =
+    subst (λ (p : PartsView). IsSameSlice p c.deliver.new.self) c.self.view_is
+    (same-deliver c.self.inside.parts c.args.pick c.deliver.result c.deliver.new.self c.deliver.ensures)
 
 pub returns-clause-holds : goal.returns-clause-holds
 returns-clause-holds g c = holds c.deliver.new.self (sound g c)

@@ -1,10 +1,12 @@
 use Rattle.std.proofs.Common.{subst}
+use Rattle.slice_core.specs.Facts.{IsSameSlice}
 use Rattle.slice_core.specs.Sound.{IsSound}
 use Rattle.slice_core.proofs.Coherent.{holds, unbroken_next}
 use Rattle.slice_core.proofs.AccountsCan.{can-deliver}
 use Rattle.slice_core.proofs.SoundDelivery.{sound-deliver_next}
 use Rattle.slice_core.proofs.state.SliceState.deliver_next.Given.{Over}
 use Rattle.slice_core.proofs.state.SliceState.deliver_next.Goals as goal
+use Rattle.slice_core.proofs.SameSlice.{same-next}
 use Rattle.slice_core.proofs.Machine.{machine-next}
 use Rattle.slice_core_machine.specs.Shows.{Performs}
 use Rattle.slice_core_plan.specs.Parts.{PartsView}
@@ -31,6 +33,11 @@ returns-clause-machine g c =
     subst (λ (p : PartsView). Performs p.view c.deliver_next.new.self.view) c.self.view_is
     (machine-next c.self.inside.parts c.self.invariant c.deliver_next.new.self c.args.class c.deliver_next.result
     (sound g c) c.deliver_next.ensures)
+
+pub returns-clause-same : goal.returns-clause-same
+returns-clause-same g c =
+    subst (λ (p : PartsView). IsSameSlice p c.deliver_next.new.self) c.self.view_is
+    (same-next c.self.inside.parts c.args.class c.deliver_next.result c.deliver_next.new.self c.deliver_next.ensures)
 
 pub returns-clause-holds : goal.returns-clause-holds
 returns-clause-holds g c = holds c.deliver_next.new.self (sound g c)

@@ -1,7 +1,9 @@
 use Rattle.std.proofs.Common.{◌<◌, [], arith, ap, length, subst}
 use Rattle.slice_core_plan.specs.Parts.{PartsView}
+use Rattle.slice_core.specs.Facts.{IsSameSlice}
 use Rattle.slice_core.specs.Sound.{IsSound}
 use Rattle.slice_core.proofs.Coherent.{holds}
+use Rattle.slice_core.proofs.SameSlice.{same-evict}
 use Rattle.slice_core.proofs.SoundEvict.{sound-evict}
 use Rattle.slice_core.proofs.state.SliceState.evict.Given.{Over}
 use Rattle.slice_core.proofs.state.SliceState.evict.Goals as goal
@@ -29,6 +31,11 @@ returns-clause-machine g c =
     subst (λ (p : PartsView). Leads [] p.view c.evict.new.self.view) c.self.view_is
     (evict_leads c.self.inside.parts c.args.core c.args.line c.evict.result c.evict.new.self (known g c)
     c.evict.ensures)
+
+pub returns-clause-same : goal.returns-clause-same
+returns-clause-same g c =
+    subst (λ (p : PartsView). IsSameSlice p c.evict.new.self) c.self.view_is
+    (same-evict c.self.inside.parts c.args.core c.args.line c.evict.result c.evict.new.self c.evict.ensures)
 
 pub returns-clause-holds : goal.returns-clause-holds
 returns-clause-holds g c = holds c.evict.new.self (sound g c)

@@ -1,11 +1,13 @@
 use Rattle.std.proofs.Common.{◌<◌, arith, ap, length, subst}
 use Rattle.slice_core_plan.specs.Parts.{PartsView}
+use Rattle.slice_core.specs.Facts.{IsSameSlice}
 use Rattle.slice_core.specs.Sound.{IsSound}
 use Rattle.slice_core.proofs.AccountsFacts.{handed-core}
 use Rattle.slice_core.proofs.Coherent.{holds}
 use Rattle.slice_core.proofs.SoundEvict.{sound-hand}
 use Rattle.slice_core.proofs.state.SliceState.hand.Given.{Over}
 use Rattle.slice_core.proofs.state.SliceState.hand.Goals as goal
+use Rattle.slice_core.proofs.SameSlice.{same-hand}
 use Rattle.slice_core.proofs.Machine.{machine-hand}
 use Rattle.slice_core_machine.specs.Shows.{Leads, hand_steps}
 
@@ -35,6 +37,11 @@ returns-clause-machine g c =
     subst (λ (p : PartsView). Leads (hand_steps c.hand.result) p.view c.hand.new.self.view) c.self.view_is
     (machine-hand c.self.inside.parts c.self.invariant c.hand.new.self c.args.core c.hand.result (known g c)
     c.hand.ensures)
+
+pub returns-clause-same : goal.returns-clause-same
+returns-clause-same g c =
+    subst (λ (p : PartsView). IsSameSlice p c.hand.new.self) c.self.view_is
+    (same-hand c.self.inside.parts c.args.core c.hand.result c.hand.new.self c.hand.ensures)
 
 pub returns-clause-holds : goal.returns-clause-holds
 returns-clause-holds g c = holds c.hand.new.self (sound g c)

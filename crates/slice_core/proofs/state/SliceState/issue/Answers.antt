@@ -1,12 +1,13 @@
 use Rattle.std.proofs.Common.{◌<◌, arith, ap, length, subst, sym}
 use Rattle.slice_core_plan.specs.Parts.{PartsView}
-use Rattle.slice_core.specs.Facts.{IsInverted}
+use Rattle.slice_core.specs.Facts.{IsInverted, IsSameSlice}
 use Rattle.slice_core.specs.Sound.{IsSound}
 use Rattle.slice_core.proofs.Coherent.{holds}
 use Rattle.slice_core.proofs.LinksInverted.{needs-issue}
 use Rattle.slice_core.proofs.SoundIssue.{sound-issue}
 use Rattle.slice_core.proofs.state.SliceState.issue.Given.{Over}
 use Rattle.slice_core.proofs.state.SliceState.issue.Goals as goal
+use Rattle.slice_core.proofs.SameSlice.{same-issue}
 use Rattle.slice_core.proofs.Machine.{machine-issue}
 use Rattle.slice_core_machine.specs.Shows.{Leads, issue_steps, next_of}
 
@@ -39,6 +40,11 @@ returns-clause-machine g c =
     c.self.view_is
     (machine-issue c.self.inside.parts c.self.invariant c.issue.new.self c.args.core c.args.request c.issue.result
     (known g c) (sound g c) c.issue.ensures.step)
+
+pub returns-clause-same : goal.returns-clause-same
+returns-clause-same g c =
+    subst (λ (p : PartsView). IsSameSlice p c.issue.new.self) c.self.view_is
+    (same-issue c.self.inside.parts c.args.core c.args.request c.issue.result c.issue.new.self c.issue.ensures.step)
 
 pub returns-clause-holds : goal.returns-clause-holds
 returns-clause-holds g c = holds c.issue.new.self (sound g c)

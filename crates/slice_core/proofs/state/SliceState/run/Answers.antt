@@ -1,11 +1,14 @@
 use Rattle.std.proofs.Common.{◌∙◌, refl, subst}
 use Rattle.slice_core.proofs.Coherent.{holds}
-use Rattle.slice_core.proofs.Runs.{cores_kept, no_run, run_more, runs}
+use Rattle.slice_core.proofs.Runs.{no_run, run_more, runs}
+use Rattle.slice_core.proofs.SameSlice.{same-is, same-then}
 use Rattle.slice_core.proofs.state.SliceState.run.Goals as goal
 use Rattle.slice_core.specs.Facts.{Holds}
 
 pub loop-place-init : goal.loop-place-init
-loop-place-init g c = record { cores = refl; run = refl; machine = no_run c.args.self.now }
+loop-place-init g c =
+    let old = c.args.self.now in
+    record { same = same-is old old refl; run = refl; machine = no_run old }
 
 pub loop-place-preserved : goal.loop-place-preserved
 loop-place-preserved g c =
@@ -14,7 +17,7 @@ loop-place-preserved g c =
     run_more c.args.self.now c.args.calls.now before.answers before.self before.place _ c.call.result c.call.new.self
     c.loop-place-test.true (before.auto.answers ∙ c.requires.places) before.invariant.machine c.call.ensures.machine in
     record {
-      cores = cores_kept before.self _ c.call.result c.call.new.self c.call.ensures.step ∙ before.invariant.cores;
+      same = same-then c.args.self.now before.self c.call.new.self before.invariant.same c.call.ensures.same;
       run = runs c.args.self.now _ _ c.call.new.self machine;
       machine = machine;
     }

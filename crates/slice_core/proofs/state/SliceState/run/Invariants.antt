@@ -1,10 +1,11 @@
-use Rattle.std.proofs.Common.{◌≡◌, length, take}
+use Rattle.std.proofs.Common.{take}
+use Rattle.slice_core.specs.Facts.{IsSameSlice}
 use Rattle.slice_core.specs.Run.{IsOneRun, Runs}
 use Rattle.slice_core.proofs.state.SliceState.run.Given as goal
 
 abbrev pub invariant-loop-place : goal.invariant-loop-place
 invariant-loop-place g l = record {
-  cores : length l.self.view.sides ≡ length l.fn.self.view.sides;
+  same : IsSameSlice l.fn.self l.self;
   run : Runs l.fn.self (take l.place l.calls) (take l.place l.answers) l.self;
   machine : IsOneRun l.fn.self (take l.place l.calls) (take l.place l.answers) l.self;
 }

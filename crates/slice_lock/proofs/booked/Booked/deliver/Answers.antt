@@ -1,4 +1,3 @@
-use Rattle.receipt_ledger.proofs.Moved.{delivery-stays}
 use Rattle.receipt_ledger.proofs.Tied.{performs-tied}
 use Rattle.slice_lock.proofs.booked.Booked.deliver.Goals as goal
 
@@ -7,4 +6,4 @@ invariant_of-self g c =
     let old = c.self.inside.state in
     let new = c.deliver.new.self in
     performs-tied g.N.SliceNames.setup g.N.SliceNames.number c.self.inside.book old new c.self.invariant
-    (delivery-stays old new c.args.pick c.deliver.result c.deliver.ensures.step) c.deliver.ensures.machine
+    c.deliver.ensures.same c.deliver.ensures.machine

@@ -1,4 +1,3 @@
-use Rattle.receipt_ledger.proofs.Moved.{next-stays}
 use Rattle.receipt_ledger.proofs.Tied.{performs-tied}
 use Rattle.slice_lock.proofs.booked.Booked.deliver_next.Goals as goal
 
@@ -7,4 +6,4 @@ invariant_of-self g c =
     let old = c.self.inside.state in
     let new = c.deliver_next.new.self in
     performs-tied g.N.SliceNames.setup g.N.SliceNames.number c.self.inside.book old new c.self.invariant
-    (next-stays old new c.args.class c.deliver_next.result c.deliver_next.ensures.step) c.deliver_next.ensures.machine
+    c.deliver_next.ensures.same c.deliver_next.ensures.machine

@@ -1,4 +1,3 @@
-use Rattle.receipt_ledger.proofs.Moved.{evict-stays}
 use Rattle.receipt_ledger.proofs.Tied.{same-tied}
 use Rattle.slice_lock.proofs.booked.Booked.evict.Goals as goal
 
@@ -7,4 +6,4 @@ invariant_of-self g c =
     let old = c.self.inside.state in
     let new = c.evict.new.self in
     same-tied g.N.SliceNames.setup g.N.SliceNames.number c.self.inside.book old new c.self.invariant
-    (evict-stays old new c.args.core c.args.line c.evict.result c.evict.ensures.step) c.evict.ensures.machine
+    c.evict.ensures.same c.evict.ensures.machine

@@ -1,0 +1,232 @@
+-- Each call leaves a slice the one that it was.
+use Rattle.std.proofs.Common.{◌≡◌, List, Option, Some, None, Result, Err, refl, sym, ◌∙◌, subst, ⊎_elim, length-set}
+use Rattle.std.specs.Prelude.{◌⊎◌}
+use Rattle.address_map.specs.Locator.{local_at}
+use Rattle.address_map.specs.declared.address.CoreId.{CoreId}
+use Rattle.address_map.specs.declared.address.LineAddr.{LineAddr}
+use Rattle.address_map.specs.declared.address.Local.{Local}
+use Rattle.address_map.specs.declared.request.Request.{Request}
+use Rattle.cache_table.specs.declared.state.CopyState.{CopyState}
+use Rattle.mshr_file.specs.declared.registers.Register.{Register}
+use Rattle.slice_core.specs.Facts.{IsSameSlice}
+use Rattle.slice_core_answer.specs.Stats.{StatsView, after_eviction}
+use Rattle.slice_core_answer.specs.declared.answer.Delivered.{Delivered}
+use Rattle.slice_core_answer.specs.declared.answer.DeliveredNext.{DeliveredNext}
+use Rattle.slice_core_answer.specs.declared.answer.DeliveredNext.TheVariants as delivered_next
+use Rattle.slice_core_answer.specs.declared.answer.Delivered.TheVariants as delivered
+use Rattle.slice_core_answer.specs.declared.answer.Evicted.{Evicted}
+use Rattle.slice_core_answer.specs.declared.answer.Evicted.TheVariants as evictions
+use Rattle.slice_core_answer.specs.declared.answer.Issue.{Issue}
+use Rattle.slice_core_answer.specs.declared.answer.Refused.{Refused}
+use Rattle.slice_core_log.specs.declared.entry.Numbered.{Numbered}
+use Rattle.slice_core_side.specs.Access.{evicted_of}
+use Rattle.slice_core_side.specs.declared.access.Access.{Access}
+use Rattle.slice_core_side.specs.declared.access.Access.TheVariants as accesses
+use Rattle.slice_core_side.specs.declared.access.Ask.{Ask}
+use Rattle.slice_core_side.specs.declared.access.Way.{Way}
+use Rattle.slice_core_side.specs.declared.access.Way.TheVariants as ways
+use Rattle.slice_core_side.specs.declared.copy.CacheCopy.{CacheCopy}
+use Rattle.slice_core_plan.specs.Decision.{decision_of}
+use Rattle.slice_core_plan.specs.Parts.{PartsView, AfterAccepting, AfterAccess, AfterDeliverNext, AfterDelivery, AfterEvict, AfterHand, AfterIssue, AfterPlan, IsAccepted, LacksMemory, Settles, opened_stats}
+use Rattle.slice_core_plan.specs.Plan.{plan_of}
+use Rattle.slice_core_plan.specs.Steps.{after_evict, after_open, with_way}
+use Rattle.slice_core_plan.specs.View.{side_at}
+use Rattle.slice_core_plan.specs.declared.decide.Decision.{Decision}
+use Rattle.slice_core_plan.specs.declared.decide.Decision.TheVariants as decisions
+use Rattle.slice_core_plan.specs.declared.decide.Plan.{Plan}
+use Rattle.slice_core_plan.specs.declared.decide.Plan.TheVariants as plans
+use Rattle.slice_queues_message.specs.Pick.{channel_of, line_of}
+use Rattle.slice_queues_message.specs.declared.channel.Channel.{Channel}
+use Rattle.slice_queues_message.specs.declared.channel.Class.{Class}
+use Rattle.slice_queues_message.specs.declared.channel.Pick.{Pick}
+
+-- What changes nothing leaves the slice that it was, and so do two changes one after the other that both leave it.
+pub same-is : (old new : PartsView) → new ≡ old → IsSameSlice old new
+same-is old new is =
+    subst (IsSameSlice old) (sym is)
+    (record { lines = refl; init = refl; counters = refl; cores = refl; exclusive = refl; reported = refl })
+
+pub same-then : (old middle new : PartsView) → IsSameSlice old middle → IsSameSlice middle new → IsSameSlice old new
+same-then old middle new one other = record {
+  lines = other.lines ∙ one.lines;
+  init = other.init ∙ one.init;
+  counters = other.counters ∙ one.counters;
+  cores = other.cores ∙ one.cores;
+  exclusive = other.exclusive ∙ one.exclusive;
+  reported = other.reported ∙ one.reported;
+}
+
+-- ---- issue
+
+opened-reported : (stats : StatsView) (core : CoreId) (way : Way)
+    → (opened_stats stats core way).exclusive ≡ stats.exclusive
+opened-reported stats core ways.Victim = refl
+opened-reported stats core ways.Held = refl
+opened-reported stats core ways.Free = refl
+
+with-way : (old : PartsView) (core : CoreId) (local : Local) (way : Way)
+    → IsSameSlice old (record old { view = with_way old.view core local way })
+with-way old core local ways.Victim = record {
+  lines = refl;
+  init = refl;
+  counters = refl;
+  cores = simp length-set;
+  exclusive = refl;
+  reported = refl;
+}
+with-way old core local ways.Held = same-is old old refl
+with-way old core local ways.Free = same-is old old refl
+
+opened : (old : PartsView) (core : CoreId) (request : Request) (local : Local) (way : Way) (next : CopyState)
+    (ask : Ask) (misses : List Register)
+    → IsSameSlice old (record old { view = after_open old.view core request local way next ask misses })
+opened old core request local way next ask misses =
+    let middle = record old { view = with_way old.view core local way } in
+    same-then old middle _ (with-way old core local way)
+    (record { lines = refl; init = refl; counters = refl; cores = simp length-set; exclusive = refl; reported = refl })
+
+accepted : (access : Access) (old : PartsView) (core : CoreId) (request : Request) (local : Local) (answer : Issue)
+    (new : PartsView) → AfterAccepting access old core request local answer new → IsSameSlice old new
+accepted (accesses.Stall stall) old core request local answer new after = same-is old new after.1
+accepted (accesses.Hit place next silent) old core request local answer new after =
+    subst (IsSameSlice old) (sym after.1)
+    (record { lines = refl; init = refl; counters = refl; cores = simp length-set; exclusive = refl; reported = refl })
+accepted accesses.Join old core request local answer new after =
+    subst (IsSameSlice old) (sym after.3.1)
+    (record { lines = refl; init = refl; counters = refl; cores = simp length-set; exclusive = refl; reported = refl })
+accepted (accesses.Open next ask way) old core request local answer new after =
+    let same = opened old core request local way next ask after.0 in
+    subst (IsSameSlice old) (sym after.3.1)
+    (record {
+      lines = same.lines;
+      init = same.init;
+      counters = same.counters;
+      cores = same.cores;
+      exclusive = same.exclusive;
+      reported = opened-reported old.stats core way;
+    })
+
+module _ (old : PartsView) (core : CoreId) (request : Request) (answer : Result Issue Refused) (new : PartsView) where
+  -- an access that needs room in the log
+  let_in : (local : Local) (access : Access)
+      → LacksMemory old answer new ⊎ IsAccepted access old core request local answer new → IsSameSlice old new
+  let_in local access after =
+      ⊎_elim (λ lacks. same-is old new lacks.unchanged)
+      (λ is.
+      let roomy = record old { room = is.0 } in
+      same-then old roomy new
+      (record { lines = refl; init = refl; counters = refl; cores = refl; exclusive = refl; reported = refl })
+      (accepted access roomy core request local is.1 new is.5))
+      after
+
+  accessed : (local : Local) (access : Access) → AfterAccess access old core request local answer new
+      → IsSameSlice old new
+  accessed local (accesses.Stall stall) after =
+      subst (IsSameSlice old) (sym after.1)
+      (record { lines = refl; init = refl; counters = refl; cores = refl; exclusive = refl; reported = refl })
+  accessed local (accesses.Hit place next silent) after = let_in local (accesses.Hit place next silent) after
+  accessed local accesses.Join after = let_in local accesses.Join after
+  accessed local (accesses.Open next ask way) after = let_in local (accesses.Open next ask way) after
+
+  -- what an issue answers and leaves, by what was decided
+  abbrev by_decision : Decision → Type 0
+  by_decision (decisions.Refuse refused) = (answer ≡ Err refused) × (new ≡ old)
+  by_decision (decisions.Access local access) = AfterAccess access old core request local answer new
+
+  decided : (decision : Decision) → by_decision decision → IsSameSlice old new
+  decided (decisions.Refuse refused) after = same-is old new after.1
+  decided (decisions.Access local access) after = accessed local access after
+
+  pub same-issue : AfterIssue old core request answer new → IsSameSlice old new
+  same-issue after = decided (decision_of old.view core request) after
+
+-- ---- evict
+
+module _ (old : PartsView) (core : CoreId) (line : LineAddr) (answer : Evicted) (new : PartsView) where
+  -- what is left of the slice, by the answer to an eviction
+  abbrev by_answer : Local → Evicted → Type 0
+  by_answer local evictions.Evicting =
+      new ≡ record old { view = after_evict old.view core local; stats = after_eviction old.stats core }
+  by_answer local _ = new ≡ old
+
+  -- what an eviction answers and leaves, by the line's place
+  abbrev by_line : Option Local → Type 0
+  by_line None = (answer ≡ evictions.NotHeld) × (new ≡ old)
+  by_line (Some local) = (answer ≡ evicted_of (side_at old.view core) local) × by_answer local answer
+
+  answered : (local : Local) (given : Evicted) → by_answer local given → IsSameSlice old new
+  answered local evictions.Evicting after =
+      subst (IsSameSlice old) (sym after)
+      (record {
+        lines = refl;
+        init = refl;
+        counters = refl;
+        cores = simp length-set;
+        exclusive = refl;
+        reported = refl;
+      })
+  answered local evictions.Busy after = same-is old new after
+  answered local evictions.NotHeld after = same-is old new after
+  answered local evictions.WriteBackFull after = same-is old new after
+
+  placed : (place : Option Local) → by_line place → IsSameSlice old new
+  placed None after = same-is old new after.1
+  placed (Some local) after = answered local answer after.1
+
+  pub same-evict : AfterEvict old core line answer new → IsSameSlice old new
+  same-evict after = placed (local_at old.view.lines line.0) after
+
+-- ---- deliver
+
+settled : (old : PartsView) (local : Local) (core : CoreId) (channel : Channel) (copy : CacheCopy) (new : PartsView)
+    → Settles old local core channel copy new → IsSameSlice old new
+settled old local core channel copy new after =
+    subst (IsSameSlice old) (sym after.3)
+    (record { lines = refl; init = refl; counters = refl; cores = simp length-set; exclusive = refl; reported = refl })
+
+planned : (plan : Plan) (old : PartsView) (local : Local) (channel : Channel) (answer : Delivered) (new : PartsView)
+    → AfterPlan plan old local channel answer new → IsSameSlice old new
+planned plans.Nothing old local channel answer new after = same-is old new after.1
+planned plans.Blocked old local channel answer new after = same-is old new after.1
+planned (plans.Broken cell) old local channel answer new after = same-is old new after.1
+planned (plans.Directory state owner sharers sent writes) old local channel answer new after =
+    subst (IsSameSlice old) (sym after.1)
+    (record { lines = refl; init = refl; counters = refl; cores = refl; exclusive = refl; reported = refl })
+planned (plans.Home state owner sharers) old local channel answer new after =
+    subst (IsSameSlice old) (sym after.1)
+    (record { lines = refl; init = refl; counters = refl; cores = refl; exclusive = refl; reported = refl })
+planned (plans.Forwarded next sent requester) old local channel answer new after =
+    subst (IsSameSlice old) (sym after.1)
+    (record { lines = refl; init = refl; counters = refl; cores = simp length-set; exclusive = refl; reported = refl })
+planned (plans.Fill place next) old local channel answer new after = settled old local _ channel _ new after.1
+planned (plans.Acknowledge place next) old local channel answer new after = settled old local _ channel _ new after.1
+
+module _ (old : PartsView) (pick : Pick) (answer : Delivered) (new : PartsView) where
+  -- what a delivery answers and leaves, by the line's place
+  abbrev by_place : Option Local → Type 0
+  by_place None = (answer ≡ delivered.Nothing) × (new ≡ old)
+  by_place (Some local) = AfterPlan (plan_of old.view local (channel_of pick)) old local (channel_of pick) answer new
+
+  found : (place : Option Local) → by_place place → IsSameSlice old new
+  found None after = same-is old new after.1
+  found (Some local) after =
+      planned (plan_of old.view local (channel_of pick)) old local (channel_of pick) answer new after
+
+  pub same-deliver : AfterDelivery old pick answer new → IsSameSlice old new
+  same-deliver after = found (local_at old.view.lines (line_of pick).0) after
+
+pub same-next : (old : PartsView) (class : Class) (answer : DeliveredNext) (new : PartsView)
+    → AfterDeliverNext old class answer new → IsSameSlice old new
+same-next old class (delivered_next.Moved pick) new after = same-deliver old pick delivered.Moved new after.1
+same-next old class delivered_next.Nothing new after = same-is old new after.0
+same-next old class delivered_next.Blocked new after = same-is old new after.0
+same-next old class (delivered_next.Broken cell) new after = same-is old new after.0
+
+-- ---- hand
+
+pub same-hand : (old : PartsView) (core : CoreId) (answer : Option Numbered) (new : PartsView)
+    → AfterHand old core answer new → IsSameSlice old new
+same-hand old core None new after = same-is old new after.1
+same-hand old core (Some given) new after =
+    subst (IsSameSlice old) (sym after.3)
+    (record { lines = refl; init = refl; counters = refl; cores = simp length-set; exclusive = refl; reported = refl })

@@ -1,5 +1,4 @@
-use Rattle.std.proofs.Common.{◌≡◌, ◌+◌, ◌∙◌, [], ◌∷◌, length, ap, length-append}
-use Rattle.litmus.specs.Machine.{AreSlicesOf}
+use Rattle.std.proofs.Common.{◌+◌, ◌∙◌, [], ◌∷◌, ap, length-append}
 use Rattle.litmus.proofs.MachineLemmas.{are_slices_push, of_new}
 use Rattle.litmus.proofs.machine.Machine.build.Goals as goal
 

@@ -1,4 +1,4 @@
-use Rattle.std.proofs.Common.{◌≡◌, ◌<◌, length, ap, arith}
+use Rattle.std.proofs.Common.{◌<◌, length, ap, arith}
 use Rattle.address_map.specs.declared.config.Config.{Config}
 use Rattle.slice_queues_message.specs.declared.channel.Class.TheVariants as classes
 use Rattle.litmus.proofs.MachineLemmas.{is_machine-after}

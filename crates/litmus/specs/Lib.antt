@@ -1,3 +1,4 @@
 pub mod Machine
 pub mod CommandLine
 pub mod Check
+pub mod Chart

@@ -3,7 +3,9 @@ ghost use Rattle.std.specs.Io.KnownBytes.{Appends};
 
 use arrayvec::ArrayString;
 use itoa::Buffer;
-use stats_report::write_text;
+use litmus_text::TextFault;
+use slice_core::{Delivered, Evicted, Numbered, Refused, Stall};
+use stats_report::{Cut, write_text};
 use std::fmt;
 use std::io::Write;
 
@@ -22,12 +24,94 @@ impl<W: Write> fmt::Write for Answers<'_, W> {
     }
 }
 
+impl<W: Write> Answers<'_, W> {
+    pub fn write_bytes(&mut self, bytes: &[u8]) -> fmt::Result
+        ensures { OnOk result (Appends (W.contents self.old.out.now) (W.contents self.new.out.now) bytes.now) }
+    {
+        write_text(self.out, bytes).map_err(|_| fmt::Error)
+    }
+
+    /// Writes a line of any bytes, and its end.
+    pub fn write_line(&mut self, line: &[u8]) -> Result<(), Cut>
+        ensures { OnOk result (Appends (W.contents self.old.out.now) (W.contents self.new.out.now) (line.now ++ codes "\n")) }
+    {
+        write_text(self.out, line)?;
+        write_text(self.out, b"\n")
+    }
+}
+
+/// What a write came to, as what it comes to for a text.
+pub fn written(wrote: fmt::Result) -> Result<(), TextFault> {
+    wrote.map_err(|_| TextFault::CannotWrite)
+}
+
+/// What became of an access.
+#[derive(Clone, Copy, Debug, PartialEq, Eq)]
+pub enum Issued {
+    /// It is performed, under this number in the log.
+    Done { number: u64, reply: u64 },
+    /// It is the core's request of this number, and waits.
+    Pending(u64),
+    Stall(Stall),
+    Refused(Refused),
+}
+
+/// What is left after a pump.
+#[derive(Clone, Copy, Debug, PartialEq, Eq)]
+pub enum Pumped {
+    /// No message waited in any slice.
+    Empty,
+    /// Messages may wait.
+    Left,
+}
+
+#[inline(always)]
+pub fn write_issued<W: fmt::Write>(issued: Issued, out: &mut W) -> fmt::Result {
+    match issued {
+        Issued::Done { number, reply } => write_done(number, reply, out),
+        Issued::Pending(seq) => writeln!(out, "pending {seq}"),
+        Issued::Stall(stall) => writeln!(out, "stall {stall}"),
+        Issued::Refused(refused) => writeln!(out, "refused {refused}"),
+    }
+}
+
+pub fn write_evicted<W: fmt::Write>(evicted: Evicted, out: &mut W) -> fmt::Result {
+    writeln!(out, "{evicted}")
+}
+
+pub fn write_delivered<W: fmt::Write>(delivered: Delivered, out: &mut W) -> fmt::Result {
+    match delivered {
+        Delivered::Moved => writeln!(out, "moved"),
+        Delivered::Blocked => writeln!(out, "blocked"),
+        Delivered::Nothing => writeln!(out, "nothing"),
+        Delivered::Broken(cell) => writeln!(out, "broken {cell}"),
+    }
+}
+
+pub fn write_handed<W: fmt::Write>(handed: Option<Numbered>, out: &mut W) -> fmt::Result {
+    match handed {
+        Some(Numbered { number, entry }) => {
+            let tag = entry.tag;
+            let reply = entry.reply;
+            writeln!(out, "receipt {number} tag {tag} reply {reply}")
+        }
+        None => writeln!(out, "none"),
+    }
+}
+
+pub fn write_pumped<W: fmt::Write>(pumped: Pumped, out: &mut W) -> fmt::Result {
+    match pumped {
+        Pumped::Empty => writeln!(out, "empty"),
+        Pumped::Left => writeln!(out, "left"),
+    }
+}
+
 /// Room for the longest answer to an access that is done: two numbers of twenty digits, and the words around them.
 const DONE_ROOM: usize = 64;
 
 /// Writes the answer to an access that is done. Most answers are such ones, so its text is put together before it is
 /// written.
-pub fn write_done<W: fmt::Write>(number: u64, reply: u64, out: &mut W) -> fmt::Result
+fn write_done<W: fmt::Write>(number: u64, reply: u64, out: &mut W) -> fmt::Result
     ensures { OnOk result (W.write_str_gives out.old
         (codes "done " ++ decimal number ++ codes " reply " ++ decimal reply ++ codes "\n") out.new) }
 {

@@ -28,7 +28,7 @@ fn write_owner<W: Write>(owner: Option<CoreId>, out: &mut W) -> fmt::Result {
 }
 
 // The cores of a set, ascending.
-fn write_sharers<W: Write>(sharers: CoreSet, out: &mut W) -> fmt::Result {
+pub fn write_sharers<W: Write>(sharers: CoreSet, out: &mut W) -> fmt::Result {
     if sharers.is_empty() {
         return write!(out, "-");
     }

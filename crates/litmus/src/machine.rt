@@ -4,14 +4,20 @@ ghost use Rattle.address_map.specs.Config.{IsAllowed};
 ghost use Rattle.stats_report.specs.Report.{AreAlike, views_of};
 ghost use Rattle.litmus.specs.Machine.{IsMachine};
 
-use super::answers::{Answers, write_done};
+use super::answers::{
+    Answers, Issued, Pumped, write_delivered, write_evicted, write_handed, write_issued,
+    write_pumped,
+};
 use super::line::write_line;
+use super::player::Player;
 use super::trace::write_trace;
+use super::watcher::{Nobody, Watcher};
 use address_map::{Checked, CoreId, LineAddr, Request, SliceId, WordAddr};
-use litmus_text::{Command, TextFault};
+use litmus_text::{Command, Statement, TextFault};
 use mshr_file::MissFile;
 use slice_core::{
-    Class, Delivered, DeliveredNext, Issue, Numbered, Pick, Refused, SliceState, Stats,
+    Class, Delivered, DeliveredNext, Evicted, Issue, LineView, Message, Numbered, Pick, Refused,
+    SliceState, Stats,
 };
 use stats_report::{ReportError, write_report};
 use std::alloc::{AllocError, Global};
@@ -36,6 +42,23 @@ enum Round {
     Moved,
     /// Messages waited, and none could be delivered.
     Stuck,
+}
+
+impl<F: MissFile> Player for Machine<F> {
+    ghost config_of = { λ machine. machine.config };
+
+    fn config(&self) -> &Checked {
+        &self.config
+    }
+
+    fn play<W: io::Write>(
+        &mut self,
+        _statement: &Statement<'_>,
+        command: Command,
+        out: &mut Answers<'_, W>,
+    ) -> Result<(), TextFault> {
+        self.run(command, out)
+    }
 }
 
 impl<F: MissFile> Machine<F> {
@@ -68,78 +91,74 @@ impl<F: MissFile> Machine<F> {
         ensures { self.new.config ≡ self.old.config }
     {
         let written = match command {
-            Command::Issue { core, request } => return self.issue(core, request, out),
-            Command::Evict { core, line } => self.evict(core, line, out),
-            Command::Deliver(pick) => self.deliver(pick, out),
-            Command::Hand { core, slice } => self.hand(core, slice, out),
+            Command::Issue { core, request } => write_issued(self.issue(core, request)?, out),
+            Command::Evict { core, line } => write_evicted(self.evict(core, line), out),
+            Command::Deliver(pick) => write_delivered(self.deliver(pick), out),
+            Command::Hand { core, slice } => write_handed(self.hand(core, slice), out),
             Command::Word(word) => self.word(word, out),
             Command::State(line) => self.state(line, out),
             Command::Log(slice) => self.log(slice, out),
             Command::Stats => return self.report(out),
-            Command::Pump(calls) => self.pump(calls, out),
+            Command::Pump(calls) => match self.pump(calls, &mut Nobody) {
+                Ok(pumped) => write_pumped(pumped, out),
+                Err(AllocError) => return Err(TextFault::NoMemory),
+            },
         };
         written.map_err(|_| TextFault::CannotWrite)
     }
 
     /// A word past the memory goes to slice 0, which refuses it.
-    fn issue<W: Write>(
-        &mut self,
-        core: CoreId,
-        request: Request,
-        out: &mut W,
-    ) -> Result<(), TextFault>
+    // Most commands are accesses: what became of one isn't put together where it is written at once.
+    #[inline(always)]
+    pub fn issue(&mut self, core: CoreId, request: Request) -> Result<Issued, TextFault>
         requires { HasCore self.old.config core }
         ensures { self.new.config ≡ self.old.config }
     {
         let slice = self.slice_of(request.word.line());
         let state = &mut self.slices[slice];
-        let written = match state.issue(core, request) {
+        match state.issue(core, request) {
             Ok(Issue::Done(number)) => {
                 let reply = state.log()[number as usize].reply;
-                write_done(number, reply, out)
+                Ok(Issued::Done { number, reply })
             }
-            Ok(Issue::Pending(seq)) => writeln!(out, "pending {seq}"),
-            Ok(Issue::Stall(stall)) => writeln!(out, "stall {stall}"),
-            Err(Refused::Memory) => return Err(TextFault::NoMemory),
-            Err(refused) => writeln!(out, "refused {refused}"),
-        };
-        written.map_err(|_| TextFault::CannotWrite)
+            Ok(Issue::Pending(seq)) => Ok(Issued::Pending(seq)),
+            Ok(Issue::Stall(stall)) => Ok(Issued::Stall(stall)),
+            Err(Refused::Memory) => Err(TextFault::NoMemory),
+            Err(refused) => Ok(Issued::Refused(refused)),
+        }
     }
 
-    fn evict<W: Write>(&mut self, core: CoreId, line: LineAddr, out: &mut W) -> fmt::Result
+    pub fn evict(&mut self, core: CoreId, line: LineAddr) -> Evicted
         requires { HasCore self.old.config core }
         ensures { self.new.config ≡ self.old.config }
     {
         let slice = self.slice_of(line);
-        let evicted = self.slices[slice].evict(core, line);
-        writeln!(out, "{evicted}")
+        self.slices[slice].evict(core, line)
     }
 
-    fn deliver<W: Write>(&mut self, pick: Pick, out: &mut W) -> fmt::Result
+    pub fn deliver(&mut self, pick: Pick) -> Delivered
         ensures { self.new.config ≡ self.old.config }
     {
         let slice = self.slice_of(pick.line());
-        match self.slices[slice].deliver(pick) {
-            Delivered::Moved => writeln!(out, "moved"),
-            Delivered::Blocked => writeln!(out, "blocked"),
-            Delivered::Nothing => writeln!(out, "nothing"),
-            Delivered::Broken(cell) => writeln!(out, "broken {cell}"),
-        }
+        self.slices[slice].deliver(pick)
     }
 
-    fn hand<W: Write>(&mut self, core: CoreId, slice: SliceId, out: &mut W) -> fmt::Result
+    pub fn hand(&mut self, core: CoreId, slice: SliceId) -> Option<Numbered>
         requires core { HasCore self.old.config core }
         requires slice { slice.0 < self.old.config.slices }
         ensures { self.new.config ≡ self.old.config }
     {
-        match self.slices[slice.0 as usize].hand(core) {
-            Some(Numbered { number, entry }) => {
-                let tag = entry.tag;
-                let reply = entry.reply;
-                writeln!(out, "receipt {number} tag {tag} reply {reply}")
-            }
-            None => writeln!(out, "none"),
-        }
+        self.slices[slice.0 as usize].hand(core)
+    }
+
+    /// The message that a delivery at the pick would take.
+    pub fn front(&self, pick: Pick) -> Option<Message> {
+        self.slices[self.slice_of(pick.line())].front(pick)
+    }
+
+    /// What its slice has of a line of the memory.
+    pub fn view(&self, line: LineAddr) -> Option<LineView> {
+        self.slices[self.slice_of(line)].line_view(line)
     }
 
     fn word<W: Write>(&self, word: WordAddr, out: &mut W) -> fmt::Result
@@ -156,7 +175,7 @@ impl<F: MissFile> Machine<F> {
     fn state<W: Write>(&self, line: LineAddr, out: &mut W) -> fmt::Result
         requires { HasLine self.now.config line }
     {
-        match self.slices[self.slice_of(line)].line_view(line) {
+        match self.view(line) {
             Some(view) => write_line(line, &view, out),
             // Each line of the memory is its slice's, so this isn't met.
             None => Ok(()),
@@ -193,54 +212,57 @@ impl<F: MissFile> Machine<F> {
     }
 
     /// Delivers messages, by so many calls at most, round and round over the slices.
-    fn pump<W: Write>(&mut self, calls: u64, out: &mut W) -> fmt::Result
+    pub fn pump<T: Watcher>(&mut self, calls: u64, watcher: &mut T) -> Result<Pumped, AllocError>
         ensures { self.new.config ≡ self.old.config }
     {
         let slices = self.config.slices();
-        let round = self.rounds(calls / slices as u64);
+        let round = self.rounds(calls / slices as u64, watcher)?;
         if round == Round::Empty {
-            return writeln!(out, "empty");
+            return Ok(Pumped::Empty);
         }
         if round == Round::Moved {
             // the calls that are left make no whole round
-            let _ = self.round((calls % slices as u64) as usize);
+            self.round((calls % slices as u64) as usize, watcher)?;
         }
-        writeln!(out, "left")
+        Ok(Pumped::Left)
     }
 
     /// Makes so many rounds over all slices, up to one that moves nothing. Answers what the last came to.
-    fn rounds(&mut self, count: u64) -> Round
+    fn rounds<T: Watcher>(&mut self, count: u64, watcher: &mut T) -> Result<Round, AllocError>
         ensures { self.new.config ≡ self.old.config }
     {
         let slices = self.config.slices();
         for _ in 0..count {
-            let round = self.round(slices);
+            let round = self.round(slices, watcher)?;
             if round != Round::Moved {
-                return round;
+                return Ok(round);
             }
         }
-        Round::Moved
+        Ok(Round::Moved)
     }
 
     /// Makes a delivery in each of the first slices, where one can be made.
-    fn round(&mut self, count: usize) -> Round
+    fn round<T: Watcher>(&mut self, count: usize, watcher: &mut T) -> Result<Round, AllocError>
         requires { count ≤ self.old.config.slices }
         ensures { self.new.config ≡ self.old.config }
     {
         let mut round = Round::Empty;
         for slice in 0..count {
             match self.slices[slice].deliver_next(Class::Any) {
-                DeliveredNext::Moved(_) => round = Round::Moved,
+                DeliveredNext::Moved(pick) => {
+                    watcher.moved(pick)?;
+                    round = Round::Moved;
+                }
                 DeliveredNext::Nothing => {}
                 _ if round == Round::Empty => round = Round::Stuck,
                 _ => {}
             }
         }
-        round
+        Ok(round)
     }
 
     /// The slice of a line. Lines go to the slices in turn.
-    fn slice_of(&self, line: LineAddr) -> usize
+    pub fn slice_of(&self, line: LineAddr) -> usize
         ensures slice { result ≡ line.0 % self.now.config.slices }
         ensures known { result < length self.now.slices.items }
         ensures allowed { IsAllowed self.now.config }

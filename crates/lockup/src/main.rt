@@ -64,7 +64,7 @@ fn print_answers<R: AllocGlobal + Print>(
         return Err(TextFault::NoMemory);
     };
     let ran = match line {
-        CommandLine::Script { .. } => run_script(rt.alloc(), input, &mut out),
+        CommandLine::Script { .. } => run_script(rt.alloc(), input, false, &mut out),
         CommandLine::Check { .. } => run_check(rt.alloc(), input, &mut out),
     };
     match out.flush() {

@@ -23,8 +23,11 @@ use Rattle.slice_core_side.specs.Side.{state_of, tag_at}
 use Rattle.slice_core_side.specs.declared.tags.TagState.TheVariants as tags
 use Rattle.slice_core_standing.specs.Standing.{is_open, standings}
 use Rattle.slice_core_plan.specs.Parts.{PartsView}
-use Rattle.slice_core_plan.specs.View.{View, entry_at, side_at, word_now}
+use Rattle.slice_core_plan.specs.View.{View, channels_at, entry_at, side_at, word_now}
 use Rattle.slice_core_steps.specs.declared.line_view.LineView.{LineView}
+use Rattle.slice_queues.specs.Line.{messages_at}
+use Rattle.slice_queues_message.specs.declared.channel.Channel.{Channel}
+use Rattle.slice_queues_message.specs.declared.message.Message.{Message}
 
 -- Each request that a core had accepted stands in exactly one place, and nothing else stands there. It is a target of
 -- a miss register, or an entry of the log: a reply, as long as a tag names its number, and handed out otherwise.
@@ -95,6 +98,12 @@ ShowsLine v (Some local) shown =
     × (given.dir ≡ (entry_at v local).state) × (given.owner ≡ (entry_at v local).owner)
     × (given.sharers ≡ (entry_at v local).sharers) × (given.home ≡ (entry_at v local).home.words)
     × (given.copies.items ≡ map (λ side. state_of side local) v.sides)
+
+-- The message in front of a channel, which a delivery there would take: the oldest that waits, and none for a line that
+-- isn't the slice's.
+abbrev pub front_at : View → Option Local → Channel → Option Message
+front_at v None channel = None
+front_at v (Some local) channel = slice_get (messages_at (channels_at v local) channel) 0
 
 -- The core's miss file is bounded by tags alone: there is a field for each tag of the core, so for each destination
 -- that an access of its can have (Farkas and Jouppi's inverted organisation).

@@ -17,7 +17,9 @@ pub use slice_core_answer::{
 };
 pub use slice_core_log::{Entry, Numbered};
 pub use slice_core_steps::LineView;
-pub use slice_queues_message::{Class, Pick};
+pub use slice_queues_message::{
+    Class, DataMessage, ForwardedMessage, Message, Pick, RequestMessage,
+};
 pub use state::SliceState;
 
 mod run;

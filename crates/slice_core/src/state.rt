@@ -1,12 +1,13 @@
 ghost use Rattle.std.specs.Prelude.{◌≡◌, ℕ, ◌<◌, ◌↔◌, [], ◌∷◌, length, IfOk, IfSome, IsTrue, IsSome};
 ghost use Rattle.address_map.specs.Locator.{local_at};
 ghost use Rattle.address_map.specs.Place.{line_of};
-ghost use Rattle.slice_core.specs.Facts.{Holds, IsInverted, IsNotBroken, IsNotBrokenNext, IsSameSlice, NeedsNoRegister, ShowsLast, ShowsLine, ShowsWord};
+ghost use Rattle.slice_core.specs.Facts.{Holds, IsInverted, IsNotBroken, IsNotBrokenNext, IsSameSlice, NeedsNoRegister, ShowsLast, ShowsLine, ShowsWord, front_at};
 ghost use Rattle.slice_core.specs.Run.{AfterCall, HasCore, HasCores, IsOneRun, Runs};
 ghost use Rattle.slice_core_machine.specs.Machine.{IsSame, new_machine};
 ghost use Rattle.slice_core_machine.specs.Shows.{Leads, Performs, hand_steps, issue_steps, next_of, shown};
 ghost use Rattle.slice_core_plan.specs.Parts.{PartsView, AfterDeliverNext, AfterDelivery, AfterEvict, AfterHand, AfterIssue, IsNew};
 ghost use Rattle.slice_core_plan.specs.View.{View, IsQuiet};
+ghost use Rattle.slice_queues_message.specs.Pick.{channel_of, line_of as line_of_pick};
 
 use super::run::{Call, CallAnswer};
 use address_map::{Checked, CoreId, LineAddr, Request, SliceId, WordAddr};
@@ -14,7 +15,7 @@ use mshr_file::MissFile;
 use slice_core_answer::{Delivered, DeliveredNext, Evicted, Issue, Refused, Stats};
 use slice_core_log::{Entry, Numbered};
 use slice_core_steps::{LineView, Parts};
-use slice_queues_message::{Class, Pick};
+use slice_queues_message::{Class, Message, Pick};
 use std::alloc::{AllocError, Global};
 use std::marker::Model;
 
@@ -196,5 +197,14 @@ impl<F: MissFile> SliceState<F> {
     {
         let local = self.parts.lines().local_of(line)?;
         Some(self.parts.line_view(local))
+    }
+
+    /// The message that a delivery at the pick would take: none for a line that isn't the slice's, nor for a core that
+    /// isn't there.
+    pub fn front(&self, pick: Pick) -> Option<Message>
+        ensures { result ≡ front_at self.now.view (local_at self.now.view.lines (line_of_pick pick).0) (channel_of pick) }
+    {
+        let local = self.parts.lines().local_of(pick.line())?;
+        self.parts.front(local, pick.channel())
     }
 }

@@ -1,6 +1,7 @@
-ghost use Rattle.std.specs.Prelude.{◌≡◌, ◌<◌, ◌≤◌, length, map};
-ghost use Rattle.slice_core_plan.specs.View.{View, entry_at};
+ghost use Rattle.std.specs.Prelude.{◌≡◌, ◌<◌, ◌≤◌, length, map, slice_get};
+ghost use Rattle.slice_core_plan.specs.View.{View, channels_at, entry_at};
 ghost use Rattle.slice_core_side.specs.Side.{SideView, state_of};
+ghost use Rattle.slice_queues.specs.Line.{messages_at};
 
 use super::Parts;
 use crate::line_view::LineView;
@@ -9,6 +10,7 @@ use arrayvec::ArrayVec;
 use cache_table::CopyState;
 use mshr_file::MissFile;
 use slice_core_side::Side;
+use slice_queues_message::{Channel, Message};
 
 impl<F: MissFile> Parts<F> {
     /// What the slice has of a line.
@@ -31,6 +33,14 @@ impl<F: MissFile> Parts<F> {
             home,
             copies: states_of(&self.sides, local),
         }
+    }
+
+    /// The oldest message in a channel of a line. `None` too where the channel names a core that isn't there.
+    pub fn front(&self, local: Local, channel: Channel) -> Option<Message>
+        requires { local.0 < length self.now.view.channels }
+        ensures { result ≡ slice_get (messages_at (channels_at self.now.view local) channel) 0 }
+    {
+        self.queues.line(local).front(channel)
     }
 }
 

@@ -3,7 +3,7 @@ ghost use Rattle.std.specs.Io.KnownBytes.{Appends};
 
 use arrayvec::ArrayString;
 use itoa::Buffer;
-use stats_report::write_text;
+use stats_report::{Cut, write_text};
 use std::fmt;
 use std::io::Write;
 
@@ -19,6 +19,17 @@ impl<W: Write> fmt::Write for Answers<'_, W> {
 
     fn write_str(&mut self, text: &str) -> fmt::Result {
         write_text(self.out, text.as_bytes()).map_err(|_| fmt::Error)
+    }
+}
+
+impl<W: Write> Answers<'_, W> {
+    /// Writes a line of any bytes, and its end.
+    pub fn write_line(&mut self, line: &[u8]) -> Result<(), Cut>
+        ensures { OnOk result (Appends (W.contents self.old.out.now) (W.contents self.new.out.now)
+            (line.now ++ codes "\n")) }
+    {
+        write_text(self.out, line)?;
+        write_text(self.out, b"\n")
     }
 }
 

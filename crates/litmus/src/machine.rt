@@ -6,9 +6,10 @@ ghost use Rattle.litmus.specs.Machine.{IsMachine};
 
 use super::answers::{Answers, write_done};
 use super::line::write_line;
+use super::player::Player;
 use super::trace::write_trace;
 use address_map::{Checked, CoreId, LineAddr, Request, SliceId, WordAddr};
-use litmus_text::{Command, TextFault};
+use litmus_text::{Command, Statement, TextFault};
 use mshr_file::MissFile;
 use slice_core::{
     Class, Delivered, DeliveredNext, Issue, Numbered, Pick, Refused, SliceState, Stats,
@@ -36,6 +37,23 @@ enum Round {
     Moved,
     /// Messages waited, and none could be delivered.
     Stuck,
+}
+
+impl<F: MissFile> Player for Machine<F> {
+    ghost config_of = { λ machine. machine.config };
+
+    fn config(&self) -> &Checked {
+        &self.config
+    }
+
+    fn play<W: io::Write>(
+        &mut self,
+        _statement: &Statement<'_>,
+        command: Command,
+        out: &mut Answers<'_, W>,
+    ) -> Result<(), TextFault> {
+        self.run(command, out)
+    }
 }
 
 impl<F: MissFile> Machine<F> {

@@ -1,7 +1,9 @@
 ghost use Rattle.std.specs.Prelude.{◌≡◌, IfOk};
 
 use super::answers::Answers;
+use super::echo::Echo;
 use super::machine::Machine;
+use super::player::Player;
 use address_map::{Checked, Config};
 use litmus_text::{
     ConfigLine, LineFault, MissKind, Settings, Statement, Statements, TextFault, parse_command,
@@ -10,30 +12,111 @@ use mshr_file::{ExplicitFile, InvertedFile, MissFile};
 use std::alloc::Global;
 use std::io::Write;
 
-/// Runs a script: its configuration, then its commands in order, each of which writes its answer. Answers the exit
-/// status. A fault ends the run; what was written before it stays.
-pub fn run_script<W: Write>(alloc: Global, input: &[u8], out: &mut W) -> Result<u8, TextFault>
+/// Runs a script: its configuration, then its commands in order, each of which writes its answer, behind its own line
+/// where echo is asked for. Answers the exit status. A fault ends the run; what was written before it stays.
+pub fn run_script<W: Write>(
+    alloc: Global,
+    input: &[u8],
+    echo: bool,
+    out: &mut W,
+) -> Result<u8, TextFault>
     ensures { IfOk result (λ status. status ≡ 0) }
 {
-    let mut statements = Statements::of(input);
-    let Some(first) = statements.next() else {
+    let Some(script) = Script::read(alloc, input)? else {
         return Ok(0);
     };
-    let (settings, command) = read_settings(alloc, first, &mut statements)?;
-    let Settings { config, misses } = settings;
-    let config = checked(config)?;
     let mut answers = Answers { out };
-    match misses {
-        MissKind::Explicit => {
-            let machine: Machine<ExplicitFile> = Machine::build(alloc, config)?;
-            run_statements(machine, command, statements, &mut answers)?;
-        }
-        MissKind::Inverted => {
-            let machine: Machine<InvertedFile> = Machine::build(alloc, config)?;
-            run_statements(machine, command, statements, &mut answers)?;
-        }
+    match script.misses {
+        MissKind::Explicit => run_on::<ExplicitFile, W>(alloc, script, echo, &mut answers)?,
+        MissKind::Inverted => run_on::<InvertedFile, W>(alloc, script, echo, &mut answers)?,
     }
     Ok(0)
+}
+
+/// Runs a script on a machine with miss registers of type `F`.
+fn run_on<F: MissFile, W: Write>(
+    alloc: Global,
+    script: Script<'_>,
+    echo: bool,
+    out: &mut Answers<'_, W>,
+) -> Result<(), TextFault> {
+    let Script {
+        config,
+        commands,
+        ..
+    } = script;
+    let mut machine: Machine<F> = Machine::build(alloc, config)?;
+    if echo {
+        let mut echo = Echo { player: machine };
+        commands.play(&mut echo, out)
+    } else {
+        commands.play(&mut machine, out)
+    }
+}
+
+/// A script whose configuration was read.
+#[derive(Drop)]
+pub struct Script<'a> {
+    pub config: Checked,
+    pub misses: MissKind,
+    pub commands: Commands<'a>,
+}
+
+impl<'a> Script<'a> {
+    /// Reads the configuration of a script, which has none where it says nothing at all.
+    pub fn read(alloc: Global, input: &'a [u8]) -> Result<Option<Self>, TextFault> {
+        let mut statements = Statements::of(input);
+        let Some(first) = statements.next() else {
+            return Ok(None);
+        };
+        let (settings, first) = read_settings(alloc, first, &mut statements)?;
+        let Settings { config, misses } = settings;
+        Ok(Some(Script {
+            config: checked(config)?,
+            misses,
+            commands: Commands {
+                first,
+                rest: statements,
+            },
+        }))
+    }
+}
+
+/// The statements that follow the configuration, of which the first may have been read already.
+#[derive(Drop)]
+pub struct Commands<'a> {
+    first: Option<Statement<'a>>,
+    rest: Statements<'a>,
+}
+
+impl Commands<'_> {
+    /// Plays the commands in order, up to the first fault.
+    pub fn play<P: Player, W: Write>(
+        self,
+        player: &mut P,
+        out: &mut Answers<'_, W>,
+    ) -> Result<(), TextFault> {
+        let Commands { first, rest } = self;
+        if let Some(statement) = first {
+            play_statement(player, &statement, out)?;
+        }
+        for statement in rest {
+            play_statement(player, &statement, out)?;
+        }
+        Ok(())
+    }
+}
+
+fn play_statement<P: Player, W: Write>(
+    player: &mut P,
+    statement: &Statement<'_>,
+    out: &mut Answers<'_, W>,
+) -> Result<(), TextFault> {
+    let words = statement.words.as_slice();
+    match parse_command(player.config(), words) {
+        Ok(command) => player.play(statement, command, out),
+        Err(fault) => Err(late(words).unwrap_or(fault).at(statement.number)),
+    }
 }
 
 fn checked(config: Config) -> Result<Checked, TextFault> {
@@ -73,35 +156,6 @@ fn configure(settings: &mut Settings, statement: &Statement<'_>) -> Result<(), T
     match ConfigLine::parse(statement.words.as_slice()) {
         Ok(line) => line.set(settings).map_err(|_| TextFault::NoMemory),
         Err(fault) => Err(fault.at(statement.number)),
-    }
-}
-
-/// Runs the statements that follow the configuration, of which the first may have been read already.
-fn run_statements<F: MissFile, W: Write>(
-    machine: Machine<F>,
-    first: Option<Statement<'_>>,
-    rest: Statements<'_>,
-    out: &mut Answers<'_, W>,
-) -> Result<(), TextFault> {
-    let mut machine = machine;
-    if let Some(statement) = first {
-        run_statement(&mut machine, &statement, out)?;
-    }
-    for statement in rest {
-        run_statement(&mut machine, &statement, out)?;
-    }
-    Ok(())
-}
-
-fn run_statement<F: MissFile, W: Write>(
-    machine: &mut Machine<F>,
-    statement: &Statement<'_>,
-    out: &mut Answers<'_, W>,
-) -> Result<(), TextFault> {
-    let words = statement.words.as_slice();
-    match parse_command(&machine.config, words) {
-        Ok(command) => machine.run(command, out),
-        Err(fault) => Err(late(words).unwrap_or(fault).at(statement.number)),
     }
 }
 

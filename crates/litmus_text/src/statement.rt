@@ -1,7 +1,7 @@
 ghost use Rattle.std.specs.Prelude.{◌≡◌, ℕ, ◌+◌, ◌<◌, ◌^◌, List, length, map};
 ghost use Rattle.std.specs.Iterator.{YieldsFirstBy, item_count};
 ghost use Rattle.std.specs.Str.Lines.{lines};
-ghost use Rattle.litmus_text.specs.Statement.{statements_from};
+ghost use Rattle.litmus_text.specs.Statement.{kept_words, statements_from};
 
 use super::line::Lines;
 use super::row::{MOST_WORDS, first_words};
@@ -12,7 +12,10 @@ use std::marker::Model;
 #[derive(Debug, Drop)]
 pub struct Statement<'a> {
     pub number: usize,
+    /// The line as it is written, without its end.
+    pub line: &'a [u8],
     pub words: ArrayVec<&'a [u8], MOST_WORDS>,
+    ghost words_of_line: { map (λ w. w.now) words.items ≡ kept_words line.now },
 }
 
 /// The statements of a text that are left to read. Lines without words are counted and skipped.
@@ -58,6 +61,7 @@ impl<'a> Iterator for Statements<'a> {
             if !words.is_empty() {
                 return Some(Statement {
                     number: self.number,
+                    line,
                     words,
                 });
             }

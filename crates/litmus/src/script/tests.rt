@@ -13,7 +13,7 @@ const FIRST_ANSWERS: &[u8] =
 #[test]
 fn runs_a_script(rt: HostRuntime) -> Result<(), Fail> {
     let mut out = Vec::new(rt.alloc());
-    assert_eq!(rt; run_script(rt.alloc(), FIRST_ADD, &mut out), Ok(0));
+    assert_eq!(rt; run_script(rt.alloc(), FIRST_ADD, false, &mut out), Ok(0));
     assert_eq!(rt; out.as_slice(), FIRST_ANSWERS);
     Ok(())
 }
@@ -23,7 +23,7 @@ fn answers_before_a_fault_stay(rt: HostRuntime) -> Result<(), Fail> {
     let mut out = Vec::new(rt.alloc());
     let cut = b"cores 1\nissue 0 0 add 0 5\nissue 0 ad";
     assert_eq!(rt;
-        run_script(rt.alloc(), cut, &mut out),
+        run_script(rt.alloc(), cut, false, &mut out),
         Err(LineFault::NotACommand.at(3))
     );
     assert_eq!(rt; out.as_slice(), b"pending 0\n".as_slice());
@@ -56,14 +56,14 @@ fn output_that_fails_is_a_fault(rt: HostRuntime) -> Result<(), Fail> {
     for room in 0..FIRST_ANSWERS.len() {
         let mut out = Narrow { room };
         assert_eq!(rt;
-            run_script(rt.alloc(), FIRST_ADD, &mut out),
+            run_script(rt.alloc(), FIRST_ADD, false, &mut out),
             Err(TextFault::CannotWrite)
         );
     }
     let mut out = Narrow {
         room: FIRST_ANSWERS.len(),
     };
-    assert_eq!(rt; run_script(rt.alloc(), FIRST_ADD, &mut out), Ok(0));
+    assert_eq!(rt; run_script(rt.alloc(), FIRST_ADD, false, &mut out), Ok(0));
     Ok(())
 }
 
@@ -73,7 +73,7 @@ fn pump_serves_both_cores(rt: HostRuntime) -> Result<(), Fail> {
     let mut out = Vec::new(rt.alloc());
     let script =
         b"issue 0 0 add 0 5\nissue 1 0 add 0 6\npump 100\nhand 0 0\nhand 1 0\nword 0\nevict 0 0\n";
-    assert_eq!(rt; run_script(rt.alloc(), script, &mut out), Ok(0));
+    assert_eq!(rt; run_script(rt.alloc(), script, false, &mut out), Ok(0));
     let core_0_first =
         b"pending 0\npending 0\nempty\nreceipt 0 tag 0 reply 0\nreceipt 1 tag 0 reply 5\n11\nnot held\n";
     let core_1_first =
@@ -88,11 +88,11 @@ fn pump_serves_both_cores(rt: HostRuntime) -> Result<(), Fail> {
 fn a_report_that_fails_is_a_fault(rt: HostRuntime) -> Result<(), Fail> {
     let script = b"cores 1\nmisses inverted\nstats\nstate 0\n";
     let mut whole = Vec::new(rt.alloc());
-    assert_eq!(rt; run_script(rt.alloc(), script, &mut whole), Ok(0));
+    assert_eq!(rt; run_script(rt.alloc(), script, false, &mut whole), Ok(0));
     for room in 0..whole.len() {
         let mut out = Narrow { room };
         assert_eq!(rt;
-            run_script(rt.alloc(), script, &mut out),
+            run_script(rt.alloc(), script, false, &mut out),
             Err(TextFault::CannotWrite)
         );
     }

@@ -1,4 +1,4 @@
-//! The program `lockup`: reads its command line, and runs the text that it names.
+//! The program `lockup`: reads its command line, and runs the text or prints the table that it names.
 //!
 //! Answers go to standard output, through one buffer. A fault goes to standard error as one line, behind all
 //! answers that came before it.
@@ -6,10 +6,10 @@
 
 use clap::Error;
 use clap::error::ErrorKind;
-use litmus::{CommandLine, read_line, run_check, run_script};
+use litmus::{CommandLine, read_line, run_chart, run_check, run_script, run_table};
 use litmus_text::TextFault;
 use std::fmt::Display;
-use std::io::{BufWriter, Write};
+use std::io::{BufWriter, Read, Write};
 use std::process::ExitCode;
 use std::rt::{Env, Files};
 use std::{env, fs, io};
@@ -17,12 +17,15 @@ use std::{env, fs, io};
 /// The exit status where the command line or the file is refused.
 const REFUSED: u8 = 2;
 
+/// The name of a file that stands for standard input.
+const STANDARD_INPUT: &str = "-";
+
 fn main(rt: HostRuntime) -> ExitCode {
     ExitCode::from(run(&rt))
 }
 
 /// Does what the command line asks for, and answers the exit status.
-fn run<R: Env + Files + AllocGlobal + Print + Eprint>(rt: &R) -> u8 {
+fn run<R: Env + Files + Input + AllocGlobal + Print + Eprint>(rt: &R) -> u8 {
     let words: Vec<String> = match env::args(rt).and_then(|words| Ok(words.collect(rt.alloc())?)) {
         Ok(words) => words,
         Err(error) => return report(rt, &error, "cannot read the command line"),
@@ -33,28 +36,45 @@ fn run<R: Env + Files + AllocGlobal + Print + Eprint>(rt: &R) -> u8 {
     }
 }
 
-/// Runs the text in the file that the command line names.
-fn answer<R: Files + AllocGlobal + Print + Eprint>(rt: &R, line: CommandLine<'_>) -> u8 {
-    let file = file_of(line);
-    match fs::read(rt, file) {
-        Ok(input) => match print_answers(rt, line, &input) {
-            Ok(status) => status,
-            Err(fault) => {
-                complain(rt, fault);
-                fault.status()
-            }
-        },
-        Err(error) => report(rt, &error, format_args!("cannot read {file}")),
+/// Runs the text in the file that the command line names, or prints the table.
+fn answer<R: Files + Input + AllocGlobal + Print + Eprint>(rt: &R, line: CommandLine<'_>) -> u8 {
+    let mut input = Vec::new(rt.alloc());
+    if let Some(file) = file_of(line) {
+        match read(rt, file) {
+            Ok(text) => input = text,
+            Err(error) => return report(rt, &error, format_args!("cannot read {file}")),
+        }
+    }
+    match print_answers(rt, line, &input) {
+        Ok(status) => status,
+        Err(fault) => {
+            complain(rt, fault);
+            fault.status()
+        }
     }
 }
 
-fn file_of<'a>(line: CommandLine<'a>) -> &'a str {
+/// The file of the text that a command line names.
+fn file_of<'a>(line: CommandLine<'a>) -> Option<&'a str> {
     match line {
-        CommandLine::Script { file } | CommandLine::Check { file } => file,
+        CommandLine::Script { file, .. }
+        | CommandLine::Chart { file }
+        | CommandLine::Check { file } => Some(file),
+        CommandLine::Table { .. } => None,
     }
 }
 
-/// Prints the answers to a text, also those before a fault.
+/// Reads a file, or standard input where its name is `-`.
+fn read<R: Files + Input + AllocGlobal>(rt: &R, file: &str) -> io::Result<Vec<u8>> {
+    if file != STANDARD_INPUT {
+        return fs::read(rt, file);
+    }
+    let mut input = Vec::new(rt.alloc());
+    rt.reader().read_to_end(&mut input)?;
+    Ok(input)
+}
+
+/// Prints what the command line asks for, also the answers before a fault.
 fn print_answers<R: AllocGlobal + Print>(
     rt: &R,
     line: CommandLine<'_>,
@@ -64,8 +84,10 @@ fn print_answers<R: AllocGlobal + Print>(
         return Err(TextFault::NoMemory);
     };
     let ran = match line {
-        CommandLine::Script { .. } => run_script(rt.alloc(), input, false, &mut out),
+        CommandLine::Script { echo, .. } => run_script(rt.alloc(), input, echo, &mut out),
+        CommandLine::Chart { .. } => run_chart(rt.alloc(), input, &mut out),
         CommandLine::Check { .. } => run_check(rt.alloc(), input, &mut out),
+        CommandLine::Table { table, exclusive } => run_table(table, exclusive, &mut out),
     };
     match out.flush() {
         Ok(()) => ran,

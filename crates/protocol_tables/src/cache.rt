@@ -1,7 +1,8 @@
 //! The table of a private cache, in two parts.
 
 use cache_table::{CacheEvent, CacheSends, CopyState, Row, cache_row};
-use std::{fmt, io};
+use std::fmt;
+use std::fmt::Write;
 
 const STATES: [CopyState; 12] = [
     CopyState::I,
@@ -18,25 +19,36 @@ const STATES: [CopyState; 12] = [
     CopyState::II_A,
 ];
 
-const ASKED: [CacheEvent; 7] = [
-    CacheEvent::Load,
-    CacheEvent::Write,
-    CacheEvent::Eviction,
-    CacheEvent::FwdGetS,
-    CacheEvent::FwdGetM,
-    CacheEvent::Inv,
-    CacheEvent::PutAck,
+/// A column's title and its event.
+type Column = (&'static str, CacheEvent);
+
+/// What a core does, and what is asked of it.
+const ASKED: [Column; 7] = [
+    ("load", CacheEvent::Load),
+    ("write", CacheEvent::Write),
+    ("eviction", CacheEvent::Eviction),
+    ("Fwd-GetS", CacheEvent::FwdGetS),
+    ("Fwd-GetM", CacheEvent::FwdGetM),
+    ("Inv", CacheEvent::Inv),
+    ("Put-Ack", CacheEvent::PutAck),
 ];
 
-const ANSWERED: [CacheEvent; 8] = [
-    CacheEvent::Data { n: 1, k: 1 },
-    CacheEvent::Data { n: 1, k: 0 },
-    CacheEvent::Data { n: 0, k: 1 },
-    CacheEvent::InvAck { n: 1, k: 0 },
-    CacheEvent::InvAck { n: 2, k: 0 },
-    CacheEvent::InvAck { n: 0, k: 0 },
-    CacheEvent::DataE { all_loads: true },
-    CacheEvent::DataE { all_loads: false },
+/// What answers a core.
+const ANSWERED: [Column; 8] = [
+    ("Data, k = n", CacheEvent::Data { n: 1, k: 1 }),
+    ("Data, k < n", CacheEvent::Data { n: 1, k: 0 }),
+    ("Data, k > n", CacheEvent::Data { n: 0, k: 1 }),
+    ("Inv-Ack, k + 1 = n", CacheEvent::InvAck { n: 1, k: 0 }),
+    ("Inv-Ack, k + 1 < n", CacheEvent::InvAck { n: 2, k: 0 }),
+    ("Inv-Ack, k + 1 > n", CacheEvent::InvAck { n: 0, k: 0 }),
+    (
+        "Data-E (exclusive on), loads alone",
+        CacheEvent::DataE { all_loads: true },
+    ),
+    (
+        "Data-E (exclusive on), a write too",
+        CacheEvent::DataE { all_loads: false },
+    ),
 ];
 
 /// One cell as text: what is done, what is sent, and the next state.
@@ -105,25 +117,56 @@ const fn text_of(sends: CacheSends) -> &'static str {
     }
 }
 
-pub fn print(rt: &impl Print) -> io::Result<()> {
-    println!(rt; "| Cache | load | write | eviction | Fwd-GetS | Fwd-GetM | Inv | Put-Ack |")?;
-    println!(rt; "|---|---|---|---|---|---|---|---|")?;
-    print_part(rt, &ASKED)?;
-    println!(rt;)?;
-    println!(rt;
-        "| Cache | Data, k = n | Data, k < n | Data, k > n | Inv-Ack, k + 1 = n | Inv-Ack, k + 1 < n | Inv-Ack, k + 1 > n | Data-E (exclusive on), loads alone | Data-E (exclusive on), a write too |"
-    )?;
-    println!(rt; "|---|---|---|---|---|---|---|---|---|")?;
-    print_part(rt, &ANSWERED)
+/// Writes the table of a private cache in two parts, with an empty line between them.
+pub fn write_cache_table<W: Write>(exclusive: bool, out: &mut W) -> fmt::Result {
+    write_part(exclusive, &ASKED, out)?;
+    writeln!(out)?;
+    write_part(exclusive, &ANSWERED, out)
 }
 
-fn print_part(rt: &impl Print, events: &[CacheEvent]) -> io::Result<()> {
+fn write_part<W: Write>(exclusive: bool, columns: &[Column], out: &mut W) -> fmt::Result {
+    write_head(exclusive, columns, out)?;
     for state in STATES {
-        print!(rt; "| {state}{} |", setting_of(state))?;
-        for &event in events {
-            print!(rt; " {} |", Cell { state, event })?;
+        // no copy comes to E without the setting
+        if exclusive || state != CopyState::E {
+            write_row(exclusive, state, columns, out)?;
         }
-        println!(rt;)?;
     }
     Ok(())
+}
+
+/// Whether the event comes under the setting.
+const fn is_shown(exclusive: bool, event: CacheEvent) -> bool {
+    exclusive || !matches!(event, CacheEvent::DataE { .. })
+}
+
+fn write_head<W: Write>(exclusive: bool, columns: &[Column], out: &mut W) -> fmt::Result {
+    write!(out, "| Cache |")?;
+    for &(title, event) in columns {
+        if is_shown(exclusive, event) {
+            write!(out, " {title} |")?;
+        }
+    }
+    write!(out, "\n|---|")?;
+    for &(_, event) in columns {
+        if is_shown(exclusive, event) {
+            write!(out, "---|")?;
+        }
+    }
+    writeln!(out)
+}
+
+fn write_row<W: Write>(
+    exclusive: bool,
+    state: CopyState,
+    columns: &[Column],
+    out: &mut W,
+) -> fmt::Result {
+    write!(out, "| {state}{} |", setting_of(state))?;
+    for &(_, event) in columns {
+        if is_shown(exclusive, event) {
+            write!(out, " {} |", Cell { state, event })?;
+        }
+    }
+    writeln!(out)
 }

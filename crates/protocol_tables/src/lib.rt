@@ -1,0 +1,12 @@
+//! Writes the protocol's tables from the code, as `docs/PROTOCOL.md` shows them.
+//!
+//! [`write_cache_table`] asks the table of a private cache for each of its cells, [`write_directory_table`] that of a
+//! directory, at sample entries. With the exclusive setting a table is whole, and says what only that setting reaches.
+//! Without it that is left out. A call takes no memory, and fails only where its writer does.
+#![tactic(auto)]
+
+pub use cache::write_cache_table;
+pub use directory::write_directory_table;
+
+mod cache;
+mod directory;

@@ -8,7 +8,8 @@ use Rattle.std.proofs.lemmas.List.Elements.{All-cons, All-weaker}
 use Rattle.address_map.specs.Words.{is_ascending_by, IsAscendingBy}
 
 -- Each later element is above the first, and the later ones ascend.
-pub IsAscendingBy-head : {X : Type 0} (n : X → ℕ) (x : X) (xs : List X) → IsAscendingBy n (x ∷ xs) → All (λ y. n x < n y) xs
+pub IsAscendingBy-head : {X : Type 0} (n : X → ℕ) (x : X) (xs : List X) → IsAscendingBy n (x ∷ xs)
+    → All (λ y. n x < n y) xs
 IsAscendingBy-head n x xs ascending k d inside = ascending 0 (suc k) d (omega arith) (omega arith)
 
 pub IsAscendingBy-tail : {X : Type 0} (n : X → ℕ) (x : X) (xs : List X) → IsAscendingBy n (x ∷ xs) → IsAscendingBy n xs
@@ -17,7 +18,8 @@ IsAscendingBy-tail n x xs ascending i j d before inside = ascending (suc i) (suc
 IsAscendingBy-cons : {X : Type 0} (n : X → ℕ) (x y : X) (xs : List X)
     → n x < n y → IsAscendingBy n (y ∷ xs) → IsAscendingBy n (x ∷ y ∷ xs)
 IsAscendingBy-cons n x y xs below ascending =
-    let later = All-weaker (λ z. n y < n z) (λ z. n x < n z) (λ z above. omega arith) xs (IsAscendingBy-head n y xs ascending) in
+    let later =
+    All-weaker (λ z. n y < n z) (λ z. n x < n z) (λ z above. omega arith) xs (IsAscendingBy-head n y xs ascending) in
     AllPairs-cons (λ a b. n a < n b) x (y ∷ xs) (All-cons (λ z. n x < n z) y xs below later) ascending
 
 -- what the test says
@@ -41,7 +43,8 @@ test-all_adjacent n [] adjacent = refl
 test-all_adjacent n (x ∷ []) adjacent = refl
 test-all_adjacent n (x ∷ y ∷ xs) adjacent =
     let first : nat_lt (n x) (n y) ≡ true = sym (adjacent 0 x (omega arith)) in
-    rw first (test-all_adjacent n (y ∷ xs) (λ k d inside. rw add-one (rw add-one at (adjacent (suc k) d (omega arith)))))
+    rw first (test-all_adjacent n (y ∷ xs)
+    (λ k d inside. rw add-one (rw add-one at (adjacent (suc k) d (omega arith)))))
 
 test-falls_at : {X : Type 0} (n : X → ℕ) (xs : List X) (k : ℕ) → k + 1 < length xs
     → ((d : X) → false ≡ nat_lt (n (get_or xs k d)) (n (get_or xs (k + 1) d))) → is_ascending_by n xs ≡ false

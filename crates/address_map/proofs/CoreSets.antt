@@ -4,9 +4,8 @@ use Rattle.std.specs.Int.{bit_at}
 use Rattle.std.specs.Int.Bits.{or_zero_r}
 use Rattle.std.proofs.Math.Bool.{or-true, or-false, and-true, and-false}
 use Rattle.std.proofs.lemmas.Bool.{eq-eqb, eqb-false, ne_eqb, lt-ltb, le-ltb, cases_lt, cases_eq, cases_Bool}
-use Rattle.std.proofs.Math.Pow.{pow-lt}
 use Rattle.std.proofs.lemmas.Bool.Decides.{eqb_tells}
-use Rattle.std.proofs.lemmas.Nat.{one_shl, or_lt, xor_lt}
+use Rattle.std.proofs.lemmas.Nat.{one_shl}
 use Rattle.std.proofs.lemmas.Nat.Bits.{bit_at_or, bit_at_xor, bit_at-pow_same, bit_at-pow_other, bit_at-lt, bit_at-zero, bit_at_above, shr_and_one, same_from_bits}
 use Rattle.address_map.specs.CoreSet.{has, only, with, without}
 
@@ -157,26 +156,6 @@ without-with set core below missing = same_from_has (without (with set core) cor
           | inl here ↦ rw here (has-without_same (with set core) core ∙ sym missing)
           | inr apart ↦ has-without_other (with set core) core other apart ∙ has-with_other set core other apart
         ]
-
--- sets stay numbers of 64 bits
-pub with-fits : (set core : ℕ) → set < 2 ^ 64 → with set core < 2 ^ 64
-unfolding with
-with-fits set core fits = or_lt 64 set (only core) fits (only-fits core)
-  where
-    only-fits : (core : ℕ) → only core < 2 ^ 64
-    only-fits core =
-        elim (cases_lt core 64) [
-          | inl below ↦ rw (only-below core below) (pow-lt below)
-          | inr past ↦ rw (only-past core past) (omega arith)
-        ]
-
-pub without-fits : (set core : ℕ) → set < 2 ^ 64 → without set core < 2 ^ 64
-unfolding without
-without-fits set core fits =
-    elim (cases_Bool (has set core)) [
-      | inl there ↦ rw there (xor_lt 64 set (2 ^ core) fits (pow-lt (has-below set core fits there)))
-      | inr missing ↦ rw missing fits
-    ]
 
 -- a set with a core isn't 0
 pub some-from_has : (set core : ℕ) → has set core ≡ true → set ≢ 0

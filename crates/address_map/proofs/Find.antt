@@ -69,4 +69,5 @@ pub find-searched : {X : Type 0} (n : X → ℕ) (xs : List X) (w : ℕ) (d : X)
 find-searched n xs w d (Ok i) ascending inside equal =
     let same : n (get_or xs i d) ≡ w = equal-same (n (get_or xs i d)) w (equal d) in
     rw (← same) (find-at n xs i d ascending inside)
-find-searched n xs w d (Err i) ascending inside parted = find-none (λ x. n x == w) xs (missing-apart n xs w i ascending parted)
+find-searched n xs w d (Err i) ascending inside parted =
+    find-none (λ x. n x == w) xs (missing-apart n xs w i ascending parted)

@@ -53,7 +53,8 @@ words-true {X} word limit xs both =
     let below : X → Bool = λ x. nat_lt (word x) limit in
     let parts = and_parts (is_ascending_by word xs) (list_all below xs) both in
     let each_below = AllPass-from_list_all below xs parts.1 in
-    let in_range = All-weaker (λ x. below x ≡ true) (λ x. word x < limit) (λ x. ltb-true (word x) limit) xs each_below in
+    let in_range =
+    All-weaker (λ x. below x ≡ true) (λ x. word x < limit) (λ x. ltb-true (word x) limit) xs each_below in
     (IsAscendingBy-from_test word xs parts.0, in_range)
 
 pub IsAllowed-from_no_fault : (c : Config) → first_fault c ≡ None → IsAllowed c

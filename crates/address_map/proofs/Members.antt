@@ -1,17 +1,15 @@
 -- The cores of a set in ascending order, as its lowest core is taken out again and again, and how many they are.
 use Rattle.std.proofs.Common.{◌≡◌, ℕ, ◌+◌, ◌/◌, ◌%◌, ◌^◌, ◌<◌, ◌≤◌, ◌==◌, Bool, true, false, if◌then◌else◌, List, [], ◌∷◌, length, count_ones, zero, suc, add-one, refl, ap, sym, ◌∙◌, arith, inl, inr, filter}
-use Rattle.std.specs.Prelude.{All}
 use Rattle.std.specs.List.{range_with_len}
 use Rattle.std.specs.Int.{bit_at, trailing_zeros, w64}
 use Rattle.std.specs.Int.Count.{ones-le, ones_step}
 use Rattle.std.proofs.Math.Nat.{pow-suc}
-use Rattle.std.proofs.lemmas.Bool.{cases_eq, cases_Bool}
-use Rattle.std.proofs.lemmas.List.Elements.{All-nil, All-cons}
+use Rattle.std.proofs.lemmas.Bool.{cases_eq}
 use Rattle.std.proofs.lemmas.List.FromFn.{length-range_with_len}
 use Rattle.std.proofs.lemmas.List.Sums.{length-filter, count_by-le-length}
 use Rattle.std.proofs.lemmas.Nat.Bits.{bit_at-trailing_zeros, bit_at_lowest, bit_at-suc, bit_at-lt}
-use Rattle.address_map.specs.CoreSet.{has, with, without, members, count_of}
-use Rattle.address_map.proofs.CoreSets.{has-without_same, has-without_other, has-with_same, has-zero, without-with}
+use Rattle.address_map.specs.CoreSet.{has, without, members, count_of}
+use Rattle.address_map.proofs.CoreSets.{has-without_same, has-without_other, has-zero}
 
 branch : (b c : Bool) (a : ℕ) (xs ys : List ℕ) → b ≡ c → xs ≡ ys
     → (if b then a ∷ xs else xs) ≡ (if c then a ∷ ys else ys)
@@ -33,7 +31,8 @@ filter-lowest (suc n) a s t from within there lowest =
       | inl here ↦
           let first : has s a ≡ true = rw here there in
           let gone : has (without s t) a ≡ false = rw here (has-without_same s t) in
-          let later : filter (has s) (range_with_len (a + 1) n) ≡ filter (has (without s t)) (range_with_len (a + 1) n) =
+          let later : filter (has s) (range_with_len (a + 1) n)
+          ≡ filter (has (without s t)) (range_with_len (a + 1) n) =
           filter-same n (a + 1) s (without s t) (λ i behind. sym (has-without_other s t i (omega arith))) in
           chosen _ _ a t _ _ here first gone later
       | inr apart ↦
@@ -66,14 +65,7 @@ pub members-lowest : (set : ℕ) → 0 < set → set < 18446744073709551616
 unfolding members has
 members-lowest set some fits =
     let bits = bit_at-trailing_zeros w64 set some fits in
-    filter-lowest
-    64
-    0
-    set
-    (trailing_zeros w64 set)
-    (omega arith)
-    (bits.0)
-    (ap (λ b. b == 1) bits.1)
+    filter-lowest 64 0 set (trailing_zeros w64 set) (omega arith) (bits.0) (ap (λ b. b == 1) bits.1)
     (λ i below. ap (λ b. b == 1) (bits.2 i below))
 
 pub lowest-there : (set : ℕ) → 0 < set → set < 18446744073709551616 → has set (trailing_zeros w64 set) ≡ true
@@ -125,10 +117,6 @@ pub ones-count : (set : ℕ) → set < 18446744073709551616 → count_ones set �
 unfolding count_of members
 ones-count set fits = ones-from 64 set fits
 
-pub count_of-zero : count_of 0 ≡ 0
-unfolding count_of
-count_of-zero = rw members-zero refl
-
 -- A core that is taken out is one of those that were counted.
 filter-taken : (n a set core : ℕ) → a ≤ core → core < a + n → has set core ≡ true
     → length (filter (has set) (range_with_len a n)) ≡ length (filter (has (without set core)) (range_with_len a n)) + 1
@@ -158,29 +146,9 @@ pub count_of-without : (set core : ℕ) → core < 64 → has set core ≡ true 
 unfolding count_of members
 count_of-without set core below there = filter-taken 64 0 set core (omega arith) (omega arith) there
 
--- A core that is put in is one more.
-pub count_of-with : (set core : ℕ) → core < 64 → has set core ≡ false → count_of (with set core) ≡ count_of set + 1
-unfolding count_of members
-count_of-with set core below missing =
-    let back : without (with set core) core ≡ set = without-with set core below missing in
-    count_of-without (with set core) core below (has-with_same set core below) ∙ ap (λ cores. count_of cores + 1) back
-
 -- No set has more than 64 cores.
 pub count_of-most : (set : ℕ) → count_of set ≤ 64
 unfolding count_of members
 count_of-most set =
     let all = length-range_with_len 0 64 in
     omega (arith, length-filter (has set) (range_with_len 0 64), count_by-le-length (has set) (range_with_len 0 64))
-
--- The cores that are listed are those that the set has.
-All-filter_passes : (p : ℕ → Bool) (cores : List ℕ) → All (λ core. p core ≡ true) (filter p cores)
-All-filter_passes p [] = All-nil (λ core. p core ≡ true)
-All-filter_passes p (x ∷ cores) =
-    elim (cases_Bool (p x)) [
-      | inl passes ↦ rw passes (All-cons (λ core. p core ≡ true) x (filter p cores) passes (All-filter_passes p cores))
-      | inr fails ↦ rw fails (All-filter_passes p cores)
-    ]
-
-pub All-members : (set : ℕ) → All (λ core. has set core ≡ true) (members set)
-unfolding members
-All-members set = All-filter_passes (has set) (range_with_len 0 64)

@@ -38,12 +38,11 @@ pub came_last : (age next : Local → ℕ) (line newest : Local) (xs : List Loca
 came_last age next line newest xs is ages order =
     let others : List Local = remove_key (is_line line) xs in
     let older : All (λ other. next other ≡ 1 + age other) others =
-    λ k d within. ages (get_or others k d) ∙ ap (λ b. cond (not b) (1 + age (get_or others k d)) 0) (gone (IsOlder age) (older_apart age) line xs order k d within) in
+    λ k d within. ages (get_or others k d)
+    ∙ ap (λ b. cond (not b) (1 + age (get_or others k d)) 0)
+    (gone (IsOlder age) (older_apart age) line xs order k d within) in
     let new : next newest ≡ 0 = ages newest ∙ ap (λ b. cond (not b) (1 + age newest) 0) is in
-    all_pairs_push
-    (IsOlder next)
-    others
-    newest
+    all_pairs_push (IsOlder next) others newest
     (aged age next others older (AllPairs-remove_key (IsOlder age) (is_line line) xs order))
     (λ k d within. omega (arith, new, older k d within))
 
@@ -58,7 +57,9 @@ moved_last age next line xs ages order = by (find (is_line line) xs) refl
     by None e =
         let others : List Local = remove_key (is_line line) xs in
         let older : All (λ other. next other ≡ 1 + age other) others =
-        λ k d within. ages (get_or others k d) ∙ ap (λ b. cond (not b) (1 + age (get_or others k d)) 0) (gone (IsOlder age) (older_apart age) line xs order k d within) in
+        λ k d within. ages (get_or others k d)
+        ∙ ap (λ b. cond (not b) (1 + age (get_or others k d)) 0)
+        (gone (IsOlder age) (older_apart age) line xs order k d within) in
         rw append-nil (aged age next others older (AllPairs-remove_key (IsOlder age) (is_line line) xs order))
     by (Some newest) e = came_last age next line newest xs (found_passes (is_line line) xs newest e) ages order
 
@@ -66,23 +67,31 @@ moved_last age next line xs ages order = by (find (is_line line) xs) refl
 pub by_use : (history : List Event) → IsByAge (events_since_use history) (order_after true history)
 by_use [] = λ i j d lt within. absurd (omega arith)
 by_use (Inserted line ∷ earlier) =
-    came_last (events_since_use earlier) (events_since_use (Inserted line ∷ earlier)) line line (order_after true earlier) (its_own line) (λ other. refl) (by_use earlier)
+    came_last (events_since_use earlier) (events_since_use (Inserted line ∷ earlier)) line line
+    (order_after true earlier) (its_own line) (λ other. refl) (by_use earlier)
 by_use (Used line ∷ earlier) =
-    moved_last (events_since_use earlier) (events_since_use (Used line ∷ earlier)) line (order_after true earlier) (λ other. refl) (by_use earlier)
+    moved_last (events_since_use earlier) (events_since_use (Used line ∷ earlier)) line (order_after true earlier)
+    (λ other. refl) (by_use earlier)
 by_use (Removed line ∷ earlier) =
     let order = order_after true earlier in
-    aged (events_since_use earlier) (events_since_use (Removed line ∷ earlier)) (remove_key (is_line line) order) (λ k d within. refl) (AllPairs-remove_key (IsOlder (events_since_use earlier)) (is_line line) order (by_use earlier))
+    aged (events_since_use earlier) (events_since_use (Removed line ∷ earlier)) (remove_key (is_line line) order)
+    (λ k d within. refl)
+    (AllPairs-remove_key (IsOlder (events_since_use earlier)) (is_line line) order (by_use earlier))
 
 -- where they move nothing, it is that of their insertions
 pub by_insertion : (history : List Event) → IsByAge (events_since_insertion history) (order_after false history)
 by_insertion [] = λ i j d lt within. absurd (omega arith)
 by_insertion (Inserted line ∷ earlier) =
-    came_last (events_since_insertion earlier) (events_since_insertion (Inserted line ∷ earlier)) line line (order_after false earlier) (its_own line) (λ other. refl) (by_insertion earlier)
+    came_last (events_since_insertion earlier) (events_since_insertion (Inserted line ∷ earlier)) line line
+    (order_after false earlier) (its_own line) (λ other. refl) (by_insertion earlier)
 by_insertion (Used line ∷ earlier) =
-    aged (events_since_insertion earlier) (events_since_insertion (Used line ∷ earlier)) (order_after false earlier) (λ k d within. refl) (by_insertion earlier)
+    aged (events_since_insertion earlier) (events_since_insertion (Used line ∷ earlier)) (order_after false earlier)
+    (λ k d within. refl) (by_insertion earlier)
 by_insertion (Removed line ∷ earlier) =
     let order = order_after false earlier in
-    aged (events_since_insertion earlier) (events_since_insertion (Removed line ∷ earlier)) (remove_key (is_line line) order) (λ k d within. refl) (AllPairs-remove_key (IsOlder (events_since_insertion earlier)) (is_line line) order (by_insertion earlier))
+    aged (events_since_insertion earlier) (events_since_insertion (Removed line ∷ earlier))
+    (remove_key (is_line line) order) (λ k d within. refl)
+    (AllPairs-remove_key (IsOlder (events_since_insertion earlier)) (is_line line) order (by_insertion earlier))
 
 -- the first slot that may go has the oldest line of those that may
 oldest_first : (moves : Bool) (since : List Event → Local → ℕ) →
@@ -94,7 +103,8 @@ oldest_first moves since ages allowed chosen e history slot line other at_chosen
     let first = position-Some (λ b. b) allowed chosen false e in
     let behind : chosen < slot = by (cases_lt slot chosen) first.2 in
     let younger = ages history chosen slot line behind (slice_get_within order slot other at_slot) in
-    rw (get_or_from_slice_get order chosen line line at_chosen, get_or_from_slice_get order slot other line at_slot) at younger
+    rw (get_or_from_slice_get order chosen line line at_chosen, get_or_from_slice_get order slot other line at_slot) at
+    younger
   where
     by : (slot < chosen) ⊎ (chosen ≤ slot) → ((k : ℕ) → k < chosen → get_or allowed k false ≡ false) → chosen < slot
     by (inl before) none =
@@ -108,12 +118,14 @@ pub choice_is_preferred : (policy : PolicyKind) (allowed : List Bool) (word : �
     IfSome (choice_of policy allowed word) (IsPreferred (moves_of policy) (prefers_of policy) allowed)
 choice_is_preferred Lru allowed word = by (first_allowed allowed) refl
   where
-    by : (chosen : Option ℕ) → first_allowed allowed ≡ chosen → IfSome chosen (IsPreferred true (prefers_of Lru) allowed)
+    by : (chosen : Option ℕ) → first_allowed allowed ≡ chosen →
+        IfSome chosen (IsPreferred true (prefers_of Lru) allowed)
     by None e = tt
     by (Some chosen) e = oldest_first true events_since_use by_use allowed chosen e
 choice_is_preferred Fifo allowed word = by (first_allowed allowed) refl
   where
-    by : (chosen : Option ℕ) → first_allowed allowed ≡ chosen → IfSome chosen (IsPreferred false (prefers_of Fifo) allowed)
+    by : (chosen : Option ℕ) → first_allowed allowed ≡ chosen →
+        IfSome chosen (IsPreferred false (prefers_of Fifo) allowed)
     by None e = tt
     by (Some chosen) e = oldest_first false events_since_insertion by_insertion allowed chosen e
 choice_is_preferred (Random seed) allowed word = by (picked_by allowed word)

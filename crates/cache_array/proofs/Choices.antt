@@ -1,10 +1,9 @@
 -- The slot that a policy chooses may go.
-use Rattle.std.proofs.Common.{◌≡◌, ℕ, ◌+◌, ◌%◌, ◌<◌, ◌≤◌, Bool, true, false, cond, not, List, [], ◌∷◌, length, map, filter, count_by, get_or, drop, zero, suc, refl, ap, sym, ◌∙◌, arith, inl, inr, Option, Some, None, slice_get, All, nat_lt, add-one, drop-cons, ◌⊎◌}
+use Rattle.std.proofs.Common.{◌≡◌, ℕ, ◌+◌, ◌%◌, ◌<◌, Bool, true, false, cond, not, List, [], ◌∷◌, length, map, filter, count_by, get_or, zero, suc, refl, ap, ◌∙◌, arith, inl, inr, Option, Some, None, slice_get, All, nat_lt, ◌⊎◌}
 use Rattle.std.proofs.lemmas.Bool.{ltb-true, ltb-false, cases_lt}
 use Rattle.address_map.specs.declared.config.PolicyKind.{PolicyKind}
 use Rattle.address_map.specs.declared.config.PolicyKind.TheVariants.{Lru, Fifo, Random}
 use Rattle.std.specs.List.{position_or_len, enumerate_from}
-use Rattle.std.proofs.Math.ListN.{drop_of_length-le}
 use Rattle.std.proofs.Math.Nat.{mod-eq_of_lt, mod-lt}
 use Rattle.std.proofs.lemmas.List.Sums.{count_by-le-length, length-filter, prefix_len_passes, prefix_len_stops}
 use Rattle.std.proofs.lemmas.Option.{slice_get-get_or, slice_get_past}
@@ -26,7 +25,8 @@ length-allowed_slots allowed = length-slots_from 0 allowed ∙ length-filter (λ
 -- for tactics
 pub ruleset count_is = length-allowed_slots
 
-pub nothing_to_pick : (allowed : List Bool) (word : ℕ) → length (allowed_slots allowed) ≡ 0 → picked_by allowed word ≡ None
+pub nothing_to_pick : (allowed : List Bool) (word : ℕ) → length (allowed_slots allowed) ≡ 0 →
+    picked_by allowed word ≡ None
 nothing_to_pick allowed word none =
     slice_get_past (allowed_slots allowed) (word % length (allowed_slots allowed)) (omega arith)
 
@@ -56,25 +56,6 @@ may_go_at n (true ∷ allowed) (suc k) slot e =
 may_go_at n (false ∷ allowed) k slot e =
     let later = may_go_at (n + 1) allowed k slot e in
     (suc later.0, omega (arith, later.1), later.2)
-
--- one more slot of the list, which may go or stays
-next_slot : (allowed : List Bool) (i : ℕ) (may_go : Bool) → i < length allowed → get_or allowed i false ≡ may_go →
-    drop i allowed ≡ may_go ∷ drop (i + 1) allowed
-next_slot allowed i may_go within e =
-    drop-cons allowed i false within
-    ∙ ap (λ b. b ∷ drop (suc i) allowed) e
-    ∙ ap (λ j. may_go ∷ drop j allowed) (sym (add-one i))
-
-pub slots_from-yes : (allowed : List Bool) (i : ℕ) → i < length allowed → get_or allowed i false ≡ true →
-    slots_from i (drop i allowed) ≡ i ∷ slots_from (i + 1) (drop (i + 1) allowed)
-slots_from-yes allowed i within e = ap (slots_from i) (next_slot allowed i true within e)
-
-pub slots_from-no : (allowed : List Bool) (i : ℕ) → i < length allowed → get_or allowed i false ≡ false →
-    slots_from i (drop i allowed) ≡ slots_from (i + 1) (drop (i + 1) allowed)
-slots_from-no allowed i within e = ap (slots_from i) (next_slot allowed i false within e)
-
-pub slots_from-end : (allowed : List Bool) (i : ℕ) → length allowed ≤ i → slots_from i (drop i allowed) ≡ []
-slots_from-end allowed i past = ap (slots_from i) (drop_of_length-le allowed past)
 
 pub can_pick_each : (allowed : List Bool) → CanPickEach allowed
 can_pick_each allowed slot e =

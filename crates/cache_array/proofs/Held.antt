@@ -73,7 +73,8 @@ module _ {V P : Type 0} (array : ArrayView V P) (line : Local) (sound : IsArray 
       held_at (with_slots array line (after_insert (slots_at array line) line value)) other ≡ held_at array other
   inserted_other value other ne =
       let slots = slots_at array line in
-      (sets_only array line (after_insert slots line value) _ sound refl (others-insert slots line value)).others other ne
+      (sets_only array line (after_insert slots line value) _ sound refl (others-insert slots line value)).others other
+      ne
 
   pub inserted_sound : (value : V) → held_at array line ≡ None → HasWay array line →
       IsArray (with_slots array line (after_insert (slots_at array line) line value))

@@ -56,7 +56,8 @@ left_there {V = V} inside now line place slot value e at is =
 
 -- what a search of the line's set tells of the array
 pub found_read : {V P : Type 0} (inside now : ArrayView V P) (line : Local) (index : ℕ) (found : SetView V)
-    (place : Option ℕ) → inside ≡ now → IsArray inside → index ≡ set_index now line → found ≡ get_or inside.sets index found →
+    (place : Option ℕ) → inside ≡ now → IsArray inside → index ≡ set_index now line →
+    found ≡ get_or inside.sets index found →
     place ≡ position (holds line) found.slots → IsSome place ↔ IsSome (held_at now line)
 found_read {V = V} inside now line index found place e sound at is f =
     let same = slots_read inside now line index found e sound at is in
@@ -71,7 +72,8 @@ held_there array line place at = sym (place_held (slots_at array line) line (Som
 
 -- whatever is left behind a loan, the array is in order
 pub left_sound : {V P : Type 0} (inside now : ArrayView V P) (line : Local) (place : ℕ) (value : V) (index : ℕ)
-    (found : SetView V) → inside ≡ now → IsArray inside → index ≡ set_index inside line → found ≡ get_or inside.sets index found →
+    (found : SetView V) → inside ≡ now → IsArray inside → index ≡ set_index inside line →
+    found ≡ get_or inside.sets index found →
     position (holds line) (slots_at now line) ≡ Some place →
     IsArray {V = V} {P = P} (record {
       sets = set inside.sets index (record found { slots = after_write found.slots line value });

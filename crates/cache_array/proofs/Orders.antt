@@ -19,7 +19,8 @@ pub AllPairs-remove_key : {X : Type 0} (R : X → X → Type 0) (p : X → Bool)
     AllPairs R (remove_key p xs)
 AllPairs-remove_key R p [] pairs = pairs
 AllPairs-remove_key R p (x ∷ xs) pairs =
-    by (p x) (AllPairs-tail R x xs pairs) (All-remove_key p (R x) xs (AllPairs-head R x xs pairs)) (AllPairs-remove_key R p xs (AllPairs-tail R x xs pairs))
+    by (p x) (AllPairs-tail R x xs pairs) (All-remove_key p (R x) xs (AllPairs-head R x xs pairs))
+    (AllPairs-remove_key R p xs (AllPairs-tail R x xs pairs))
   where
     by : (b : Bool) → AllPairs R xs → All (R x) (remove_key p xs) → AllPairs R (remove_key p xs) →
         AllPairs R (cond b xs (x ∷ remove_key p xs))
@@ -59,7 +60,8 @@ gone R apart line (x ∷ xs) pairs = by (is_line line x) refl (gone R apart line
         All (λ other. is_line line other ≡ false) (cond b xs (x ∷ remove_key (is_line line) xs))
     by true is rest =
         λ k d within.
-        other_is (get_or xs k d) (is_line line (get_or xs k d)) refl (eqb-true x.0 line.0 is) (AllPairs-head R x xs pairs k d within)
+        other_is (get_or xs k d) (is_line line (get_or xs k d)) refl (eqb-true x.0 line.0 is)
+        (AllPairs-head R x xs pairs k d within)
     by false is rest = All-cons (λ other. is_line line other ≡ false) x (remove_key (is_line line) xs) is rest
 
 -- what a list keeps as one of its lines is taken out, and put behind the others
@@ -69,10 +71,12 @@ AreApart lines = AllPairs (λ line later. line.0 ≢ later.0) lines
 pub apart-removed : (line : Local) (lines : List Local) → AreApart lines → AreApart (remove_key (is_line line) lines)
 apart-removed line lines pairs = AllPairs-remove_key (λ line later. line.0 ≢ later.0) (is_line line) lines pairs
 
-pub apart-pushed : (line : Local) (lines : List Local) → All (λ other. is_line line other ≡ false) lines → AreApart lines →
+pub apart-pushed : (line : Local) (lines : List Local) → All (λ other. is_line line other ≡ false) lines →
+    AreApart lines →
     AreApart (lines ++ line ∷ [])
 apart-pushed line lines none pairs =
-    all_pairs_push (λ line later. line.0 ≢ later.0) lines line pairs (λ k d within e. no (none k d within) (eq-eqb _ _ e))
+    all_pairs_push (λ line later. line.0 ≢ later.0) lines line pairs
+    (λ k d within e. no (none k d within) (eq-eqb _ _ e))
   where
     no : {b : Bool} → b ≡ false → b ≡ true → ⊥
     no e f = cc
@@ -83,20 +87,24 @@ apart-moved line lines pairs = by (find (is_line line) lines) refl
     others : List Local
     others = remove_key (is_line line) lines
 
-    by : (found : Option Local) → find (is_line line) lines ≡ found → AreApart (remove_key (is_line line) lines ++ option_to_list found)
+    by : (found : Option Local) → find (is_line line) lines ≡ found →
+        AreApart (remove_key (is_line line) lines ++ option_to_list found)
     by None e = rw append-nil (apart-removed line lines pairs)
     by (Some newest) e =
         let same = same_line line newest (found_passes (is_line line) lines newest e) in
-        rw same (apart-pushed line (remove_key (is_line line) lines) (gone _ (λ a b ne. ne) line lines pairs) (apart-removed line lines pairs))
+        rw same (apart-pushed line (remove_key (is_line line) lines) (gone _ (λ a b ne. ne) line lines pairs)
+        (apart-removed line lines pairs))
 
-pub all-pushed : (P : Local → Type 0) (line : Local) (lines : List Local) → P line → All P lines → All P (lines ++ line ∷ [])
+pub all-pushed : (P : Local → Type 0) (line : Local) (lines : List Local) → P line → All P lines →
+    All P (lines ++ line ∷ [])
 all-pushed P line lines here all = All-append P lines (line ∷ []) all (All-cons P line [] here (All-nil P))
 
 pub all-moved : (P : Local → Type 0) (line : Local) (lines : List Local) → P line → All P lines →
     All P (moved_to_end (is_line line) lines)
 all-moved P line lines here all = by (find (is_line line) lines) refl
   where
-    by : (found : Option Local) → find (is_line line) lines ≡ found → All P (remove_key (is_line line) lines ++ option_to_list found)
+    by : (found : Option Local) → find (is_line line) lines ≡ found →
+        All P (remove_key (is_line line) lines ++ option_to_list found)
     by None e = rw append-nil (All-remove_key (is_line line) P lines all)
     by (Some newest) e =
         let same = same_line line newest (found_passes (is_line line) lines newest e) in

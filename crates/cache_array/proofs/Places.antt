@@ -105,7 +105,8 @@ found-map f p [] = refl
 found-map f p (x ∷ xs) = by (p (f x)) (found-map f p xs)
   where
     by : (b : Bool) → map f (option_to_list (find (λ x. p (f x)) xs)) ≡ option_to_list (find p (map f xs)) →
-        map f (option_to_list (cond b (Some x) (find (λ x. p (f x)) xs))) ≡ option_to_list (cond b (Some (f x)) (find p (map f xs)))
+        map f (option_to_list (cond b (Some x) (find (λ x. p (f x)) xs)))
+        ≡ option_to_list (cond b (Some (f x)) (find p (map f xs)))
     by true rest = refl
     by false rest = rest
 

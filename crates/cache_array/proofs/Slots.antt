@@ -51,7 +51,8 @@ other_slot : {V : Type 0} (line other : Local) → other.0 ≢ line.0 → (slot 
 other_slot line other ne slot e =
     ne_eqb slot.line.0 other.0 (λ f. ne (sym f ∙ eqb-true slot.line.0 line.0 e))
 
-none_there : {V : Type 0} (line : Local) (slots : List (Slot V)) → All (λ other. is_line line other ≡ false) (lines_of slots) →
+none_there : {V : Type 0} (line : Local) (slots : List (Slot V)) →
+    All (λ other. is_line line other ≡ false) (lines_of slots) →
     find (holds line) slots ≡ None
 none_there line [] none = refl
 none_there line (slot ∷ slots) none =
@@ -63,7 +64,8 @@ pub none_held : {V : Type 0} (line : Local) (slots : List (Slot V)) → value_in
 none_held line [] e = All-nil (λ other. is_line line other ≡ false)
 none_held {V = V} line (slot ∷ slots) e = by (holds line slot) refl e (none_held line slots)
   where
-    by : (b : Bool) → holds line slot ≡ b → option_map (λ (s : Slot V). s.value) (cond b (Some slot) (find (holds line) slots)) ≡ None →
+    by : (b : Bool) → holds line slot ≡ b →
+        option_map (λ (s : Slot V). s.value) (cond b (Some slot) (find (holds line) slots)) ≡ None →
         (value_in slots line ≡ None → All (λ other. is_line line other ≡ false) (lines_of slots)) →
         All (λ other. is_line line other ≡ false) (slot.line ∷ lines_of slots)
     by true is f rest = cc
@@ -72,7 +74,8 @@ none_held {V = V} line (slot ∷ slots) e = by (holds line slot) refl e (none_he
 -- a line comes in
 pub lines-insert : {V : Type 0} (slots : List (Slot V)) (line : Local) (value : V) →
     lines_of (after_insert slots line value) ≡ lines_of slots ++ line ∷ []
-lines-insert {V = V} slots line value = map-append (λ (s : Slot V). s.line) slots (record { line = line; value = value } ∷ [])
+lines-insert {V = V} slots line value =
+    map-append (λ (s : Slot V). s.line) slots (record { line = line; value = value } ∷ [])
 
 pub value-insert : {V : Type 0} (slots : List (Slot V)) (line : Local) (value : V) → value_in slots line ≡ None →
     value_in (after_insert slots line value) line ≡ Some value
@@ -131,7 +134,8 @@ pub value-use : {V : Type 0} (slots : List (Slot V)) (line : Local) → AreApart
 value-use {V = V} slots line apart =
     ap (option_map (λ (s : Slot V). s.value))
     (find-append (holds line) (after_remove slots line) (option_to_list (find (holds line) slots))
-    ∙ ap (λ o. option_or o (find (holds line) (option_to_list (find (holds line) slots)))) (removed_there slots line apart)
+    ∙ ap (λ o. option_or o (find (holds line) (option_to_list (find (holds line) slots))))
+    (removed_there slots line apart)
     ∙ by (find (holds line) slots) refl)
   where
     by : (found : Option (Slot V)) → find (holds line) slots ≡ found →
@@ -164,7 +168,8 @@ length-removed p (x ∷ xs) = by (p x) (length-removed p xs)
     by true rest = omega arith
     by false rest = omega arith
 
-pub length-after_remove : {V : Type 0} (slots : List (Slot V)) (line : Local) → length (after_remove slots line) ≤ length slots
+pub length-after_remove : {V : Type 0} (slots : List (Slot V)) (line : Local) →
+    length (after_remove slots line) ≤ length slots
 length-after_remove slots line = length-removed (holds line) slots
 
 pub length-held_removed : {V : Type 0} (slots : List (Slot V)) (line : Local) → is_some (value_in slots line) ≡ true →
@@ -183,14 +188,18 @@ length-held_removed {V = V} (slot ∷ slots) line held = by (holds line slot) he
 pub lines-write : {V : Type 0} (slots : List (Slot V)) (line : Local) (value : V) →
     lines_of (after_write slots line value) ≡ lines_of slots
 lines-write [] line value = refl
-lines-write {V = V} (slot ∷ slots) line value = by (holds line slot) (position_or_len (holds line) slots) refl (lines-write slots line value)
+lines-write {V = V} (slot ∷ slots) line value =
+    by (holds line slot) (position_or_len (holds line) slots) refl (lines-write slots line value)
   where
-    by : (b : Bool) (n : ℕ) → holds line slot ≡ b → lines_of (set slots n (record { line = line; value = value })) ≡ lines_of slots →
-        lines_of (set (slot ∷ slots) (cond (not b) (1 + n) 0) (record { line = line; value = value })) ≡ slot.line ∷ lines_of slots
+    by : (b : Bool) (n : ℕ) → holds line slot ≡ b → lines_of (set slots n (record { line = line; value = value }))
+        ≡ lines_of slots →
+        lines_of (set (slot ∷ slots) (cond (not b) (1 + n) 0) (record { line = line; value = value }))
+        ≡ slot.line ∷ lines_of slots
     by true n is rest = ap (λ l. l ∷ lines_of slots) (sym (same_line line slot.line is))
     by false n is rest = let next : 1 + n ≡ suc n = omega arith in rw next (ap (λ ls. slot.line ∷ ls) rest)
 
-pub value-write : {V : Type 0} (slots : List (Slot V)) (line : Local) (value : V) → is_some (value_in slots line) ≡ true →
+pub value-write : {V : Type 0} (slots : List (Slot V)) (line : Local) (value : V) →
+    is_some (value_in slots line) ≡ true →
     value_in (after_write slots line value) line ≡ Some value
 value-write [] line value held = cc
 value-write {V = V} (slot ∷ slots) line value held =
@@ -198,7 +207,8 @@ value-write {V = V} (slot ∷ slots) line value held =
   where
     by : (b : Bool) (n : ℕ) → holds line slot ≡ b →
         is_some (option_map (λ (s : Slot V). s.value) (cond b (Some slot) (find (holds line) slots))) ≡ true →
-        (is_some (value_in slots line) ≡ true → value_in (set slots n (record { line = line; value = value })) line ≡ Some value) →
+        (is_some (value_in slots line) ≡ true → value_in (set slots n (record { line = line; value = value })) line
+        ≡ Some value) →
         value_in (set (slot ∷ slots) (cond (not b) (1 + n) 0) (record { line = line; value = value })) line ≡ Some value
     by true n is there rest = rw (eq-eqb line.0 line.0 refl) refl
     by false n is there rest = let next : 1 + n ≡ suc n = omega arith in rw (next, is) (rest there)
@@ -206,7 +216,8 @@ value-write {V = V} (slot ∷ slots) line value held =
 -- a slot in front doesn't tell two equal answers apart
 in_front : {V : Type 0} (slot : Slot V) (c : Bool) (m n : Option (Slot V)) →
     option_map (λ (s : Slot V). s.value) m ≡ option_map (λ (s : Slot V). s.value) n →
-    option_map (λ (s : Slot V). s.value) (cond c (Some slot) m) ≡ option_map (λ (s : Slot V). s.value) (cond c (Some slot) n)
+    option_map (λ (s : Slot V). s.value) (cond c (Some slot) m)
+    ≡ option_map (λ (s : Slot V). s.value) (cond c (Some slot) n)
 in_front slot true m n e = refl
 in_front slot false m n e = e
 
@@ -229,13 +240,15 @@ others-write {V = V} (slot ∷ slots) line value other ne =
 
 pub length-write : {V : Type 0} (slots : List (Slot V)) (line : Local) (value : V) →
     length (after_write slots line value) ≡ length slots
-length-write slots line value = length-set slots (position_or_len (holds line) slots) (record { line = line; value = value })
+length-write slots line value =
+    length-set slots (position_or_len (holds line) slots) (record { line = line; value = value })
 
 pub removed-none : (line : Local) (lines : List Local) → All (λ other. is_line line other ≡ false) lines →
     remove_key (is_line line) lines ≡ lines
 removed-none line [] none = refl
 removed-none line (other ∷ lines) none =
-    rw (All-head (λ other. is_line line other ≡ false) other lines none) (ap (λ ls. other ∷ ls) (removed-none line lines (All-tail (λ other. is_line line other ≡ false) other lines none)))
+    rw (All-head (λ other. is_line line other ≡ false) other lines none)
+    (ap (λ ls. other ∷ ls) (removed-none line lines (All-tail (λ other. is_line line other ≡ false) other lines none)))
 
 -- a set is its slots and its ways
 pub set_is : {V : Type 0} (set : SetView V) (slots : List (Slot V)) (ways : ℕ) → slots ≡ set.slots → ways ≡ set.ways →
@@ -250,7 +263,8 @@ pub moved_set : {V : Type 0} (line : Local) (inside now : SetView V) (old new : 
     long ≡ length inside.slots → inside ≡ now → old ≡ inside.slots → length new ≡ length old →
     position (holds line) now.slots ≡ Some place →
     ((d : Slot V) → new ≡ remove old place ++ get_or old place d ∷ []) →
-    ◌≡◌ {A = SetView V} (record { slots = refill long inside.slots new; ways = inside.ways }) (record now { slots = after_use true now.slots line })
+    ◌≡◌ {A = SetView V} (record { slots = refill long inside.slots new; ways = inside.ways })
+    (record now { slots = after_use true now.slots line })
 moved_set {V = V} line inside now old new long place l e f kept at moved =
     set_is (record now { slots = after_use true now.slots line }) (refill long inside.slots new) inside.ways
     (ap (λ n. refill n inside.slots new) l
@@ -273,7 +287,8 @@ length-asked R (u ∷ xs) [] all = absurd all
 length-asked R (u ∷ xs) (v ∷ ys) all = ap suc (length-asked R xs ys all.1)
 
 -- a chosen slot is one of the set
-pub choice_within : {V : Type 0} (R : Slot V → Bool → Type 0) (slots : List (Slot V)) (flags : List Bool) (chosen : Option ℕ) (place : ℕ) →
+pub choice_within : {V : Type 0} (R : Slot V → Bool → Type 0) (slots : List (Slot V)) (flags : List Bool)
+    (chosen : Option ℕ) (place : ℕ) →
     AllZip R slots flags → IsAllowed flags chosen → chosen ≡ Some place → place < length slots
 choice_within R slots flags chosen place asked allowed e =
     let there = slice_get_within flags place true (rw e at allowed) in
@@ -293,4 +308,6 @@ pub line_at : {V : Type 0} (slots now : List (Slot V)) (chosen : Option ℕ) (pl
     Some slot.line ≡ line_in now chosen
 line_at {V = V} slots now chosen place slot e within at found =
     let there : slice_get slots place ≡ Some slot = slice_get-get_or slots place slot within ∙ ap Some (sym found) in
-    sym (ap (line_in now) at ∙ ap (λ (s : List (Slot V)). option_map (λ (x : Slot V). x.line) (slice_get s place)) (sym e) ∙ ap (option_map (λ (x : Slot V). x.line)) there)
+    sym (ap (line_in now) at
+    ∙ ap (λ (s : List (Slot V)). option_map (λ (x : Slot V). x.line) (slice_get s place)) (sym e)
+    ∙ ap (option_map (λ (x : Slot V). x.line)) there)

@@ -33,15 +33,18 @@ none_passes : {V : Type 0} (test : V → Bool) (slots : List (Slot V)) (line : L
     All (λ may_go. may_go ≡ false) (flags_of test slots) → IfSome (value_in slots line) (λ value. test value ≡ false)
 none_passes test [] line none = tt
 none_passes {V = V} test (slot ∷ slots) line none =
-    by (holds line slot) (All-head (λ may_go. may_go ≡ false) (test slot.value) (flags_of test slots) none) (none_passes test slots line (All-tail (λ may_go. may_go ≡ false) (test slot.value) (flags_of test slots) none))
+    by (holds line slot) (All-head (λ may_go. may_go ≡ false) (test slot.value) (flags_of test slots) none)
+    (none_passes test slots line (All-tail (λ may_go. may_go ≡ false) (test slot.value) (flags_of test slots) none))
   where
     by : (b : Bool) → test slot.value ≡ false → IfSome (value_in slots line) (λ value. test value ≡ false) →
-        IfSome (option_map (λ (s : Slot V). s.value) (cond b (Some slot) (find (holds line) slots))) (λ value. test value ≡ false)
+        IfSome (option_map (λ (s : Slot V). s.value) (cond b (Some slot) (find (holds line) slots)))
+        (λ value. test value ≡ false)
     by true here rest = here
     by false here rest = rest
 
 -- a flag that is up is that of a slot
-flagged : {V : Type 0} (test : V → Bool) (slots : List (Slot V)) (place : ℕ) → slice_get (flags_of test slots) place ≡ Some true →
+flagged : {V : Type 0} (test : V → Bool) (slots : List (Slot V)) (place : ℕ) →
+    slice_get (flags_of test slots) place ≡ Some true →
     (slot : Slot V) × (slice_get slots place ≡ Some slot) × (test slot.value ≡ true)
 flagged test [] place e = cc
 flagged test (slot ∷ slots) zero e = (slot, refl, cc)
@@ -62,11 +65,15 @@ value_place {V = V} (first ∷ slots) zero slot apart e =
     rw here (ap (λ (s : Slot V). Some s.value) same)
 value_place {V = V} (first ∷ slots) (suc place) slot apart e =
     let at = line_place slots place slot e in
-    let same : get_or (lines_of slots) place slot.line ≡ slot.line = get_or_from_slice_get (lines_of slots) place slot.line slot.line at in
+    let same : get_or (lines_of slots) place slot.line ≡ slot.line =
+    get_or_from_slice_get (lines_of slots) place slot.line slot.line at in
     let other : first.line.0 ≢ slot.line.0 =
-    subst (λ (l : Local). first.line.0 ≢ l.0) same (AllPairs-head (λ line later. line.0 ≢ later.0) first.line (lines_of slots) apart place slot.line (slice_get_within (lines_of slots) place slot.line at)) in
+    subst (λ (l : Local). first.line.0 ≢ l.0) same
+    (AllPairs-head (λ line later. line.0 ≢ later.0) first.line (lines_of slots) apart place slot.line
+    (slice_get_within (lines_of slots) place slot.line at)) in
     let no : holds slot.line first ≡ false = ne_eqb first.line.0 slot.line.0 other in
-    rw no (value_place slots place slot (AllPairs-tail (λ line later. line.0 ≢ later.0) first.line (lines_of slots) apart) e)
+    rw no (value_place slots place slot
+    (AllPairs-tail (λ line later. line.0 ≢ later.0) first.line (lines_of slots) apart) e)
 
 -- a value that may go has its flag up, at the place of its line
 flag_of : {V : Type 0} (test : V → Bool) (slots : List (Slot V)) (line : Local) →
@@ -76,9 +83,13 @@ flag_of test [] line passes = absurd passes
 flag_of {V = V} test (slot ∷ slots) line passes = by (holds line slot) refl passes (flag_of test slots line)
   where
     by : (b : Bool) → holds line slot ≡ b →
-        IsSomeAnd (option_map (λ (s : Slot V). s.value) (cond b (Some slot) (find (holds line) slots))) (λ value. test value ≡ true) →
-        (IsSomeAnd (value_in slots line) (λ value. test value ≡ true) → (place : ℕ) × (slice_get (lines_of slots) place ≡ Some line) × (slice_get (flags_of test slots) place ≡ Some true)) →
-        (place : ℕ) × (slice_get (slot.line ∷ lines_of slots) place ≡ Some line) × (slice_get (test slot.value ∷ flags_of test slots) place ≡ Some true)
+        IsSomeAnd (option_map (λ (s : Slot V). s.value) (cond b (Some slot) (find (holds line) slots))) (λ value.
+        test value ≡ true) →
+        (IsSomeAnd (value_in slots line) (λ value. test value ≡ true) →
+        (place : ℕ) × (slice_get (lines_of slots) place ≡ Some line)
+        × (slice_get (flags_of test slots) place ≡ Some true)) →
+        (place : ℕ) × (slice_get (slot.line ∷ lines_of slots) place ≡ Some line)
+        × (slice_get (test slot.value ∷ flags_of test slots) place ≡ Some true)
     by true is here rest = (0, ap Some (same_line line slot.line is), ap Some here)
     by false is here rest = let later = rest here in (suc later.0, later.1, later.2)
 
@@ -189,13 +200,16 @@ victim_chosen {V = V} test slots (Some place) allowed =
     ∙ sym (some_flagged test slots place allowed)
 
 -- the line in the slot that was chosen is the victim
-pub victim_is : {V P : Type 0} (array : ArrayView V P) (line : Local) (test : V → Bool) (moves : Bool) (prefers : List Event → Local → Local → Type 0) (chosen : Option ℕ) →
+pub victim_is : {V P : Type 0} (array : ArrayView V P) (line : Local) (test : V → Bool) (moves : Bool)
+    (prefers : List Event → Local → Local → Type 0) (chosen : Option ℕ) →
     IsArray array → IsAllowed (flags_of test (slots_at array line)) chosen →
     IfSome chosen (IsPreferred moves prefers (flags_of test (slots_at array line))) →
-    MatchOption (line_in (slots_at array line) chosen) (NoneMayGo test array line) (IsVictim test moves prefers array line)
+    MatchOption (line_in (slots_at array line) chosen) (NoneMayGo test array line)
+    (IsVictim test moves prefers array line)
 victim_is array line test moves prefers None sound allowed preferred =
     λ other same.
-    subst (λ slots. IfSome (value_in slots other) (λ value. test value ≡ false)) (sym (shared array line other same)) (none_passes test (slots_at array line) other allowed)
+    subst (λ slots. IfSome (value_in slots other) (λ value. test value ≡ false)) (sym (shared array line other same))
+    (none_passes test (slots_at array line) other allowed)
 victim_is {V = V} {P = P} array line test moves prefers (Some place) sound allowed preferred =
     let found = flagged test (slots_at array line) place allowed in
     subst (λ victim. MatchOption victim (NoneMayGo test array line) (IsVictim test moves prefers array line))
@@ -205,7 +219,8 @@ victim_is {V = V} {P = P} array line test moves prefers (Some place) sound allow
     slots : List (Slot V)
     slots = slots_at array line
 
-    chosen : (slot : Slot V) → slice_get (slots_at array line) place ≡ Some slot → test slot.value ≡ true → IsVictim test moves prefers array line slot.line
+    chosen : (slot : Slot V) → slice_get (slots_at array line) place ≡ Some slot → test slot.value ≡ true →
+        IsVictim test moves prefers array line slot.line
     chosen slot at passes =
         let named = line_place (slots_at array line) place slot at in
         let held = slot_held array line place slot sound at in record {
@@ -213,12 +228,16 @@ victim_is {V = V} {P = P} array line test moves prefers (Some place) sound allow
           may_go = subst (λ o. IsSomeAnd o (λ v. test v ≡ true)) (sym held.1) passes;
           preferred =
               λ history other order shares may_go apart.
-              let up = flag_of test (slots_at array line) other (subst (λ s. IsSomeAnd (value_in s other) (λ v. test v ≡ true)) (shared array line other shares) may_go) in
+              let up = flag_of test (slots_at array line) other
+              (subst (λ s. IsSomeAnd (value_in s other) (λ v. test v ≡ true)) (shared array line other shares) may_go)
+              in
               preferred history up.0 slot.line other
               (ap (λ ls. slice_get ls place) (sym order) ∙ named)
               (ap (λ ls. slice_get ls up.0) (sym order) ∙ up.1)
               up.2
-              (λ e. apart (two (slice_get (lines_of (slots_at array line)) place) (sym (ap (λ k. slice_get (lines_of (slots_at array line)) k) e) ∙ up.1) named));
+              (λ e. apart
+              (two (slice_get (lines_of (slots_at array line)) place)
+              (sym (ap (λ k. slice_get (lines_of (slots_at array line)) k) e) ∙ up.1) named));
         }
       where
         two : (o : Option Local) {a b : Local} → o ≡ Some a → o ≡ Some b → a.0 ≡ b.0
@@ -226,13 +245,16 @@ victim_is {V = V} {P = P} array line test moves prefers (Some place) sound allow
 
 -- whether some line of an array may go, told of the set that was read
 pub some_read : {V P : Type 0} (inside now : ArrayView V P) (line : Local) (index : ℕ) (found : SetView V)
-    (test : V → Bool) (some : Bool) → inside ≡ now → IsArray inside → index ≡ set_index now line → found ≡ get_or inside.sets index found →
+    (test : V → Bool) (some : Bool) → inside ≡ now → IsArray inside → index ≡ set_index now line →
+    found ≡ get_or inside.sets index found →
     some ≡ some_may_go test found.slots → some ≡ some_may_go test (slots_at now line)
 some_read {V = V} inside now line index found test some e sound at is f =
     f ∙ ap (λ (s : List (Slot V)). some_may_go test s) (slots_read inside now line index found e sound at is)
 
 -- the victim of an array, told of the set that was read
-pub choice_read : {V P : Type 0} (inside now : ArrayView V P) (line : Local) (index : ℕ) (found : SetView V) (says : V → Bool → Type 0) (test : V → Bool) (choose : P → List Bool → Option ℕ) (flags : List Bool) (victim : Option Local) →
+pub choice_read : {V P : Type 0} (inside now : ArrayView V P) (line : Local) (index : ℕ) (found : SetView V)
+    (says : V → Bool → Type 0) (test : V → Bool) (choose : P → List Bool → Option ℕ) (flags : List Bool)
+    (victim : Option Local) →
     inside ≡ now → IsArray inside → index ≡ set_index now line → found ≡ get_or inside.sets index found →
     Answers says test → AllZip (λ slot flag. says slot.value flag) found.slots flags →
     victim ≡ line_in found.slots (choose inside.policy flags) →
@@ -245,14 +267,17 @@ choice_read {V = V} {P = P} inside now line index found says test choose flags v
     ∙ ap (λ (s : List (Slot V)). line_in s (choose inside.policy (flags_of test s))) slots
     ∙ ap (λ (a : ArrayView V P). line_in (slots_at now line) (choose a.policy (flags_of test (slots_at now line)))) e
 
-pub victim_read : {V P : Type 0} (inside now : ArrayView V P) (line : Local) (index : ℕ) (found : SetView V) (says : V → Bool → Type 0) (test : V → Bool) (choose : P → List Bool → Option ℕ) (moves : P → Bool) (prefers : P → List Event → Local → Local → Type 0) (flags : List Bool) (victim : Option Local) →
+pub victim_read : {V P : Type 0} (inside now : ArrayView V P) (line : Local) (index : ℕ) (found : SetView V)
+    (says : V → Bool → Type 0) (test : V → Bool) (choose : P → List Bool → Option ℕ) (moves : P → Bool)
+    (prefers : P → List Event → Local → Local → Type 0) (flags : List Bool) (victim : Option Local) →
     inside ≡ now → IsArray inside → index ≡ set_index now line → found ≡ get_or inside.sets index found →
     Answers says test → AllZip (λ slot flag. says slot.value flag) found.slots flags →
     IsAllowed flags (choose inside.policy flags) →
     IfSome (choose inside.policy flags) (IsPreferred (moves inside.policy) (prefers inside.policy) flags) →
     victim ≡ line_in found.slots (choose inside.policy flags) →
     MatchOption victim (NoneMayGo test now line) (IsVictim test (moves now.policy) (prefers now.policy) now line)
-victim_read {V = V} {P = P} inside now line index found says test choose moves prefers flags victim e sound at is answers asked allowed preferred f =
+victim_read {V = V} {P = P} inside now line index found says test choose moves prefers flags victim e sound at is
+    answers asked allowed preferred f =
     let slots = slots_read inside now line index found e sound at is in
     let told : flags ≡ flags_of test (slots_at now line) =
     flags_are says test answers found.slots flags asked ∙ ap (λ (s : List (Slot V)). flags_of test s) slots in
@@ -260,12 +285,17 @@ victim_read {V = V} {P = P} inside now line index found says test choose moves p
     let may_go : IsAllowed (flags_of test (slots_at now line)) (choose now.policy (flags_of test (slots_at now line))) =
     subst (λ p. IsAllowed (flags_of test (slots_at now line)) (choose p (flags_of test (slots_at now line)))) policy
     (subst (λ fs. IsAllowed fs (choose inside.policy fs)) told allowed) in
-    let best : IfSome (choose now.policy (flags_of test (slots_at now line))) (IsPreferred (moves now.policy) (prefers now.policy) (flags_of test (slots_at now line))) =
-    subst (λ p. IfSome (choose p (flags_of test (slots_at now line))) (IsPreferred (moves p) (prefers p) (flags_of test (slots_at now line)))) policy
-    (subst (λ fs. IfSome (choose inside.policy fs) (IsPreferred (moves inside.policy) (prefers inside.policy) fs)) told preferred) in
-    subst (λ v. MatchOption v (NoneMayGo test now line) (IsVictim test (moves now.policy) (prefers now.policy) now line))
+    let best : IfSome (choose now.policy (flags_of test (slots_at now line)))
+    (IsPreferred (moves now.policy) (prefers now.policy) (flags_of test (slots_at now line))) =
+    subst (λ p. IfSome (choose p (flags_of test (slots_at now line)))
+    (IsPreferred (moves p) (prefers p) (flags_of test (slots_at now line)))) policy
+    (subst (λ fs. IfSome (choose inside.policy fs) (IsPreferred (moves inside.policy) (prefers inside.policy) fs)) told
+    preferred) in
+    subst (λ v. MatchOption v (NoneMayGo test now line)
+    (IsVictim test (moves now.policy) (prefers now.policy) now line))
     (sym (choice_read inside now line index found says test choose flags victim e sound at is answers asked f))
-    (victim_is now line test (moves now.policy) (prefers now.policy) (choose now.policy (flags_of test (slots_at now line))) (subst IsArray e sound) may_go best)
+    (victim_is now line test (moves now.policy) (prefers now.policy)
+    (choose now.policy (flags_of test (slots_at now line))) (subst IsArray e sound) may_go best)
 
 pub victim_some : {V P : Type 0} (inside now : ArrayView V P) (line : Local) (index : ℕ) (found : SetView V)
     (says : V → Bool → Type 0) (test : V → Bool) (chosen : Option ℕ) (flags : List Bool) (victim : Option Local) →

@@ -52,7 +52,8 @@ pub record IsSet {V : Type 0} (sets index : ℕ) (set : SetView V) : Type 0 wher
 -- what holds of every array
 pub record IsArray {V P : Type 0} (array : ArrayView V P) : Type 0 where
   pub power : IsPowerOfTwo (length array.sets)
-  pub each : EachIndex array.sets (λ index. IsSet (length array.sets) index (slice_index_or array.sets index (empty_set 0)))
+  pub each : EachIndex array.sets
+      (λ index. IsSet (length array.sets) index (slice_index_or array.sets index (empty_set 0)))
 
 -- the line has this value now, or none, and each other line what it had
 pub record SetsOnly {V P : Type 0} (old new : ArrayView V P) (line : Local) (value : Option V) : Type 0 where

@@ -43,8 +43,8 @@ prefers_of Lru history line other = events_since_use history other < events_sinc
 prefers_of Fifo history line other = events_since_insertion history other < events_since_insertion history line
 prefers_of (Random seed) history line other = ⊤
 
--- whatever history left the lines of a set in their order, the line of the chosen slot is preferred to that of each other
--- slot that may go
+-- whatever history left the lines of a set in their order, the line of the chosen slot is preferred to that of each
+-- other slot that may go
 abbrev pub IsPreferred : Bool → (List Event → Local → Local → Type 0) → List Bool → ℕ → Type 0
 IsPreferred moves prefers allowed chosen =
     (history : List Event) (slot : ℕ) (line other : Local)

@@ -37,7 +37,8 @@ NoneMayGo test array line =
 
 -- the victim is a line of the line's set that may go. Whatever history of the set left its lines in their order, the
 -- policy prefers the victim to each other line that may go
-pub record IsVictim {V P : Type 0} (test : V → Bool) (moves : Bool) (prefers : List Event → Local → Local → Type 0) (array : ArrayView V P) (line victim : Local) : Type 0 where
+pub record IsVictim {V P : Type 0} (test : V → Bool) (moves : Bool) (prefers : List Event → Local → Local → Type 0)
+    (array : ArrayView V P) (line victim : Local) : Type 0 where
   pub same_set : ShareSet array line victim
   pub may_go : MayGo test array victim
   pub preferred : (history : List Event) (other : Local)

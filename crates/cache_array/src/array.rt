@@ -202,7 +202,8 @@ impl<V: Copy, P: Policy + Drop> CacheArray<V, P> {
             × AllZip (λ slot flag. FnReturnsAt F.Fn allowed slot.value flag) (slots_at self.now line) flags
             × (result ≡ line_in (slots_at self.now line) (P.choice self.now.policy flags word)) }
         ensures choice { (test : V → Bool) → Answers (FnReturnsAt F.Fn allowed) test
-            → result ≡ line_in (slots_at self.now line) (P.choice self.now.policy (flags_of test (slots_at self.now line)) word) }
+            → result ≡ line_in (slots_at self.now line) (P.choice self.now.policy
+            (flags_of test (slots_at self.now line)) word) }
         ensures victim { (test : V → Bool) → Answers (FnReturnsAt F.Fn allowed) test
             → MatchOption result (NoneMayGo test self.now line)
             (IsVictim test (P.moves self.now.policy) (P.prefers self.now.policy) self.now line) }

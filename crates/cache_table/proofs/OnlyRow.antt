@@ -16,7 +16,8 @@ state_from reads writes clean waits data_missing to_write leaves holds shares =
     if clean then states.E
     else if writes then states.M
     else if to_write then (
-    if data_missing then (if reads then states.SM_AD else states.IM_AD) else (if reads then states.SM_A else states.IM_A)
+    if data_missing then (if reads then states.SM_AD else states.IM_AD)
+    else (if reads then states.SM_A else states.IM_A)
     )
     else if waits then states.IS_D
     else if leaves then (if holds then states.MI_A else if shares then states.SI_A else states.II_A)
@@ -25,7 +26,8 @@ state_from reads writes clean waits data_missing to_write leaves holds shares =
 
 abbrev state_told : CopyState → CopyState
 state_told s =
-    state_from (is_readable s) (is_writer s) (is_clean s) (is_waiting s) (awaits_data s) (asked_to_write s) (is_leaving s)
+    state_from (is_readable s) (is_writer s) (is_clean s) (is_waiting s) (awaits_data s) (asked_to_write s)
+    (is_leaving s)
     (holds_data s) (is_sharer s)
 
 state_from-told : (s : CopyState) → state_told s ≡ s
@@ -56,7 +58,8 @@ sends_from to_requester home acknowledgement get get_m put put_m =
 
 abbrev sends_told : CacheSends → CacheSends
 sends_told x =
-    sends_from (sends_data x) (sends_home x) (sends_inv_ack x) (sends_get x) (sends_get_m x) (sends_put x) (sends_put_m x)
+    sends_from (sends_data x) (sends_home x) (sends_inv_ack x) (sends_get x) (sends_get_m x) (sends_put x)
+    (sends_put_m x)
 
 sends_from-told : (x : CacheSends) → sends_told x ≡ x
 sends_from-told sends.Nothing = refl
@@ -70,7 +73,8 @@ sends_from-told sends.DataToRequesterAndHome = refl
 
 same_told : (a b : CopyState) → is_readable a ≡ is_readable b → is_writer a ≡ is_writer b → is_clean a ≡ is_clean b
     → is_waiting a ≡ is_waiting b → awaits_data a ≡ awaits_data b → asked_to_write a ≡ asked_to_write b
-    → is_leaving a ≡ is_leaving b → holds_data a ≡ holds_data b → is_sharer a ≡ is_sharer b → state_told a ≡ state_told b
+    → is_leaving a ≡ is_leaving b → holds_data a ≡ holds_data b → is_sharer a ≡ is_sharer b
+    → state_told a ≡ state_told b
 same_told a b reads writes clean waits data_missing to_write leaves holds shares = cc
 
 same_sends_told : (x y : CacheSends) → sends_data x ≡ sends_data y → sends_home x ≡ sends_home y

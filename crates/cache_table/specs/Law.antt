@@ -192,7 +192,8 @@ pub record MayWrite (state : CopyState) (event : CacheEvent) (next : CopyState) 
 abbrev pub MayRead : CopyState → CacheEvent → CopyState → Type 0
 MayRead state event next =
     is_readable next
-    ≡ (ends_miss state event || is_readable state && not (is_eviction event || is_invalidated event || is_written event))
+    ≡ (ends_miss state event || is_readable state
+    && not (is_eviction event || is_invalidated event || is_written event))
 
 -- A copy has the newest data from the right to write on, until it gives them to another core or its eviction is over.
 abbrev pub HoldsData : CopyState → CacheEvent → CopyState → Type 0

@@ -12,7 +12,8 @@ use Rattle.directory_table.specs.declared.row.DirSends.TheVariants as sends
 use Rattle.directory_table.specs.declared.row.DirRow.{DirRow}
 use Rattle.directory_table.specs.declared.row.DirRow.TheVariants as rows
 
--- Where the row goes on, its state, owner, sharers, what it sends and whether it writes the home copy have this property.
+-- Where the row goes on, its state, owner, sharers, what it sends and whether it writes the home copy have this
+-- property.
 abbrev pub IfGo : DirRow → (DirState → Option CoreId → ℕ → DirSends → Bool → Type 0) → Type 0
 IfGo (rows.Go state owner sharers sent writes) P = P state owner sharers sent writes
 IfGo rows.Blocked P = Unit {0}
@@ -147,7 +148,8 @@ HasOwnerInM state owner = is_some owner ≡ is_modified state
 abbrev pub brings_home : DirState → Option CoreId → DirEvent → Bool
 brings_home state owner event = is_data_home event || is_written_back state owner event
 
--- Data leave the home copy only while it is current, in I and S; else the request is forwarded to the owner, another core.
+-- Data leave the home copy only while it is current, in I and S; else the request is forwarded to the owner, another
+-- core.
 pub record Serves (state : DirState) (owner : Option CoreId) (event : DirEvent) (sent : DirSends) : Type 0 where
   pub current : IsTrue (sends_data sent) → IsTrue (is_idle state || is_shared state)
   pub forwarded : IfSome (forwarded_to sent) (λ to. (owner ≡ Some to) × IsFalse (is_named (requester event) to.0))

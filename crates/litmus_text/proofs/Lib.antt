@@ -3,5 +3,4 @@ pub mod LineLemmas
 pub mod WordLemmas
 pub mod NumberLemmas
 pub mod RowLemmas
-pub mod FieldNames
 pub mod FormLemmas

@@ -41,8 +41,10 @@ read_digit ds i n below read digit fits = record {
 -- in a number the next byte is a digit, and with it the number fits
 pub next_fits : (ds : List ℕ) (i n : ℕ) → i < length ds → ReadUpTo ds i n → IsNumber ds
     → (digit_value (get_or ds i 0) < 10) × (n * 10 + digit_value (get_or ds i 0) < 2 ^ 64)
-next_fits ds i n below read number =
-    (digit_at ds i number.0.1 below, omega (arith, longer ds i n below read, digits_value-take-le 10 ds (i + 1) (omega arith)))
+next_fits ds i n below read number = (
+  digit_at ds i number.0.1 below,
+  omega (arith, longer ds i n below read, digits_value-take-le 10 ds (i + 1) (omega arith)),
+)
 
 -- all is read
 pub read_whole : (ds : List ℕ) (n : ℕ) → 0 < length ds → length ds ≤ 20 → ReadUpTo ds (length ds) n

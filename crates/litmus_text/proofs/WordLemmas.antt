@@ -24,7 +24,8 @@ words_skip (b ∷ bs) = elim (cases_Bool (is_blank b)) [
 pub words_of_blanks : (bs : List ℕ) → position (λ b. not (is_blank b)) bs ≡ None → words bs ≡ []
 words_of_blanks bs e =
     let q : ℕ → Bool = λ b. not (is_blank b) in
-    sym (words_skip bs) ∙ ap words (drop_all (position_or_len q bs) bs (found_nowhere (position_or_len q bs) (length bs) e))
+    sym (words_skip bs)
+    ∙ ap words (drop_all (position_or_len q bs) bs (found_nowhere (position_or_len q bs) (length bs) e))
 
 -- the words begin at the first byte that is no blank
 pub record BeginsAt (bs : List ℕ) (start : ℕ) : Type 0 where
@@ -48,7 +49,8 @@ words_begin bs start e =
 no_blanks : (bs : List ℕ) → length bs ≤ position_or_len is_blank bs → All (λ b. is_blank b ≡ false) bs
 no_blanks bs h = λ k d below. fails_before_first is_blank bs k d (omega arith)
 
-filter_some : (w : List ℕ) (ws : List (List ℕ)) → 0 < length w → filter (λ w. ltb 0 (length w)) (w ∷ ws) ≡ w ∷ filter (λ w. ltb 0 (length w)) ws
+filter_some : (w : List ℕ) (ws : List (List ℕ)) → 0 < length w →
+    filter (λ w. ltb 0 (length w)) (w ∷ ws) ≡ w ∷ filter (λ w. ltb 0 (length w)) ws
 filter_some w ws h = grind (arith, nat_tests)
 
 -- a text without blanks is one word
@@ -62,14 +64,16 @@ after_begin bs zero begins ends = absurd (false≢true (sym begins ∙ ends))
 after_begin bs (suc n) begins ends = omega arith
 
 -- what stands before the first blank is the first word, where that isn't empty
-pub words_to_blank : (bs : List ℕ) (end : ℕ) → is_blank (get_or bs 0 0) ≡ false → position is_blank bs ≡ Some end → words bs ≡ take end bs ∷ words (drop (end + 1) bs)
+pub words_to_blank : (bs : List ℕ) (end : ℕ) → is_blank (get_or bs 0 0) ≡ false → position is_blank bs ≡ Some end →
+    words bs ≡ take end bs ∷ words (drop (end + 1) bs)
 words_to_blank bs end begins e =
     let p = position_or_len is_blank bs in
     let at = found_at p (length bs) end e in
     let ends : is_blank (get_or bs end 0) ≡ true = rw at.1 at (passes_at_first is_blank bs 0 at.0) in
     let begun : 0 < end = after_begin bs end begins ends in
     let some : 0 < length (take end bs) = simp length-take (omega arith) in
-    let split : words bs ≡ filter (λ w. ltb 0 (length w)) (take p bs ∷ slice_split is_blank (drop (p + 1) bs)) = ap (filter (λ w. ltb 0 (length w))) (slice_split_first is_blank bs 0 at.0) in
+    let split : words bs ≡ filter (λ w. ltb 0 (length w)) (take p bs ∷ slice_split is_blank (drop (p + 1) bs)) =
+    ap (filter (λ w. ltb 0 (length w))) (slice_split_first is_blank bs 0 at.0) in
     split
     ∙ ap (λ k. filter (λ w. ltb 0 (length w)) (take k bs ∷ slice_split is_blank (drop (k + 1) bs))) at.1
     ∙ filter_some (take end bs) (slice_split is_blank (drop (end + 1) bs)) some

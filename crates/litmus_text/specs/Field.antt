@@ -1,5 +1,5 @@
 -- The words with which the lines begin that configure a machine, and the numbers that some of them set.
-use Rattle.std.specs.Prelude.{◌≡◌, ℕ, List, [], ◌∷◌, codes}
+use Rattle.std.specs.Prelude.{◌≡◌, ℕ, List, codes}
 use Rattle.address_map.specs.declared.config.Config.{Config}
 use Rattle.litmus_text.specs.declared.field.Count.{Count}
 use Rattle.litmus_text.specs.declared.field.Count.TheVariants as counts
@@ -20,14 +20,6 @@ name_of fields.Misses = codes "misses"
 name_of fields.Exclusive = codes "exclusive"
 name_of fields.Init = codes "init"
 name_of fields.Counter = codes "counter"
-
--- all fields
-abbrev pub all_fields : List Field
-all_fields =
-    fields.Count counts.Cores ∷ fields.Count counts.Slices ∷ fields.Count counts.Lines ∷ fields.Count counts.Sets
-    ∷ fields.Count counts.Ways ∷ fields.Count counts.Mshrs ∷ fields.Count counts.Targets
-    ∷ fields.Count counts.Writebacks ∷ fields.Policy ∷ fields.Misses ∷ fields.Exclusive ∷ fields.Init
-    ∷ fields.Counter ∷ []
 
 -- the word names a field
 abbrev pub IsFieldName : List ℕ → Type 0

@@ -40,8 +40,11 @@ impl ConfigLine {
     /// The configuration line that these words write.
     pub fn parse(words: &[&[u8]]) -> Result<Self, LineFault>
         ensures written { IfOk result (λ line. Writes (map (λ w. w.now) words.now) (parts_of_config_line line)) }
-        ensures refused { IfErr result (λ fault. (line : ConfigLine) → Writes (map (λ w. w.now) words.now) (parts_of_config_line line) → ⊥) }
-        ensures form { IfErr result (λ fault. (line : ConfigLine) → HasForm (map (λ w. w.now) words.now) (parts_of_config_line line) → fault ≡ LineFault.BadNumber) }
+        ensures refused { IfErr result
+            (λ fault. (line : ConfigLine) → Writes (map (λ w. w.now) words.now) (parts_of_config_line line) → ⊥) }
+        ensures form { IfErr result
+            (λ fault. (line : ConfigLine) → HasForm (map (λ w. w.now) words.now) (parts_of_config_line line)
+            → fault ≡ LineFault.BadNumber) }
     {
         let Some((name, rest)) = words.split_first() else {
             return Err(LineFault::NotACommand);
@@ -84,7 +87,8 @@ impl ConfigLine {
 fn policy(words: &[&[u8]]) -> Result<PolicyKind, LineFault>
     ensures written { IfOk result (λ kind. Writes (map (λ w. w.now) words.now) (parts_of_policy kind)) }
     ensures refused { IfErr result (λ fault. (kind : PolicyKind) → Writes (map (λ w. w.now) words.now) (parts_of_policy kind) → ⊥) }
-    ensures form { IfErr result (λ fault. (kind : PolicyKind) → HasForm (map (λ w. w.now) words.now) (parts_of_policy kind) → fault ≡ LineFault.BadNumber) }
+    ensures form { IfErr result (λ fault. (kind : PolicyKind) → HasForm (map (λ w. w.now) words.now) (parts_of_policy kind)
+        → fault ≡ LineFault.BadNumber) }
 {
     let Some((name, rest)) = words.split_first() else {
         return Err(LineFault::NotACommand);
@@ -106,8 +110,10 @@ fn policy(words: &[&[u8]]) -> Result<PolicyKind, LineFault>
 #[tactic(auto, using(crate::proofs::FormLemmas::wrong_count, crate::proofs::FormLemmas::wrong_form))]
 fn misses(words: &[&[u8]]) -> Result<MissKind, LineFault>
     ensures written { IfOk result (λ kind. Writes (map (λ w. w.now) words.now) (key (name_of_misses kind) ∷ [])) }
-    ensures refused { IfErr result (λ fault. (kind : MissKind) → Writes (map (λ w. w.now) words.now) (key (name_of_misses kind) ∷ []) → ⊥) }
-    ensures form { IfErr result (λ fault. (kind : MissKind) → HasForm (map (λ w. w.now) words.now) (key (name_of_misses kind) ∷ []) → ⊥) }
+    ensures refused { IfErr result
+        (λ fault. (kind : MissKind) → Writes (map (λ w. w.now) words.now) (key (name_of_misses kind) ∷ []) → ⊥) }
+    ensures form { IfErr result
+        (λ fault. (kind : MissKind) → HasForm (map (λ w. w.now) words.now) (key (name_of_misses kind) ∷ []) → ⊥) }
 {
     match words {
         [name] => miss_kind(name),

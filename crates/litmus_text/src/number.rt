@@ -27,7 +27,8 @@ pub fn parse_number(word: &[u8]) -> Option<u64>
 
 // The number with one more digit, where the byte is one and the number still fits.
 fn with_digit(number: u64, byte: u8) -> Option<u64>
-    ensures { SomeIff result ((digit_value byte < 10) × (number * 10 + digit_value byte < 2 ^ 64)) (number * 10 + digit_value byte) }
+    ensures { SomeIff result ((digit_value byte < 10) × (number * 10 + digit_value byte < 2 ^ 64))
+        (number * 10 + digit_value byte) }
 {
     if !byte.is_ascii_digit() {
         return None;
@@ -76,7 +77,8 @@ pub(super) fn one_number(words: &[&[u8]]) -> Result<u64, LineFault>
     ensures written { IfOk result (λ n. Writes (map (λ w. w.now) words.now) (num n ∷ [])) }
     ensures only { IfOk result (λ n. (m : ℕ) → Writes (map (λ w. w.now) words.now) (num m ∷ []) → m ≡ n) }
     ensures refused { IfErr result (λ fault. (n : ℕ) → Writes (map (λ w. w.now) words.now) (num n ∷ []) → ⊥) }
-    ensures form { IfErr result (λ fault. (n : ℕ) → HasForm (map (λ w. w.now) words.now) (num n ∷ []) → fault ≡ LineFault.BadNumber) }
+    ensures form { IfErr result
+        (λ fault. (n : ℕ) → HasForm (map (λ w. w.now) words.now) (num n ∷ []) → fault ≡ LineFault.BadNumber) }
 {
     let [word] = words else {
         return Err(LineFault::NotACommand);
@@ -88,9 +90,11 @@ pub(super) fn one_number(words: &[&[u8]]) -> Result<u64, LineFault>
 #[tactic(auto, using(crate::proofs::FormLemmas::wrong_count, crate::proofs::FormLemmas::wrong_form))]
 pub(super) fn two_numbers(words: &[&[u8]]) -> Result<(u64, u64), LineFault>
     ensures written { IfOk result (λ p. Writes (map (λ w. w.now) words.now) (num p.0 ∷ num p.1 ∷ [])) }
-    ensures only { IfOk result (λ p. (n m : ℕ) → Writes (map (λ w. w.now) words.now) (num n ∷ num m ∷ []) → (n ≡ p.0) × (m ≡ p.1)) }
+    ensures only { IfOk result
+        (λ p. (n m : ℕ) → Writes (map (λ w. w.now) words.now) (num n ∷ num m ∷ []) → (n ≡ p.0) × (m ≡ p.1)) }
     ensures refused { IfErr result (λ fault. (n m : ℕ) → Writes (map (λ w. w.now) words.now) (num n ∷ num m ∷ []) → ⊥) }
-    ensures form { IfErr result (λ fault. (n m : ℕ) → HasForm (map (λ w. w.now) words.now) (num n ∷ num m ∷ []) → fault ≡ LineFault.BadNumber) }
+    ensures form { IfErr result
+        (λ fault. (n m : ℕ) → HasForm (map (λ w. w.now) words.now) (num n ∷ num m ∷ []) → fault ≡ LineFault.BadNumber) }
 {
     let [first, second] = words else {
         return Err(LineFault::NotACommand);
@@ -105,7 +109,8 @@ pub(super) fn three_numbers(words: &[&[u8]]) -> Result<(u64, u64, u64), LineFaul
     ensures only { IfOk result (λ p. (n m k : ℕ) → Writes (map (λ w. w.now) words.now) (num n ∷ num m ∷ num k ∷ [])
         → (n ≡ p.0) × (m ≡ p.1) × (k ≡ p.2)) }
     ensures refused { IfErr result (λ fault. (n m k : ℕ) → Writes (map (λ w. w.now) words.now) (num n ∷ num m ∷ num k ∷ []) → ⊥) }
-    ensures form { IfErr result (λ fault. (n m k : ℕ) → HasForm (map (λ w. w.now) words.now) (num n ∷ num m ∷ num k ∷ []) → fault ≡ LineFault.BadNumber) }
+    ensures form { IfErr result (λ fault. (n m k : ℕ) → HasForm (map (λ w. w.now) words.now) (num n ∷ num m ∷ num k ∷ [])
+        → fault ≡ LineFault.BadNumber) }
 {
     let [first, second, third] = words else {
         return Err(LineFault::NotACommand);

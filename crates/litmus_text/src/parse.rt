@@ -20,8 +20,10 @@ use slice_queues_message::Pick;
 pub fn parse_command(config: &Checked, words: &[&[u8]]) -> Result<Command, LineFault>
     ensures read { IfOk result (IsRead config.now (map (λ w. w.now) words.now)) }
     ensures refused { IfErr result (λ fault. (command : Command) → IsRead config.now (map (λ w. w.now) words.now) command → ⊥) }
-    ensures form { IfErr result (λ fault. (command : Command) → HasForm (map (λ w. w.now) words.now) (parts_of command) → fault ≢ LineFault.NotACommand) }
-    ensures range { IfErr result (λ fault. (command : Command) → Writes (map (λ w. w.now) words.now) (parts_of command) → HasTag command → fault ≡ LineFault.OutOfRange) }
+    ensures form { IfErr result (λ fault. (command : Command) → HasForm (map (λ w. w.now) words.now) (parts_of command)
+        → fault ≢ LineFault.NotACommand) }
+    ensures range { IfErr result (λ fault. (command : Command) → Writes (map (λ w. w.now) words.now) (parts_of command)
+        → HasTag command → fault ≡ LineFault.OutOfRange) }
 {
     let Some((name, rest)) = words.split_first() else {
         return Err(LineFault::NotACommand);
@@ -43,9 +45,14 @@ pub fn parse_command(config: &Checked, words: &[&[u8]]) -> Result<Command, LineF
 #[tactic(auto, using(crate::proofs::FormLemmas::wrong_count, crate::proofs::FormLemmas::wrong_form))]
 fn parse_issue(config: &Checked, words: &[&[u8]]) -> Result<Command, LineFault>
     ensures read { IfOk result (IsRead config.now (codes "issue" ∷ map (λ w. w.now) words.now)) }
-    ensures refused { IfErr result (λ fault. (command : Command) → IsRead config.now (codes "issue" ∷ map (λ w. w.now) words.now) command → ⊥) }
-    ensures form { IfErr result (λ fault. (command : Command) → HasForm (codes "issue" ∷ map (λ w. w.now) words.now) (parts_of command) → fault ≢ LineFault.NotACommand) }
-    ensures range { IfErr result (λ fault. (command : Command) → Writes (codes "issue" ∷ map (λ w. w.now) words.now) (parts_of command) → HasTag command → fault ≡ LineFault.OutOfRange) }
+    ensures refused { IfErr result
+        (λ fault. (command : Command) → IsRead config.now (codes "issue" ∷ map (λ w. w.now) words.now) command → ⊥) }
+    ensures form { IfErr result
+        (λ fault. (command : Command) → HasForm (codes "issue" ∷ map (λ w. w.now) words.now) (parts_of command)
+        → fault ≢ LineFault.NotACommand) }
+    ensures range { IfErr result
+        (λ fault. (command : Command) → Writes (codes "issue" ∷ map (λ w. w.now) words.now) (parts_of command)
+        → HasTag command → fault ≡ LineFault.OutOfRange) }
 {
     let [core, tag, access @ ..] = words else {
         return Err(LineFault::NotACommand);
@@ -61,9 +68,14 @@ fn parse_issue(config: &Checked, words: &[&[u8]]) -> Result<Command, LineFault>
 
 fn parse_evict(config: &Checked, words: &[&[u8]]) -> Result<Command, LineFault>
     ensures read { IfOk result (IsRead config.now (codes "evict" ∷ map (λ w. w.now) words.now)) }
-    ensures refused { IfErr result (λ fault. (command : Command) → IsRead config.now (codes "evict" ∷ map (λ w. w.now) words.now) command → ⊥) }
-    ensures form { IfErr result (λ fault. (command : Command) → HasForm (codes "evict" ∷ map (λ w. w.now) words.now) (parts_of command) → fault ≢ LineFault.NotACommand) }
-    ensures range { IfErr result (λ fault. (command : Command) → Writes (codes "evict" ∷ map (λ w. w.now) words.now) (parts_of command) → HasTag command → fault ≡ LineFault.OutOfRange) }
+    ensures refused { IfErr result
+        (λ fault. (command : Command) → IsRead config.now (codes "evict" ∷ map (λ w. w.now) words.now) command → ⊥) }
+    ensures form { IfErr result
+        (λ fault. (command : Command) → HasForm (codes "evict" ∷ map (λ w. w.now) words.now) (parts_of command)
+        → fault ≢ LineFault.NotACommand) }
+    ensures range { IfErr result
+        (λ fault. (command : Command) → Writes (codes "evict" ∷ map (λ w. w.now) words.now) (parts_of command)
+        → HasTag command → fault ≡ LineFault.OutOfRange) }
 {
     let (core, line) = two_numbers(words)?;
     Ok(Command::Evict {
@@ -74,18 +86,28 @@ fn parse_evict(config: &Checked, words: &[&[u8]]) -> Result<Command, LineFault>
 
 fn parse_deliver(config: &Checked, words: &[&[u8]]) -> Result<Command, LineFault>
     ensures read { IfOk result (IsRead config.now (codes "deliver" ∷ map (λ w. w.now) words.now)) }
-    ensures refused { IfErr result (λ fault. (command : Command) → IsRead config.now (codes "deliver" ∷ map (λ w. w.now) words.now) command → ⊥) }
-    ensures form { IfErr result (λ fault. (command : Command) → HasForm (codes "deliver" ∷ map (λ w. w.now) words.now) (parts_of command) → fault ≢ LineFault.NotACommand) }
-    ensures range { IfErr result (λ fault. (command : Command) → Writes (codes "deliver" ∷ map (λ w. w.now) words.now) (parts_of command) → HasTag command → fault ≡ LineFault.OutOfRange) }
+    ensures refused { IfErr result
+        (λ fault. (command : Command) → IsRead config.now (codes "deliver" ∷ map (λ w. w.now) words.now) command → ⊥) }
+    ensures form { IfErr result
+        (λ fault. (command : Command) → HasForm (codes "deliver" ∷ map (λ w. w.now) words.now) (parts_of command)
+        → fault ≢ LineFault.NotACommand) }
+    ensures range { IfErr result
+        (λ fault. (command : Command) → Writes (codes "deliver" ∷ map (λ w. w.now) words.now) (parts_of command)
+        → HasTag command → fault ≡ LineFault.OutOfRange) }
 {
     Ok(Command::Deliver(parse_pick(config, words)?))
 }
 
 fn parse_hand(config: &Checked, words: &[&[u8]]) -> Result<Command, LineFault>
     ensures read { IfOk result (IsRead config.now (codes "hand" ∷ map (λ w. w.now) words.now)) }
-    ensures refused { IfErr result (λ fault. (command : Command) → IsRead config.now (codes "hand" ∷ map (λ w. w.now) words.now) command → ⊥) }
-    ensures form { IfErr result (λ fault. (command : Command) → HasForm (codes "hand" ∷ map (λ w. w.now) words.now) (parts_of command) → fault ≢ LineFault.NotACommand) }
-    ensures range { IfErr result (λ fault. (command : Command) → Writes (codes "hand" ∷ map (λ w. w.now) words.now) (parts_of command) → HasTag command → fault ≡ LineFault.OutOfRange) }
+    ensures refused { IfErr result
+        (λ fault. (command : Command) → IsRead config.now (codes "hand" ∷ map (λ w. w.now) words.now) command → ⊥) }
+    ensures form { IfErr result
+        (λ fault. (command : Command) → HasForm (codes "hand" ∷ map (λ w. w.now) words.now) (parts_of command)
+        → fault ≢ LineFault.NotACommand) }
+    ensures range { IfErr result
+        (λ fault. (command : Command) → Writes (codes "hand" ∷ map (λ w. w.now) words.now) (parts_of command)
+        → HasTag command → fault ≡ LineFault.OutOfRange) }
 {
     let (core, slice) = two_numbers(words)?;
     Ok(Command::Hand {
@@ -96,9 +118,14 @@ fn parse_hand(config: &Checked, words: &[&[u8]]) -> Result<Command, LineFault>
 
 fn parse_word(config: &Checked, words: &[&[u8]]) -> Result<Command, LineFault>
     ensures read { IfOk result (IsRead config.now (codes "word" ∷ map (λ w. w.now) words.now)) }
-    ensures refused { IfErr result (λ fault. (command : Command) → IsRead config.now (codes "word" ∷ map (λ w. w.now) words.now) command → ⊥) }
-    ensures form { IfErr result (λ fault. (command : Command) → HasForm (codes "word" ∷ map (λ w. w.now) words.now) (parts_of command) → fault ≢ LineFault.NotACommand) }
-    ensures range { IfErr result (λ fault. (command : Command) → Writes (codes "word" ∷ map (λ w. w.now) words.now) (parts_of command) → HasTag command → fault ≡ LineFault.OutOfRange) }
+    ensures refused { IfErr result
+        (λ fault. (command : Command) → IsRead config.now (codes "word" ∷ map (λ w. w.now) words.now) command → ⊥) }
+    ensures form { IfErr result
+        (λ fault. (command : Command) → HasForm (codes "word" ∷ map (λ w. w.now) words.now) (parts_of command)
+        → fault ≢ LineFault.NotACommand) }
+    ensures range { IfErr result
+        (λ fault. (command : Command) → Writes (codes "word" ∷ map (λ w. w.now) words.now) (parts_of command)
+        → HasTag command → fault ≡ LineFault.OutOfRange) }
 {
     let word = one_number(words)?;
     Ok(Command::Word(word_in(config, word)?))
@@ -106,9 +133,14 @@ fn parse_word(config: &Checked, words: &[&[u8]]) -> Result<Command, LineFault>
 
 fn parse_state(config: &Checked, words: &[&[u8]]) -> Result<Command, LineFault>
     ensures read { IfOk result (IsRead config.now (codes "state" ∷ map (λ w. w.now) words.now)) }
-    ensures refused { IfErr result (λ fault. (command : Command) → IsRead config.now (codes "state" ∷ map (λ w. w.now) words.now) command → ⊥) }
-    ensures form { IfErr result (λ fault. (command : Command) → HasForm (codes "state" ∷ map (λ w. w.now) words.now) (parts_of command) → fault ≢ LineFault.NotACommand) }
-    ensures range { IfErr result (λ fault. (command : Command) → Writes (codes "state" ∷ map (λ w. w.now) words.now) (parts_of command) → HasTag command → fault ≡ LineFault.OutOfRange) }
+    ensures refused { IfErr result
+        (λ fault. (command : Command) → IsRead config.now (codes "state" ∷ map (λ w. w.now) words.now) command → ⊥) }
+    ensures form { IfErr result
+        (λ fault. (command : Command) → HasForm (codes "state" ∷ map (λ w. w.now) words.now) (parts_of command)
+        → fault ≢ LineFault.NotACommand) }
+    ensures range { IfErr result
+        (λ fault. (command : Command) → Writes (codes "state" ∷ map (λ w. w.now) words.now) (parts_of command)
+        → HasTag command → fault ≡ LineFault.OutOfRange) }
 {
     let line = one_number(words)?;
     Ok(Command::State(line_in(config, line)?))
@@ -116,9 +148,14 @@ fn parse_state(config: &Checked, words: &[&[u8]]) -> Result<Command, LineFault>
 
 fn parse_log(config: &Checked, words: &[&[u8]]) -> Result<Command, LineFault>
     ensures read { IfOk result (IsRead config.now (codes "log" ∷ map (λ w. w.now) words.now)) }
-    ensures refused { IfErr result (λ fault. (command : Command) → IsRead config.now (codes "log" ∷ map (λ w. w.now) words.now) command → ⊥) }
-    ensures form { IfErr result (λ fault. (command : Command) → HasForm (codes "log" ∷ map (λ w. w.now) words.now) (parts_of command) → fault ≢ LineFault.NotACommand) }
-    ensures range { IfErr result (λ fault. (command : Command) → Writes (codes "log" ∷ map (λ w. w.now) words.now) (parts_of command) → HasTag command → fault ≡ LineFault.OutOfRange) }
+    ensures refused { IfErr result
+        (λ fault. (command : Command) → IsRead config.now (codes "log" ∷ map (λ w. w.now) words.now) command → ⊥) }
+    ensures form { IfErr result
+        (λ fault. (command : Command) → HasForm (codes "log" ∷ map (λ w. w.now) words.now) (parts_of command)
+        → fault ≢ LineFault.NotACommand) }
+    ensures range { IfErr result
+        (λ fault. (command : Command) → Writes (codes "log" ∷ map (λ w. w.now) words.now) (parts_of command)
+        → HasTag command → fault ≡ LineFault.OutOfRange) }
 {
     let slice = one_number(words)?;
     Ok(Command::Log(slice_in(config, slice)?))
@@ -126,9 +163,15 @@ fn parse_log(config: &Checked, words: &[&[u8]]) -> Result<Command, LineFault>
 
 fn parse_stats(words: &[&[u8]]) -> Result<Command, LineFault>
     ensures read { (config : Config) → IfOk result (IsRead config (codes "stats" ∷ map (λ w. w.now) words.now)) }
-    ensures refused { IfErr result (λ fault. (config : Config) (command : Command) → IsRead config (codes "stats" ∷ map (λ w. w.now) words.now) command → ⊥) }
-    ensures form { IfErr result (λ fault. (command : Command) → HasForm (codes "stats" ∷ map (λ w. w.now) words.now) (parts_of command) → fault ≢ LineFault.NotACommand) }
-    ensures range { IfErr result (λ fault. (command : Command) → Writes (codes "stats" ∷ map (λ w. w.now) words.now) (parts_of command) → HasTag command → fault ≡ LineFault.OutOfRange) }
+    ensures refused { IfErr result
+        (λ fault. (config : Config) (command : Command)
+        → IsRead config (codes "stats" ∷ map (λ w. w.now) words.now) command → ⊥) }
+    ensures form { IfErr result
+        (λ fault. (command : Command) → HasForm (codes "stats" ∷ map (λ w. w.now) words.now) (parts_of command)
+        → fault ≢ LineFault.NotACommand) }
+    ensures range { IfErr result
+        (λ fault. (command : Command) → Writes (codes "stats" ∷ map (λ w. w.now) words.now) (parts_of command)
+        → HasTag command → fault ≡ LineFault.OutOfRange) }
 {
     no_numbers(words)?;
     Ok(Command::Stats)
@@ -136,9 +179,15 @@ fn parse_stats(words: &[&[u8]]) -> Result<Command, LineFault>
 
 fn parse_pump(words: &[&[u8]]) -> Result<Command, LineFault>
     ensures read { (config : Config) → IfOk result (IsRead config (codes "pump" ∷ map (λ w. w.now) words.now)) }
-    ensures refused { IfErr result (λ fault. (config : Config) (command : Command) → IsRead config (codes "pump" ∷ map (λ w. w.now) words.now) command → ⊥) }
-    ensures form { IfErr result (λ fault. (command : Command) → HasForm (codes "pump" ∷ map (λ w. w.now) words.now) (parts_of command) → fault ≢ LineFault.NotACommand) }
-    ensures range { IfErr result (λ fault. (command : Command) → Writes (codes "pump" ∷ map (λ w. w.now) words.now) (parts_of command) → HasTag command → fault ≡ LineFault.OutOfRange) }
+    ensures refused { IfErr result
+        (λ fault. (config : Config) (command : Command)
+        → IsRead config (codes "pump" ∷ map (λ w. w.now) words.now) command → ⊥) }
+    ensures form { IfErr result
+        (λ fault. (command : Command) → HasForm (codes "pump" ∷ map (λ w. w.now) words.now) (parts_of command)
+        → fault ≢ LineFault.NotACommand) }
+    ensures range { IfErr result
+        (λ fault. (command : Command) → Writes (codes "pump" ∷ map (λ w. w.now) words.now) (parts_of command)
+        → HasTag command → fault ≡ LineFault.OutOfRange) }
 {
     Ok(Command::Pump(one_number(words)?))
 }
@@ -148,7 +197,8 @@ fn parse_pump(words: &[&[u8]]) -> Result<Command, LineFault>
 pub fn parse_access(words: &[&[u8]]) -> Result<(Op, WordAddr), LineFault>
     ensures written { IfOk result (λ p. Writes (map (λ w. w.now) words.now) (parts_of_op p.0 p.1.0)) }
     ensures refused { IfErr result (λ fault. (op : Op) (word : ℕ) → Writes (map (λ w. w.now) words.now) (parts_of_op op word) → ⊥) }
-    ensures form { IfErr result (λ fault. (op : Op) (word : ℕ) → HasForm (map (λ w. w.now) words.now) (parts_of_op op word) → fault ≡ LineFault.BadNumber) }
+    ensures form { IfErr result (λ fault. (op : Op) (word : ℕ) → HasForm (map (λ w. w.now) words.now) (parts_of_op op word)
+        → fault ≡ LineFault.BadNumber) }
 {
     let Some((name, rest)) = words.split_first() else {
         return Err(LineFault::NotACommand);
@@ -179,9 +229,15 @@ pub fn parse_access(words: &[&[u8]]) -> Result<(Op, WordAddr), LineFault>
 fn parse_pick(config: &Checked, words: &[&[u8]]) -> Result<Pick, LineFault>
     ensures written { IfOk result (λ pick. Writes (map (λ w. w.now) words.now) (parts_of_pick pick)) }
     ensures in_range { IfOk result (HasPick config.now) }
-    ensures refused { IfErr result (λ fault. (pick : Pick) → Writes (map (λ w. w.now) words.now) (parts_of_pick pick) → HasPick config.now pick → ⊥) }
-    ensures form { IfErr result (λ fault. (pick : Pick) → HasForm (map (λ w. w.now) words.now) (parts_of_pick pick) → fault ≢ LineFault.NotACommand) }
-    ensures range { IfErr result (λ fault. (pick : Pick) → Writes (map (λ w. w.now) words.now) (parts_of_pick pick) → fault ≡ LineFault.OutOfRange) }
+    ensures refused { IfErr result
+        (λ fault. (pick : Pick) → Writes (map (λ w. w.now) words.now) (parts_of_pick pick) → HasPick config.now pick
+        → ⊥) }
+    ensures form { IfErr result
+        (λ fault. (pick : Pick) → HasForm (map (λ w. w.now) words.now) (parts_of_pick pick)
+        → fault ≢ LineFault.NotACommand) }
+    ensures range { IfErr result
+        (λ fault. (pick : Pick) → Writes (map (λ w. w.now) words.now) (parts_of_pick pick)
+        → fault ≡ LineFault.OutOfRange) }
 {
     let Some((class, rest)) = words.split_first() else {
         return Err(LineFault::NotACommand);
@@ -222,8 +278,10 @@ fn line_and_core(config: &Checked, words: &[&[u8]]) -> Result<(LineAddr, CoreId)
     ensures refused { IfErr result (λ fault. (line : LineAddr) (core : CoreId)
         → Writes (map (λ w. w.now) words.now) (num line.0 ∷ num core.0 ∷ [])
         → HasLine config.now line → HasCore config.now core → ⊥) }
-    ensures form { IfErr result (λ fault. (n m : ℕ) → HasForm (map (λ w. w.now) words.now) (num n ∷ num m ∷ []) → fault ≢ LineFault.NotACommand) }
-    ensures range { IfErr result (λ fault. (n m : ℕ) → Writes (map (λ w. w.now) words.now) (num n ∷ num m ∷ []) → fault ≡ LineFault.OutOfRange) }
+    ensures form { IfErr result
+        (λ fault. (n m : ℕ) → HasForm (map (λ w. w.now) words.now) (num n ∷ num m ∷ []) → fault ≢ LineFault.NotACommand) }
+    ensures range { IfErr result
+        (λ fault. (n m : ℕ) → Writes (map (λ w. w.now) words.now) (num n ∷ num m ∷ []) → fault ≡ LineFault.OutOfRange) }
 {
     let (line, core) = two_numbers(words)?;
     Ok((line_in(config, line)?, core_in(config, core)?))

@@ -12,10 +12,6 @@ use Rattle.mshr_file.specs.Miss.{is_for, targets_in, targets_of, is_waited, coun
 use Rattle.mshr_file.specs.Waiting.{at_line, put_first, by_line, count_at}
 use Rattle.mshr_file.proofs.Lists.{count_by-yes, count_by-no}
 
-for-another : (line other : ℕ) (register : Register) → register.line.0 ≡ line → other ≢ line → targets_in other register ≡ []
-for-another line other register for differs =
-    let not : is_for other register ≡ false = ne_eqb register.line.0 other (λ same. differs (sym same ∙ for)) in rw not refl
-
 for-line : (line : ℕ) (register : Register) → register.line.0 ≡ line → targets_in line register ≡ register.targets
 for-line line register for = let is : is_for line register ≡ true = eq-eqb register.line.0 line for in rw is refl
 
@@ -28,7 +24,8 @@ targets_of-put_first entry (register ∷ registers) =
     ⊎_elim
     (λ here.
     let for = eqb-true register.line.0 entry.line.0 here in
-    let longer = for-line entry.line.0 (record { targets = entry.target ∷ register.targets; line = register.line }) for in
+    let longer =
+    for-line entry.line.0 (record { targets = entry.target ∷ register.targets; line = register.line }) for in
     let rest = targets_of registers entry.line.0 in
     rw here (ap (λ targets. targets ++ rest) longer))
     (λ elsewhere. rw elsewhere (rw elsewhere (targets_of-put_first entry registers)))
@@ -45,7 +42,9 @@ targets_of-put_other entry (register ∷ registers) line differs =
     let for = eqb-true register.line.0 entry.line.0 here in
     let not : (register.line.0 == line) ≡ false = ne_eqb register.line.0 line (λ same. differs (sym same ∙ for)) in
     rw here (rw not refl))
-    (λ elsewhere. rw elsewhere (ap (λ targets. targets_in line register ++ targets) (targets_of-put_other entry registers line differs)))
+    (λ elsewhere.
+    rw elsewhere
+    (ap (λ targets. targets_in line register ++ targets) (targets_of-put_other entry registers line differs)))
     (cases_Bool (register.line.0 == entry.line.0))
 
 -- What waits for a line is the targets of its entries, in their order.
@@ -76,7 +75,8 @@ count_of-put_first : (test : Target → Bool) (entry : Waiting) (registers : Lis
     count_of test (put_first entry registers) ≡ count_by test (entry.target ∷ []) + count_of test registers
 unfolding put_first
 count_of-put_first test entry [] =
-    sum_by-cons {X = Register} (λ register. count_by test register.targets) (record { targets = entry.target ∷ []; line = entry.line }) []
+    sum_by-cons {X = Register} (λ register. count_by test register.targets)
+    (record { targets = entry.target ∷ []; line = entry.line }) []
 count_of-put_first test entry (register ∷ registers) =
     let count = λ (r : Register). count_by test r.targets in
     let old = sum_by-cons count register registers in
@@ -95,7 +95,8 @@ count_of-put_first test entry (register ∷ registers) =
     (cases_Bool (register.line.0 == entry.line.0))
 
 -- A test passes as many targets of the registers as of the entries.
-pub counts_at : (test : Target → Bool) (entries : List Waiting) → count_of test (by_line entries) ≡ count_at test entries
+pub counts_at : (test : Target → Bool) (entries : List Waiting) →
+    count_of test (by_line entries) ≡ count_at test entries
 unfolding by_line
 counts_at test [] = refl
 counts_at test (entry ∷ entries) =
@@ -110,7 +111,8 @@ single-put_other : (entry : Waiting) (registers : List Register) (line : ℕ) �
     count_by (is_for line) (put_first entry registers) ≡ count_by (is_for line) registers
 unfolding put_first
 single-put_other entry [] line differs =
-    count_by-no (is_for line) (record { targets = entry.target ∷ []; line = entry.line }) [] (ne_eqb entry.line.0 line (λ same. differs (sym same)))
+    count_by-no (is_for line) (record { targets = entry.target ∷ []; line = entry.line }) []
+    (ne_eqb entry.line.0 line (λ same. differs (sym same)))
 single-put_other entry (register ∷ registers) line differs =
     ⊎_elim
     (λ here.
@@ -132,7 +134,9 @@ single-put_other entry (register ∷ registers) line differs =
 single-put_first : (entry : Waiting) (registers : List Register) → count_by (is_for entry.line.0) registers ≤ 1 →
     count_by (is_for entry.line.0) (put_first entry registers) ≡ 1
 unfolding put_first
-single-put_first entry [] few = count_by-yes (is_for entry.line.0) (record { targets = entry.target ∷ []; line = entry.line }) [] (eq-eqb entry.line.0 entry.line.0 refl)
+single-put_first entry [] few =
+    count_by-yes (is_for entry.line.0) (record { targets = entry.target ∷ []; line = entry.line }) []
+    (eq-eqb entry.line.0 entry.line.0 refl)
 single-put_first entry (register ∷ registers) few =
     let line = entry.line.0 in
     ⊎_elim
@@ -161,7 +165,8 @@ waited-put_first entry (register ∷ registers) waited =
     (λ here. rw here (All-cons (λ r. IsTrue (is_waited r.targets)) _ registers refl rest))
     (λ elsewhere.
     rw elsewhere
-    (All-cons (λ r. IsTrue (is_waited r.targets)) register (put_first entry registers) first (waited-put_first entry registers rest)))
+    (All-cons (λ r. IsTrue (is_waited r.targets)) register (put_first entry registers) first
+    (waited-put_first entry registers rest)))
     (cases_Bool (register.line.0 == entry.line.0))
 
 -- The registers are a miss file.
@@ -173,7 +178,8 @@ by_line_sound (entry ∷ entries) =
     record {
       single = λ line.
           ⊎_elim
-          (λ same. let one = single-put_first entry (by_line entries) (later.single entry.line.0) in rw same (omega (arith, one)))
+          (λ same. let one = single-put_first entry (by_line entries) (later.single entry.line.0) in
+          rw same (omega (arith, one)))
           (λ differs.
           let other = single-put_other entry (by_line entries) line differs in
           let few = later.single line in

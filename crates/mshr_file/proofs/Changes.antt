@@ -1,5 +1,5 @@
 -- What adding and taking targets does to the misses, for callers of a file: lemmas over any lists of registers.
-use Rattle.std.proofs.Common.{◌≡◌, ◌≢◌, ℕ, ◌≤◌, Bool, true, false, not, if◌then◌else◌, List, [], ◌∷◌, ◌++◌, refl, sym, ap, ⊎_elim, arith, ◌∙◌}
+use Rattle.std.proofs.Common.{◌≡◌, ℕ, ◌≤◌, Bool, true, false, not, if◌then◌else◌, List, [], ◌∷◌, ◌++◌, refl, sym, ap, ⊎_elim, arith, ◌∙◌}
 use Rattle.std.specs.Prelude.{All, IsTrue}
 use Rattle.std.specs.List.{count_by}
 use Rattle.std.proofs.lemmas.Bool.{cases_Bool}
@@ -10,13 +10,6 @@ use Rattle.target_list.specs.declared.target.Target.{Target}
 use Rattle.mshr_file.specs.declared.registers.Register.{Register}
 use Rattle.mshr_file.specs.Miss.{is_for, targets_in, targets_of, is_waited, has_miss, count_of, AddsTarget, TakesTargets}
 use Rattle.mshr_file.proofs.Lists.{count_by-yes, count_by-no}
-
--- Where there is no register, nothing waits for a line.
-pub targets_of-none : (line : ℕ) → targets_of [] line ≡ []
-targets_of-none line = refl
-
-pub has_miss-none : (line : ℕ) → has_miss [] line ≡ false
-has_miss-none line = refl
 
 -- Where no target was taken, the misses may be as they were.
 pub takes_nothing : (misses : List Register) (line : ℕ) → TakesTargets misses misses line []
@@ -53,22 +46,6 @@ has_miss-added old new line target adds = ap is_waited adds.here ∙ waits (targ
     waits : (targets : List Target) → is_waited (targets ++ target ∷ []) ≡ true
     waits [] = refl
     waits (first ∷ rest) = refl
-
--- Another line has a register where it had one before.
-pub has_miss-added_other : (old new : List Register) (line : ℕ) (target : Target) (other : ℕ) →
-    AddsTarget old new line target →
-    other ≢ line → has_miss new other ≡ has_miss old other
-has_miss-added_other old new line target other adds differs = ap is_waited (adds.others other differs)
-
-pub has_miss-taken_other : (old new : List Register) (line : ℕ) (taken : List Target) (other : ℕ) →
-    TakesTargets old new line taken →
-    other ≢ line → has_miss new other ≡ has_miss old other
-has_miss-taken_other old new line taken other takes differs = ap is_waited (takes.others other differs)
-
--- The line has a register still where a target is left of those that waited.
-pub has_miss-taken : (old new : List Register) (line : ℕ) (taken left : List Target) → TakesTargets old new line taken →
-    targets_of new line ≡ left → has_miss new line ≡ is_waited left
-has_miss-taken old new line taken left takes is = ap is_waited is
 
 -- What no target passes, no target passes after some were taken.
 pub count_of-taken_none : (test : Target → Bool) (old new : List Register) (line : ℕ) (taken : List Target) →

@@ -21,7 +21,8 @@ use Rattle.mshr_file.proofs.ByLine.{waits_at, counts_at}
 
 -- how many registers there are with one more target
 length-put_first : (entry : Waiting) (registers : List Register) →
-    length (put_first entry registers) + (if list_any (is_for entry.line.0) registers then 1 else 0) ≡ length registers + 1
+    length (put_first entry registers) + (if list_any (is_for entry.line.0) registers then 1 else 0)
+    ≡ length registers + 1
 unfolding put_first
 length-put_first entry [] = refl
 length-put_first entry (register ∷ registers) =
@@ -41,27 +42,32 @@ for-put_other entry (register ∷ registers) line differs =
     (λ elsewhere. rw elsewhere (ap (λ more. is_for line register || more) (for-put_other entry registers line differs)))
     (cases_Bool (register.line.0 == entry.line.0))
 
-for-put_first : (entry : Waiting) (registers : List Register) → list_any (is_for entry.line.0) (put_first entry registers) ≡ true
+for-put_first : (entry : Waiting) (registers : List Register) →
+    list_any (is_for entry.line.0) (put_first entry registers) ≡ true
 unfolding put_first
-for-put_first entry [] = let is : (entry.line.0 == entry.line.0) ≡ true = eq-eqb entry.line.0 entry.line.0 refl in rw is refl
+for-put_first entry [] =
+    let is : (entry.line.0 == entry.line.0) ≡ true = eq-eqb entry.line.0 entry.line.0 refl in rw is refl
 for-put_first entry (register ∷ registers) =
     ⊎_elim
     (λ here. rw here (rw here refl))
     (λ elsewhere. rw elsewhere (rw elsewhere (for-put_first entry registers)))
     (cases_Bool (register.line.0 == entry.line.0))
 
-for-entries : (entries : List Waiting) (line : ℕ) → list_any (is_for line) (by_line entries) ≡ list_any (waits_for line) entries
+for-entries : (entries : List Waiting) (line : ℕ) →
+    list_any (is_for line) (by_line entries) ≡ list_any (waits_for line) entries
 unfolding by_line
 for-entries [] line = refl
 for-entries (entry ∷ entries) line =
     ⊎_elim
     (λ same.
     let is : (entry.line.0 == line) ≡ true = eq-eqb entry.line.0 line (sym same) in
-    let there : list_any (is_for line) (put_first entry (by_line entries)) ≡ true = rw same (for-put_first entry (by_line entries)) in
+    let there : list_any (is_for line) (put_first entry (by_line entries)) ≡ true =
+    rw same (for-put_first entry (by_line entries)) in
     there ∙ sym (first-counts entry entries line is))
     (λ differs.
     let isnt : (entry.line.0 == line) ≡ false = ne_eqb entry.line.0 line (λ same. differs (sym same)) in
-    for-put_other entry (by_line entries) line differs ∙ for-entries entries line ∙ sym (first-counts-not entry entries line isnt))
+    for-put_other entry (by_line entries) line differs ∙ for-entries entries line
+    ∙ sym (first-counts-not entry entries line isnt))
     (cases_eq line entry.line.0)
   where
     first-counts : (entry : Waiting) (entries : List Waiting) (line : ℕ) → (entry.line.0 == line) ≡ true →
@@ -74,7 +80,8 @@ for-entries (entry ∷ entries) line =
 
 -- An entry whose line is not among the later ones is one register more.
 pub length_by_line : (entry : Waiting) (entries : List Waiting) →
-    length (by_line (entry ∷ entries)) + (if list_any (waits_for entry.line.0) entries then 1 else 0) ≡ length (by_line entries) + 1
+    length (by_line (entry ∷ entries)) + (if list_any (waits_for entry.line.0) entries then 1 else 0)
+    ≡ length (by_line entries) + 1
 unfolding by_line
 length_by_line entry entries =
     let more = length-put_first entry (by_line entries) in
@@ -82,7 +89,8 @@ length_by_line entry entries =
     omega (arith, more, same)
 
 -- Whether there is a register for a line is whether an entry waits for it.
-pub has_miss_at : (entries : List Waiting) (line : ℕ) → has_miss (by_line entries) line ≡ list_any (waits_for line) entries
+pub has_miss_at : (entries : List Waiting) (line : ℕ) →
+    has_miss (by_line entries) line ≡ list_any (waits_for line) entries
 has_miss_at entries line = ap is_waited (waits_at entries line) ∙ waited entries line
   where
     waited : (entries : List Waiting) (line : ℕ) → is_waited (at_line line entries) ≡ list_any (waits_for line) entries
@@ -90,22 +98,22 @@ has_miss_at entries line = ap is_waited (waits_at entries line) ∙ waited entri
     waited (entry ∷ entries) line =
         ⊎_elim (λ is. rw is refl) (λ isnt. rw isnt (waited entries line)) (cases_Bool (waits_for line entry))
 
-count_at-append : (test : Target → Bool) (front back : List Waiting) → count_at test (front ++ back) ≡ count_at test front + count_at test back
+count_at-append : (test : Target → Bool) (front back : List Waiting) →
+    count_at test (front ++ back) ≡ count_at test front + count_at test back
 count_at-append test front back = sum_by-append (λ entry. if test entry.target then 1 else 0) front back
 
-at_line-append : (line : ℕ) (front back : List Waiting) → at_line line (front ++ back) ≡ at_line line front ++ at_line line back
+at_line-append : (line : ℕ) (front back : List Waiting) →
+    at_line line (front ++ back) ≡ at_line line front ++ at_line line back
 at_line-append line front back =
     ap (map (λ entry. entry.target)) (filter-append (waits_for line) front back)
     ∙ map-append (λ (entry : Waiting). entry.target) (filter (waits_for line) front) (filter (waits_for line) back)
 
-at_line-one : (line : ℕ) (entry : Waiting) → (entry.line.0 == line) ≡ true → at_line line (entry ∷ []) ≡ entry.target ∷ []
+at_line-one : (line : ℕ) (entry : Waiting) → (entry.line.0 == line) ≡ true →
+    at_line line (entry ∷ []) ≡ entry.target ∷ []
 at_line-one line entry is = rw is refl
 
 at_line-none : (line : ℕ) (entry : Waiting) → (entry.line.0 == line) ≡ false → at_line line (entry ∷ []) ≡ []
 at_line-none line entry isnt = rw isnt refl
-
-count-one : (test : Target → Bool) (entry : Waiting) → count_at test (entry ∷ []) ≡ count_by test (entry.target ∷ [])
-count-one test entry = refl
 
 -- An entry behind the others is a target behind those of its line.
 pub pushed_entry : (entries : List Waiting) (entry : Waiting) →
@@ -118,7 +126,8 @@ pushed_entry entries entry = record {
   once = once_added (by_line entries) (by_line (entries ++ entry ∷ [])) entry.target counts;
 }
   where
-    here : targets_of (by_line (entries ++ entry ∷ [])) entry.line.0 ≡ targets_of (by_line entries) entry.line.0 ++ entry.target ∷ []
+    here : targets_of (by_line (entries ++ entry ∷ [])) entry.line.0 ≡ targets_of (by_line entries) entry.line.0
+        ++ entry.target ∷ []
     here =
         let is : (entry.line.0 == entry.line.0) ≡ true = eq-eqb entry.line.0 entry.line.0 refl in
         waits_at (entries ++ entry ∷ []) entry.line.0
@@ -126,7 +135,8 @@ pushed_entry entries entry = record {
         ∙ ap (λ targets. at_line entry.line.0 entries ++ targets) (at_line-one entry.line.0 entry is)
         ∙ ap (λ targets. targets ++ entry.target ∷ []) (sym (waits_at entries entry.line.0))
 
-    others : (other : ℕ) → other ≢ entry.line.0 → targets_of (by_line (entries ++ entry ∷ [])) other ≡ targets_of (by_line entries) other
+    others : (other : ℕ) → other ≢ entry.line.0 → targets_of (by_line (entries ++ entry ∷ [])) other
+        ≡ targets_of (by_line entries) other
     others other differs =
         let isnt : (entry.line.0 == other) ≡ false = ne_eqb entry.line.0 other (λ same. differs (sym same)) in
         waits_at (entries ++ entry ∷ []) other
@@ -135,7 +145,8 @@ pushed_entry entries entry = record {
         ∙ append-nil (at_line other entries)
         ∙ sym (waits_at entries other)
 
-    counts : (test : Target → Bool) → count_of test (by_line (entries ++ entry ∷ [])) ≡ count_of test (by_line entries) + count_by test (entry.target ∷ [])
+    counts : (test : Target → Bool) → count_of test (by_line (entries ++ entry ∷ []))
+        ≡ count_of test (by_line entries) + count_by test (entry.target ∷ [])
     counts test =
         let new = counts_at test (entries ++ entry ∷ []) in
         let old = counts_at test entries in
@@ -143,12 +154,14 @@ pushed_entry entries entry = record {
         omega (arith, new, old, more)
 
 any-push : (line : ℕ) (entries : List Waiting) (entry : Waiting) →
-    list_any (waits_for line) (entries ++ entry ∷ []) ≡ (list_any (waits_for line) entries || ((entry.line.0 == line) || false))
+    list_any (waits_for line) (entries ++ entry ∷ [])
+    ≡ (list_any (waits_for line) entries || ((entry.line.0 == line) || false))
 any-push line entries entry = list_any-append (waits_for line) entries (entry ∷ [])
 
 -- It is one register more where no entry was for its line.
 pub length_pushed : (entries : List Waiting) (entry : Waiting) →
-    length (by_line (entries ++ entry ∷ [])) + (if list_any (waits_for entry.line.0) entries then 1 else 0) ≡ length (by_line entries) + 1
+    length (by_line (entries ++ entry ∷ [])) + (if list_any (waits_for entry.line.0) entries then 1 else 0)
+    ≡ length (by_line entries) + 1
 length_pushed [] entry = length_by_line entry []
 length_pushed (first ∷ entries) entry =
     let line = entry.line.0 in
@@ -159,16 +172,20 @@ length_pushed (first ∷ entries) entry =
     (λ same.
     let is : (entry.line.0 == first.line.0) ≡ true = eq-eqb entry.line.0 first.line.0 (sym same) in
     let there : list_any (waits_for first.line.0) (entries ++ entry ∷ []) ≡ true =
-    any-push first.line.0 entries entry ∙ any-true (list_any (waits_for first.line.0) entries) (entry.line.0 == first.line.0) is in
+    any-push first.line.0 entries entry
+    ∙ any-true (list_any (waits_for first.line.0) entries) (entry.line.0 == first.line.0) is in
     let one = one-if _ true there in
-    let also : list_any (waits_for line) (first ∷ entries) ≡ true = let there : (first.line.0 == line) ≡ true = eq-eqb first.line.0 line same in rw there refl in
+    let also : list_any (waits_for line) (first ∷ entries) ≡ true =
+    let there : (first.line.0 == line) ≡ true = eq-eqb first.line.0 line same in rw there refl in
     let two = one-if _ true also in
     let equal = one-if _ _ (ap (λ l. list_any (waits_for l) entries) same) in
     omega (arith, later, new, old, one, two, equal))
     (λ differs.
     let isnt : (entry.line.0 == first.line.0) ≡ false = ne_eqb entry.line.0 first.line.0 (λ same. differs (sym same)) in
-    let as_before : list_any (waits_for first.line.0) (entries ++ entry ∷ []) ≡ list_any (waits_for first.line.0) entries =
-    any-push first.line.0 entries entry ∙ any-false (list_any (waits_for first.line.0) entries) (entry.line.0 == first.line.0) isnt in
+    let as_before : list_any (waits_for first.line.0) (entries ++ entry ∷ [])
+    ≡ list_any (waits_for first.line.0) entries =
+    any-push first.line.0 entries entry
+    ∙ any-false (list_any (waits_for first.line.0) entries) (entry.line.0 == first.line.0) isnt in
     let one = one-if _ _ as_before in
     let other : list_any (waits_for line) (first ∷ entries) ≡ list_any (waits_for line) entries =
     let isnt : (first.line.0 == line) ≡ false = ne_eqb first.line.0 line differs in rw isnt refl in
@@ -206,14 +223,16 @@ waited-at entries line = ap is_waited (sym (waits_at entries line)) ∙ has_miss
 at_line-cons : (line : ℕ) (entry : Waiting) (front back : List Waiting) → at_line line front ≡ at_line line back →
     at_line line (entry ∷ front) ≡ at_line line (entry ∷ back)
 at_line-cons line entry front back same =
-    ⊎_elim (λ here. rw here (ap (λ targets. entry.target ∷ targets) same)) (λ elsewhere. rw elsewhere same) (cases_Bool (waits_for line entry))
+    ⊎_elim (λ here. rw here (ap (λ targets. entry.target ∷ targets) same)) (λ elsewhere. rw elsewhere same)
+    (cases_Bool (waits_for line entry))
 
 head-taken : (line : ℕ) (entry : Waiting) (entries : List Waiting) → waits_for line entry ≡ true →
     TakesEntries (entry ∷ entries) line (entry.target ∷ []) entries
 head-taken line entry entries here = record {
   here = rw here refl;
   others = λ other differs.
-      let isnt : waits_for other entry ≡ false = ne_eqb entry.line.0 other (λ same. differs (sym same ∙ at)) in rw isnt refl;
+      let isnt : waits_for other entry ≡ false =
+      ne_eqb entry.line.0 other (λ same. differs (sym same ∙ at)) in rw isnt refl;
   counts = λ test.
       let all = sum_by-cons (λ e. if test e.target then 1 else 0) entry entries in
       let one = sum_by-cons (λ target. if test target then 1 else 0) entry.target [] in
@@ -228,7 +247,8 @@ head-taken line entry entries here = record {
     at : entry.line.0 ≡ line
     at = eqb-true entry.line.0 line here
 
-later-taken : (line : ℕ) (entry : Waiting) (old new : List Waiting) (taken : List Target) → waits_for line entry ≡ false →
+later-taken : (line : ℕ) (entry : Waiting) (old new : List Waiting) (taken : List Target) →
+    waits_for line entry ≡ false →
     TakesEntries old line taken new → TakesEntries (entry ∷ old) line taken (entry ∷ new)
 later-taken line entry old new taken elsewhere takes = record {
   here = skips old ∙ takes.here ∙ ap (λ targets. taken ++ targets) (sym (skips new));
@@ -241,7 +261,9 @@ later-taken line entry old new taken elsewhere takes = record {
   lines =
       let before = length_by_line entry old in
       let after = length_by_line entry new in
-      let as_before = one-if _ _ (sym (waited-at new entry.line.0) ∙ ap is_waited (takes.others entry.line.0 differs) ∙ waited-at old entry.line.0) in
+      let as_before =
+      one-if _ _ (sym (waited-at new entry.line.0) ∙ ap is_waited (takes.others entry.line.0 differs)
+      ∙ waited-at old entry.line.0) in
       let change = takes.lines in
       let none = zero-if _ _ (also new) in
       omega (arith, before, after, as_before, change, none);
@@ -257,7 +279,8 @@ later-taken line entry old new taken elsewhere takes = record {
     differs same = let clash : true ≡ false = sym (eq-eqb entry.line.0 line same) ∙ elsewhere in absurd cc
 
 pub takes_first : (line : ℕ) (entries : List Waiting) (d : Waiting) → list_any (waits_for line) entries ≡ true →
-    TakesEntries entries line ((get_or entries (position_or_len (waits_for line) entries) d).target ∷ []) (remove_key (waits_for line) entries)
+    TakesEntries entries line ((get_or entries (position_or_len (waits_for line) entries) d).target ∷ [])
+    (remove_key (waits_for line) entries)
 takes_first line [] d there = absurd cc
 takes_first line (entry ∷ entries) d there =
     ⊎_elim
@@ -267,22 +290,22 @@ takes_first line (entry ∷ entries) d there =
     rw at (rw left (head-taken line entry entries here)))
     (λ elsewhere.
     let next : position_or_len (waits_for line) (entry ∷ entries) ≡ suc (position_or_len (waits_for line) entries) =
-    rw elsewhere (let one : 1 + position_or_len (waits_for line) entries ≡ suc (position_or_len (waits_for line) entries) = omega arith in one) in
-    let kept : remove_key (waits_for line) (entry ∷ entries) ≡ entry ∷ remove_key (waits_for line) entries = rw elsewhere refl in
+    rw elsewhere
+    (let one : 1 + position_or_len (waits_for line) entries ≡ suc (position_or_len (waits_for line) entries) =
+    omega arith in one) in
+    let kept : remove_key (waits_for line) (entry ∷ entries) ≡ entry ∷ remove_key (waits_for line) entries =
+    rw elsewhere refl in
     rw next
     (rw kept
     (later-taken
-    line
-    entry
-    entries
-    (remove_key (waits_for line) entries)
-    ((get_or entries (position_or_len (waits_for line) entries) d).target ∷ [])
-    elsewhere
+    line entry entries (remove_key (waits_for line) entries)
+    ((get_or entries (position_or_len (waits_for line) entries) d).target ∷ []) elsewhere
     (takes_first line entries d (rw elsewhere at there)))))
     (cases_Bool (waits_for line entry))
 
 -- Nothing is taken where nothing is asked for.
-pub takes_none : (line : ℕ) (entries : List Waiting) → list_any (waits_for line) entries ≡ true → TakesEntries entries line [] entries
+pub takes_none : (line : ℕ) (entries : List Waiting) → list_any (waits_for line) entries ≡ true →
+    TakesEntries entries line [] entries
 takes_none line entries there = record {
   here = refl;
   others = λ other differs. refl;
@@ -291,8 +314,10 @@ takes_none line entries there = record {
 }
 
 -- What is taken in two steps is taken.
-pub takes_more : (line : ℕ) (old now new : List Waiting) (first second : List Target) → TakesEntries old line first now →
-    list_any (waits_for line) now ≡ true → TakesEntries now line second new → TakesEntries old line (first ++ second) new
+pub takes_more : (line : ℕ) (old now new : List Waiting) (first second : List Target) →
+    TakesEntries old line first now →
+    list_any (waits_for line) now ≡ true → TakesEntries now line second new →
+    TakesEntries old line (first ++ second) new
 takes_more line old now new first second before there after = record {
   here = before.here ∙ ap (λ targets. first ++ targets) after.here ∙ sym (append_assoc first second (at_line line new));
   others = λ other differs. after.others other differs ∙ before.others other differs;
@@ -333,7 +358,8 @@ takes_targets line old new taken takes = record {
         omega (arith, before, after, change)
 
 -- The tags are still those of one entry at most.
-pub tags_after : (line : ℕ) (old new : List Waiting) (taken : List Target) → HasEntryByTag old → TakesEntries old line taken new →
+pub tags_after : (line : ℕ) (old new : List Waiting) (taken : List Target) → HasEntryByTag old →
+    TakesEntries old line taken new →
     HasEntryByTag new
 tags_after line old new taken by_tag takes = record {
   once = λ tag. let few = by_tag.once tag in let change = takes.counts (has_tag tag) in omega (arith, few, change);
@@ -359,7 +385,8 @@ tags_pushed entries entry by_tag small free = record {
   small =
       let more = count_at-append (is_past 64) entries (entry ∷ []) in
       let none = by_tag.small in
-      let isnt : is_past 64 entry.target ≡ false = let below : nat_lt entry.target.tag 64 ≡ true = lt-ltb _ _ small in rw below refl in
+      let isnt : is_past 64 entry.target ≡ false =
+      let below : nat_lt entry.target.tag 64 ≡ true = lt-ltb _ _ small in rw below refl in
       let also = fails (is_past 64) isnt in
       omega (arith, more, none, also);
 }
@@ -375,13 +402,16 @@ tags_pushed entries entry by_tag small free = record {
     fails test isnt = count_by-no (λ (e : Waiting). test e.target) entry [] isnt
 
 -- The entry that was found first and taken out is the first of its line.
-pub taken_at : (line : ℕ) (entries : List Waiting) (place : ℕ) (entry d : Waiting) (new : List Waiting) → list_any (waits_for line) entries ≡ true →
+pub taken_at : (line : ℕ) (entries : List Waiting) (place : ℕ) (entry d : Waiting) (new : List Waiting) →
+    list_any (waits_for line) entries ≡ true →
     position (waits_for line) entries ≡ Some place → entry ≡ get_or entries place d → new ≡ remove entries place →
     TakesEntries entries line (entry.target ∷ []) new
 taken_at line entries place entry d new there found read removed =
     let at = place_is (waits_for line) entries place found in
-    let out : new ≡ remove_key (waits_for line) entries = removed ∙ ap (remove entries) at ∙ first_taken (waits_for line) entries there in
-    let first : entry ≡ get_or entries (position_or_len (waits_for line) entries) d = read ∙ ap (λ i. get_or entries i d) at in
+    let out : new ≡ remove_key (waits_for line) entries =
+    removed ∙ ap (remove entries) at ∙ first_taken (waits_for line) entries there in
+    let first : entry ≡ get_or entries (position_or_len (waits_for line) entries) d =
+    read ∙ ap (λ i. get_or entries i d) at in
     rw (ap (λ e. e.target) first) (rw out (takes_first line entries d there))
 
 -- Where not all of a line were taken yet, one is there.
@@ -401,23 +431,10 @@ unfolding by_line
 no_lines [] none = refl
 no_lines (entry ∷ entries) none = absurd (omega (arith, none))
 
-pub known_line : (first : Waiting) (rest : List Waiting) → has_miss (by_line rest) first.line.0 ≡ true →
-    length (by_line (first ∷ rest)) ≡ length (by_line rest)
-known_line first rest there =
-    let all = length_by_line first rest in
-    let one = one-if _ true (sym (has_miss_at rest first.line.0) ∙ there) in
-    omega (arith, all, one)
-
-pub new_line : (first : Waiting) (rest : List Waiting) → has_miss (by_line rest) first.line.0 ≡ false →
-    length (by_line (first ∷ rest)) ≡ length (by_line rest) + 1
-new_line first rest absent =
-    let all = length_by_line first rest in
-    let none = one-if _ false (sym (has_miss_at rest first.line.0) ∙ absent) in
-    omega (arith, all, none)
-
 -- the same of the entries that a call pushed, or took
 pub lines_pushed : (entries : List Waiting) (entry : Waiting) →
-    length (by_line (entries ++ entry ∷ [])) + (if has_miss (by_line entries) entry.line.0 then 1 else 0) ≡ length (by_line entries) + 1
+    length (by_line (entries ++ entry ∷ [])) + (if has_miss (by_line entries) entry.line.0 then 1 else 0)
+    ≡ length (by_line entries) + 1
 lines_pushed entries entry =
     let all = length_pushed entries entry in
     let same = one-if _ _ (has_miss_at entries entry.line.0) in
@@ -425,14 +442,18 @@ lines_pushed entries entry =
 
 pub lines_taken : (line : ℕ) (old new : List Waiting) (taken : List Target) → TakesEntries old line taken new →
     length (by_line old) ≡ length (by_line new) + (if has_miss (by_line new) line then 0 else 1)
-lines_taken line old new taken takes = let all = takes.lines in let same = zero-if _ _ (has_miss_at new line) in omega (arith, all, same)
+lines_taken line old new taken takes =
+    let all = takes.lines in let same = zero-if _ _ (has_miss_at new line) in omega (arith, all, same)
 
 -- The loads at the front of a line are those of its entries.
 pub front_loads_at : (line : ℕ) (entries : List Waiting) →
-    prefix_len (λ entry. is_load entry.target) (filter (waits_for line) entries) ≡ prefix_len is_load (targets_of (by_line entries) line)
-front_loads_at line entries = mapped (filter (waits_for line) entries) ∙ ap (prefix_len is_load) (sym (waits_at entries line))
+    prefix_len (λ entry. is_load entry.target) (filter (waits_for line) entries)
+    ≡ prefix_len is_load (targets_of (by_line entries) line)
+front_loads_at line entries =
+    mapped (filter (waits_for line) entries) ∙ ap (prefix_len is_load) (sym (waits_at entries line))
   where
-    mapped : (entries : List Waiting) → prefix_len (λ entry. is_load entry.target) entries ≡ prefix_len is_load (map (λ entry. entry.target) entries)
+    mapped : (entries : List Waiting) → prefix_len (λ entry. is_load entry.target) entries
+        ≡ prefix_len is_load (map (λ entry. entry.target) entries)
     mapped [] = refl
     mapped (entry ∷ entries) = ap (λ n. if is_load entry.target then 1 + n else 0) (mapped entries)
 
@@ -442,30 +463,19 @@ front_count targets =
     let most = prefix_len-le-length is_load targets in
     length-take-le (prefix_len is_load targets) targets most
 
-pub length_at : (line : ℕ) (entries : List Waiting) → length (filter (waits_for line) entries) ≡ length (targets_of (by_line entries) line)
+pub length_at : (line : ℕ) (entries : List Waiting) →
+    length (filter (waits_for line) entries) ≡ length (targets_of (by_line entries) line)
 length_at line entries =
-    sym (length-map (filter (waits_for line) entries) (λ (e : Waiting). e.target)) ∙ ap length (sym (waits_at entries line))
+    sym (length-map (filter (waits_for line) entries) (λ (e : Waiting). e.target))
+    ∙ ap length (sym (waits_at entries line))
 
 -- So many were taken from the front.
-pub first_of : (line : ℕ) (old new : List Waiting) (taken : List Target) (count : ℕ) → TakesEntries old line taken new → length taken ≡ count →
+pub first_of : (line : ℕ) (old new : List Waiting) (taken : List Target) (count : ℕ) → TakesEntries old line taken new →
+    length taken ≡ count →
     taken ≡ take count (targets_of (by_line old) line)
 first_of line old new taken count takes counted =
-    sym (ap (λ targets. take count targets) (waits_at old line ∙ takes.here) ∙ ap (λ n. take n (taken ++ at_line line new)) (sym counted) ∙ take-append_seam taken (at_line line new))
-
--- Where all were taken, none is left.
-pub all_taken : (line : ℕ) (old new : List Register) (taken : List Target) → TakesTargets old new line taken →
-    taken ≡ targets_of old line → has_miss new line ≡ false
-all_taken line old new taken takes all = ap is_waited (nothing (targets_of new line) (omega (arith, lengths, same)))
-  where
-    lengths : length (targets_of old line) ≡ length taken + length (targets_of new line)
-    lengths = ap length takes.here ∙ length-append taken (targets_of new line)
-
-    same : length taken ≡ length (targets_of old line)
-    same = ap length all
-
-    nothing : (targets : List Target) → length targets ≡ 0 → targets ≡ []
-    nothing [] none = refl
-    nothing (target ∷ targets) none = absurd (omega (arith, none))
+    sym (ap (λ targets. take count targets) (waits_at old line ∙ takes.here)
+    ∙ ap (λ n. take n (taken ++ at_line line new)) (sym counted) ∙ take-append_seam taken (at_line line new))
 
 pub none_waits : by_line [] ≡ []
 unfolding by_line

@@ -14,7 +14,8 @@ use Rattle.mshr_file.proofs.Lists.{count_by-yes, count_by-no}
 abbrev InOrder : List Target → Type 0
 InOrder targets = IsAscendingBy (λ target. target.seq) targets
 
-pub order_added : (old new : List Register) (line : ℕ) (target : Target) → targets_of new line ≡ targets_of old line ++ target ∷ [] →
+pub order_added : (old new : List Register) (line : ℕ) (target : Target) →
+    targets_of new line ≡ targets_of old line ++ target ∷ [] →
     ((other : ℕ) → other ≢ line → targets_of new other ≡ targets_of old other) → IsInOrder old →
     All (λ earlier. earlier.seq < target.seq) (targets_of old line) → IsInOrder new
 order_added old new line target here others ordered above other =
@@ -22,11 +23,13 @@ order_added old new line target here others ordered above other =
     (λ same.
     rw same
     (rw here
-    (all_pairs_push (λ first later. first.seq < later.seq) (targets_of old line) target (ordered line) (λ k d inside. above k d inside))))
+    (all_pairs_push (λ first later. first.seq < later.seq) (targets_of old line) target (ordered line)
+    (λ k d inside. above k d inside))))
     (λ differs. rw (others other differs) (ordered other))
     (cases_eq other line)
 
-pub order_taken : (old new : List Register) (line : ℕ) (taken : List Target) → targets_of old line ≡ taken ++ targets_of new line →
+pub order_taken : (old new : List Register) (line : ℕ) (taken : List Target) →
+    targets_of old line ≡ taken ++ targets_of new line →
     ((other : ℕ) → other ≢ line → targets_of new other ≡ targets_of old other) → IsInOrder old → IsInOrder new
 order_taken old new line taken here others ordered other =
     ⊎_elim
@@ -39,11 +42,13 @@ order_taken old new line taken here others ordered other =
         let longer = length-append front back in
         let first = get_or-append-add front back i d in
         let later = get_or-append-add front back j d in
-        let rises = ascending (length front + i) (length front + j) d (omega (arith, before)) (omega (arith, inside, longer)) in
+        let rises =
+        ascending (length front + i) (length front + j) d (omega (arith, before)) (omega (arith, inside, longer)) in
         rw (first, later) at rises
 
 pub once_added : (old new : List Register) (target : Target) →
-    ((test : Target → Bool) → count_of test new ≡ count_of test old + count_by test (target ∷ [])) → HasEachTagOnce old →
+    ((test : Target → Bool) → count_of test new ≡ count_of test old + count_by test (target ∷ [])) →
+    HasEachTagOnce old →
     is_free old target.tag ≡ true → HasEachTagOnce new
 once_added old new target counts once free tag =
     let more = counts (has_tag tag) in
@@ -66,5 +71,7 @@ once_added old new target counts once free tag =
         (cases_Bool (test target))
 
 pub once_taken : (old new : List Register) (taken : List Target) →
-    ((test : Target → Bool) → count_of test old ≡ count_of test new + count_by test taken) → HasEachTagOnce old → HasEachTagOnce new
-once_taken old new taken counts once tag = let fewer = counts (has_tag tag) in let few = once tag in omega (arith, fewer, few)
+    ((test : Target → Bool) → count_of test old ≡ count_of test new + count_by test taken) → HasEachTagOnce old →
+    HasEachTagOnce new
+once_taken old new taken counts once tag =
+    let fewer = counts (has_tag tag) in let few = once tag in omega (arith, fewer, few)

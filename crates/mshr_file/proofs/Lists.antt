@@ -1,5 +1,5 @@
 -- Lists: what a filter drops and a count passes over, and the first place that passes a test.
-use Rattle.std.proofs.Common.{◌≡◌, ℕ, zero, suc, ◌+◌, ◌<◌, ◌≤◌, Bool, true, false, not, length, if◌then◌else◌, List, [], ◌∷◌, ◌++◌, filter, Some, None, refl, sym, ap, ⊎_elim, arith, ◌∙◌, map, get_or}
+use Rattle.std.proofs.Common.{◌≡◌, ℕ, zero, suc, ◌+◌, ◌<◌, ◌≤◌, Bool, true, false, length, if◌then◌else◌, List, [], ◌∷◌, ◌++◌, filter, Some, None, refl, sym, ap, ⊎_elim, arith, ◌∙◌, map, get_or}
 use Rattle.std.specs.Prelude.{sum_by, ◌&&◌, All, IsTrue, IsSome, is_some, nat_lt}
 use Rattle.std.specs.List.{flat_map, count_by, find, list_any, position, position_or_len, prefix_len, remove}
 use Rattle.std.proofs.lemmas.List.{length-map}
@@ -100,7 +100,8 @@ module _ {X : Type 0} where
       (cases_Bool (p x))
 
   pub position_found : (p : X → Bool) (xs : List X) → list_any p xs ≡ true → IsSome (position p xs)
-  position_found p xs there = let inside : nat_lt (position_or_len p xs) (length xs) ≡ true = lt-ltb _ _ (first-inside p xs there) in rw inside refl
+  position_found p xs there = let inside : nat_lt (position_or_len p xs) (length xs) ≡ true =
+      lt-ltb _ _ (first-inside p xs there) in rw inside refl
 
   -- What a list does not have is not found.
   past-all : (p : X → Bool) (xs : List X) → list_any p xs ≡ false → position_or_len p xs ≡ length xs
@@ -116,7 +117,8 @@ module _ {X : Type 0} where
 
   pub position_none : (p : X → Bool) (xs : List X) → list_any p xs ≡ false → position p xs ≡ None
   position_none p xs none =
-      let past : nat_lt (position_or_len p xs) (length xs) ≡ false = not_less (position_or_len p xs) (length xs) (past-all p xs none) in
+      let past : nat_lt (position_or_len p xs) (length xs) ≡ false =
+      not_less (position_or_len p xs) (length xs) (past-all p xs none) in
       rw past refl
     where
       not_less : (m n : ℕ) → m ≡ n → nat_lt m n ≡ false
@@ -130,20 +132,9 @@ module _ {X : Type 0} where
       (λ none. ap is_some (position_none p xs none) ∙ sym none)
       (cases_Bool (list_any p xs))
 
-  -- Where fewer than all pass, one fails.
-  pub one_fails : (p : X → Bool) (xs : List X) → count_by p xs < length xs → list_any (λ x. not (p x)) xs ≡ true
-  one_fails p [] fewer = absurd (omega arith)
-  one_fails p (x ∷ xs) fewer =
-      ⊎_elim
-      (λ passes.
-      let all = count_by-yes p x xs passes in
-      let later : count_by p xs < length xs = omega (arith, all, fewer) in
-      rw passes (one_fails p xs later))
-      (λ fails. rw fails refl)
-      (cases_Bool (p x))
-
   -- A test that passes less counts no more.
-  pub count_by-fewer : (p q : X → Bool) → ((x : X) → p x ≡ true → q x ≡ true) → (xs : List X) → count_by p xs ≤ count_by q xs
+  pub count_by-fewer : (p q : X → Bool) → ((x : X) → p x ≡ true → q x ≡ true) → (xs : List X) →
+      count_by p xs ≤ count_by q xs
   count_by-fewer p q more [] = omega arith
   count_by-fewer p q more (x ∷ xs) =
       let later = count_by-fewer p q more xs in

@@ -12,11 +12,13 @@ use Rattle.mshr_file.proofs.Laws.{order_added, order_taken, once_added, once_tak
 use Rattle.mshr_file.proofs.Lists.{count_by-filter, filter_passes, one-if}
 use Rattle.mshr_file.proofs.Table.{IsRegisterOf, waits_in, changed, waits_elsewhere, targets_of-misses, count_of-misses, found, nothing_waits, in_free, served_in, served_for, for_another, counts_one, counts_none, free_serves}
 
-count_by-append : (test : Target → Bool) (front back : List Target) → count_by test (front ++ back) ≡ count_by test front + count_by test back
+count_by-append : (test : Target → Bool) (front back : List Target) →
+    count_by test (front ++ back) ≡ count_by test front + count_by test back
 count_by-append test front back = sum_by-append (λ target. if test target then 1 else 0) front back
 
 -- of each kind there are more or fewer by what the register gained or lost
-counts-change : (test : Target → Bool) (registers : List Register) (i : ℕ) (register : Register) → i < length registers →
+counts-change : (test : Target → Bool) (registers : List Register) (i : ℕ) (register : Register) →
+    i < length registers →
     count_of test (misses_of (set registers i register)) + count_by test (get_or registers i no_register).targets
     ≡ count_of test (misses_of registers) + count_by test register.targets
 counts-change test registers i register inside =
@@ -26,14 +28,16 @@ counts-change test registers i register inside =
     omega (arith, old, new, total)
 
 -- the targets of the line are then those of the register
-pub left : (registers : List Register) (i line : ℕ) (register : Register) → IsRegisterOf registers i line → register.line.0 ≡ line →
+pub left : (registers : List Register) (i line : ℕ) (register : Register) → IsRegisterOf registers i line →
+    register.line.0 ≡ line →
     targets_of (misses_of (set registers i register)) line ≡ register.targets
 left registers i line register home for =
     targets_of-misses (set registers i register) line
     ∙ waits_in (set registers i register) i line (changed registers i line register home for)
     ∙ ap (λ r. r.targets) (get_or-set_same registers i register no_register home.inside)
 
-pub adds : (registers : List Register) (i line : ℕ) (register : Register) (target : Target) → IsRegisterOf registers i line →
+pub adds : (registers : List Register) (i line : ℕ) (register : Register) (target : Target) →
+    IsRegisterOf registers i line →
     register.line.0 ≡ line → register.targets ≡ (get_or registers i no_register).targets ++ target ∷ [] →
     AddsTarget (misses_of registers) (misses_of (set registers i register)) line target
 adds registers i line register target home for pushed = record {
@@ -48,21 +52,26 @@ adds registers i line register target home for pushed = record {
     here =
         left registers i line register home for
         ∙ pushed
-        ∙ ap (λ targets. targets ++ target ∷ []) (sym (targets_of-misses registers line ∙ waits_in registers i line home))
+        ∙ ap (λ targets. targets ++ target ∷ [])
+        (sym (targets_of-misses registers line ∙ waits_in registers i line home))
 
-    others : (other : ℕ) → other ≢ line → targets_of (misses_of (set registers i register)) other ≡ targets_of (misses_of registers) other
+    others : (other : ℕ) → other ≢ line → targets_of (misses_of (set registers i register)) other
+        ≡ targets_of (misses_of registers) other
     others other differs =
         targets_of-misses (set registers i register) other
         ∙ waits_elsewhere registers i line register home for other differs
         ∙ sym (targets_of-misses registers other)
 
-    counts : (test : Target → Bool) → count_of test (misses_of (set registers i register)) ≡ count_of test (misses_of registers) + count_by test (target ∷ [])
+    counts : (test : Target → Bool) → count_of test (misses_of (set registers i register))
+        ≡ count_of test (misses_of registers) + count_by test (target ∷ [])
     counts test =
         let change = counts-change test registers i register home.inside in
-        let more = ap (count_by test) pushed ∙ count_by-append test (get_or registers i no_register).targets (target ∷ []) in
+        let more =
+        ap (count_by test) pushed ∙ count_by-append test (get_or registers i no_register).targets (target ∷ []) in
         omega (arith, change, more)
 
-pub takes : (registers : List Register) (i line : ℕ) (register : Register) (taken : List Target) → IsRegisterOf registers i line →
+pub takes : (registers : List Register) (i line : ℕ) (register : Register) (taken : List Target) →
+    IsRegisterOf registers i line →
     register.line.0 ≡ line → (get_or registers i no_register).targets ≡ taken ++ register.targets →
     TakesTargets (misses_of registers) (misses_of (set registers i register)) line taken
 takes registers i line register taken home for whole = record {
@@ -80,13 +89,15 @@ takes registers i line register taken home for whole = record {
         ∙ whole
         ∙ ap (λ targets. taken ++ targets) (sym (left registers i line register home for))
 
-    others : (other : ℕ) → other ≢ line → targets_of (misses_of (set registers i register)) other ≡ targets_of (misses_of registers) other
+    others : (other : ℕ) → other ≢ line → targets_of (misses_of (set registers i register)) other
+        ≡ targets_of (misses_of registers) other
     others other differs =
         targets_of-misses (set registers i register) other
         ∙ waits_elsewhere registers i line register home for other differs
         ∙ sym (targets_of-misses registers other)
 
-    counts : (test : Target → Bool) → count_of test (misses_of registers) ≡ count_of test (misses_of (set registers i register)) + count_by test taken
+    counts : (test : Target → Bool) →
+        count_of test (misses_of registers) ≡ count_of test (misses_of (set registers i register)) + count_by test taken
     counts test =
         let change = counts-change test registers i register home.inside in
         let fewer = ap (count_by test) whole ∙ count_by-append test taken register.targets in
@@ -132,7 +143,8 @@ sound registers single = record {
 
 -- how many registers are open, after one has changed
 pub open_after : (registers : List Register) (i : ℕ) (register : Register) → i < length registers →
-    length (misses_of (set registers i register)) + (if is_waited (get_or registers i no_register).targets then 1 else 0)
+    length (misses_of (set registers i register)) + (if is_waited (get_or registers i no_register).targets then 1
+    else 0)
     ≡ length (misses_of registers) + (if is_waited register.targets then 1 else 0)
 open_after registers i register inside =
     let used = λ (r : Register). is_waited r.targets in
@@ -159,15 +171,18 @@ register_serving registers i line single inside serving = record {
       let most = single.once line in
       let one = one-if _ true serving in
       omega (arith, least, most, one);
-  others = λ other differs. for_another line other (get_or registers i no_register) (line_of line (get_or registers i no_register) serving) differs;
+  others = λ other differs. for_another line other (get_or registers i no_register)
+      (line_of line (get_or registers i no_register) serving) differs;
 }
 
 -- A free register is one for a line that none serves.
-pub register_free : (registers : List Register) (i line : ℕ) → i < length registers → is_waited (get_or registers i no_register).targets ≡ false →
+pub register_free : (registers : List Register) (i line : ℕ) → i < length registers →
+    is_waited (get_or registers i no_register).targets ≡ false →
     is_waited (targets_of registers line) ≡ false → IsRegisterOf registers i line
 register_free registers i line inside free nobody = record {
   inside = inside;
-  own = in_free line (get_or registers i no_register) free ∙ sym (nothing_waits (get_or registers i no_register).targets free);
+  own = in_free line (get_or registers i no_register) free
+      ∙ sym (nothing_waits (get_or registers i no_register).targets free);
   alone =
       let none = counts_none registers line (found registers line ∙ nobody) in
       let not = one-if _ false (free_serves line (get_or registers i no_register) free) in
@@ -176,11 +191,9 @@ register_free registers i line inside free nobody = record {
 }
 
 -- Whether there is a miss for a line is whether a register serves it.
-pub has_miss_is : (registers : List Register) (line : ℕ) → list_any (serves line) registers ≡ has_miss (misses_of registers) line
+pub has_miss_is : (registers : List Register) (line : ℕ) →
+    list_any (serves line) registers ≡ has_miss (misses_of registers) line
 has_miss_is registers line = found registers line ∙ ap is_waited (sym (targets_of-misses registers line))
-
-pub served_by : (registers : List Register) (line : ℕ) → has_miss (misses_of registers) line ≡ true → list_any (serves line) registers ≡ true
-served_by registers line there = has_miss_is registers line ∙ there
 
 -- A table of free registers has no miss.
 pub none_open : (count : ℕ) → misses_of (replicate count no_register) ≡ []

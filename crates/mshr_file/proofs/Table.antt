@@ -17,14 +17,17 @@ nothing_waits (first ∷ rest) none = absurd cc
 
 pub in_free : (line : ℕ) (register : Register) → is_waited register.targets ≡ false → targets_in line register ≡ []
 in_free line register free =
-    ⊎_elim (λ for. rw for (nothing_waits register.targets free)) (λ other. rw other refl) (cases_Bool (is_for line register))
+    ⊎_elim (λ for. rw for (nothing_waits register.targets free)) (λ other. rw other refl)
+    (cases_Bool (is_for line register))
 
 -- Free registers add nothing to what waits for a line, nor to a count.
-pub targets_of-misses : (registers : List Register) (line : ℕ) → targets_of (misses_of registers) line ≡ targets_of registers line
+pub targets_of-misses : (registers : List Register) (line : ℕ) →
+    targets_of (misses_of registers) line ≡ targets_of registers line
 targets_of-misses registers line =
     flat_map-filter (targets_in line) (λ register. is_waited register.targets) (in_free line) registers
 
-pub count_of-misses : (test : Target → Bool) (registers : List Register) → count_of test (misses_of registers) ≡ count_of test registers
+pub count_of-misses : (test : Target → Bool) (registers : List Register) →
+    count_of test (misses_of registers) ≡ count_of test registers
 count_of-misses test registers =
     sum_by-filter {X = Register}
     (λ register. count_by test register.targets)
@@ -53,7 +56,8 @@ served_for line register here = by_and _ _ here
     by_and true b e = e
     by_and false b e = absurd cc
 
-pub served_in : (line : ℕ) (register : Register) → serves line register ≡ true → targets_in line register ≡ register.targets
+pub served_in : (line : ℕ) (register : Register) → serves line register ≡ true →
+    targets_in line register ≡ register.targets
 served_in line register here = rw (served_for line register here) refl
 
 pub appended_waits : (first rest : List Target) → is_waited first ≡ true → is_waited (first ++ rest) ≡ true
@@ -61,7 +65,8 @@ appended_waits [] rest waits = absurd cc
 appended_waits (target ∷ more) rest waits = refl
 
 -- A line is waited for exactly where a register serves it.
-pub found : (registers : List Register) (line : ℕ) → list_any (serves line) registers ≡ is_waited (targets_of registers line)
+pub found : (registers : List Register) (line : ℕ) →
+    list_any (serves line) registers ≡ is_waited (targets_of registers line)
 found [] line = refl
 found (register ∷ registers) line =
     ⊎_elim
@@ -72,7 +77,8 @@ found (register ∷ registers) line =
     (λ no. rw no (rw (not-served line register no) (found registers line)))
     (cases_Bool (serves line register))
 
-unserved : (registers : List Register) (line : ℕ) → count_by (serves line) registers ≡ 0 → targets_of registers line ≡ []
+unserved : (registers : List Register) (line : ℕ) → count_by (serves line) registers ≡ 0 →
+    targets_of registers line ≡ []
 unserved [] line none = refl
 unserved (register ∷ registers) line none =
     ⊎_elim
@@ -83,14 +89,16 @@ unserved (register ∷ registers) line none =
     rw (not-served line register not) (unserved registers line later))
     (cases_Bool (serves line register))
 
-pub counts_one : (registers : List Register) (i line : ℕ) → i < length registers → serves line (get_or registers i no_register) ≡ true
+pub counts_one : (registers : List Register) (i line : ℕ) → i < length registers →
+    serves line (get_or registers i no_register) ≡ true
     → 1 ≤ count_by (serves line) registers
 counts_one registers i line here serving =
     let least = get_or-le-sum_by (λ r. if serves line r then 1 else 0) registers i no_register here in
     let one : ◌≡◌ {A = ℕ} (if serves line (get_or registers i no_register) then 1 else 0) 1 = rw serving refl in
     omega (arith, least, one)
 
-pub counts_none : (registers : List Register) (line : ℕ) → list_any (serves line) registers ≡ false → count_by (serves line) registers ≡ 0
+pub counts_none : (registers : List Register) (line : ℕ) → list_any (serves line) registers ≡ false →
+    count_by (serves line) registers ≡ 0
 counts_none [] line nobody = refl
 counts_none (register ∷ registers) line nobody =
     ⊎_elim
@@ -102,7 +110,8 @@ pub free_serves : (line : ℕ) (register : Register) → is_waited register.targ
 free_serves line register free = rw free refl
 
 -- Where one register alone serves a line, its targets are those that wait for the line.
-served : (registers : List Register) (i line : ℕ) → i < length registers → serves line (get_or registers i no_register) ≡ true →
+served : (registers : List Register) (i line : ℕ) → i < length registers → serves line (get_or registers i no_register)
+    ≡ true →
     count_by (serves line) registers ≤ 1 → targets_of registers line ≡ (get_or registers i no_register).targets
 served [] i line inside serving single = absurd (omega arith)
 served (register ∷ registers) zero line inside serving single =
@@ -149,7 +158,8 @@ waits_in registers i line home =
     unserved registers line nobody ∙ sym (not-served line (get_or registers i no_register) not) ∙ home.own)
     (cases_Bool (serves line (get_or registers i no_register)))
 
-pub for_another : (line other : ℕ) (register : Register) → register.line.0 ≡ line → other ≢ line → serves other register ≡ false
+pub for_another : (line other : ℕ) (register : Register) → register.line.0 ≡ line → other ≢ line →
+    serves other register ≡ false
 for_another line other register for differs =
     let not : is_for other register ≡ false = ne_eqb register.line.0 other (λ same. differs (sym same ∙ for)) in
     ⊎_elim (λ waited. rw waited not) (λ free. rw free refl) (cases_Bool (is_waited register.targets))
@@ -158,7 +168,8 @@ own-line : (line : ℕ) (register : Register) → register.line.0 ≡ line → t
 own-line line register for = let is : is_for line register ≡ true = eq-eqb register.line.0 line for in rw is refl
 
 -- A register that was changed for its line is still the one for it.
-pub changed : (registers : List Register) (i line : ℕ) (register : Register) → IsRegisterOf registers i line → register.line.0 ≡ line →
+pub changed : (registers : List Register) (i line : ℕ) (register : Register) → IsRegisterOf registers i line →
+    register.line.0 ≡ line →
     IsRegisterOf (set registers i register) i line
 changed registers i line register home for = record {
   inside = rw (length-set registers i register) home.inside;
@@ -173,14 +184,10 @@ changed registers i line register home for = record {
     here : get_or (set registers i register) i no_register ≡ register
     here = get_or-set_same registers i register no_register home.inside
 
-pub waits_elsewhere : (registers : List Register) (i line : ℕ) (register : Register) → IsRegisterOf registers i line → register.line.0 ≡ line →
+pub waits_elsewhere : (registers : List Register) (i line : ℕ) (register : Register) → IsRegisterOf registers i line →
+    register.line.0 ≡ line →
     (other : ℕ) → other ≢ line → targets_of (set registers i register) other ≡ targets_of registers other
 waits_elsewhere registers i line register home for other differs =
-    targets_of-set
-    registers
-    i
-    register
-    other
-    home.inside
+    targets_of-set registers i register other home.inside
     (not-served other (get_or registers i no_register) (home.others other differs))
     (not-served other register (for_another line other register for differs))

@@ -14,11 +14,13 @@ use Rattle.mshr_file.proofs.ByLine.{counts_at}
 use Rattle.mshr_file.proofs.Entries.{tags_pushed}
 
 -- Entries with tags below a number, no two the same, are at most as many.
-pub fits : (n : ℕ) (entries : List Waiting) → ((tag : ℕ) → count_at (has_tag tag) entries ≤ 1) → count_at (is_past n) entries ≡ 0 →
+pub fits : (n : ℕ) (entries : List Waiting) → ((tag : ℕ) → count_at (has_tag tag) entries ≤ 1) →
+    count_at (is_past n) entries ≡ 0 →
     length entries ≤ n
 fits zero [] once none = omega arith
 fits zero (entry ∷ entries) once none =
-    let past : is_past 0 entry.target ≡ true = let not_below : nat_lt entry.target.tag 0 ≡ false = le-ltb _ _ (omega arith) in rw not_below refl in
+    let past : is_past 0 entry.target ≡ true =
+    let not_below : nat_lt entry.target.tag 0 ≡ false = le-ltb _ _ (omega arith) in rw not_below refl in
     absurd (let one = count_by-yes (λ e. is_past 0 e.target) entry entries past in omega (arith, one, none))
 fits (suc n) entries once none =
     let here = λ (e : Waiting). has_tag n e.target in
@@ -34,7 +36,9 @@ fits (suc n) entries once none =
     fewer n entries once tag =
         let few = once tag in
         let same = count_by-filter (λ (e : Waiting). has_tag tag e.target) (λ e. not (has_tag n e.target)) entries in
-        let less = count_by-fewer (λ (e : Waiting). not (has_tag n e.target) && has_tag tag e.target) (λ e. has_tag tag e.target) (λ e. right (not (has_tag n e.target)) (has_tag tag e.target)) entries in
+        let less =
+        count_by-fewer (λ (e : Waiting). not (has_tag n e.target) && has_tag tag e.target) (λ e. has_tag tag e.target)
+        (λ e. right (not (has_tag n e.target)) (has_tag tag e.target)) entries in
         omega (arith, few, same, less)
       where
         right : (a b : Bool) → (a && b) ≡ true → b ≡ true
@@ -45,10 +49,13 @@ fits (suc n) entries once none =
         count_at (is_past n) (filter (λ e. not (has_tag n e.target)) entries) ≡ 0
     below n entries none =
         let same = count_by-filter (λ (e : Waiting). is_past n e.target) (λ e. not (has_tag n e.target)) entries in
-        let less = count_by-fewer (λ (e : Waiting). not (has_tag n e.target) && is_past n e.target) (λ e. is_past (suc n) e.target) (λ e. past n e) entries in
+        let less =
+        count_by-fewer (λ (e : Waiting). not (has_tag n e.target) && is_past n e.target) (λ e. is_past (suc n) e.target)
+        (λ e. past n e) entries in
         omega (arith, none, same, less)
       where
-        past : (n : ℕ) (e : Waiting) → (not (has_tag n e.target) && is_past n e.target) ≡ true → is_past (suc n) e.target ≡ true
+        past : (n : ℕ) (e : Waiting) → (not (has_tag n e.target) && is_past n e.target) ≡ true →
+            is_past (suc n) e.target ≡ true
         past n e both =
             let apart : has_tag n e.target ≡ false = left_of (has_tag n e.target) (is_past n e.target) both in
             let reaches : nat_lt e.target.tag n ≡ false = right_of (has_tag n e.target) (nat_lt e.target.tag n) both in
@@ -86,16 +93,19 @@ free_is tag entries = none-or-some entries ∙ ap (λ n. n == 0) (sym (counts_at
         ⊎_elim
         (λ named.
         let one = count_by-yes (λ (e : Waiting). has_tag tag e.target) entry entries named in
-        let some : (count_at (has_tag tag) (entry ∷ entries) == 0) ≡ false = ne_eqb _ _ (λ none. omega (arith, one, none)) in
+        let some : (count_at (has_tag tag) (entry ∷ entries) == 0) ≡ false =
+        ne_eqb _ _ (λ none. omega (arith, one, none)) in
         let there : list_any (λ e. has_tag tag e.target) (entry ∷ entries) ≡ true = rw named refl in
         ap not there ∙ sym some)
         (λ other.
         let same = count_by-no (λ (e : Waiting). has_tag tag e.target) entry entries other in
-        let later : list_any (λ e. has_tag tag e.target) (entry ∷ entries) ≡ list_any (λ e. has_tag tag e.target) entries = rw other refl in
+        let later : list_any (λ e. has_tag tag e.target) (entry ∷ entries)
+        ≡ list_any (λ e. has_tag tag e.target) entries = rw other refl in
         ap not later ∙ none-or-some entries ∙ ap (λ n. n == 0) (sym same))
         (cases_Bool (has_tag tag entry.target))
 
-pub free_at : (tag : ℕ) (entries : List Waiting) → is_free (by_line entries) tag ≡ true → count_at (has_tag tag) entries ≡ 0
+pub free_at : (tag : ℕ) (entries : List Waiting) → is_free (by_line entries) tag ≡ true →
+    count_at (has_tag tag) entries ≡ 0
 free_at tag entries free = sym (counts_at (has_tag tag) entries) ∙ eqb-true _ _ free
 
 -- A line has no more entries than there are tags.

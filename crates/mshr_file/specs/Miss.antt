@@ -70,8 +70,8 @@ pub record TakesTargets (old new : List Register) (line : ℕ) (taken : List Tar
   pub ordered : IsInOrder old → IsInOrder new
   pub once : HasEachTagOnce old → HasEachTagOnce new
 
--- What bounds a file: so many registers of so many target fields (Farkas and Jouppi's explicitly addressed registers), or
--- one entry for each tag (their inverted organisation).
+-- What bounds a file: so many registers of so many target fields (Farkas and Jouppi's explicitly addressed registers),
+-- or one entry for each tag (their inverted organisation).
 pub data Bound : Type 0 where
   registers : ℕ → ℕ → Bound
   tags : Bound

@@ -43,7 +43,8 @@ is_free_row row = row.waiting == 0
 abbrev pub row_serves : ℕ → Row → Bool
 row_serves line row = not (is_free_row row) && (row.line.0 == line)
 
--- Each register has its row and at most 64 targets, no line has two open registers, and those that are open are counted.
+-- Each register has its row and at most 64 targets, no line has two open registers, and those that are open are
+-- counted.
 pub record IsKept (table : RegisterTable) : Type 0 where
   pub few : All (λ row. row.waiting ≤ 64) table.rows.items
   pub rows : table.rows.items ≡ map row_of table.registers.items

@@ -67,9 +67,11 @@ entry_at entries slot = unwrap_or (slice_index_or entries slot.tag None) no_wait
 abbrev pub waiting_in : EntryTable → List Waiting
 waiting_in table = map (entry_at table.entries) table.order.items
 
--- There is a place for each of 64 tags, each slot is that of its entry, and under each tag stands the entry that has it.
+-- There is a place for each of 64 tags, each slot is that of its entry, and under each tag stands the entry that has
+-- it.
 pub record IsEntryTable (table : EntryTable) : Type 0 where
   pub size : length table.entries ≡ 64
   pub slots : table.order.items ≡ map slot_of (waiting_in table)
   pub by_tag : HasEntryByTag (waiting_in table)
-  pub held : (tag : ℕ) → tag < 64 → slice_index_or table.entries tag None ≡ find (λ entry. has_tag tag entry.target) (waiting_in table)
+  pub held : (tag : ℕ) → tag < 64 →
+      slice_index_or table.entries tag None ≡ find (λ entry. has_tag tag entry.target) (waiting_in table)

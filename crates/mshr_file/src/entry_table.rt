@@ -105,7 +105,9 @@ impl EntryTable {
         ensures kept { IsEntryTable self.new }
         ensures added { AddsTarget (by_line (waiting_in self.old)) (by_line (waiting_in self.new)) line.0 target }
         ensures sound { IsMissFile (by_line (waiting_in self.new)) }
-        ensures lines { length (by_line (waiting_in self.new)) + (if has_miss (by_line (waiting_in self.old)) line.0 then 1 else 0) ≡ length (by_line (waiting_in self.old)) + 1 }
+        ensures lines { length (by_line (waiting_in self.new))
+            + (if has_miss (by_line (waiting_in self.old)) line.0 then 1 else 0)
+            ≡ length (by_line (waiting_in self.old)) + 1 }
     {
         self.entries[target.tag as usize] = Some(Waiting { target, line });
         self.order.push(Slot {
@@ -122,7 +124,9 @@ impl EntryTable {
         ensures kept { IsEntryTable self.new }
         ensures taken { TakesTargets (by_line (waiting_in self.old)) (by_line (waiting_in self.new)) line.0 (result ∷ []) }
         ensures sound { IsMissFile (by_line (waiting_in self.new)) }
-        ensures lines { length (by_line (waiting_in self.old)) ≡ length (by_line (waiting_in self.new)) + (if has_miss (by_line (waiting_in self.new)) line.0 then 0 else 1) }
+        ensures lines { length (by_line (waiting_in self.old))
+            ≡ length (by_line (waiting_in self.new))
+            + (if has_miss (by_line (waiting_in self.new)) line.0 then 0 else 1) }
     {
         take_entry(self, line)
     }
@@ -136,7 +140,9 @@ impl EntryTable {
         ensures first { result.items ≡ take count (targets_of (by_line (waiting_in self.old)) line.0) }
         ensures taken { TakesTargets (by_line (waiting_in self.old)) (by_line (waiting_in self.new)) line.0 result.items }
         ensures sound { IsMissFile (by_line (waiting_in self.new)) }
-        ensures lines { length (by_line (waiting_in self.old)) ≡ length (by_line (waiting_in self.new)) + (if has_miss (by_line (waiting_in self.new)) line.0 then 0 else 1) }
+        ensures lines { length (by_line (waiting_in self.old))
+            ≡ length (by_line (waiting_in self.new))
+            + (if has_miss (by_line (waiting_in self.new)) line.0 then 0 else 1) }
     {
         take_in_turn(self, line, count)
     }

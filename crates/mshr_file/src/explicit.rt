@@ -24,7 +24,8 @@ impl Model for ExplicitFile {
 
     ghost view = { λ file. record { registers = file.table.registers.items; fields = file.fields } };
 
-    ghost invariant = { λ file. IsTable (record { registers = file.table.registers.items; fields = file.fields }) × IsKept file.table };
+    ghost invariant = { λ file. IsTable (record { registers = file.table.registers.items; fields = file.fields })
+        × IsKept file.table };
 }
 
 impl MissFile for ExplicitFile {

@@ -3,8 +3,8 @@
 //! A lockup-free cache (Kroft 1981) goes on while misses are outstanding, since each of them stands in a register. A
 //! first miss to a line opens one, and further accesses to the line join it as targets.
 //!
-//! - [`MissFile`] is what a cache needs of its registers. Its contracts see a list of them, each a line with its targets
-//!   in order, in which no line stands twice and each has a target (`IsMissFile` of specs/Miss.antt).
+//! - [`MissFile`] is what a cache needs of its registers. Its contracts see a list of them, each a line with its
+//!   targets in order, in which no line stands twice and each has a target (`IsMissFile` of specs/Miss.antt).
 //! - [`MissFile::admit`] says what a request for a line is to do: join its register, open one, or wait for room.
 //! - [`MissFile::open`] and [`MissFile::join`] add a target to one line at the end (`AddsTarget`),
 //!   [`MissFile::take_first`], [`MissFile::take_loads`] and [`MissFile::close`] take the first ones of a line
@@ -18,8 +18,8 @@
 //! - [`InvertedFile`] has an entry for each tag of the core, their inverted organisation, and so it has room whenever
 //!   the tag is free.
 //!
-//! Only [`MissFile::make`] takes memory. A call searches a row of 16 bytes for each register of its file, at most 32, or
-//! for each entry that is in use, at most 64. A target is taken where it stands, and no other target moves; only
+//! Only [`MissFile::make`] takes memory. A call searches a row of 16 bytes for each register of its file, at most 32,
+//! or for each entry that is in use, at most 64. A target is taken where it stands, and no other target moves; only
 //! [`MissFile::take_loads`] and [`MissFile::close`] hand out a list, 3 KB by value.
 //!
 //! What follows for callers from `AddsTarget` and `TakesTargets` stands in proofs/Changes.antt.

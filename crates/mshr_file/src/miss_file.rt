@@ -78,7 +78,8 @@ pub trait MissFile: Sized + Drop {
     fn take_first(&mut self, line: Local) -> Target
         requires found { has_miss (misses self.old) line.0 ≡ true }
         ensures taken { TakesTargets (misses self.old) (misses self.new) line.0 (result ∷ []) }
-        ensures registers { length (misses self.old) ≡ length (misses self.new) + (if has_miss (misses self.new) line.0 then 0 else 1) }
+        ensures registers { length (misses self.old)
+            ≡ length (misses self.new) + (if has_miss (misses self.new) line.0 then 0 else 1) }
         ensures sound { IsMissFile (misses self.new) }
         ensures bound { bound self.new ≡ bound self.old };
 
@@ -87,7 +88,8 @@ pub trait MissFile: Sized + Drop {
         requires found { has_miss (misses self.old) line.0 ≡ true }
         ensures loads { result.items ≡ front_loads (targets_of (misses self.old) line.0) }
         ensures taken { TakesTargets (misses self.old) (misses self.new) line.0 result.items }
-        ensures registers { length (misses self.old) ≡ length (misses self.new) + (if has_miss (misses self.new) line.0 then 0 else 1) }
+        ensures registers { length (misses self.old)
+            ≡ length (misses self.new) + (if has_miss (misses self.new) line.0 then 0 else 1) }
         ensures sound { IsMissFile (misses self.new) }
         ensures bound { bound self.new ≡ bound self.old };
 

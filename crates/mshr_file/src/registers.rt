@@ -185,8 +185,11 @@ impl RegisterTable {
         requires kept { IsKept self.old }
         requires served { has_miss (misses_of self.old.registers.items) line.0 ≡ true }
         ensures kept { IsKept self.new }
-        ensures taken { TakesTargets (misses_of self.old.registers.items) (misses_of self.new.registers.items) line.0 (result ∷ []) }
-        ensures count { length (misses_of self.old.registers.items) ≡ length (misses_of self.new.registers.items) + (if has_miss (misses_of self.new.registers.items) line.0 then 0 else 1) }
+        ensures taken { TakesTargets (misses_of self.old.registers.items) (misses_of self.new.registers.items) line.0
+            (result ∷ []) }
+        ensures count { length (misses_of self.old.registers.items)
+            ≡ length (misses_of self.new.registers.items)
+            + (if has_miss (misses_of self.new.registers.items) line.0 then 0 else 1) }
         ensures sound { IsMissFile (misses_of self.new.registers.items) }
         ensures size { length self.new.registers.items ≡ length self.old.registers.items }
     {
@@ -206,7 +209,9 @@ impl RegisterTable {
         ensures kept { IsKept self.new }
         ensures loads { result.items ≡ front_loads (targets_of (misses_of self.old.registers.items) line.0) }
         ensures taken { TakesTargets (misses_of self.old.registers.items) (misses_of self.new.registers.items) line.0 result.items }
-        ensures count { length (misses_of self.old.registers.items) ≡ length (misses_of self.new.registers.items) + (if has_miss (misses_of self.new.registers.items) line.0 then 0 else 1) }
+        ensures count { length (misses_of self.old.registers.items)
+            ≡ length (misses_of self.new.registers.items)
+            + (if has_miss (misses_of self.new.registers.items) line.0 then 0 else 1) }
         ensures sound { IsMissFile (misses_of self.new.registers.items) }
         ensures size { length self.new.registers.items ≡ length self.old.registers.items }
     {

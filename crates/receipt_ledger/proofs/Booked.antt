@@ -1,9 +1,7 @@
 -- What each step of the small machine makes of a book.
-use Rattle.std.proofs.Common.{◌≡◌, ℕ, ◌+◌, ◌⊎◌, false, List, [], ◌∷◌, ◌++◌, length, map, inl, inr, sym, ap, ◌∙◌, subst, ⊎_elim, Some, set, true, zero-add, arith}
+use Rattle.std.proofs.Common.{◌≡◌, ℕ, ◌+◌, false, List, [], ◌∷◌, ◌++◌, length, map, sym, ap, ◌∙◌, subst, ⊎_elim, Some, set, true, zero-add, arith}
 use Rattle.std.specs.Prelude.{slice_get}
-use Rattle.std.proofs.lemmas.Bool.{cases_lt}
-use Rattle.std.proofs.lemmas.List.{get_or_append_left, get_or_push, length-append}
-use Rattle.std.proofs.lemmas.Option.{get_or_from_slice_get, slice_get-get_or, slice_get_within}
+use Rattle.std.proofs.lemmas.List.{length-append}
 use Rattle.address_map.specs.declared.address.WordAddr.{WordAddr}
 use Rattle.receipt_ledger.proofs.Counts.{accept-counted, hand-counted, new-counted, perform-counted, same-counted}
 use Rattle.receipt_ledger.proofs.Marks.{OneMore, handed_out-marked, handed_out-waiting}
@@ -11,24 +9,9 @@ use Rattle.receipt_ledger.specs.Booked.{IsBooked, stores_to}
 use Rattle.receipt_ledger.specs.Counted.{handed_out}
 use Rattle.receipt_shares.proofs.Totals.{together_assoc, totals_accepted, totals_append, totals_cons, totals_nil}
 use Rattle.receipt_shares.specs.Totals.{Totals, nothing, only_accepted, only_handed, together, totals}
+use Rattle.slice_core_log.proofs.Pushes.{slice_get-push}
 use Rattle.slice_core_log.specs.declared.entry.Entry.{Entry}
 use Rattle.slice_core_machine.specs.Machine.{Asked, Can, IsSame, Machine, Run, accept, after, entry_for, hand, new_machine, perform}
-
--- an entry of a log with one more is one of the log, or that one
-pushed : (log : List Entry) (last : Entry) (number : ℕ) (e : Entry) → slice_get (log ++ last ∷ []) number ≡ Some e
-    → (slice_get log number ≡ Some e) ⊎ (e ≡ last)
-pushed log last number e there =
-    ⊎_elim
-    (λ inside.
-    inl (slice_get-get_or log number e inside
-    ∙ ap (λ d. Some d)
-    (sym (get_or_append_left log (last ∷ []) e number inside) ∙ get_or_from_slice_get (log ++ last ∷ []) number e e there)))
-    (λ past.
-    let within = slice_get_within (log ++ last ∷ []) number e there in
-    let long = length-append log (last ∷ []) in
-    let here : length log ≡ number = omega (arith, past, within, long) in
-    inr (sym (get_or_from_slice_get (log ++ last ∷ []) number e e there) ∙ get_or_push log last e number here))
-    (cases_lt number (length log))
 
 -- one more that is handed out is counted as such, wherever it stands
 pub totals-one_more : (words : List WordAddr) (n : ℕ) (e : Entry) (old new : List Entry) → OneMore e old new
@@ -62,7 +45,8 @@ module _ (counters : List WordAddr) (t : Totals) (m : Machine) (booked : IsBooke
     counted = same-counted m booked.waiting booked.marks booked.counted n same;
     totals_are =
         booked.totals_are
-        ∙ ap (λ (log : List Entry). totals counters (length booked.waiting + length log) (handed_out log booked.marks)) same.log;
+        ∙ ap (λ (log : List Entry). totals counters (length booked.waiting + length log) (handed_out log booked.marks))
+        same.log;
     asked = λ r waits. booked.asked r ((same.waiting r).1 waits);
     logged = λ number e there. booked.logged number e (ap (λ log. slice_get log number) same.log ∙ there);
   }
@@ -100,10 +84,10 @@ module _ (counters : List WordAddr) (t : Totals) (m : Machine) (booked : IsBooke
             (sym (handed_out-waiting m.log booked.marks e booked.counted.sized));
         asked = λ other waits. booked.asked other waits.0;
         logged = λ number given there.
-            ⊎_elim (λ before. booked.logged number given before)
+            ⊎_elim (λ before. booked.logged number given before.1)
             (λ is.
-            subst (λ (d : Entry). stores_to counters d.op d.word ≡ false) (sym is) (booked.asked r can.0))
-            (pushed m.log e number given there);
+            subst (λ (d : Entry). stores_to counters d.op d.word ≡ false) (sym is.1) (booked.asked r can.0))
+            (slice_get-push m.log e number given there);
       }
 
   pub hand-booked : (initial : ℕ → ℕ) (number : ℕ) (e : Entry) → Can m (hand number) → slice_get m.log number ≡ Some e
@@ -123,7 +107,8 @@ module _ (counters : List WordAddr) (t : Totals) (m : Machine) (booked : IsBooke
       }
 
 -- What is performed changes no totals.
-pub performs-booked : (initial : ℕ → ℕ) (counters : List WordAddr) (t : Totals) (requests : List Asked) (m now : Machine)
+pub performs-booked : (initial : ℕ → ℕ) (counters : List WordAddr) (t : Totals) (requests : List Asked)
+    (m now : Machine)
     → IsBooked counters t m → Run initial (map perform requests) m now → IsBooked counters t now
 performs-booked initial counters t [] m now booked run = same-booked counters t m booked now run
 performs-booked initial counters t (r ∷ requests) m now booked run =

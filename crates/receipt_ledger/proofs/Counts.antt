@@ -72,7 +72,8 @@ module _ (m : Machine) (waiting : List Asked) (marks : List Bool) (counted : IsC
         record {
           waits = λ other. (
             λ waits.
-                still-contained waiting i r there.1 there.2 counted.once other ((counted.waits other).0 waits.0) waits.1,
+                still-contained waiting i r there.1 there.2 counted.once other ((counted.waits other).0 waits.0)
+                waits.1,
             λ left. (
               (counted.waits other).1 (was-contained waiting i r there.1 there.2 counted.once other left),
               not-contained waiting i r there.1 there.2 counted.once other left,
@@ -95,7 +96,8 @@ module _ (m : Machine) (waiting : List Asked) (marks : List Bool) (counted : IsC
       within : (number : ℕ) → is_handed marks number ≡ false → number < length marks
       within number marked =
           ⊎_elim (λ inside. inside)
-          (λ past. absurd (false≢true (sym marked ∙ get_or_past marks number true past))) (cases_lt number (length marks))
+          (λ past. absurd (false≢true (sym marked ∙ get_or_past marks number true past)))
+          (cases_lt number (length marks))
 
       marked-before : (number : ℕ) → m.replies number → is_handed (marks ++ false ∷ []) number ≡ false
       marked-before number named =
@@ -113,7 +115,8 @@ module _ (m : Machine) (waiting : List Asked) (marks : List Bool) (counted : IsC
           ⊎_elim (λ (is : number ≡ length marks). inr (is ∙ sized))
           (λ (other : number ≢ length marks).
           let long = length-append marks (false ∷ []) in
-          absurd (false≢true (sym marked ∙ get_or_past (marks ++ false ∷ []) number true (omega (arith, past, other, long)))))
+          absurd (false≢true
+          (sym marked ∙ get_or_past (marks ++ false ∷ []) number true (omega (arith, past, other, long)))))
           (cases_eq number (length marks))
 
   -- A reply that is handed out waits no more.
@@ -140,5 +143,6 @@ module _ (m : Machine) (waiting : List Asked) (marks : List Bool) (counted : IsC
       out : is_handed (set marks given true) given ≡ true
       out =
           ⊎_elim (λ inside. get_or-set_same marks given true true inside)
-          (λ past. get_or_past (set marks given true) given true (let long = length-set marks given true in omega (arith, past, long)))
+          (λ past. get_or_past (set marks given true) given true (let long = length-set marks given true in
+          omega (arith, past, long)))
           (cases_lt given (length marks))

@@ -28,11 +28,13 @@ module _ (words : List WordAddr) where
 
   -- At first the requests alone are given.
   pub gives-first : (accepted : ℕ) (receipts : List Receipt) (rest whole left got : Totals)
-      → whole ≡ together rest (totals words accepted (entries_of receipts)) → together left (only_accepted accepted) ≡ whole
+      → whole ≡ together rest (totals words accepted (entries_of receipts))
+      → together left (only_accepted accepted) ≡ whole
       → got ≡ together nothing (only_accepted accepted) → GivesBack accepted receipts 0 whole left got
   gives-first accepted receipts rest whole left got is sum got_is = record {
     sum = ap (together left) (only accepted) ∙ sum;
-    got_is = got_is ∙ together_comm nothing (only_accepted accepted) ∙ together_nothing (only_accepted accepted) ∙ sym (only accepted);
+    got_is = got_is ∙ together_comm nothing (only_accepted accepted) ∙ together_nothing (only_accepted accepted)
+        ∙ sym (only accepted);
     others = rest;
     left_is =
         together_cancel left (together rest (totals words 0 (entries_of receipts))) (only_accepted accepted)
@@ -46,13 +48,16 @@ module _ (words : List WordAddr) where
       (gives : GivesBack accepted receipts given whole left got) (within : given < length receipts)
       (at : r ≡ get_or receipts given r) where
     -- what is left ends with the next entry
-    next : left ≡ together (together gives.others (totals words 0 (entries_of (drop (given + 1) receipts)))) (only_handed words r.entry)
+    next : left
+        ≡ together (together gives.others (totals words 0 (entries_of (drop (given + 1) receipts))))
+        (only_handed words r.entry)
     next =
         gives.left_is
         ∙ ap (λ (rs : List Receipt). together gives.others (totals words 0 (entries_of rs)))
         (drop_more receipts given r within ∙ ap (λ first. first ∷ drop (given + 1) receipts) (sym at))
         ∙ ap (together gives.others) (totals_cons words 0 (entries_of (drop (given + 1) receipts)) r.entry)
-        ∙ sym (together_assoc gives.others (totals words 0 (entries_of (drop (given + 1) receipts))) (only_handed words r.entry))
+        ∙ sym (together_assoc gives.others (totals words 0 (entries_of (drop (given + 1) receipts)))
+        (only_handed words r.entry))
 
     pub gives-enough : IsWithin (only_handed words r.entry) left
     gives-enough =
@@ -73,7 +78,8 @@ module _ (words : List WordAddr) where
     gives-more fewer greater sum got_more = record {
       sum =
           ap (together fewer) more
-          ∙ sym (together_assoc fewer (totals words accepted (entries_of (take given receipts))) (only_handed words r.entry))
+          ∙ sym (together_assoc fewer (totals words accepted (entries_of (take given receipts)))
+          (only_handed words r.entry))
           ∙ swapped fewer (totals words accepted (entries_of (take given receipts))) (only_handed words r.entry)
           ∙ ap (λ t. together t (totals words accepted (entries_of (take given receipts)))) sum
           ∙ gives.sum;
@@ -85,7 +91,8 @@ module _ (words : List WordAddr) where
     }
 
   -- In the end all is given.
-  pub gives-all : (accepted : ℕ) (receipts : List Receipt) (given : ℕ) (whole left got : Totals) → length receipts ≤ given
+  pub gives-all : (accepted : ℕ) (receipts : List Receipt) (given : ℕ) (whole left got : Totals)
+      → length receipts ≤ given
       → GivesBack accepted receipts given whole left got
       → (together left (totals words accepted (entries_of receipts)) ≡ whole)
       × (got ≡ totals words accepted (entries_of receipts))

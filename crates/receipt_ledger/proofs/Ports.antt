@@ -29,7 +29,8 @@ fresh-port c number core slice shares known named parts held = record {
 }
 
 -- The last receipt is the one seen, where its number is the greatest.
-seen-push : (receipts : List Receipt) (r : Receipt) → seen_of (receipts ++ r ∷ []) ≡ max (seen_of receipts) (r.number + 1)
+seen-push : (receipts : List Receipt) (r : Receipt)
+    → seen_of (receipts ++ r ∷ []) ≡ max (seen_of receipts) (r.number + 1)
 seen-push [] r = omega arith
 seen-push (first ∷ receipts) r = let rest = seen-push receipts r in omega (arith, rest)
 
@@ -58,7 +59,8 @@ module _ (c : Config) (number : ℕ) (p : PortView) (shares then : Amounts) (por
 
   -- A port with one more receipt is a port, where it has a request in flight.
   pub receipt-port : (r : Receipt) → length p.receipts < p.accepted
-      → then.held ≡ together shares.held (only_handed (counters_of c number) r.entry) → IsPort c number (with_receipt p r) then
+      → then.held ≡ together shares.held (only_handed (counters_of c number) r.entry)
+      → IsPort c number (with_receipt p r) then
   receipt-port r waiting held = record {
     known = port.known;
     named = port.named;

@@ -23,4 +23,5 @@ module _ (v : View) (quiet : IsQuiet v) where
 
   pub quiet-replies : (number : ℕ) → IsNamed v number → ⊥
   quiet-replies number named =
-      (side-quiet named.core (named-known v named.core named.tag number named.names)).replies named.tag number named.names
+      (side-quiet named.core (named-known v named.core named.tag number named.names)).replies named.tag number
+      named.names

@@ -18,7 +18,8 @@ module _ {X : Type 0} (xs : List X) (i : ℕ) (r : X) (within : i < length xs) (
       let inside = there.1 in
       ⊎_elim
       (λ below. (there.0, omega (arith, inside, len), sym (get_or-remove_below xs i x there.0 below within) ∙ there.2))
-      (λ above. (there.0 + 1, omega (arith, inside, len), sym (get_or-remove_above xs i x there.0 above within) ∙ there.2))
+      (λ above.
+      (there.0 + 1, omega (arith, inside, len), sym (get_or-remove_above xs i x there.0 above within) ∙ there.2))
       (cases_lt there.0 i)
 
   -- What was removed is there no more.
@@ -29,10 +30,12 @@ module _ {X : Type 0} (xs : List X) (i : ℕ) (r : X) (within : i < length xs) (
       ⊎_elim
       (λ below.
       once there.0 i x below within
-      ((sym (get_or-remove_below xs i x there.0 below within) ∙ there.2) ∙ is ∙ sym at ∙ get_or_default xs i r x within))
+      ((sym (get_or-remove_below xs i x there.0 below within) ∙ there.2) ∙ is ∙ sym at
+      ∙ get_or_default xs i r x within))
       (λ above.
       once i (there.0 + 1) x (omega (arith, above)) (omega (arith, inside, len))
-      (get_or_default xs i x r within ∙ at ∙ sym is ∙ sym (sym (get_or-remove_above xs i x there.0 above within) ∙ there.2)))
+      (get_or_default xs i x r within ∙ at ∙ sym is
+      ∙ sym (sym (get_or-remove_above xs i x there.0 above within) ∙ there.2)))
       (cases_lt there.0 i)
 
   -- Anything else is left.
@@ -50,7 +53,8 @@ module _ {X : Type 0} (xs : List X) (i : ℕ) (r : X) (within : i < length xs) (
       let one : there.0 - 1 + 1 ≡ there.0 = omega (arith, above, other) in (
         there.0 - 1,
         omega (arith, above, other, inside, len),
-        get_or-remove_above xs i x (there.0 - 1) (omega (arith, above, other)) within ∙ ap (λ k. get_or xs k x) one ∙ there.2,
+        get_or-remove_above xs i x (there.0 - 1) (omega (arith, above, other)) within ∙ ap (λ k. get_or xs k x) one
+            ∙ there.2,
       ))
       (cases_eq there.0 i))
       (cases_lt there.0 i)

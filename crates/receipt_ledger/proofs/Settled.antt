@@ -119,8 +119,12 @@ pub counter-line : (c : Config) (number place : ℕ) (word : WordAddr) (v : View
 counter-line c number place word v slice there =
     let counters = counters_of c number in
     let within = slice_get_within counters place word there in
-    let inside = All-filter (is_of_slice c number) (λ (w : WordAddr). w.0 < word_count c) c.counters slice.allowed.counters_in_range in
-    let below = subst (λ (w : WordAddr). w.0 < word_count c) (get_or_from_slice_get counters place word word there) (inside place word within) in
+    let inside =
+    All-filter (is_of_slice c number) (λ (w : WordAddr). w.0 < word_count c) c.counters
+    slice.allowed.counters_in_range in
+    let below =
+    subst (λ (w : WordAddr). w.0 < word_count c) (get_or_from_slice_get counters place word word there)
+    (inside place word within) in
     subst (λ own. IsSome (local_at own (line_of word).0)) (sym slice.lines)
     (word-here c number word slice.allowed (counter-here c number place word there) below)
 

@@ -73,7 +73,8 @@ unfolding value
 value-none initial w = refl
 
 -- Where the entries store nothing to a word, its value is what it began with and what they add.
-pub value-added : (initial w : ℕ) (log : List Entry) → ((k : ℕ) (e : Entry) → slice_get log k ≡ Some e → stored w e ≡ None)
+pub value-added : (initial w : ℕ) (log : List Entry)
+    → ((k : ℕ) (e : Entry) → slice_get log k ≡ Some e → stored w e ≡ None)
     → value initial log w ≡ (initial + named log w) % 2 ^ 64
 value-added initial w log none = along [] log (value-none initial w) none
   where

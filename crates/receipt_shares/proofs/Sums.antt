@@ -161,13 +161,3 @@ sum_at_nil words place = by_word (slice_get words place)
 pub sums_nil : (words : List WordAddr) → sums words [] ≡ zeros
 sums_nil words = sums_same (sums words []) zeros
     (λ k within. at_sums words [] k within ∙ sum_at_nil words k ∙ sym (at_zeros k within))
-
--- lists of entries with equal sums add as much to each of the counters
-pub named_same : (words : List WordAddr) (es fs : List Entry) (place : ℕ) (w : WordAddr) → place < 8
-    → slice_get words place ≡ Some w → sums words es ≡ sums words fs → named es w.0 ≡ named fs w.0
-named_same words es fs place w within here same =
-    sym (named_at es) ∙ sym (at_sums words es place within) ∙ ap (λ (s : Sums). at s place) same
-    ∙ at_sums words fs place within ∙ named_at fs
-  where
-    named_at : (gs : List Entry) → sum_at words gs place ≡ named gs w.0
-    named_at gs = ap (λ (o : Option WordAddr). option_map_or (λ (v : WordAddr). named gs v.0) o 0) here

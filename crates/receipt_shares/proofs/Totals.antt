@@ -1,5 +1,5 @@
 -- How totals add up, and what one more request makes of them.
-use Rattle.std.proofs.Common.{◌≡◌, ℕ, ◌+◌, List, [], ◌∷◌, ◌++◌, length, length-append, refl, sym, ap, subst, ◌∙◌, arith}
+use Rattle.std.proofs.Common.{◌≡◌, ℕ, ◌+◌, List, [], ◌∷◌, ◌++◌, length, length-append, refl, sym, ap, ◌∙◌, arith}
 use Rattle.address_map.specs.declared.address.WordAddr.{WordAddr}
 use Rattle.slice_core_log.specs.declared.entry.Entry.{Entry}
 use Rattle.receipt_shares.specs.Sums.{Sums, zeros, plus, sums}
@@ -15,7 +15,8 @@ totals_same a b m n s t accepted handed counters = rw (accepted, handed, counter
 pub together_comm : (t u : Totals) → together t u ≡ together u t
 together_comm t u =
     totals_same (t.accepted + u.accepted) (u.accepted + t.accepted) (t.handed + u.handed) (u.handed + t.handed)
-    (plus t.counters u.counters) (plus u.counters t.counters) (omega arith) (omega arith) (plus_comm t.counters u.counters)
+    (plus t.counters u.counters) (plus u.counters t.counters) (omega arith) (omega arith)
+    (plus_comm t.counters u.counters)
 
 pub together_assoc : (t u v : Totals) → together (together t u) v ≡ together t (together u v)
 together_assoc t u v =
@@ -77,41 +78,3 @@ totals_cons words n es e =
     totals_same n (n + 0) (length (e ∷ es)) (length es + 1)
     (sums words (e ∷ es)) (plus (sums words es) (sums words (e ∷ [])))
     (omega arith) (omega arith) (sums_append words (e ∷ []) es ∙ plus_comm (sums words (e ∷ [])) (sums words es))
-
--- ---- giving back what was gathered: the requests accepted first, and then entry by entry
-
--- what is left once the requests accepted went back
-pub accepted_left : (rest held : Totals) (words : List WordAddr) (n : ℕ) (es : List Entry)
-    → together held (only_accepted n) ≡ together rest (totals words n es) → held ≡ together rest (totals words 0 es)
-accepted_left rest held words n es given =
-    let more : totals words n es ≡ together (totals words 0 es) (only_accepted n) =
-    ap (λ m. totals words m es) (omega arith) ∙ totals_accepted words 0 n es in
-    together_cancel held (together rest (totals words 0 es)) (only_accepted n)
-    (given ∙ ap (together rest) more ∙ sym (together_assoc rest (totals words 0 es) (only_accepted n)))
-
--- the entry that goes back next stands apart
-pub handed_next : (rest held : Totals) (words : List WordAddr) (e : Entry) (es : List Entry)
-    → held ≡ together rest (totals words 0 (e ∷ es))
-    → held ≡ together (together rest (totals words 0 es)) (only_handed words e)
-handed_next rest held words e es is =
-    is ∙ ap (together rest) (totals_cons words 0 es e)
-    ∙ sym (together_assoc rest (totals words 0 es) (only_handed words e))
-
--- so there is enough for it
-pub handed_enough : (rest held : Totals) (words : List WordAddr) (e : Entry) (es : List Entry)
-    → held ≡ together rest (totals words 0 (e ∷ es)) → IsWithin (only_handed words e) held
-handed_enough rest held words e es is =
-    subst (IsWithin (only_handed words e)) (sym (handed_next rest held words e es is))
-    (within_together (only_handed words e) (together rest (totals words 0 es)))
-
--- and the rest is left
-pub handed_left : (rest held left : Totals) (words : List WordAddr) (e : Entry) (es : List Entry)
-    → held ≡ together rest (totals words 0 (e ∷ es))
-    → together left (only_handed words e) ≡ held → left ≡ together rest (totals words 0 es)
-handed_left rest held left words e es is given =
-    together_cancel left (together rest (totals words 0 es)) (only_handed words e)
-    (given ∙ handed_next rest held words e es is)
-
--- once each entry went back, what is left is what was there before
-pub none_left : (rest held : Totals) (words : List WordAddr) → held ≡ together rest (totals words 0 []) → held ≡ rest
-none_left rest held words is = is ∙ ap (together rest) (totals_nil words) ∙ together_nothing rest

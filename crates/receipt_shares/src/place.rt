@@ -16,7 +16,8 @@ fn place_of(words: &[WordAddr], word: WordAddr) -> Option<usize>
 pub(crate) fn addition(words: &[WordAddr], entry: &Entry) -> Option<(usize, u64)>
     requires few { length words.now ≤ 8 }
     requires ascending { IsAscendingBy (λ word. word.0) words.now }
-    ensures { let sums = sums words.now (entry.now ∷ []) in MatchOption result (sums ≡ zeros) (λ a. (a.0 < 8) × (sums ≡ only a.0 a.1)) }
+    ensures { let sums = sums words.now (entry.now ∷ []) in
+        MatchOption result (sums ≡ zeros) (λ a. (a.0 < 8) × (sums ≡ only a.0 a.1)) }
 {
     let Op::Add(delta) = entry.op else {
         return None;

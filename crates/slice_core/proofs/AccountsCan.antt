@@ -1,17 +1,15 @@
 -- What the calls of a slice rely on, from its invariant.
-use Rattle.std.proofs.Common.{◌≡◌, ◌<◌, ◌≤◌, length, sym, ap, ◌∙◌, ⊎_elim, arith}
+use Rattle.std.proofs.Common.{◌<◌, ◌≤◌, length, ap, ⊎_elim, arith}
 use Rattle.std.specs.Prelude.{All}
 use Rattle.std.proofs.lemmas.Bool.{cases_lt}
 use Rattle.std.proofs.lemmas.List.Elements.{All-nil}
-use Rattle.std.proofs.lemmas.Option.{slice_get_within}
 use Rattle.address_map.specs.declared.address.CoreId.{CoreId}
 use Rattle.address_map.specs.declared.address.Local.{Local}
 use Rattle.mshr_file.specs.Miss.{targets_of}
-use Rattle.slice_core_plan.specs.Parts.{PartsView, CanDeliver, CanIssue, HasEntries}
+use Rattle.slice_core_plan.specs.Parts.{PartsView, CanDeliver, CanIssue}
 use Rattle.slice_core_plan.specs.View.{side_at}
-use Rattle.slice_core_side.specs.Side.{SideView, tag_at}
+use Rattle.slice_core_side.specs.Side.{SideView}
 use Rattle.slice_core_side.specs.Targets.{IsPerformable}
-use Rattle.slice_core_side.specs.declared.tags.TagState.TheVariants as tags
 use Rattle.slice_core_standing.proofs.Facts.{all-performable, waiting-line}
 use Rattle.slice_core.proofs.AccountsFacts.{side-missing}
 use Rattle.slice_core.proofs.LinksFacts.{asked-idle}
@@ -70,18 +68,3 @@ module _ (p : PartsView) (sound : IsSound p) where
         omega (arith, least, fits);
     pending = waiting-least;
   }
-
-  -- ---- hand
-
-  pub has-entries : (core : CoreId) → HasEntries p.view core
-  has-entries core tag number named =
-      ⊎_elim
-      (λ known.
-      let found = (sound.accounts.accounts core known).tags.replies tag number named in
-      slice_get_within p.view.log number found.0 found.1)
-      (λ past.
-      absurd (Free_names (sym (ap (λ (s : SideView). tag_at s tag) (side-missing p.view core past)) ∙ named)))
-      (cases_lt core.0 (length p.view.sides))
-    where
-      Free_names : tags.Free ≡ tags.Performed number → ⊥
-      Free_names same = cc

@@ -126,7 +126,7 @@ module _ (old : PartsView) (local : Local) (channel : Channel) (new : PartsView)
 -- ---- the plans
 
 -- What was planned is carried out.
-pub keeps-plan : (plan : Plan) (old : PartsView) (local : Local) (channel : Channel) (answer : Delivered)
+keeps-plan : (plan : Plan) (old : PartsView) (local : Local) (channel : Channel) (answer : Delivered)
     (new : PartsView)
     → IsSound old → plan_of old.view local channel ≡ plan → AfterPlan plan old local channel answer new → Keeps new
 keeps-plan plan old local channel answer new sound = by plan

@@ -9,7 +9,7 @@ use Rattle.slice_core_answer.specs.declared.answer.Delivered.{Delivered}
 use Rattle.slice_core_answer.specs.declared.answer.Delivered.TheVariants as delivered
 use Rattle.slice_core_answer.specs.declared.answer.DeliveredNext.{DeliveredNext}
 use Rattle.slice_core_answer.specs.declared.answer.DeliveredNext.TheVariants as delivered_next
-use Rattle.slice_core_coherence.proofs.Calls.{located}
+use Rattle.slice_core_coherence.proofs.KeptByCalls.{located}
 use Rattle.slice_core_coherence.specs.Whole.{IsAddressed, IsWhole}
 use Rattle.slice_core_coherence.proofs.Consequences.{one_writer}
 use Rattle.slice_core_coherence.proofs.Unbroken.{whole_is_unbroken}

@@ -1,7 +1,7 @@
 pub mod LinksStates
+pub mod LinksSteps
 pub mod LinksFrame
 pub mod LinksRequests
-pub mod LinksRows
 pub mod LinksAccesses
 pub mod LinksDirectory
 pub mod LinksForwarded
@@ -20,8 +20,6 @@ pub mod AccountsDelivery
 pub mod AccountsBegin
 pub mod AccountsFacts
 pub mod AccountsCan
-pub mod LinksVictims
-pub mod LinksWays
 pub mod LinksInverted
 pub mod Coherent
 pub mod SoundIssue

@@ -1,37 +1,37 @@
 -- Accesses and evictions keep what copies, registers and requests owe each other.
-use Rattle.std.proofs.Common.{◌≡◌, ◌≢◌, ℕ, ◌<◌, Bool, true, false, List, length, set, Option, Some, None, IsSome, is_some, IfSome, IsSomeAnd, unwrap_or, refl, sym, ap, ◌∙◌, subst}
-use Rattle.std.proofs.lemmas.List.{get_or-set_same, length-set}
+use Rattle.std.proofs.Common.{◌≡◌, ◌≢◌, ℕ, ◌<◌, ◌≤◌, Bool, true, false, List, length, set, Option, Some, None, IsSome, IfSome, IsSomeAnd, unwrap_or, refl, sym, ap, ◌∙◌, subst}
+use Rattle.std.proofs.lemmas.List.{length-set}
 use Rattle.address_map.specs.Place.{offset_of}
 use Rattle.address_map.specs.declared.address.CoreId.{CoreId}
 use Rattle.address_map.specs.declared.address.Local.{Local}
 use Rattle.address_map.specs.declared.request.Request.{Request}
-use Rattle.cache_array.proofs.Held.{removed_way}
-use Rattle.cache_array.specs.Array.{held_at as array_at, HasWay}
-use Rattle.cache_array.specs.Victim.{ShareSet}
+use Rattle.cache_array.specs.Array.{held_at as array_at}
 use Rattle.cache_table.specs.CopyState.{is_leaving, is_waiting}
+use Rattle.cache_table.specs.Row.{row_of}
+use Rattle.cache_table.specs.declared.row.CacheSends.TheVariants as sends
+use Rattle.cache_table.specs.declared.row.Row.TheVariants as rows
 use Rattle.cache_table.specs.declared.state.CopyState.{CopyState}
 use Rattle.mshr_file.proofs.Changes.{has_miss-added}
 use Rattle.mshr_file.specs.Miss.{AddsTarget, has_miss, targets_of}
 use Rattle.mshr_file.specs.declared.registers.Register.{Register}
+use Rattle.slice_core_coherence.proofs.Accesses.{can_leave, has_way, sends_for, side_replaced, HasPlace, HasPlaceFor, HasVictim, HasVictimFor}
 use Rattle.slice_core_plan.specs.Steps.{after_evict, after_hand, after_hit, after_join, after_open, after_opening, after_request, request_of, with_way}
 use Rattle.slice_core_plan.specs.View.{View, channels_at, entry_at, no_side, side_at, with_side, IsShaped}
 use Rattle.slice_core_side.proofs.Found.{changes-evict, changes-hit, changes-open_free, changes-open_held, kept-after_draw, kept-after_hand}
 use Rattle.slice_core_side.proofs.Lines.{ChangesLine, FitsIn}
-use Rattle.slice_core_side.specs.Access.{access_of, is_idle, CanLeave, CanReplace, HasWayFor}
+use Rattle.slice_core_side.specs.Access.{event_of, CanLeave, CanReplace}
 use Rattle.slice_core_side.specs.Copy.{found_in, may_leave, missing_copy, no_copy, performed_on}
 use Rattle.slice_core_side.specs.Kept.{IsKept, stands_in_array}
 use Rattle.slice_core_side.specs.Side.{SideView, array_copy, state_of}
 use Rattle.slice_core_side.specs.Steps as sides
 use Rattle.slice_core_side.specs.Steps.{evicted}
-use Rattle.slice_core_side.specs.declared.access.Access.TheVariants as accesses
 use Rattle.slice_core_side.specs.declared.access.Ask.{Ask}
 use Rattle.slice_core_side.specs.declared.access.Way.{Way}
 use Rattle.slice_core_side.specs.declared.access.Way.TheVariants as ways
 use Rattle.slice_core_side.specs.declared.copy.CacheCopy.{CacheCopy}
-use Rattle.slice_core.proofs.LinksFrame.{links_logged, links_side, links_step, placed, same_local}
+use Rattle.slice_core.proofs.LinksFrame.{links_logged, links_side, links_step, placed}
 use Rattle.slice_core.proofs.LinksRequests.{asked, asked-sent, asked-sent_other}
-use Rattle.slice_core.proofs.LinksRows.{decided}
-use Rattle.slice_core.proofs.LinksStates.{hits_on, leaves_by, OpensTo}
+use Rattle.slice_core.proofs.LinksStates.{hits_on, leaves_by, opens_to, OpensTo}
 use Rattle.slice_core.specs.Sound.{HasLinks, has_sent}
 use Rattle.slice_queues.specs.Line.{LineChannels, after_send, empty_line}
 use Rattle.slice_queues_message.specs.declared.channel.Channel.TheVariants as channels
@@ -73,12 +73,6 @@ held_copy : (side : SideView) (local : Local) (copy : CacheCopy) → array_at si
     state_of side local ≡ copy.state
 held_copy side local copy is = ap (λ o. (found_in o (buffer_at side.buffer.entries local.0)).state) is
 
--- where the copy of a line that is missed is to stand: it stands there, or has a free way
-abbrev pub HasPlace : SideView → Local → Bool → Type 0
-HasPlace side local true = IsSome (array_at side.array local)
-HasPlace side local false =
-    (array_at side.array local ≡ None) × (buffer_at side.buffer.entries local.0 ≡ None) × HasWay side.array local
-
 module _ (v : View) (core : CoreId) (local : Local) (shaped : IsShaped v) (links : HasLinks v)
     (there : core.0 < length v.sides) (within : local.0 < v.lines.lines) where
   -- the line has channels for the core
@@ -86,16 +80,13 @@ module _ (v : View) (core : CoreId) (local : Local) (shaped : IsShaped v) (links
   has_channels = subst (λ n. core.0 < n) (sym (shaped.cores local within)) there
 
   -- An access that hits keeps the links.
-  pub links_hit : (request : Request) (place : ℕ) (next : CopyState) (silent : Bool) →
-      access_of (side_at v core) local request.tag request.op ≡ accesses.Hit place next silent →
+  pub links_hit : (request : Request) (next : CopyState) → IsSome (array_at (side_at v core).array local) →
+      row_of (state_of (side_at v core) local) (event_of request.op) ≡ rows.Go next sends.Nothing →
       HasLinks (after_hit v core request local next)
-  links_hit request place next silent is =
+  links_hit request next held row =
       let side = side_at v core in
       let offset = (offset_of request.word).0 in
-      let row = decided side local request.tag request.op (accesses.Hit place next silent) is in
-      let held : IsSome (array_at side.array local) = ap is_some row.1 in
-      let state = held_copy side local row.0 row.1 in
-      let on = hits_on request.op row.0.state next (asked (channels_at v local) core.0) row.2 in
+      let on = hits_on request.op (state_of side local) next (asked (channels_at v local) core.0) row in
       links_logged _ _
       (links_side v core local (sides.after_hit side local offset request.op next)
       (Some (record (array_copy side local) {
@@ -108,9 +99,8 @@ module _ (v : View) (core : CoreId) (local : Local) (shaped : IsShaped v) (links
         fits = on.stands;
         misses = λ other apart. refl;
         requests = λ other apart. refl;
-        waits = on.waits ∙ sym (ap is_waiting state) ∙ links.waits core local there within;
-        sent = on.sent (sym (ap (λ s. has_sent s (asked (channels_at v local) core.0)) state)
-            ∙ links.sent core local there within);
+        waits = on.waits ∙ links.waits core local there within;
+        sent = on.sent (links.sent core local there within);
       })
       shaped links there within)
 
@@ -226,119 +216,64 @@ module _ (v : View) (core : CoreId) (local : Local) (shaped : IsShaped v) (links
 
 -- ---- a miss, with its way
 
--- the line that leaves for another may leave, and shares its set
-pub record HasVictim (side : SideView) (local : Local) : Type 0 where
-  pub goes : IsSomeAnd (array_at side.array (sides.victim_for side local)) (λ copy. may_leave copy.state ≡ true)
-  pub shares : ShareSet side.array local (sides.victim_for side local)
+module _ (v : View) (core : CoreId) (local : Local) (shaped : IsShaped v) (few : length v.sides ≤ 64)
+    (links : HasLinks v) (there : core.0 < length v.sides) (within : local.0 < v.lines.lines) where
+  -- a victim that leaves for the line keeps the links
+  module _ (replaces : CanReplace (side_at v core) local) (victim : HasVictim v core local) where
+    abbrev left : Local
+    left = sides.victim_for (side_at v core) local
 
--- lines of which the array holds one and not the other are two
-two_lines : (side : SideView) (local other : Local) → array_at side.array local ≡ None →
-    IsSome (array_at side.array other) →
-    local.0 ≢ other.0
-two_lines side local other absent held same =
-    let none : is_some (array_at side.array other) ≡ false =
-    ap is_some (ap (array_at side.array) (sym (same_local local other same)) ∙ absent) in
-    cc
+    leaves : CanLeave (side_at v core) left
+    leaves = can_leave v core local shaped few there within (links.kept core there) replaces victim
 
-module _ (side : SideView) (local : Local) (kept : IsKept side) (replaces : CanReplace side local)
-    (victim : HasVictim side local) where
-  -- the line that leaves can leave
-  pub victim-leaves : CanLeave side (sides.victim_for side local)
-  victim-leaves =
-      let held = ap is_some (passing (λ (c : CacheCopy). may_leave c.state)
-      (array_at side.array (sides.victim_for side local)) victim.goes).0 in record {
-        held = victim.goes;
-        room = replaces.room;
-        absent = kept.apart (sides.victim_for side local) held;
-      }
+    -- of its line array and buffer hold what an eviction leaves
+    changes-replace : ChangesLine (side_at v core) (sides.after_replace (side_at v core) local) left None
+        (Some (evicted (array_copy (side_at v core) left)))
+    changes-replace =
+        let c = changes-evict (sides.after_draw (side_at v core)) left
+        (kept-after_draw (side_at v core) (links.kept core there))
+        (record { held = leaves.held; room = leaves.room; absent = leaves.absent }) in record {
+          in_array = c.in_array;
+          in_buffer = c.in_buffer;
+          array_others = c.array_others;
+          buffer_others = c.buffer_others;
+          array_sound = c.array_sound;
+          buffer_sound = c.buffer_sound;
+        }
 
-  victim-held : IsSome (array_at side.array (sides.victim_for side local))
-  victim-held = ap is_some (passing (λ (c : CacheCopy). may_leave c.state)
-      (array_at side.array (sides.victim_for side local)) victim.goes).0
-
-  -- of its line array and buffer hold what an eviction leaves
-  pub changes-replace : ChangesLine side (sides.after_replace side local) (sides.victim_for side local) None
-      (Some (evicted (array_copy side (sides.victim_for side local))))
-  changes-replace =
-      let c = changes-evict (sides.after_draw side) (sides.victim_for side local) (kept-after_draw side kept)
-      (record { held = victim-leaves.held; room = victim-leaves.room; absent = victim-leaves.absent }) in record {
-        in_array = c.in_array;
-        in_buffer = c.in_buffer;
-        array_others = c.array_others;
-        buffer_others = c.buffer_others;
-        array_sound = c.array_sound;
-        buffer_sound = c.buffer_sound;
-      }
-
-  -- and then the line has a way
-  pub way-replaced : HasPlace (sides.after_replace side local) local false
-  way-replaced =
-      let apart = two_lines side local (sides.victim_for side local) replaces.absent victim-held in (
-        changes-replace.array_others local apart ∙ replaces.absent,
-        changes-replace.buffer_others local apart ∙ replaces.stays,
-        removed_way side.array (sides.victim_for side local) kept.array local (sym victim.shares) victim-held,
-      )
-
-module _ (v : View) (core : CoreId) (local : Local) (shaped : IsShaped v) (links : HasLinks v)
-    (there : core.0 < length v.sides) (within : local.0 < v.lines.lines) where
-  -- a victim that leaves for the line keeps the links, and is a line of the slice
-  module _ (replaces : CanReplace (side_at v core) local) (victim : HasVictim (side_at v core) local) where
-    victim-inside : (sides.victim_for (side_at v core) local).0 < v.lines.lines
-    victim-inside =
-        let kept = links.kept core there in
-        links.own core (sides.victim_for (side_at v core) local) there
-        (victim-held (side_at v core) local kept replaces victim)
-
-    pub links_replace : HasLinks (with_way v core local ways.Victim)
+    links_replace : HasLinks (with_way v core local ways.Victim)
     links_replace =
-        let side = side_at v core in
-        let kept = links.kept core there in
-        links_leaving v core (sides.victim_for side local) shaped links there victim-inside
-        (victim-leaves side local kept replaces victim) (sides.after_replace side local) refl
-        (changes-replace side local kept replaces victim)
+        links_leaving v core left shaped links there victim.inside leaves (sides.after_replace (side_at v core) local)
+        refl changes-replace
 
-    pub shaped_replace : IsShaped (with_way v core local ways.Victim)
+    shaped_replace : IsShaped (with_way v core local ways.Victim)
     shaped_replace =
         let side = side_at v core in
-        shaped_asking v core (sides.victim_for side local) shaped links there victim-inside
-        (sides.after_replace side local)
-        (sides.put_of (array_copy side (sides.victim_for side local)))
-
-    -- the core is the one in which the victim left
-    side-replaced : side_at (with_way v core local ways.Victim) core ≡ sides.after_replace (side_at v core) local
-    side-replaced = get_or-set_same v.sides core.0 (sides.after_replace (side_at v core) local) no_side there
-
-  -- what a miss needs of the victim that its way takes
-  abbrev pub HasVictimFor : Way → Type 0
-  HasVictimFor ways.Victim = HasVictim (side_at v core) local
-  HasVictimFor way = Unit {0}
+        shaped_asking v core left shaped links there victim.inside (sides.after_replace side local)
+        (sides.put_of (array_copy side left))
 
   -- An access that opens a register keeps the links.
   pub links_open : (request : Request) (way : Way) (next : CopyState) (ask : Ask) (misses : List Register)
-      (target : Target) →
-      access_of (side_at v core) local request.tag request.op ≡ accesses.Open next ask way →
-      HasWayFor (side_at v core) local way → HasVictimFor way →
+      (target : Target) → HasPlaceFor (side_at v core) local way → HasVictimFor v core local way →
+      row_of (state_of (side_at v core) local) (event_of request.op) ≡ rows.Go next (sends_for ask) →
       AddsTarget (side_at v core).misses misses local.0 target →
       HasLinks (after_open v core request local way next ask misses)
-  links_open request ways.Held next ask misses target is place victim adds =
+  links_open request ways.Held next ask misses target place victim row adds =
+      links_opening v core local shaped links there within request true next ask misses target
+      (opens_to request.op (state_of (side_at v core) local) next ask row) place adds
+  links_open request ways.Free next ask misses target place victim row adds =
+      links_opening v core local shaped links there within request false next ask misses target
+      (opens_to request.op (state_of (side_at v core) local) next ask row) place adds
+  links_open request ways.Victim next ask misses target place victim row adds =
       let side = side_at v core in
-      let opens = decided side local request.tag request.op (accesses.Open next ask ways.Held) is in
-      let held = ap is_some (passing (λ (c : CacheCopy). is_idle c.state) (array_at side.array local) place).0 in
-      links_opening v core local shaped links there within request true next ask misses target opens held adds
-  links_open request ways.Free next ask misses target is place victim adds =
-      let side = side_at v core in
-      let opens = decided side local request.tag request.op (accesses.Open next ask ways.Free) is in
-      links_opening v core local shaped links there within request false next ask misses target opens place adds
-  links_open request ways.Victim next ask misses target is place victim adds =
-      let side = side_at v core in
-      let opens = decided side local request.tag request.op (accesses.Open next ask ways.Victim) is in
-      let now = side-replaced place victim in
       let kept = links.kept core there in
+      let now = side_replaced v core local shaped few there within kept place victim in
       links_opening (with_way v core local ways.Victim) core local (shaped_replace place victim)
       (links_replace place victim)
       (subst (λ n. core.0 < n) (sym (length-set v.sides core.0 (sides.after_replace side local))) there) within
-      request false next ask misses target opens
-      (subst (λ (s : SideView). HasPlace s local false) (sym now) (way-replaced side local kept place victim))
+      request false next ask misses target (opens_to request.op (state_of side local) next ask row)
+      (subst (λ (s : SideView). HasPlace s local false) (sym now)
+      (has_way v core local shaped few there within kept place victim))
       (subst (λ (s : SideView). AddsTarget s.misses misses local.0 target) (sym now) adds)
 
 -- ---- replies

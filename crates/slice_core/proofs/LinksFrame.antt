@@ -35,9 +35,6 @@ placed P xs i j x d within here elsewhere =
 pub same_local : (a b : Local) → a.0 ≡ b.0 → a ≡ b
 same_local a b e = let named : ℕ → Local = λ n. record { 0 = n } in ap named e
 
-pub same_core : (a b : CoreId) → a.0 ≡ b.0 → a ≡ b
-same_core a b e = let named : ℕ → CoreId = λ n. record { 0 = n } in ap named e
-
 -- The core has this side now and the line these channels: of the line the core's array and buffer hold this, its
 -- register
 -- fits the copy, and so does what the core has asked for. Registers of other lines and requests of other cores are as

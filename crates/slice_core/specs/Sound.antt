@@ -55,8 +55,8 @@ has_sent state (Some requests.PutS) = is_leaving state
 has_sent state (Some (requests.PutM block)) = is_leaving state
 has_sent state request = false
 
--- A core's copies stand where they belong; each that waits has a register; and what a core has asked for a line fits its
--- copy. So nothing is asked for a copy that waits for nothing.
+-- A core's copies stand where they belong; each that waits has a register; and what a core has asked for a line fits
+-- its copy. So nothing is asked for a copy that waits for nothing.
 pub record HasLinks (v : View) : Type 0 where
   pub kept : (core : CoreId) → core.0 < length v.sides → IsKept (side_at v core)
   pub own : (core : CoreId) (local : Local) → core.0 < length v.sides → IsSome (array_at (side_at v core).array local)
@@ -67,7 +67,8 @@ pub record HasLinks (v : View) : Type 0 where
       → has_sent (state_of (side_at v core) local) (core_at (channels_at v local) core.0).request ≡ true
   pub owned : (local : Local) → local.0 < v.lines.lines → IsOwned v local
 
--- All of it; and each line stands, with its blocks, as one that the protocol's machine can come to, and the log is legal.
+-- All of it; and each line stands, with its blocks, as one that the protocol's machine can come to, and the log is
+-- legal.
 pub record IsSound (p : PartsView) : Type 0 where
   pub counted : IsCounted p
   pub accounts : HasAccounts p.view

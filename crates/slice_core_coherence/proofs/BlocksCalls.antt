@@ -30,7 +30,8 @@ use Rattle.slice_core_side.specs.declared.access.Way.{Way}
 use Rattle.slice_core_side.specs.declared.access.Way.TheVariants as ways
 
 -- A line's place among the slice's own leads back to it.
-pub line_located : (own : Lines) (line : ℕ) (local : Local) → local_at own line ≡ Some local → line ≡ (line_at own local).0
+pub line_located : (own : Lines) (line : ℕ) (local : Local) → local_at own line ≡ Some local
+    → line ≡ (line_at own local).0
 line_located own line local =
     by (line % own.slices == own.slice && nat_lt (line / own.slices) own.lines)
     (λ mine. eqb-true _ _ (and_parts _ _ mine).0)
@@ -72,14 +73,14 @@ accesses_keep = record {
         legal = hit_legal v core local whole.shaped whole.few known.1.machine there inside (whole.kept core there)
             request next own held row all.reached all.legal;
       };
-  opening = λ v core local request way next ask misses known there inside place victim row all.
+  opening = λ v core local request way next ask misses target known there inside place victim row adds all.
       let whole = known.0 in
       record {
         reached = open_keeps v core local whole.shaped whole.few there inside (whole.kept core there) request way next
             ask misses place victim row all.reached;
         legal = opened_legal v core local request way next ask misses all.legal;
       };
-  join = λ v core request misses there all. record {
+  join = λ v core local request misses target known there inside waits adds all. record {
     reached = join_keeps v core request misses there all.reached;
     legal = all.legal;
   };

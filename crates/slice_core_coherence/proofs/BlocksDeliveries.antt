@@ -31,14 +31,14 @@ messages_keep = record {
         (known.0.kept core there) there inside copy is all.reached;
     legal = all.legal;
   };
-  filling = λ v local core place next misses known inside there is all. record {
+  filling = λ v local core place next misses known inside there is takes all. record {
     reached = fill_keeps v local core (omega (arith, there)) known.0.few known.0.shaped known.1.machine
         (known.0.kept core there) there inside (known.1.performable core local) all.reached place next is misses;
     legal = fill_legal v local core (omega (arith, there)) known.0.few known.0.shaped known.1.machine
         (known.0.kept core there) there inside (known.1.performable core local) all.reached place next is misses
         all.legal;
   };
-  counting = λ v local core from place next misses known inside there is all. record {
+  counting = λ v local core from place next misses known inside there is takes all. record {
     reached = count_keeps v local core (omega (arith, there)) known.0.few known.0.shaped known.1.machine
         (known.0.kept core there) there inside (known.1.performable core local) all.reached from place next is misses;
     legal = count_legal v local core (omega (arith, there)) known.0.few known.0.shaped known.1.machine

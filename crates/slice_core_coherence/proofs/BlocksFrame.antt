@@ -1,12 +1,12 @@
 -- A step on one line of a slice leaves the blocks of its other lines as they stand.
 use Rattle.std.proofs.Common.{◌≡◌, ◌≢◌, ℕ, ◌<◌, Bool, if◌then◌else◌, List, length, get_or, set, inl, inr, refl, sym, ap, ◌∙◌, subst}
 use Rattle.std.proofs.lemmas.Bool.{cases_eq}
-use Rattle.std.proofs.lemmas.List.{get_or-set_other, get_or-set_same, length-set, set-get_or}
+use Rattle.std.proofs.lemmas.List.{get_or-set_other, length-set, set-get_or}
 use Rattle.address_map.specs.declared.address.CoreId.{CoreId}
 use Rattle.address_map.specs.declared.address.Local.{Local}
 use Rattle.address_map.specs.declared.block.Block.{Block}
 use Rattle.directory_table.specs.declared.state.DirEntry.{DirEntry}
-use Rattle.slice_core_coherence.proofs.Frame.{by_number, line_as, read-set, same_local, stepped, with_copy_at}
+use Rattle.slice_core_coherence.proofs.Frame.{by_number, channels_are, entry_is, line_as, read-set, same_local, stepped, with_copy_at}
 use Rattle.slice_core_coherence.specs.Blocks.{AreReachedWith, BlocksStand, CoreBlocksStand, HasValues, IsReachedWith, LineReachedWith}
 use Rattle.slice_core_coherence.specs.Stands.{LineStands, copies_at}
 use Rattle.slice_core_log.specs.Log.{initially}
@@ -87,15 +87,6 @@ reached_alike exclusive cores init log more first entry channels copy keeps line
 module _ (v : View) (local : Local) (shaped : IsShaped v) (inside : local.0 < v.lines.lines) (all : AreReachedWith v)
     (log : List Entry)
     (keeps : (other : Local) → other.0 < v.lines.lines → other.0 ≢ local.0 → LogKeeps v log other) where
-  entry_is : (entry : DirEntry) → get_or (set v.entries local.0 entry) local.0 no_entry ≡ entry
-  entry_is entry = get_or-set_same v.entries local.0 entry no_entry (subst (λ n. local.0 < n) (sym shaped.entries)
-      inside)
-
-  channels_are : (channels : LineChannels)
-      → get_or (set v.channels local.0 channels) local.0 (empty_line 0) ≡ channels
-  channels_are channels =
-      get_or-set_same v.channels local.0 channels (empty_line 0) (subst (λ n. local.0 < n) (sym shaped.lines) inside)
-
   module _ (entry : DirEntry) (channels : LineChannels) (core : CoreId) (side : SideView)
       (there : core.0 < length v.sides)
       (others : (other : Local) → other.0 < v.lines.lines → other.0 ≢ local.0
@@ -139,7 +130,8 @@ module _ (v : View) (local : Local) (shaped : IsShaped v) (inside : local.0 < v.
           (reached_as v.exclusive (length v.sides) (initially v.init) log (first_word v local) _ _
           (with_copy_at (copies_at v local) core.0 (copy_of side local))
           (copies_at (stepped v local entry channels core side log) local)
-          (λ x below. copies_there local x) (rw (entry_is entry, channels_are channels) line)))
+          (λ x below. copies_there local x)
+          (rw (entry_is v local shaped inside entry, channels_are v local shaped inside channels) line)))
       | inr apart ↦
           subst (λ n. LineReachedWith v.exclusive n (initially v.init) log (first_word v other)
           (get_or (set v.entries local.0 entry) other.0 no_entry)
@@ -193,8 +185,8 @@ by_entry_with v local shaped inside all entry channels line other within = elim 
       subst (λ l. IsReachedWith (with_channels (with_entry v local entry) local channels) l)
       (sym (same_local other local same))
       (rw (
-        entry_is v local shaped inside all v.log (λ o w a block has. has) entry,
-        channels_are v local shaped inside all v.log (λ o w a block has. has) channels,
+        entry_is v local shaped inside entry,
+        channels_are v local shaped inside channels,
       ) line)
   | inr apart ↦
       rw (

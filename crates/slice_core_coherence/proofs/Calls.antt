@@ -1,16 +1,13 @@
 -- Each call of a slice leaves its lines reached: a request, an eviction, and a reply that is handed out.
-use Rattle.std.proofs.Common.{◌≡◌, ℕ, ◌<◌, Option, Some, length, Result}
-use Rattle.address_map.specs.Locator.{Lines, local_at}
+use Rattle.std.proofs.Common.{◌<◌, Option, length, Result}
 use Rattle.address_map.specs.declared.address.CoreId.{CoreId}
 use Rattle.address_map.specs.declared.address.LineAddr.{LineAddr}
-use Rattle.address_map.specs.declared.address.Local.{Local}
 use Rattle.address_map.specs.declared.request.Request.{Request}
 use Rattle.slice_core_answer.specs.declared.answer.Evicted.{Evicted}
 use Rattle.slice_core_answer.specs.declared.answer.Issue.{Issue}
 use Rattle.slice_core_answer.specs.declared.answer.Refused.{Refused}
 use Rattle.slice_core_coherence.proofs.Accesses.{reached_hand, reached_hit, reached_join, reached_open}
 use Rattle.slice_core_coherence.proofs.Evictions.{reached_evict}
-use Rattle.slice_core_coherence.proofs.KeptByCalls as Kept
 use Rattle.slice_core_coherence.proofs.KeptByCalls.{evicted_keeps, handed_keeps, issue_keeps}
 use Rattle.slice_core_coherence.proofs.Steps.{KeepsAccesses}
 use Rattle.slice_core_coherence.specs.Stands.{AreReached}
@@ -18,18 +15,15 @@ use Rattle.slice_core_coherence.specs.Whole.{IsWhole}
 use Rattle.slice_core_log.specs.declared.entry.Numbered.{Numbered}
 use Rattle.slice_core_plan.specs.Parts.{PartsView, AfterEvict, AfterHand, AfterIssue}
 
--- A line that has a place among the slice's own is one of them.
-pub located : (own : Lines) (line : ℕ) (local : Local) → local_at own line ≡ Some local → local.0 < own.lines
-located = Kept.located
-
 accesses_keep : KeepsAccesses IsWhole AreReached
 accesses_keep = record {
   hit = λ v core local request next whole known inside found held row all.
       reached_hit v core local whole.shaped whole.few known inside (whole.kept core known) request next held row all;
-  opening = λ v core local request way next ask misses whole known inside place victim row all.
+  opening = λ v core local request way next ask misses target whole known inside place victim row adds all.
       reached_open v core local whole.shaped whole.few known inside (whole.kept core known) request way next ask misses
       place victim row all;
-  join = λ v core request misses known all. reached_join v core request misses known all;
+  join = λ v core local request misses target whole known inside waits adds all.
+      reached_join v core request misses known all;
   evict = λ v core local whole known inside leaves all.
       reached_evict v core local whole.shaped whole.few known inside (whole.kept core known) leaves all;
   hand = λ v core tag known all. reached_hand v core tag known all;

@@ -23,10 +23,10 @@ messages_keep = record {
   forwarded = λ v local core next sent requester whole inside there copy is all.
       forwarded_reached v local core next sent requester (omega (arith, there)) whole.few whole.shaped
       (whole.kept core there) there inside copy is all;
-  filling = λ v local core place next misses whole inside there is all.
+  filling = λ v local core place next misses whole inside there is takes all.
       fill_reached v local core (omega (arith, there)) whole.few whole.shaped (whole.kept core there) there inside
       place next is misses all;
-  counting = λ v local core from place next misses whole inside there is all.
+  counting = λ v local core from place next misses whole inside there is takes all.
       count_reached v local core (omega (arith, there)) whole.few whole.shaped (whole.kept core there) there inside
       from place next is misses all;
 }

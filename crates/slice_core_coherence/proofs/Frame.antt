@@ -109,16 +109,18 @@ stepped v local entry channels core side log = record v {
   log = log;
 }
 
-module _ (v : View) (local : Local) (shaped : IsShaped v) (inside : local.0 < v.lines.lines) (all : AreReached v) where
-  entry_is : (entry : DirEntry) → get_or (set v.entries local.0 entry) local.0 no_entry ≡ entry
+-- The line's entry and its channels are those that were put there.
+module _ (v : View) (local : Local) (shaped : IsShaped v) (inside : local.0 < v.lines.lines) where
+  pub entry_is : (entry : DirEntry) → get_or (set v.entries local.0 entry) local.0 no_entry ≡ entry
   entry_is entry = get_or-set_same v.entries local.0 entry no_entry (subst (λ n. local.0 < n) (sym shaped.entries)
       inside)
 
-  channels_are : (channels : LineChannels)
+  pub channels_are : (channels : LineChannels)
       → get_or (set v.channels local.0 channels) local.0 (empty_line 0) ≡ channels
   channels_are channels =
       get_or-set_same v.channels local.0 channels (empty_line 0) (subst (λ n. local.0 < n) (sym shaped.lines) inside)
 
+module _ (v : View) (local : Local) (shaped : IsShaped v) (inside : local.0 < v.lines.lines) (all : AreReached v) where
   -- A step that changes one line's entry, its channels, one core's copy of it, and the log: the lines are reached if
   -- that line is.
   pub by_step : (entry : DirEntry) (channels : LineChannels) (core : CoreId) (side : SideView) (log : List Entry)
@@ -159,7 +161,7 @@ module _ (v : View) (local : Local) (shaped : IsShaped v) (inside : local.0 < v.
           (λ b. copy_of (if b then side else get_or v.sides x no_side) local
           ≡ (if b then copy_of side local else copies_at v local x))
           (λ same. refl) (λ differs. refl))
-          (rw (entry_is entry, channels_are channels) stands)
+          (rw (entry_is v local shaped inside entry, channels_are v local shaped inside channels) stands)
 
   -- The same where the entry stays.
   pub by_side : (channels : LineChannels) (core : CoreId) (side : SideView) (log : List Entry) → core.0 < length v.sides
@@ -201,7 +203,7 @@ module _ (v : View) (local : Local) (shaped : IsShaped v) (inside : local.0 < v.
         channels = get_or-set_other v.channels local.0 other.0 channels (empty_line 0) apart;
         copies = λ x below. refl;
       })
-      line reached (rw (entry_is entry, channels_are channels) stands) all
+      line reached (rw (entry_is v local shaped inside entry, channels_are v local shaped inside channels) stands) all
     where
       new : View
       new = with_channels (with_entry v local entry) local channels

@@ -10,8 +10,7 @@ use Rattle.cache_table.specs.declared.row.Row.{Row}
 use Rattle.cache_table.specs.declared.row.Row.TheVariants as rows
 use Rattle.cache_table.specs.declared.state.CopyState.{CopyState}
 use Rattle.cache_table.specs.declared.state.CopyState.TheVariants as states
-use Rattle.mshr_file.specs.Miss.{admission_of}
-use Rattle.mshr_file.specs.declared.admission.Admission.{Admission}
+use Rattle.mshr_file.specs.Miss.{can_join, can_open, has_miss}
 use Rattle.mshr_file.specs.declared.admission.Admission.TheVariants as admissions
 use Rattle.slice_core_answer.specs.declared.answer.Stall.TheVariants as stalls
 use Rattle.slice_core_coherence.proofs.Accesses.{HasPlaceFor, sends_for}
@@ -28,13 +27,14 @@ use Rattle.writeback_buffer.specs.Buffer.{held_at as buffer_at}
 use Rattle.writeback_buffer.specs.declared.entry.Leaving.{Leaving}
 
 -- What an access says of the row for a copy in this state: a hit sends nothing, and is to a copy that the array holds;
--- a miss asks for the line, and has its way.
+-- a miss asks for the line, and has its way. One that joins finds a register.
 abbrev pub IsJudged : SideView → Local → CopyState → Op → Access → Type 0
 IsJudged side local state op (accesses.Hit place next silent) =
     IsSome (array_at side.array local) × (row_of state (event_of op) ≡ rows.Go next sends.Nothing)
 IsJudged side local state op (accesses.Open next ask way) =
     (row_of state (event_of op) ≡ rows.Go next (sends_for ask)) × HasPlaceFor side local way
-IsJudged side local state op access = Unit {0}
+IsJudged side local state op accesses.Join = has_miss side.misses local.0 ≡ true
+IsJudged side local state op (accesses.Stall stall) = Unit {0}
 
 module _ (side : SideView) (local : Local) (state : CopyState) (op : Op) where
   judged-register : (room : Bool) (access : Access) → IsJudged side local state op access
@@ -115,13 +115,19 @@ judged-alone side local room op = by (array_at side.array local) refl (buffer_at
 
 judged : (side : SideView) (local : Local) (tag : ℕ) (op : Op)
     → IsJudged side local (state_of side local) op (access_of side local tag op)
-judged side local tag op = by (admission_of side.bound side.misses local.0 tag)
+judged side local tag op =
+    by (has_miss side.misses local.0) refl (can_join side.bound side.misses local.0 tag)
+    (can_open side.bound side.misses tag)
   where
-    by : (admission : Admission) → IsJudged side local (state_of side local) op (by_admission side local op admission)
-    by admissions.Join = tt
-    by admissions.NoTarget = tt
-    by admissions.Open = judged-alone side local true op
-    by admissions.NoRegister = judged-alone side local false op
+    by : (missed : Bool) → has_miss side.misses local.0 ≡ missed → (joins opens : Bool)
+        → IsJudged side local (state_of side local) op
+        (by_admission side local op
+        (if missed then (if joins then admissions.Join else admissions.NoTarget)
+        else (if opens then admissions.Open else admissions.NoRegister)))
+    by true waits true opens = waits
+    by true waits false opens = tt
+    by false waits joins true = judged-alone side local true op
+    by false waits joins false = judged-alone side local false op
 
 -- So is the one that was decided.
 pub is_judged : (side : SideView) (local : Local) (tag : ℕ) (op : Op) (access : Access)

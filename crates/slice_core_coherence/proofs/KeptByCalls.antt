@@ -22,7 +22,7 @@ use Rattle.slice_core_coherence.proofs.Victims.{has_victim_for}
 use Rattle.slice_core_coherence.specs.Whole.{IsWhole}
 use Rattle.slice_core_log.specs.declared.entry.Numbered.{Numbered}
 use Rattle.slice_core_plan.specs.Decision.{decision_at, decision_of, is_counter, overwrites}
-use Rattle.slice_core_plan.specs.Parts.{PartsView, AfterAccepting, AfterAccess, AfterEvict, AfterHand, AfterIssue, IsAccepted, LacksMemory}
+use Rattle.slice_core_plan.specs.Parts.{PartsView, target_for, AfterAccepting, AfterAccess, AfterEvict, AfterHand, AfterIssue, IsAccepted, LacksMemory}
 use Rattle.slice_core_plan.specs.Steps.{after_evict}
 use Rattle.slice_core_plan.specs.View.{View, side_at}
 use Rattle.slice_core_plan.specs.declared.decide.Decision.{Decision}
@@ -109,8 +109,9 @@ module _ (Whole Fact : View → Type 0) (steps : KeepsAccesses Whole Fact) (old 
       subst (λ (p : PartsView). Fact p.view) (sym after.1)
       (steps.hit old.view core local request next more known is.0 is.2 row.0 row.1 all)
   accepted local accesses.Join is room issue after =
+      let waits = is_judged (side_at old.view core) local request.tag request.op accesses.Join is.1 in
       subst (λ (p : PartsView). Fact p.view) (sym after.3.1)
-      (steps.join old.view core request after.0 known all)
+      (steps.join old.view core local request after.0 (target_for old core request) more known is.0 waits after.1 all)
   accepted local (accesses.Open next ask way) is room issue after =
       let side = side_at old.view core in
       let kept = whole.kept core known in
@@ -118,7 +119,8 @@ module _ (Whole Fact : View → Type 0) (steps : KeepsAccesses Whole Fact) (old 
       let victim =
       has_victim_for old.view core local way kept.array (λ other held. whole.own core other known held) row.1 in
       subst (λ (p : PartsView). Fact p.view) (sym after.3.1)
-      (steps.opening old.view core local request way next ask after.0 more known is.0 row.1 victim row.0 all)
+      (steps.opening old.view core local request way next ask after.0 (target_for old core request) more known is.0
+      row.1 victim row.0 after.1 all)
 
   -- Where memory for the log is lacking, nothing changed.
   with_memory : (local : Local) (access : Access) → IsDecided old.view core request local access

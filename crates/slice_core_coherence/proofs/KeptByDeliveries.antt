@@ -81,7 +81,7 @@ module _ (Whole Fact : View → Type 0) (steps : KeepsMessages Whole Fact) (old 
   taken_data place next (channels.Data core) is after =
       let there = planned (channels.Data core) _ is in
       seen _ _ after.1.3 refl
-      (steps.filling old.view local core place next after.1.0 more inside there is all)
+      (steps.filling old.view local core place next after.1.0 more inside there is after.1.1 all)
   taken_data place next (channels.Req core) is after = absurd (planned (channels.Req core) _ is)
   taken_data place next (channels.Fwd core) is after = absurd (planned (channels.Fwd core) _ is)
   taken_data place next (channels.Ack to from) is after = absurd (planned (channels.Ack to from) _ is)
@@ -93,7 +93,7 @@ module _ (Whole Fact : View → Type 0) (steps : KeepsMessages Whole Fact) (old 
   taken_ack place next (channels.Ack to from) is after =
       let there = planned (channels.Ack to from) _ is in
       seen _ _ after.1.3 refl
-      (steps.counting old.view local to from place next after.1.0 more inside there is all)
+      (steps.counting old.view local to from place next after.1.0 more inside there is after.1.1 all)
   taken_ack place next (channels.Req core) is after = absurd (planned (channels.Req core) _ is)
   taken_ack place next (channels.Fwd core) is after = absurd (planned (channels.Fwd core) _ is)
   taken_ack place next (channels.Data core) is after = absurd (planned (channels.Data core) _ is)

@@ -1,6 +1,6 @@
 -- How the parts of a line stand after one core's channels, its copy or its part are others.
 use Rattle.std.proofs.Common.{◌≡◌, ℕ, ◌<◌, ◌==◌, Bool, true, false, if◌then◌else◌, length, refl, sym, ap, ◌∙◌, subst}
-use Rattle.std.proofs.lemmas.List.{get_or-set_same, length-set, set-set}
+use Rattle.std.proofs.lemmas.List.{length-set}
 use Rattle.address_map.specs.CoreSet.{has}
 use Rattle.slice_core_coherence.proofs.Frame.{by_number, read-set, with_copy_at}
 use Rattle.slice_core_coherence.specs.Stands.{AcksStand, PartStands}
@@ -44,17 +44,6 @@ parts_sent cores channels copy part c mail change there here stand x below =
     (λ b. PartStands (copy x) (if b then mail else core_at channels x) (change_if b change (part x)))
     (λ same. subst (λ y. PartStands (copy y) mail (change (part y))) (sym same) here) (λ apart. stand x below))
 
--- The same of a core whose channels stay.
-pub parts_copied : (cores : ℕ) (channels : LineChannels) (copy : ℕ → CacheCopy) (part : ℕ → Part) (c : ℕ)
-    (now : CacheCopy) (change : Part → Part) → PartStands now (core_at channels c) (change (part c))
-    → PartsStand cores channels copy part
-    → PartsStand cores channels (with_copy_at copy c now) (with_part_at part c change)
-parts_copied cores channels copy part c now change here stand x below =
-    by_number x c
-    (λ b. PartStands (if b then now else copy x) (core_at channels x) (change_if b change (part x)))
-    (λ same. subst (λ y. PartStands now (core_at channels y) (change (part y))) (sym same) here) (λ apart. stand x
-    below)
-
 -- Parts that are the same stand as well.
 pub parts_as : (cores : ℕ) (channels : LineChannels) (copy : ℕ → CacheCopy) (part now : ℕ → Part)
     → ((x : ℕ) → x < cores → now x ≡ part x) → PartsStand cores channels copy part
@@ -69,17 +58,6 @@ change-twice true f g p = refl
 change-twice false f g p = refl
 
 -- ---- channels
-
--- The core's own channels afterwards, and those of the others.
-pub core_at-same : (channels : LineChannels) (c : ℕ) (mail : CoreChannels) → c < length channels.cores
-    → core_at (with_core channels c mail) c ≡ mail
-core_at-same channels c mail there = get_or-set_same channels.cores c mail no_messages there
-
--- A core's channels that were changed twice.
-pub with_core-twice : (channels : LineChannels) (c : ℕ) (mail now : CoreChannels)
-    → with_core (with_core channels c mail) c now ≡ with_core channels c now
-with_core-twice channels c mail now =
-    ap (λ cores. record channels { cores = cores }) (set-set channels.cores c mail now)
 
 pub with_core-length : (channels : LineChannels) (c : ℕ) (mail : CoreChannels)
     → length (with_core channels c mail).cores ≡ length channels.cores

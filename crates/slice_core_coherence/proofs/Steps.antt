@@ -1,5 +1,5 @@
 -- What each step of a slice keeps, and with it each call: a fact of the slice's value, given what else is known of it.
-use Rattle.std.specs.Prelude.{◌≡◌, ℕ, ◌<◌, Bool, List, length, Option, Some, IsSome}
+use Rattle.std.specs.Prelude.{◌≡◌, ℕ, ◌<◌, Bool, true, List, length, Option, Some, IsSome}
 use Rattle.address_map.specs.Locator.{local_at}
 use Rattle.address_map.specs.Place.{line_of}
 use Rattle.address_map.specs.declared.address.CoreId.{CoreId}
@@ -14,6 +14,7 @@ use Rattle.cache_table.specs.declared.state.CopyState.{CopyState}
 use Rattle.directory_table.specs.declared.row.DirSends.{DirSends}
 use Rattle.directory_table.specs.declared.state.DirState.{DirState}
 use Rattle.mshr_file.specs.declared.registers.Register.{Register}
+use Rattle.mshr_file.specs.Miss.{has_miss, targets_of, AddsTarget, TakesTargets}
 use Rattle.slice_core_coherence.proofs.Accesses.{HasPlaceFor, HasVictimFor, sends_for}
 use Rattle.slice_core_plan.specs.Within.{Stands as HasCopy}
 use Rattle.slice_core_plan.specs.Parts.{filled_by}
@@ -22,12 +23,15 @@ use Rattle.slice_core_plan.specs.Steps.{after_directory, after_evict, after_forw
 use Rattle.slice_core_plan.specs.View.{View, channels_at, side_at}
 use Rattle.slice_core_plan.specs.declared.decide.Plan.TheVariants as plans
 use Rattle.slice_core_side.specs.Access.{CanLeave, event_of}
+use Rattle.slice_core_side.specs.Perform.{performed_in}
 use Rattle.slice_core_side.specs.Side.{array_copy, state_of}
 use Rattle.slice_core_side.specs.Steps.{acknowledged}
 use Rattle.slice_core_side.specs.declared.access.Ask.{Ask}
 use Rattle.slice_core_side.specs.declared.access.Way.{Way}
+use Rattle.slice_core_side.specs.declared.copy.CacheCopy.{CacheCopy}
 use Rattle.slice_queues.specs.Line.{core_at}
 use Rattle.slice_queues_message.specs.declared.channel.Channel.TheVariants as channels
+use Rattle.target_list.specs.declared.target.Target.{Target}
 
 -- Each access, eviction and reply keeps the fact.
 pub record KeepsAccesses (Whole Fact : View → Type 0) : Type 0 where
@@ -36,17 +40,24 @@ pub record KeepsAccesses (Whole Fact : View → Type 0) : Type 0 where
       → IsSome (array_at (side_at v core).array local)
       → row_of (state_of (side_at v core) local) (event_of request.op) ≡ rows.Go next sends.Nothing → Fact v
       → Fact (after_hit v core request local next)
-  pub opening : (v : View) (core : CoreId) (local : Local) (request : Request) (way : Way) (next : CopyState) (ask :
-      Ask)
-      (misses : List Register) → Whole v → core.0 < length v.sides → local.0 < v.lines.lines
-      → HasPlaceFor (side_at v core) local way → HasVictimFor v core local way
-      → row_of (state_of (side_at v core) local) (event_of request.op) ≡ rows.Go next (sends_for ask) → Fact v
+  pub opening : (v : View) (core : CoreId) (local : Local) (request : Request) (way : Way) (next : CopyState)
+      (ask : Ask) (misses : List Register) (target : Target) → Whole v → core.0 < length v.sides
+      → local.0 < v.lines.lines → HasPlaceFor (side_at v core) local way → HasVictimFor v core local way
+      → row_of (state_of (side_at v core) local) (event_of request.op) ≡ rows.Go next (sends_for ask)
+      → AddsTarget (side_at v core).misses misses local.0 target → Fact v
       → Fact (after_open v core request local way next ask misses)
-  pub join : (v : View) (core : CoreId) (request : Request) (misses : List Register) → core.0 < length v.sides
-      → Fact v → Fact (after_join v core request misses)
+  pub join : (v : View) (core : CoreId) (local : Local) (request : Request) (misses : List Register) (target : Target)
+      → Whole v → core.0 < length v.sides → local.0 < v.lines.lines → has_miss (side_at v core).misses local.0 ≡ true
+      → AddsTarget (side_at v core).misses misses local.0 target → Fact v → Fact (after_join v core request misses)
   pub evict : (v : View) (core : CoreId) (local : Local) → Whole v → core.0 < length v.sides
       → local.0 < v.lines.lines → CanLeave (side_at v core) local → Fact v → Fact (after_evict v core local)
   pub hand : (v : View) (core : CoreId) (tag : ℕ) → core.0 < length v.sides → Fact v → Fact (after_hand v core tag)
+
+-- The targets of the line that the copy allows are taken.
+abbrev pub TakesAllowed : View → Local → CoreId → CacheCopy → List Register → Type 0
+TakesAllowed v local core copy misses =
+    TakesTargets (side_at v core).misses misses local.0
+    (performed_in copy.state (targets_of (side_at v core).misses local.0))
 
 -- Each message that is taken keeps the fact.
 pub record KeepsMessages (Whole Fact : View → Type 0) : Type 0 where
@@ -63,11 +74,14 @@ pub record KeepsMessages (Whole Fact : View → Type 0) : Type 0 where
       → Fact v → Fact (after_forwarded v local core next sent requester)
   pub filling : (v : View) (local : Local) (core : CoreId) (place : ℕ) (next : CopyState) (misses : List Register)
       → Whole v → local.0 < v.lines.lines → core.0 < length v.sides
-      → plan_of v local (channels.Data core) ≡ plans.Fill place next → Fact v
+      → plan_of v local (channels.Data core) ≡ plans.Fill place next
+      → TakesAllowed v local core
+      (filled_by (array_copy (side_at v core) local) (core_at (channels_at v local) core.0).data next) misses → Fact v
       → Fact (after_settling v local core (channels.Data core)
       (filled_by (array_copy (side_at v core) local) (core_at (channels_at v local) core.0).data next) misses)
   pub counting : (v : View) (local : Local) (core from : CoreId) (place : ℕ) (next : CopyState)
       (misses : List Register) → Whole v → local.0 < v.lines.lines → core.0 < length v.sides
-      → plan_of v local (channels.Ack core from) ≡ plans.Acknowledge place next → Fact v
+      → plan_of v local (channels.Ack core from) ≡ plans.Acknowledge place next
+      → TakesAllowed v local core (acknowledged (array_copy (side_at v core) local) next) misses → Fact v
       → Fact (after_settling v local core (channels.Ack core from)
       (acknowledged (array_copy (side_at v core) local) next) misses)

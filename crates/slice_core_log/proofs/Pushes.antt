@@ -29,7 +29,8 @@ IsLegal-push initial log e legal fits = record {
 }
 
 -- a log that is read from its front stays legal with its next entry
-pub IsLegal-more : (initial : ℕ → ℕ) (log : List Entry) (i first v : ℕ) (d : Entry) → i < length log → IsLegal initial (take i log)
+pub IsLegal-more : (initial : ℕ → ℕ) (log : List Entry) (i first v : ℕ) (d : Entry) → i < length log
+    → IsLegal initial (take i log)
     → first ≡ initial (get_or log i d).word.0 → v ≡ value first (take i log) (get_or log i d).word.0
     → (get_or log i d).reply ≡ reply_of (get_or log i d).op v → IsLegal initial (take (i + 1) log)
 IsLegal-more initial log i first v d within so_far begins found fits =

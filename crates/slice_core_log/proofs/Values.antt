@@ -15,9 +15,12 @@ use Rattle.slice_core_log.specs.Log.{value, value_past, stored, stored_by, added
 
 -- the value that entries leave, newest first, where f says what an entry stores and g what it adds
 abbrev pub settled : (Entry → Option ℕ) → (Entry → ℕ) → ℕ → List Entry → ℕ
-settled f g initial r = (unwrap_or (option_and_then f (find (λ e. is_some (f e)) r)) initial + sum_by g (take_while (λ e. not (is_some (f e))) r)) % 2 ^ 64
+settled f g initial r =
+    (unwrap_or (option_and_then f (find (λ e. is_some (f e)) r)) initial + sum_by g
+    (take_while (λ e. not (is_some (f e))) r)) % 2 ^ 64
 
-pub settled-cons : (f : Entry → Option ℕ) (g : Entry → ℕ) (initial : ℕ) (e : Entry) (r : List Entry) (s : Option ℕ) → f e ≡ s
+pub settled-cons : (f : Entry → Option ℕ) (g : Entry → ℕ) (initial : ℕ) (e : Entry) (r : List Entry) (s : Option ℕ)
+    → f e ≡ s
     → settled f g initial (e ∷ r) ≡ value_past s (settled f g initial r) (g e)
 settled-cons f g initial e r None h =
     let m = 2 ^ 64 in
@@ -25,10 +28,12 @@ settled-cons f g initial e r None h =
     let since = sum_by g (take_while (λ d. not (is_some (f d))) r) in
     let regrouped : before + (g e + since) ≡ before + since + g e = omega arith in
     rw (take_while-cons (λ d. not (is_some (f d))) e r)
-    (rw h (ap (λ n. (before + n) % m) (sum_by-cons g e (take_while (λ d. not (is_some (f d))) r)) ∙ ap (λ n. n % m) regrouped
+    (rw h (ap (λ n. (before + n) % m) (sum_by-cons g e (take_while (λ d. not (is_some (f d))) r))
+    ∙ ap (λ n. n % m) regrouped
     ∙ sym (mod-add-mod (before + since) m (g e))))
 settled-cons f g initial e r (Some x) h =
-    rw (take_while-cons (λ d. not (is_some (f d))) e r) (rw h (ap (λ o. (unwrap_or o initial + 0) % 2 ^ 64) h ∙ ap (λ n. n % 2 ^ 64) (add-zero x)))
+    rw (take_while-cons (λ d. not (is_some (f d))) e r)
+    (rw h (ap (λ o. (unwrap_or o initial + 0) % 2 ^ 64) h ∙ ap (λ n. n % 2 ^ 64) (add-zero x)))
 
 pub value-nil : (initial w : ℕ) → initial < 2 ^ 64 → value initial [] w ≡ initial
 unfolding value
@@ -38,10 +43,12 @@ value-nil initial w small = ap (λ n. n % 2 ^ 64) (add-zero initial) ∙ mod-eq_
 pub value-push : (initial : ℕ) (log : List Entry) (e : Entry) (w : ℕ)
     → value initial (log ++ e ∷ []) w ≡ value_past (stored w e) (value initial log w) (added w e)
 unfolding value
-value-push initial log e w = rw (reverse-append log (e ∷ [])) (settled-cons (stored w) (added w) initial e (reverse log) (stored w e) refl)
+value-push initial log e w =
+    rw (reverse-append log (e ∷ [])) (settled-cons (stored w) (added w) initial e (reverse log) (stored w e) refl)
 
 -- one more entry of a log that is read from its front
-pub value-more : (initial : ℕ) (log : List Entry) (i w v r : ℕ) (d : Entry) → i < length log → v ≡ value initial (take i log) w
+pub value-more : (initial : ℕ) (log : List Entry) (i w v r : ℕ) (d : Entry) → i < length log
+    → v ≡ value initial (take i log) w
     → r ≡ value_past (stored w (get_or log i d)) v (added w (get_or log i d)) → r ≡ value initial (take (i + 1) log) w
 value-more initial log i w v r d h so_far step =
     let e = get_or log i d in
@@ -54,7 +61,8 @@ unfolding value
 value-lt initial log w = mod_below _ (2 ^ 64) (lit< tt)
 
 -- an access that got the reply that its word's value gives leaves the value that it says
-pub value_past-same : (op : Op) (reply v : ℕ) → v < 2 ^ 64 → reply ≡ reply_of op v → value_past (stored_by op reply) v (added_by op) ≡ value_of op v
+pub value_past-same : (op : Op) (reply v : ℕ) → v < 2 ^ 64 → reply ≡ reply_of op v
+    → value_past (stored_by op reply) v (added_by op) ≡ value_of op v
 value_past-same ops.Load reply v small h = ap (λ n. n % 2 ^ 64) (add-zero v) ∙ mod-eq_of_lt small
 value_past-same (ops.Store new) reply v small h = refl
 value_past-same (ops.Add delta) reply v small h = refl
@@ -64,13 +72,17 @@ value_past-same (ops.Cas expect new) reply v small h = rw h (cas (v == expect))
     cas true = refl
     cas false = ap (λ n. n % 2 ^ 64) (add-zero v) ∙ mod-eq_of_lt small
 
-pub value-perform : (initial : ℕ) (log : List Entry) (e : Entry) (w : ℕ) → e.word.0 ≡ w → e.reply ≡ reply_of e.op (value initial log w)
+pub value-perform : (initial : ℕ) (log : List Entry) (e : Entry) (w : ℕ) → e.word.0 ≡ w
+    → e.reply ≡ reply_of e.op (value initial log w)
     → value initial (log ++ e ∷ []) w ≡ value_of e.op (value initial log w)
 value-perform initial log e w here h =
     let is_here : eqb e.word.0 w ≡ true = eq-eqb e.word.0 w here in
-    value-push initial log e w ∙ rw is_here (value_past-same e.op e.reply (value initial log w) (value-lt initial log w) h)
+    value-push initial log e w
+    ∙ rw is_here (value_past-same e.op e.reply (value initial log w) (value-lt initial log w) h)
 
-pub value-perform_other : (initial : ℕ) (log : List Entry) (e : Entry) (w : ℕ) → e.word.0 ≢ w → value initial (log ++ e ∷ []) w ≡ value initial log w
+pub value-perform_other : (initial : ℕ) (log : List Entry) (e : Entry) (w : ℕ) → e.word.0 ≢ w
+    → value initial (log ++ e ∷ []) w ≡ value initial log w
 value-perform_other initial log e w other =
     let is_other : eqb e.word.0 w ≡ false = ne_eqb e.word.0 w other in
-    value-push initial log e w ∙ rw is_other (ap (λ n. n % 2 ^ 64) (add-zero (value initial log w)) ∙ mod-eq_of_lt (value-lt initial log w))
+    value-push initial log e w
+    ∙ rw is_other (ap (λ n. n % 2 ^ 64) (add-zero (value initial log w)) ∙ mod-eq_of_lt (value-lt initial log w))

@@ -7,7 +7,8 @@ use Rattle.address_map.specs.declared.request.Op.TheVariants as ops
 use Rattle.slice_core_log.specs.declared.entry.Entry.{Entry}
 use Rattle.slice_core_log.specs.Op.{reply_of}
 
--- what an access that got this reply stored: a compare-exchange counts as a store of its new value where it replied what it expected
+-- what an access that got this reply stored: a compare-exchange counts as a store of its new value where it replied
+-- what it expected
 abbrev pub stored_by : Op → ℕ → Option ℕ
 stored_by ops.Load reply = None
 stored_by (ops.Store new) reply = Some new
@@ -52,13 +53,15 @@ initially init w = initial_value init (record { 0 = w })
 
 -- A log is legal: each entry's reply is the one that the value of its word before it gives.
 pub record IsLegal (initial : ℕ → ℕ) (log : List Entry) : Type 0 where
-  pub replies : (k : ℕ) (e : Entry) → slice_get log k ≡ Some e → e.reply ≡ reply_of e.op (value (initial e.word.0) (take k log) e.word.0)
+  pub replies : (k : ℕ) (e : Entry) → slice_get log k ≡ Some e →
+      e.reply ≡ reply_of e.op (value (initial e.word.0) (take k log) e.word.0)
 
 -- of two entries of one core on one line the second was asked for later
 abbrev pub IsAfter : Entry → Entry → Type 0
 IsAfter d e = d.core ≡ e.core → d.word.0 / 8 ≡ e.word.0 / 8 → d.seq < e.seq
 
--- A log is ordered: each core's entries on a line stand in the order in which it asked for them, and no entry was performed before it was asked for.
+-- A log is ordered: each core's entries on a line stand in the order in which it asked for them, and no entry was
+-- performed before it was asked for.
 pub record IsOrdered (log : List Entry) : Type 0 where
   pub core_order : (j k : ℕ) (d e : Entry) → j < k → slice_get log j ≡ Some d → slice_get log k ≡ Some e → IsAfter d e
   pub since : (k : ℕ) (e : Entry) → slice_get log k ≡ Some e → e.since ≤ k

@@ -86,9 +86,7 @@ pub takes_invalidations-from : (line : LineChannels) (cores : ℕ) → TakesInva
     takes_invalidations line cores ≡ true
 unfolding takes_invalidations
 takes_invalidations-from line cores takes =
-    list-from_each
-    line
-    (members cores)
+    list-from_each line (members cores)
     (AllByRecursion-members (TakesForwarded line) cores (λ core there. takes (record { 0 = core }) there))
 
 pub takes_invalidations-there : (line : LineChannels) (cores : ℕ) → cores < 2 ^ 64 →
@@ -167,7 +165,8 @@ directory_room-after_request line core sends room = same sends ∙ room
     same (dir_sends.DataAndInv acks invalidated) =
         rw (
           one (channels.Data core) (λ e. cc),
-          takes_invalidations-kept line taken invalidated (simp length-set) (λ other. request_alone line core None (channels.Fwd other) (λ e. cc)),
+          takes_invalidations-kept line taken invalidated (simp length-set)
+              (λ other. request_alone line core None (channels.Fwd other) (λ e. cc)),
         ) refl
     same (dir_sends.FwdGetS owner) = one (channels.Fwd owner) (λ e. cc)
     same (dir_sends.FwdGetM owner) = one (channels.Fwd owner) (λ e. cc)

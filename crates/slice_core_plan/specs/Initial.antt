@@ -29,7 +29,8 @@ unowned block = record no_entry { home = block }
 pub record AreInitialEntries (c : Config) (own : Lines) (count : ℕ) (entries : List DirEntry) : Type 0 where
   pub count_is : length entries ≡ count
   pub each : (local : ℕ) → local < count
-      → (block : Block) × IsInitialBlock c own (record { 0 = local }) block × (slice_index_or entries local no_entry ≡ unowned block)
+      → (block : Block) × IsInitialBlock c own (record { 0 = local }) block
+      × (slice_index_or entries local no_entry ≡ unowned block)
 
 -- so many cores, none of which has asked for anything yet
 pub record AreNewSides (c : Config) (bound : Bound) (slice count : ℕ) (sides : List SideView) : Type 0 where

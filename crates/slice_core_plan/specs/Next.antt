@@ -32,13 +32,15 @@ next_or nexts.Nothing other = other
 abbrev pub IsNoBetter : Next → Next → Type 0
 IsNoBetter one other = next_or one other ≡ one
 
--- Of the channels of a line that are of the class, none has anything better than this, and this is what one of them has,
--- or nothing.
+-- Of the channels of a line that are of the class, none has anything better than this, and this is what one of them
+-- has, or nothing.
 abbrev pub IsNextAt : View → Local → Class → Next → Type 0
 IsNextAt v local class next =
-    ((channel : Channel) → IsTrue (is_of_class class channel) → IsNoBetter next (next_by local channel (plan_of v local channel)))
+    ((channel : Channel) → IsTrue (is_of_class class channel)
+    → IsNoBetter next (next_by local channel (plan_of v local channel)))
     × ((next ≡ nexts.Nothing)
-    ⊎ ((channel : Channel) × IsTrue (is_of_class class channel) × (next ≡ next_by local channel (plan_of v local channel))))
+    ⊎ ((channel : Channel) × IsTrue (is_of_class class channel)
+    × (next ≡ next_by local channel (plan_of v local channel))))
 
 -- The same of all lines of the slice.
 abbrev pub IsNextIn : View → Class → Next → Type 0

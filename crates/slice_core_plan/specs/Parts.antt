@@ -84,8 +84,8 @@ pub record IsNew (c : Config) (bound : Bound) (slice : SliceId) (p : PartsView) 
 
 -- ---- what a call relies on
 
--- A core's request is safe to judge: the counts have room for one more; a copy stands in one place; the array has lines of
--- the slice alone; and for a copy that asks for nothing nothing is asked of the directory.
+-- A core's request is safe to judge: the counts have room for one more; a copy stands in one place; the array has lines
+-- of the slice alone; and for a copy that asks for nothing nothing is asked of the directory.
 pub record CanIssue (p : PartsView) (core : CoreId) : Type 0 where
   pub known : core.0 < length p.view.sides
   pub shaped : IsShaped p.view
@@ -99,10 +99,12 @@ pub record CanIssue (p : PartsView) (core : CoreId) : Type 0 where
   pub idle : (local : Local) → is_idle (state_of (side_at p.view core) local) ≡ true
       → (core_at (channels_at p.view local) core.0).request ≡ None
 
--- A message of a line is safe to take: each target of the line can be performed, and the log has room for those of a core.
+-- A message of a line is safe to take: each target of the line can be performed, and the log has room for those of a
+-- core.
 pub record CanDeliver (p : PartsView) : Type 0 where
   pub shaped : IsShaped p.view
-  pub performable : (core : CoreId) (local : Local) → All IsPerformable (targets_of (side_at p.view core).misses local.0)
+  pub performable : (core : CoreId) (local : Local)
+      → All IsPerformable (targets_of (side_at p.view core).misses local.0)
   pub room : (core : CoreId) (local : Local)
       → length p.view.log + length (targets_of (side_at p.view core).misses local.0) ≤ p.room
   pub pending : (core : CoreId) (local : Local) → length (targets_of (side_at p.view core).misses local.0) ≤ p.pending
@@ -145,7 +147,8 @@ AfterAccepting (accesses.Open next ask way) old core request local answer new =
     (misses : List Register)
     × AddsTarget (side_at old.view core).misses misses local.0 (target_for old core request)
     × IsMissFile misses
-    × Accepts old (after_open old.view core request local way next ask misses) (opened_stats old.stats core way) (old.pending + 1)
+    × Accepts old (after_open old.view core request local way next ask misses) (opened_stats old.stats core way)
+    (old.pending + 1)
     (issues.Pending (side_at old.view core).accepted) answer new
 
 -- The access is accepted: the log first got room for all that waits and this request, and then the access was done.
@@ -163,7 +166,8 @@ AfterAccess (accesses.Stall stall) old core request local answer new =
 AfterAccess access old core request local answer new =
     LacksMemory old answer new ⊎ IsAccepted access old core request local answer new
 
--- a request that isn't refused is for a line of the slice, under a tag that there is, and the access is as it was judged
+-- a request that isn't refused is for a line of the slice, under a tag that there is, and the access is as it was
+-- judged
 abbrev pub IsDecided : View → CoreId → Request → Decision → Type 0
 IsDecided v core request (decisions.Refuse refused) = Unit {0}
 IsDecided v core request (decisions.Access local access) =
@@ -184,7 +188,8 @@ abbrev pub AfterEvict : PartsView → CoreId → LineAddr → Evicted → PartsV
 AfterEvict old core line answer new = by_line (local_at old.view.lines line.0)
   where
     by_answer : Local → Evicted → Type 0
-    by_answer local evictions.Evicting = new ≡ record old { view = after_evict old.view core local; stats = after_eviction old.stats core }
+    by_answer local evictions.Evicting =
+        new ≡ record old { view = after_evict old.view core local; stats = after_eviction old.stats core }
     by_answer local _ = new ≡ old
 
     by_line : Option Local → Type 0
@@ -231,11 +236,13 @@ AfterPlan plans.Nothing old local channel answer new = (answer ≡ delivered.Not
 AfterPlan plans.Blocked old local channel answer new = (answer ≡ delivered.Blocked) × (new ≡ old)
 AfterPlan (plans.Broken cell) old local channel answer new = (answer ≡ delivered.Broken cell) × (new ≡ old)
 AfterPlan (plans.Directory state owner sharers sent writes) old local channel answer new =
-    (answer ≡ delivered.Moved) × Moves old channel (after_directory old.view local (core_of channel) state owner sharers sent writes) new
+    (answer ≡ delivered.Moved)
+    × Moves old channel (after_directory old.view local (core_of channel) state owner sharers sent writes) new
 AfterPlan (plans.Home state owner sharers) old local channel answer new =
     (answer ≡ delivered.Moved) × Moves old channel (after_home old.view local state owner sharers) new
 AfterPlan (plans.Forwarded next sent requester) old local channel answer new =
-    (answer ≡ delivered.Moved) × Moves old channel (after_forwarded old.view local (core_of channel) next sent requester) new
+    (answer ≡ delivered.Moved)
+    × Moves old channel (after_forwarded old.view local (core_of channel) next sent requester) new
 AfterPlan (plans.Fill place next) old local channel answer new =
     let core = core_of channel in
     (answer ≡ delivered.Moved)
@@ -263,22 +270,26 @@ IsStuck _ = ⊥
 
 -- at each channel of the class, of each line of the slice, the plan has this property
 abbrev pub AllPlans : View → Class → (Plan → Type 0) → Type 0
-AllPlans v class P = (local : Local) (channel : Channel) → local.0 < v.lines.lines → IsTrue (is_of_class class channel) → P (plan_of v local channel)
+AllPlans v class P = (local : Local) (channel : Channel) → local.0 < v.lines.lines → IsTrue (is_of_class class channel)
+    → P (plan_of v local channel)
 
 -- at some channel of the class, of some line of the slice, the plan is this one
 abbrev pub SomePlan : View → Class → Plan → Type 0
 SomePlan v class plan =
-    (local : Local) × (channel : Channel) × (local.0 < v.lines.lines) × IsTrue (is_of_class class channel) × (plan_of v local channel ≡ plan)
+    (local : Local) × (channel : Channel) × (local.0 < v.lines.lines) × IsTrue (is_of_class class channel)
+    × (plan_of v local channel ≡ plan)
 
--- What the next delivery of a class answers and leaves: one that can be made is made; nothing moves only where the row of
--- each message in front of a channel of the class is blocked or broken; and nothing waits only where no channel of the
--- class has a message.
+-- What the next delivery of a class answers and leaves: one that can be made is made; nothing moves only where the row
+-- of each message in front of a channel of the class is blocked or broken; and nothing waits only where no channel of
+-- the class has a message.
 abbrev pub AfterDeliverNext : PartsView → Class → DeliveredNext → PartsView → Type 0
 AfterDeliverNext old class (delivered_next.Moved pick) new =
     IsTrue (is_of_class class (channel_of pick)) × AfterDelivery old pick delivered.Moved new
-AfterDeliverNext old class delivered_next.Nothing new = (new ≡ old) × AllPlans old.view class (λ plan. plan ≡ plans.Nothing)
+AfterDeliverNext old class delivered_next.Nothing new =
+    (new ≡ old) × AllPlans old.view class (λ plan. plan ≡ plans.Nothing)
 AfterDeliverNext old class delivered_next.Blocked new =
-    (new ≡ old) × AllPlans old.view class (λ plan. (plan ≡ plans.Nothing) ⊎ (plan ≡ plans.Blocked)) × SomePlan old.view class plans.Blocked
+    (new ≡ old) × AllPlans old.view class (λ plan. (plan ≡ plans.Nothing) ⊎ (plan ≡ plans.Blocked))
+    × SomePlan old.view class plans.Blocked
 AfterDeliverNext old class (delivered_next.Broken cell) new =
     (new ≡ old) × AllPlans old.view class IsStuck × SomePlan old.view class (plans.Broken cell)
 

@@ -56,7 +56,8 @@ by_directory_row line core (dir_rows.Go state owner sharers sent writes) =
 abbrev pub request_by : View → Local → CoreId → Option RequestMessage → Plan
 request_by v local core None = plans.Nothing
 request_by v local core (Some message) =
-    by_directory_row (channels_at v local) core (dir_row_of v.exclusive (entry_at v local) (event_of_request core message))
+    by_directory_row (channels_at v local) core
+    (dir_row_of v.exclusive (entry_at v local) (event_of_request core message))
 
 abbrev pub request_plan : View → Local → CoreId → Plan
 request_plan v local core = request_by v local core (core_at (channels_at v local) core.0).request
@@ -69,7 +70,8 @@ by_home_row (dir_rows.Go state owner sharers sent writes) = plans.Home state own
 
 abbrev pub home_plan : View → Local → Plan
 home_plan v local =
-    if is_some (channels_at v local).home then by_home_row (dir_row_of v.exclusive (entry_at v local) dir_events.DataHome)
+    if is_some (channels_at v local).home
+    then by_home_row (dir_row_of v.exclusive (entry_at v local) dir_events.DataHome)
     else plans.Nothing
 
 -- ---- the caches
@@ -115,7 +117,8 @@ forwarded_plan v local core = forwarded_by v local core (slice_get (core_at (cha
 -- the event of the cache's table that data are, for a copy and the targets that wait for it
 abbrev pub event_of_data : View → Local → CoreId → DataMessage → CacheEvent
 event_of_data v local core (replies.Data block acks) = events.Data acks (copy_of (side_at v core) local).counted
-event_of_data v local core (replies.DataE block) = events.DataE (list_all is_load (targets_of (side_at v core).misses local.0))
+event_of_data v local core (replies.DataE block) =
+    events.DataE (list_all is_load (targets_of (side_at v core).misses local.0))
 
 -- where a copy stands in its set, if the core's array holds it: only there data and acknowledgements come for it
 abbrev pub stands_at : View → Local → CoreId → Option ℕ

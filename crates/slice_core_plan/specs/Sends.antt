@@ -34,35 +34,45 @@ takes_invalidations line cores = list_all (λ core. takes line (channels.Fwd (re
 -- what a row of the directory's table sends for a core's request, data being this block
 abbrev pub directory_sent : LineChannels → CoreId → Block → DirSends → LineChannels
 directory_sent line core block dir_sends.Nothing = line
-directory_sent line core block (dir_sends.Data acks) = after_send line (channels.Data core) (messages.Data (replies.Data block acks))
-directory_sent line core block dir_sends.DataE = after_send line (channels.Data core) (messages.Data (replies.DataE block))
+directory_sent line core block (dir_sends.Data acks) =
+    after_send line (channels.Data core) (messages.Data (replies.Data block acks))
+directory_sent line core block dir_sends.DataE =
+    after_send line (channels.Data core) (messages.Data (replies.DataE block))
 directory_sent line core block (dir_sends.DataAndInv acks invalidated) =
     after_invalidating (after_send line (channels.Data core) (messages.Data (replies.Data block acks))) invalidated core
-directory_sent line core block (dir_sends.FwdGetS owner) = after_send line (channels.Fwd owner) (messages.Forwarded (forwards.FwdGetS core))
-directory_sent line core block (dir_sends.FwdGetM owner) = after_send line (channels.Fwd owner) (messages.Forwarded (forwards.FwdGetM core))
-directory_sent line core block dir_sends.PutAck = after_send line (channels.Fwd core) (messages.Forwarded forwards.PutAck)
+directory_sent line core block (dir_sends.FwdGetS owner) =
+    after_send line (channels.Fwd owner) (messages.Forwarded (forwards.FwdGetS core))
+directory_sent line core block (dir_sends.FwdGetM owner) =
+    after_send line (channels.Fwd owner) (messages.Forwarded (forwards.FwdGetM core))
+directory_sent line core block dir_sends.PutAck =
+    after_send line (channels.Fwd core) (messages.Forwarded forwards.PutAck)
 
 -- each channel that the row sends to has room
 abbrev pub directory_room : LineChannels → CoreId → DirSends → Bool
 directory_room line core dir_sends.Nothing = true
 directory_room line core (dir_sends.Data acks) = takes line (channels.Data core)
 directory_room line core dir_sends.DataE = takes line (channels.Data core)
-directory_room line core (dir_sends.DataAndInv acks invalidated) = takes line (channels.Data core) && takes_invalidations line invalidated
+directory_room line core (dir_sends.DataAndInv acks invalidated) =
+    takes line (channels.Data core) && takes_invalidations line invalidated
 directory_room line core (dir_sends.FwdGetS owner) = takes line (channels.Fwd owner)
 directory_room line core (dir_sends.FwdGetM owner) = takes line (channels.Fwd owner)
 directory_room line core dir_sends.PutAck = takes line (channels.Fwd core)
 
 -- what a row of the cache's table sends from a core for a requester, data being this block
 abbrev pub cache_sent : LineChannels → CoreId → CoreId → Block → CacheSends → LineChannels
-cache_sent line core requester block sends.DataToRequester = after_send line (channels.Data requester) (messages.Data (replies.Data block 0))
+cache_sent line core requester block sends.DataToRequester =
+    after_send line (channels.Data requester) (messages.Data (replies.Data block 0))
 cache_sent line core requester block sends.DataToRequesterAndHome =
-    after_send (after_send line (channels.Data requester) (messages.Data (replies.Data block 0))) channels.Home (messages.Home block)
-cache_sent line core requester block sends.InvAckToRequester = after_send line (channels.Ack requester core) messages.InvAck
+    after_send (after_send line (channels.Data requester) (messages.Data (replies.Data block 0))) channels.Home
+    (messages.Home block)
+cache_sent line core requester block sends.InvAckToRequester =
+    after_send line (channels.Ack requester core) messages.InvAck
 cache_sent line core requester block _ = line
 
 -- each channel that the row sends to has room
 abbrev pub cache_room : LineChannels → CoreId → CoreId → CacheSends → Bool
 cache_room line core requester sends.DataToRequester = takes line (channels.Data requester)
-cache_room line core requester sends.DataToRequesterAndHome = takes line (channels.Data requester) && takes line channels.Home
+cache_room line core requester sends.DataToRequesterAndHome =
+    takes line (channels.Data requester) && takes line channels.Home
 cache_room line core requester sends.InvAckToRequester = takes line (channels.Ack requester core)
 cache_room line core requester _ = true

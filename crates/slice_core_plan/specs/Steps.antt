@@ -69,12 +69,14 @@ after_evict v core local =
     after_request (with_side v core (sides.after_evict (side_at v core) local)) core local
     (sides.put_of (array_copy (side_at v core) local))
 
--- the slice in which the line that is missed has its way: a victim has left, and the directory was told, where one had to
+-- the slice in which the line that is missed has its way: a victim has left, and the directory was told, where one had
+-- to
 abbrev pub with_way : View → CoreId → Local → Way → View
 with_way v core local ways.Victim =
     let side = side_at v core in
     let victim = sides.victim_for side local in
-    after_request (with_side v core (sides.after_replace side local)) core victim (sides.put_of (array_copy side victim))
+    after_request (with_side v core (sides.after_replace side local)) core victim
+    (sides.put_of (array_copy side victim))
 with_way v core local _ = v
 
 abbrev pub is_held : Way → Bool
@@ -116,7 +118,8 @@ after_home v local state owner sharers =
     let entry = entry_at v local in
     let line = channels_at v local in
     with_channels
-    (with_entry v local (record { home = unwrap_or line.home entry.home; sharers = sharers; owner = owner; state = state }))
+    (with_entry v local
+    (record { home = unwrap_or line.home entry.home; sharers = sharers; owner = owner; state = state }))
     local (after_take line channels.Home)
 
 -- ---- the caches
@@ -127,7 +130,8 @@ after_forwarded v local core next sent requester =
     with_channels
     (with_side v core (sides.after_advance (side_at v core) local next))
     local
-    (cache_sent (after_take (channels_at v local) (channels.Fwd core)) core requester (copy_of (side_at v core) local).block sent)
+    (cache_sent (after_take (channels_at v local) (channels.Fwd core)) core requester
+    (copy_of (side_at v core) local).block sent)
 
 -- the right to write is asked for, where a write is left
 abbrev pub asked_by : Bool → LineChannels → CoreId → LineChannels

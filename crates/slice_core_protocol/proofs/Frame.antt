@@ -1,9 +1,6 @@
 -- The frame of each step: what one core's part owes to the others, and how the facts of all cores follow.
-use Rattle.std.proofs.Common.{Option, ◌≡◌, ℕ, ◌+◌, ◌<◌, ◌==◌, Bool, true, false, refl, sym, ◌∙◌, subst, arith, true≢false}
+use Rattle.std.proofs.Common.{◌≡◌, ℕ, ◌+◌, ◌<◌, ◌==◌, Bool, true, false, refl, sym, ◌∙◌, subst, arith, true≢false}
 use Rattle.std.proofs.lemmas.Bool.{eqb-false, eqb-true}
-use Rattle.address_map.specs.declared.address.CoreId.{CoreId}
-use Rattle.directory_table.specs.declared.state.DirState.{DirState}
-use Rattle.cache_table.specs.declared.row.Row.{Row}
 use Rattle.slice_core_protocol.proofs.Count.{count_below-none, count_below-same}
 use Rattle.slice_core_protocol.specs.Coherent.{IsBalanced, IsChained, IsCoherent, IsCounted, IsEntry, debts, wanted}
 use Rattle.slice_core_protocol.specs.Fit.{is_fit, is_fwd_get_m, is_fwd_get_s, owes, waits_to_write}
@@ -70,10 +67,6 @@ by_places P part c d f g x apart first second others =
     (by_place (λ y q. y ≡ d → P d (g q)) part c f d (λ same. absurd (apart (sym same))) (λ other same. second) refl)
     (λ away. by_place P part c f x first (λ other. others other away))
 
--- Where the row is known, what holds in each case holds of it.
-pub kept_row : (P : Row → Type 0) (row known : Row) → row ≡ known → P row → P known
-kept_row P row known e h = subst P e h
-
 -- ---- all cores
 
 pub chain_kept : (cores asker : ℕ) (by : ℕ → ℕ) (p q : ℕ → Part) → ((x : ℕ) → x < cores → Seen (p x) (q x))
@@ -133,27 +126,3 @@ lift cores line next roles coherent entry kept =
       entry = entry;
       roles_within = coherent.roles_within;
     }
-
--- Coherence is of the cores alone: a line with the same entry and the same parts of the cores is coherent too.
-pub coherent-same : (cores : ℕ) (line next : Line) (roles : Roles) → IsCoherent cores line roles
-    → next.directory ≡ line.directory → next.owner ≡ line.owner → next.sharers ≡ line.sharers → next.home ≡ line.home
-    → ((x : ℕ) → x < cores → next.part x ≡ line.part x) → IsCoherent cores next roles
-coherent-same cores line next roles coherent d o s h parts =
-    go line.directory line.owner line.sharers line.home (sym d) (sym o) (sym s) (sym h) coherent
-  where
-    go : (directory : DirState) (owner : Option CoreId) (sharers : ℕ) (home : Bool) → directory ≡ next.directory
-        → owner ≡ next.owner → sharers ≡ next.sharers → home ≡ next.home
-        → IsCoherent cores
-        (record { directory = directory; owner = owner; sharers = sharers; home = home; part = line.part }) roles
-        → IsCoherent cores next roles
-    go directory owner sharers home d o s h old =
-        let entry : IsCoherent cores (record {
-          directory = next.directory;
-          owner = next.owner;
-          sharers = next.sharers;
-          home = next.home;
-          part = line.part;
-        }) roles = rw (← d, ← o, ← s, ← h) old in
-        lift cores (record next { part = line.part }) next roles entry entry.entry (λ x below.
-        subst (λ q. Kept (near_of next roles x) (line.part x) q) (sym (parts x below))
-        (still (near_of next roles x) (line.part x) (entry.fit x below) (entry.counted x below)))

@@ -4,7 +4,6 @@ use Rattle.std.proofs.lemmas.Bool.{cases_lt}
 use Rattle.std.proofs.lemmas.List.{get_or_past, get_or-replicate, length-replicate}
 use Rattle.std.specs.Int.{IsPowerOfTwo}
 use Rattle.address_map.specs.declared.address.Local.{Local}
-use Rattle.address_map.specs.declared.block.Block.{Block}
 use Rattle.address_map.specs.declared.config.Config.{Config}
 use Rattle.address_map.specs.declared.config.PolicyKind.{PolicyKind}
 use Rattle.address_map.specs.declared.request.Op.{Op}
@@ -13,20 +12,20 @@ use Rattle.cache_array.specs.Array.{ArrayView, held_at as array_at, IsArray, Has
 use Rattle.cache_array.specs.Set.{SetView, empty_set, value_in}
 use Rattle.cache_array.specs.Policy.{moves_of}
 use Rattle.cache_array.proofs.Held.{written_held, written_other, written_sound, used_held, used_sound, inserted_held, inserted_other, inserted_sound, removed_held, removed_other, removed_sound}
-use Rattle.cache_table.specs.CopyState.{is_waiting, is_leaving}
+use Rattle.cache_table.specs.CopyState.{is_leaving}
 use Rattle.cache_table.specs.Row.{row_of}
 use Rattle.cache_table.specs.declared.row.CacheEvent.TheVariants as events
 use Rattle.cache_table.specs.declared.state.CopyState.{CopyState}
 use Rattle.cache_table.specs.declared.state.CopyState.TheVariants as states
 use Rattle.mshr_file.specs.Miss.{Bound, targets_of}
 use Rattle.mshr_file.specs.declared.registers.Register.{Register}
-use Rattle.slice_core_side.proofs.Lines.{ChangesLine, FitsIn, copy_here, copy_other, kept_by}
+use Rattle.slice_core_side.proofs.Lines.{ChangesLine, copy_here, copy_other, kept_by}
 use Rattle.slice_core_side.specs.Access.{CanLeave}
 use Rattle.slice_core_side.specs.Copy.{found_in, no_copy, missing_copy, leaving_copy, performed_on, is_gone, may_leave}
 use Rattle.slice_core_side.specs.Kept.{IsKept, stands_in_array}
-use Rattle.slice_core_side.specs.Perform.{performed_in, settled_state}
+use Rattle.slice_core_side.specs.Perform.{performed_in}
 use Rattle.slice_core_side.specs.Side.{SideView, copy_of, array_copy, new_side}
-use Rattle.slice_core_side.specs.Steps.{with_copy, without_line_in, used_by, settled, settled_copy, evicted, next_by, victim_for, after_hit, after_join, after_open, after_evict, after_draw, after_replace, after_advance, after_change, after_settle, after_hand}
+use Rattle.slice_core_side.specs.Steps.{with_copy, without_line_in, used_by, settled, evicted, next_by, victim_for, after_hit, after_open, after_evict, after_draw, after_replace, after_advance, after_change, after_settle, after_hand}
 use Rattle.slice_core_side.specs.declared.copy.CacheCopy.{CacheCopy}
 use Rattle.target_list.specs.Target.{no_target}
 use Rattle.target_list.specs.declared.target.Target.{Target}
@@ -79,37 +78,9 @@ leaves-by_eviction states.MI_A may = absurd (cc may)
 leaves-by_eviction states.SI_A may = absurd (cc may)
 leaves-by_eviction states.II_A may = absurd (cc may)
 
--- a copy that has settled stands in the array as before
-settled-stands : (state : CopyState) (left : List Target) → stands_in_array state ≡ true →
-    stands_in_array (settled_state state left) ≡ true
-settled-stands states.S [] stands = refl
-settled-stands states.S (target ∷ left) stands = refl
-settled-stands states.M left stands = refl
-settled-stands states.E left stands = refl
-settled-stands states.I left stands = stands
-settled-stands states.IS_D left stands = refl
-settled-stands states.IM_AD left stands = refl
-settled-stands states.IM_A left stands = refl
-settled-stands states.SM_AD left stands = refl
-settled-stands states.SM_A left stands = refl
-settled-stands states.MI_A left stands = stands
-settled-stands states.SI_A left stands = stands
-settled-stands states.II_A left stands = stands
-
 -- ---- steps that leave array and buffer alone
 
 module _ (side : SideView) where
-  -- a joined access, a drawn word and a reply that is handed out change no copy
-  pub copy_of-after_join : (request : Request) (misses : List Register) (other : Local) →
-      copy_of (after_join side request misses) other ≡ copy_of side other
-  copy_of-after_join request misses other = refl
-
-  pub copy_of-after_draw : (other : Local) → copy_of (after_draw side) other ≡ copy_of side other
-  copy_of-after_draw other = refl
-
-  pub copy_of-after_hand : (tag : ℕ) (other : Local) → copy_of (after_hand side tag) other ≡ copy_of side other
-  copy_of-after_hand tag other = refl
-
   -- what has the same array and buffer is kept as well
   pub kept_as : (new : SideView) → IsKept side → new.array ≡ side.array → new.buffer ≡ side.buffer → IsKept new
   kept_as new kept same_array same_buffer = record {
@@ -119,10 +90,6 @@ module _ (side : SideView) where
     held = λ other. rw same_array (kept.held other);
     leaving = λ other. rw same_buffer (kept.leaving other);
   }
-
-  pub kept-after_join : (request : Request) (misses : List Register) → IsKept side →
-      IsKept (after_join side request misses)
-  kept-after_join request misses kept = kept_as (after_join side request misses) kept refl refl
 
   pub kept-after_draw : IsKept side → IsKept (after_draw side)
   kept-after_draw kept = kept_as (after_draw side) kept refl refl
@@ -210,10 +177,6 @@ module _ (side : SideView) (local : Local) (kept : IsKept side) (held : IsSome (
   copy_of-after_hit_other offset op next other apart =
       copy_other side _ local _ _ (changes-hit offset op next) other apart
 
-  pub kept-after_hit : (offset : ℕ) (op : Op) (next : CopyState) → stands_in_array next ≡ true →
-      IsKept (after_hit side local offset op next)
-  kept-after_hit offset op next stands = kept_by side _ local _ _ (changes-hit offset op next) kept stands
-
   -- ---- it waits, with a miss register
 
   pub changes-open_held : (next : CopyState) (request : Request) (misses : List Register) →
@@ -234,11 +197,6 @@ module _ (side : SideView) (local : Local) (kept : IsKept side) (held : IsSome (
       other.0 ≢ local.0 → copy_of (after_open side local true next request misses) other ≡ copy_of side other
   copy_of-after_open_held_other next request misses other apart =
       copy_other side _ local _ _ (changes-open_held next request misses) other apart
-
-  pub kept-after_open_held : (next : CopyState) (request : Request) (misses : List Register) →
-      stands_in_array next ≡ true → IsKept (after_open side local true next request misses)
-  kept-after_open_held next request misses stands =
-      kept_by side _ local _ _ (changes-open_held next request misses) kept stands
 
   -- ---- it has come to its state, and what it allows was performed
 
@@ -261,27 +219,6 @@ module _ (side : SideView) (local : Local) (kept : IsKept side) (held : IsSome (
       copy_of (after_settle side local number misses) other ≡ copy_of side other
   copy_of-after_settle_other number misses other apart =
       copy_other side _ local _ _ (changes-settle number misses) other apart
-
-  pub kept-after_settle : (number : ℕ) (misses : List Register) → IsKept (after_settle side local number misses)
-  kept-after_settle number misses =
-      kept_by side _ local _ _ (changes-settle number misses) kept
-      (state_of_settled (array_copy side local) _ _
-      (settled-stands (array_copy side local).state _ (stood (array_at side.array local) held (kept.held local))))
-    where
-      stood : (o : Option CacheCopy) → IsSome o → IfSome o (λ copy. stands_in_array copy.state ≡ true) →
-          stands_in_array (unwrap_or o no_copy).state ≡ true
-      stood None some stands = absurd (cc some)
-      stood (Some copy) some stands = stands
-
-      state_of_settled : (copy : CacheCopy) (block : Block) (state : CopyState) → stands_in_array state ≡ true →
-          stands_in_array (settled_copy copy block state).state ≡ true
-      state_of_settled copy block state stands = by (is_waiting copy.state)
-        where
-          by : (b : Bool) → stands_in_array
-              (if b then record copy { block = block; state = state }
-              else record { block = block; state = state; wants = 0; counted = 0 }).state ≡ true
-          by true = stands
-          by false = stands
 
 -- ---- a line that comes into a free way
 
@@ -306,11 +243,6 @@ module _ (side : SideView) (local : Local) (kept : IsKept side) (absent : array_
       other.0 ≢ local.0 → copy_of (after_open side local false next request misses) other ≡ copy_of side other
   copy_of-after_open_free_other next request misses other apart =
       copy_other side _ local _ _ (changes-open_free next request misses) other apart
-
-  pub kept-after_open_free : (next : CopyState) (request : Request) (misses : List Register) →
-      stands_in_array next ≡ true → IsKept (after_open side local false next request misses)
-  kept-after_open_free next request misses stands =
-      kept_by side _ local _ _ (changes-open_free next request misses) kept stands
 
 -- ---- a line that leaves
 
@@ -453,40 +385,6 @@ module _ (side : SideView) (local : Local) (kept : IsKept side) where
   pub copy_of-after_advance_other : (next : CopyState) (other : Local) → other.0 ≢ local.0 →
       copy_of (after_advance side local next) other ≡ copy_of side other
   copy_of-after_advance_other next other apart = copy_other side _ local _ _ (changes-advance next) other apart
-
-  -- copies stand where they belong once nothing is left of this one, or where the array holds it in a state that stands
-  -- there, or where it leaves in a state in which it leaves
-  pub kept-after_advance_gone : (next : CopyState) → is_gone next ≡ true → IsKept (after_advance side local next)
-  kept-after_advance_gone next gone =
-      kept_by side _ local _ _ (changes-advance next) kept (rw gone tt)
-
-  pub kept-after_advance_held : (next : CopyState) → IsSome (array_at side.array local) → stands_in_array next ≡ true →
-      IsKept (after_advance side local next)
-  kept-after_advance_held next held stands =
-      kept_by side _ local _ _ (changes-advance next) kept
-      (fits (array_at side.array local) held _ (kept.apart local held) (is_gone next))
-    where
-      fits : (copy : Option CacheCopy) → IsSome copy → (leaving : Option Leaving) → leaving ≡ None → (gone : Bool) →
-          FitsIn (if gone then None else option_map (moved_to next) copy)
-          (if gone then None else option_map (in_state next) leaving)
-      fits copy some leaving none true = tt
-      fits None some leaving none false = absurd (cc some)
-      fits (Some copy) some (Some leaving) none false = absurd (cc none)
-      fits (Some copy) some None none false = stands
-
-  pub kept-after_advance_leaving : (next : CopyState) → array_at side.array local ≡ None → is_leaving next ≡ true →
-      IsKept (after_advance side local next)
-  kept-after_advance_leaving next absent leaves =
-      kept_by side _ local _ _ (changes-advance next) kept
-      (fits (array_at side.array local) absent (buffer_at side.buffer.entries local.0) (is_gone next))
-    where
-      fits : (copy : Option CacheCopy) → copy ≡ None → (leaving : Option Leaving) → (gone : Bool) →
-          FitsIn (if gone then None else option_map (moved_to next) copy)
-          (if gone then None else option_map (in_state next) leaving)
-      fits copy none leaving true = tt
-      fits (Some copy) none leaving false = absurd (cc none)
-      fits None none (Some leaving) false = leaves
-      fits None none None false = tt
 
 -- ---- a core that has asked for nothing
 

@@ -6,7 +6,7 @@ use Rattle.std.proofs.lemmas.Bool.{and_from, and_parts, ltb-true, leb-true}
 use Rattle.std.proofs.lemmas.List.Elements.{All-weaker}
 use Rattle.std.proofs.lemmas.Option.{same_Some}
 use Rattle.mshr_file.proofs.Changes.{all_pass, count_of-line}
-use Rattle.mshr_file.specs.Miss.{count_of, has_tag, targets_of, is_free, HasEachTagOnce}
+use Rattle.mshr_file.specs.Miss.{count_of, has_tag, targets_of, HasEachTagOnce}
 use Rattle.mshr_file.specs.declared.registers.Register.{Register}
 use Rattle.slice_core_log.specs.declared.entry.Entry.{Entry}
 use Rattle.slice_core_side.specs.Tags.{tag_in}
@@ -73,11 +73,6 @@ pub tag-names_none : (log : List Entry) (core : ℕ) (misses : List Register) (s
     → HasTags log core misses states → tag_in states tag ≡ tags.Free → count_of (has_tag tag) misses ≡ 0
 tag-names_none log core misses states tag named free =
     named.opened tag ∙ none (is_open (tag_in states tag)) (ap is_open free)
-
-pub tag-is_free : (log : List Entry) (core : ℕ) (misses : List Register) (states : List TagState) (tag : ℕ)
-    → HasTags log core misses states → tag_in states tag ≡ tags.Free → is_free misses tag ≡ true
-tag-is_free log core misses states tag named free =
-    eq-eqb (count_of (has_tag tag) misses) 0 (tag-names_none log core misses states tag named free)
 
 -- Two tags never name one entry.
 pub replies-apart : (log : List Entry) (core : ℕ) (misses : List Register) (states : List TagState)

@@ -1,13 +1,12 @@
 -- The account as the log grows: what was performed stays there, and entries of other cores change nothing.
-use Rattle.std.proofs.Common.{◌≡◌, ◌≢◌, ℕ, ◌+◌, ◌*◌, ◌/◌, ◌<◌, true, false, not, List, [], ◌∷◌, ◌++◌, length, refl, sym, ap, ◌∙◌, arith}
+use Rattle.std.proofs.Common.{◌≡◌, ◌≢◌, ℕ, ◌*◌, ◌/◌, ◌<◌, true, false, not, List, [], ◌++◌, length, sym, ap, ◌∙◌, arith}
 use Rattle.std.specs.Prelude.{count_by, nat_le, All}
 use Rattle.std.proofs.Math.Nat.{mul-div_cancel}
 use Rattle.std.proofs.lemmas.Bool.{and_left, and_parts, ne_eqb, leb-false, lt-leb, not-true, not_from_false}
 use Rattle.std.proofs.lemmas.List.{length-append}
-use Rattle.std.proofs.lemmas.List.Elements.{All-append, All-cons, All-nil, All-weaker}
-use Rattle.address_map.specs.Locator.{Lines, line_at, word_at}
+use Rattle.std.proofs.lemmas.List.Elements.{All-append, All-weaker}
+use Rattle.address_map.specs.Locator.{Lines, line_at}
 use Rattle.address_map.specs.declared.address.Local.{Local}
-use Rattle.address_map.specs.declared.address.Offset.{Offset}
 use Rattle.mshr_file.specs.declared.registers.Register.{Register}
 use Rattle.slice_core_log.specs.declared.entry.Entry.{Entry}
 use Rattle.slice_core_side.specs.declared.tags.TagState.{TagState}
@@ -24,14 +23,6 @@ one_place lines a b few same =
     let dealt : a.0 * lines.slices ≡ b.0 * lines.slices = omega (arith, same) in
     let some : 0 < lines.slices = omega (arith, few) in
     sym (mul-div_cancel a.0 some) ∙ ap (λ n. n / lines.slices) dealt ∙ mul-div_cancel b.0 some
-
--- A word stands on the line of its place.
-pub line-word_at : (lines : Lines) (local : Local) (offset : Offset) → offset.0 < 8
-    → (word_at lines local offset).0 / 8 ≡ (line_at lines local).0
-line-word_at lines local offset within = eight (line_at lines local).0 offset.0 within
-  where
-    eight : (line offset : ℕ) → offset < 8 → (8 * line + offset) / 8 ≡ line
-    eight line offset within = omega (arith, within)
 
 -- ---- what waits, and tags
 
@@ -109,18 +100,7 @@ account-others lines log more core misses states accepted others account = recor
   };
 }
 
-pub account-other : (lines : Lines) (log : List Entry) (entry : Entry) (core : ℕ) (misses : List Register)
-    (states : List TagState)
-    (accepted : ℕ) → entry.core.0 ≢ core → IsAccount lines log core misses states accepted
-    → IsAccount lines (log ++ entry ∷ []) core misses states accepted
-account-other lines log entry core misses states accepted other account =
-    account-others lines log (entry ∷ []) core misses states accepted
-    (All-cons (λ e. e.core.0 ≢ core) entry [] other (All-nil _)) account
-
 -- ---- a core that isn't there
-
-pub no_entry-begins : (core : ℕ) → HasNoEntry core []
-no_entry-begins core = refl
 
 pub no_entry-others : (core : ℕ) (log more : List Entry) → All (λ entry. entry.core.0 ≢ core) more → HasNoEntry core log
     → HasNoEntry core (log ++ more)
@@ -128,11 +108,6 @@ no_entry-others core log more others absent =
     let both = count_by-append (is_of core) log more in
     let zero = none-of core more others in
     omega (arith, both, zero, absent)
-
-pub no_entry-other : (core : ℕ) (log : List Entry) (entry : Entry) → entry.core.0 ≢ core → HasNoEntry core log
-    → HasNoEntry core (log ++ entry ∷ [])
-no_entry-other core log entry other absent =
-    no_entry-others core log (entry ∷ []) (All-cons (λ e. e.core.0 ≢ core) entry [] other (All-nil _)) absent
 
 -- Its requests stand nowhere: none was accepted.
 pub no_entry-standings : (core seq : ℕ) (log : List Entry) → HasNoEntry core log → standings [] log core seq ≡ 0

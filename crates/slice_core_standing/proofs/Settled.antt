@@ -1,5 +1,5 @@
 -- Targets that are performed: they leave the front of their line, and stand as the last entries of the log.
-use Rattle.std.proofs.Common.{◌≡◌, ◌≢◌, ℕ, ◌+◌, ◌/◌, ◌*◌, ◌<◌, ◌≤◌, inl, inr, Bool, true, false, List, [], ◌∷◌, ◌++◌, length, Some, refl, sym, ap, subst, ◌∙◌, ⊎_elim, arith, eq-eqb, append_assoc}
+use Rattle.std.proofs.Common.{◌≡◌, ℕ, ◌+◌, ◌/◌, ◌*◌, ◌<◌, ◌≤◌, inl, inr, Bool, true, false, List, [], ◌∷◌, ◌++◌, length, Some, refl, sym, ap, subst, ◌∙◌, ⊎_elim, arith, eq-eqb, append_assoc}
 use Rattle.std.specs.Prelude.{◌==◌, ◌&&◌, count_by, slice_set, slice_get, All}
 use Rattle.std.proofs.lemmas.Bool.{cases_eq, cases_lt, eqb-true}
 use Rattle.std.proofs.lemmas.List.{get_or-set_other, get_or-set_same, get_or_append_left, length-append, length-set, length_push}
@@ -19,9 +19,9 @@ use Rattle.slice_core_side.specs.Targets.{IsPerformable}
 use Rattle.slice_core_side.specs.declared.tags.TagState.{TagState}
 use Rattle.slice_core_side.specs.declared.tags.TagState.TheVariants as tags
 use Rattle.slice_core_standing.proofs.Facts.{all-performable}
-use Rattle.slice_core_standing.proofs.Grown.{account-others, CanWait-grown, no_entry-others, one_place}
+use Rattle.slice_core_standing.proofs.Grown.{CanWait-grown, one_place}
 use Rattle.slice_core_standing.proofs.Lists.{ascending-apart, at_most_one, count_by-all, count_by-append, count_by-cons, none, one, one_if, slice_get-kept, slice_get-next, All-right}
-use Rattle.slice_core_standing.specs.Standing.{is_of, is_open, is_request, has_seq, waiting, CanWait, HasNoEntry, HasTags, IsAccount, IsAhead, StandsInOrder, StandsOnce}
+use Rattle.slice_core_standing.specs.Standing.{is_of, is_open, is_request, has_seq, waiting, CanWait, HasTags, IsAccount, IsAhead, StandsInOrder, StandsOnce}
 use Rattle.target_list.specs.declared.target.Target.{Target}
 
 -- ---- the entries of targets
@@ -37,14 +37,6 @@ entries-all P Q core first each block (target ∷ taken) all =
     (entries_of core first (performed_on block target.offset.0 target.op) taken)
     (each block target (All-head Q target taken all))
     (entries-all P Q core first each (performed_on block target.offset.0 target.op) taken (All-tail Q target taken all))
-
--- They are entries of this core, and of no other.
-pub entries-others : (core : CoreId) (other first : ℕ) (block : Block) (taken : List Target) → core.0 ≢ other
-    → All (λ entry. entry.core.0 ≢ other) (entries_of core first block taken)
-entries-others core other first block taken apart =
-    entries-all (λ entry. entry.core.0 ≢ other) (λ target. target.tag ≡ target.tag) core first
-    (λ block target same. apart) block taken
-    (λ k d inside. refl)
 
 -- They have the targets' numbers, one each.
 entries-request : (core : CoreId) (first seq : ℕ) (block : Block) (taken : List Target)
@@ -309,20 +301,3 @@ account-settled lines log core first block old new states accepted local taken t
   tags = tags-settled log core first block old new local.0 taken takes states account.waits account.tags;
   order = order-settled lines log core first block old new local taken takes few begins account.waits account.order;
 }
-
--- Another core's targets are performed: this core's account is as it was.
-pub account-settled_other : (lines : Lines) (log : List Entry) (performer : CoreId) (first : ℕ) (block : Block)
-    (taken : List Target)
-    (core : ℕ) (misses : List Register) (states : List TagState) (accepted : ℕ) → performer.0 ≢ core
-    → IsAccount lines log core misses states accepted
-    → IsAccount lines (log ++ entries_of performer first block taken) core misses states accepted
-account-settled_other lines log performer first block taken core misses states accepted other account =
-    account-others lines log (entries_of performer first block taken) core misses states accepted
-    (entries-others performer core first block taken other) account
-
-pub no_entry-settled_other : (log : List Entry) (performer : CoreId) (first : ℕ) (block : Block) (taken : List Target)
-    (core : ℕ)
-    → performer.0 ≢ core → HasNoEntry core log → HasNoEntry core (log ++ entries_of performer first block taken)
-no_entry-settled_other log performer first block taken core other absent =
-    no_entry-others core log (entries_of performer first block taken)
-    (entries-others performer core first block taken other) absent

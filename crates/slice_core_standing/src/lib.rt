@@ -1,11 +1,11 @@
 //! One core's requests: each that was accepted stands in exactly one place, as a target of a miss register or as an
 //! entry of the log, and its tags name these.
 //!
-//! The crate is definitions (specs/Standing.antt: `IsAccount` is all of them together) and their lemmas. An account holds
-//! at first (proofs/Begins.antt) and is kept by each kind of step: a hit, a target that is added, targets that are
-//! performed, a reply that is handed out, and whatever other cores perform (proofs/Hit.antt, Added.antt, Settled.antt,
-//! Handed.antt, Grown.antt). A log that was ordered stays so (Hit.antt, Ordered.antt). The functions here do nothing and
-//! cost nothing: their contracts say what follows from an account.
+//! The crate is definitions (specs/Standing.antt: `IsAccount` is all of them together) and their lemmas. An account
+//! holds at first (proofs/Begins.antt) and is kept by each kind of step: a hit, a target that is added, targets that
+//! are performed, a reply that is handed out, and whatever other cores perform (proofs/Hit.antt, Added.antt,
+//! Settled.antt, Handed.antt, Grown.antt). A log that was ordered stays so (Hit.antt, Ordered.antt). The functions here
+//! do nothing and cost nothing: their contracts say what follows from an account.
 #![tactic(auto)]
 
 ghost use Rattle.slice_core_standing.specs.Laws.{AcceptedIsAll, EachStandsOnce, OpenTagNamesOne, RepliesApart};

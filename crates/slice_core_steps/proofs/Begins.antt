@@ -12,7 +12,8 @@ use Rattle.slice_core_plan.specs.View.{no_entry, no_side}
 use Rattle.slice_core_side.specs.Side.{SideView, new_side}
 
 -- one more word of a block
-pub words-more : (words : List ℕ) (i v : ℕ) (f : ℕ → ℕ) → i < length words → ((k : ℕ) → k < i → get_or words k 0 ≡ f k) → v ≡ f i
+pub words-more : (words : List ℕ) (i v : ℕ) (f : ℕ → ℕ) → i < length words → ((k : ℕ) → k < i → get_or words k 0 ≡ f k)
+    → v ≡ f i
     → (k : ℕ) → k < i + 1 → get_or (set words i v) k 0 ≡ f k
 words-more words i v f within before is =
     below_more _ _ (λ k less. let other : k ≢ i = omega arith in get_or-set_other words i k v 0 other ∙ before k less)
@@ -26,10 +27,12 @@ words-fit words i v limit within before fits =
     (rw (get_or-set_same words i v 0 within) fits)
 
 -- one more line of a slice
-pub entries-more : (c : Config) (own : Lines) (n : ℕ) (entries : List DirEntry) (block : Block) → AreInitialEntries c own n entries
+pub entries-more : (c : Config) (own : Lines) (n : ℕ) (entries : List DirEntry) (block : Block)
+    → AreInitialEntries c own n entries
     → IsInitialBlock c own (record { 0 = n }) block → AreInitialEntries c own (n + 1) (entries ++ unowned block ∷ [])
 entries-more c own n entries block before next = record {
-  count_is = let longer = length_push entries (unowned block) in let n_is = before.count_is in omega (arith, longer, n_is);
+  count_is =
+      let longer = length_push entries (unowned block) in let n_is = before.count_is in omega (arith, longer, n_is);
   each = λ local within. elim (cases_lt local n) [
     | inl less ↦
         let found = before.each local less in
@@ -45,7 +48,8 @@ entries-more c own n entries block before next = record {
 pub sides-more : (c : Config) (bound : Bound) (slice n : ℕ) (sides : List SideView) → AreNewSides c bound slice n sides
     → AreNewSides c bound slice (n + 1) (sides ++ new_side c bound slice n ∷ [])
 sides-more c bound slice n sides before = record {
-  count_is = let longer = length_push sides (new_side c bound slice n) in let n_is = before.count_is in omega (arith, longer, n_is);
+  count_is = let longer = length_push sides (new_side c bound slice n) in let n_is = before.count_is in
+      omega (arith, longer, n_is);
   each = λ core within. elim (cases_lt core n) [
     | inl less ↦
         let inside : core < length sides = let n_is = before.count_is in omega (arith, n_is, less) in

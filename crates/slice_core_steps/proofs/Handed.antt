@@ -12,7 +12,8 @@ use Rattle.slice_core_side.specs.Steps.{after_hand, AfterHand as SideAfterHand}
 use Rattle.slice_core_side.specs.Tags.{IsLeastReply}
 
 -- an element that was read is the core's side
-pub side-read : (v : View) (sides : List SideView) (core : CoreId) (side : SideView) → sides ≡ v.sides → core.0 < length v.sides
+pub side-read : (v : View) (sides : List SideView) (core : CoreId) (side : SideView) → sides ≡ v.sides
+    → core.0 < length v.sides
     → side ≡ get_or sides core.0 side → side ≡ side_at v core
 side-read v sides core side same within read =
     get_or_read v.sides core.0 side within (read ∙ ap (λ xs. get_or xs core.0 side) same) no_side
@@ -24,12 +25,14 @@ entry-read v log number entry same within read =
     slice_get_read v.log (length v.log) number entry refl within (read ∙ ap (λ es. get_or es number entry) same)
 
 -- the reply that a core hands out is in the log
-pub entry-of-reply : (v : View) (core : CoreId) (number : ℕ) (side after : SideView) → HasEntries v core → side ≡ side_at v core
+pub entry-of-reply : (v : View) (core : CoreId) (number : ℕ) (side after : SideView) → HasEntries v core
+    → side ≡ side_at v core
     → SideAfterHand side (Some number) after → number < length v.log
 entry-of-reply v core number side after entries same h =
     entries h.0 number (subst (λ (s : SideView). IsLeastReply s.tags (Some (h.0, number))) same h.1).0
 
-pub handed : (old new : PartsView) (core : CoreId) (number : ℕ) (side after : SideView) (entry : Entry) → side ≡ side_at old.view core
+pub handed : (old new : PartsView) (core : CoreId) (number : ℕ) (side after : SideView) (entry : Entry)
+    → side ≡ side_at old.view core
     → SideAfterHand side (Some number) after → slice_get old.view.log number ≡ Some entry
     → new ≡ record old { view = record old.view { sides = slice_set old.view.sides core.0 after } }
     → AfterHand old core (Some (record { number = number; entry = entry })) new
@@ -37,5 +40,6 @@ handed old new core number side after entry same h logged left = (
   h.0,
   subst (λ (s : SideView). IsLeastReply s.tags (Some (h.0, number))) same h.1,
   logged,
-  left ∙ ap (λ s. record old { view = record old.view { sides = slice_set old.view.sides core.0 s } }) (h.2 ∙ ap (λ s. after_hand s h.0) same),
+  left ∙ ap (λ s. record old { view = record old.view { sides = slice_set old.view.sides core.0 s } }) (h.2
+      ∙ ap (λ s. after_hand s h.0) same),
 )

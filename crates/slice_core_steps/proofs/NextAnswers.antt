@@ -22,7 +22,8 @@ use Rattle.slice_queues_message.specs.declared.channel.Channel.TheVariants as ch
 use Rattle.slice_queues_message.specs.declared.channel.Class.{Class}
 
 -- where nothing is best, nothing is planned
-none-planned : (local : Local) (channel : Channel) (plan : Plan) → IsNoBetter nexts.Nothing (next_by local channel plan) → plan ≡ plans.Nothing
+none-planned : (local : Local) (channel : Channel) (plan : Plan) → IsNoBetter nexts.Nothing (next_by local channel plan)
+    → plan ≡ plans.Nothing
 none-planned local channel plans.Nothing h = refl
 none-planned local channel plans.Blocked h = cc
 none-planned local channel (plans.Broken cell) h = cc
@@ -33,7 +34,8 @@ none-planned local channel (plans.Fill a b) h = cc
 none-planned local channel (plans.Acknowledge a b) h = cc
 
 -- where a blocked message is best, nothing is planned elsewhere, or it is blocked
-blocked-planned : (local : Local) (channel : Channel) (plan : Plan) → IsNoBetter nexts.Blocked (next_by local channel plan)
+blocked-planned : (local : Local) (channel : Channel) (plan : Plan)
+    → IsNoBetter nexts.Blocked (next_by local channel plan)
     → (plan ≡ plans.Nothing) ⊎ (plan ≡ plans.Blocked)
 blocked-planned local channel plans.Nothing h = inl refl
 blocked-planned local channel plans.Blocked h = inr refl
@@ -45,7 +47,8 @@ blocked-planned local channel (plans.Fill a b) h = cc
 blocked-planned local channel (plans.Acknowledge a b) h = cc
 
 -- where a broken message is best, nothing moves
-stuck-planned : (local : Local) (channel : Channel) (cell : Cell) (plan : Plan) → IsNoBetter (nexts.Broken cell) (next_by local channel plan)
+stuck-planned : (local : Local) (channel : Channel) (cell : Cell) (plan : Plan)
+    → IsNoBetter (nexts.Broken cell) (next_by local channel plan)
     → IsStuck plan
 stuck-planned local channel cell plans.Nothing h = tt
 stuck-planned local channel cell plans.Blocked h = tt
@@ -57,7 +60,8 @@ stuck-planned local channel cell (plans.Fill a b) h = cc
 stuck-planned local channel cell (plans.Acknowledge a b) h = cc
 
 -- a blocked message that was met, and a broken one
-blocked-met : (local : Local) (channel : Channel) (plan : Plan) → nexts.Blocked ≡ next_by local channel plan → plan ≡ plans.Blocked
+blocked-met : (local : Local) (channel : Channel) (plan : Plan) → nexts.Blocked ≡ next_by local channel plan
+    → plan ≡ plans.Blocked
 blocked-met local channel plans.Nothing h = cc
 blocked-met local channel plans.Blocked h = refl
 blocked-met local channel (plans.Broken cell) h = cc
@@ -67,7 +71,8 @@ blocked-met local channel (plans.Forwarded a b c) h = cc
 blocked-met local channel (plans.Fill a b) h = cc
 blocked-met local channel (plans.Acknowledge a b) h = cc
 
-broken-met : (local : Local) (channel : Channel) (cell : Cell) (plan : Plan) → nexts.Broken cell ≡ next_by local channel plan → plan ≡ plans.Broken cell
+broken-met : (local : Local) (channel : Channel) (cell : Cell) (plan : Plan)
+    → nexts.Broken cell ≡ next_by local channel plan → plan ≡ plans.Broken cell
 broken-met local channel cell plans.Nothing h = cc
 broken-met local channel cell plans.Blocked h = cc
 broken-met local channel cell (plans.Broken other) h = ap plans.Broken (let e : other ≡ cell = cc in e)
@@ -78,7 +83,8 @@ broken-met local channel cell (plans.Fill a b) h = cc
 broken-met local channel cell (plans.Acknowledge a b) h = cc
 
 -- what can be moved is planned there
-moved-there : (local at : Local) (channel other : Channel) (plan : Plan) → nexts.Move local channel ≡ next_by at other plan
+moved-there : (local at : Local) (channel other : Channel) (plan : Plan)
+    → nexts.Move local channel ≡ next_by at other plan
     → (local ≡ at) × (channel ≡ other)
 moved-there local at channel other plans.Nothing h = cc
 moved-there local at channel other plans.Blocked h = cc
@@ -104,12 +110,16 @@ moved-by local at channel other (plans.Acknowledge a b) old new answer h after =
 
 pub next-nothing : (old new : PartsView) (class : Class) → new ≡ old → IsNextIn old.view class nexts.Nothing
     → AfterDeliverNext old class delivered_next.Nothing new
-next-nothing old new class same next = (same, λ local channel there of_class. none-planned local channel _ (next.0 local channel there of_class))
+next-nothing old new class same next =
+    (same, λ local channel there of_class. none-planned local channel _ (next.0 local channel there of_class))
 
 pub next-blocked : (old new : PartsView) (class : Class) → new ≡ old → IsNextIn old.view class nexts.Blocked
     → AfterDeliverNext old class delivered_next.Blocked new
-next-blocked old new class same next =
-    (same, (λ local channel there of_class. blocked-planned local channel _ (next.0 local channel there of_class)), met next.1)
+next-blocked old new class same next = (
+  same,
+  (λ local channel there of_class. blocked-planned local channel _ (next.0 local channel there of_class)),
+  met next.1,
+)
   where
     met : (nexts.Blocked ≡ nexts.Nothing)
         ⊎ ((local : Local) × (channel : Channel) × (local.0 < old.view.lines.lines) × IsTrue (is_of_class class channel)
@@ -118,10 +128,14 @@ next-blocked old new class same next =
     met (inl none) = cc
     met (inr some) = (some.0, some.1, some.2, some.3, blocked-met some.0 some.1 _ some.4)
 
-pub next-broken : (old new : PartsView) (class : Class) (cell : Cell) → new ≡ old → IsNextIn old.view class (nexts.Broken cell)
+pub next-broken : (old new : PartsView) (class : Class) (cell : Cell) → new ≡ old
+    → IsNextIn old.view class (nexts.Broken cell)
     → AfterDeliverNext old class (delivered_next.Broken cell) new
-next-broken old new class cell same next =
-    (same, (λ local channel there of_class. stuck-planned local channel cell _ (next.0 local channel there of_class)), met next.1)
+next-broken old new class cell same next = (
+  same,
+  (λ local channel there of_class. stuck-planned local channel cell _ (next.0 local channel there of_class)),
+  met next.1,
+)
   where
     met : (nexts.Broken cell ≡ nexts.Nothing)
         ⊎ ((local : Local) × (channel : Channel) × (local.0 < old.view.lines.lines) × IsTrue (is_of_class class channel)
@@ -136,11 +150,13 @@ pub record CanMove (v : View) (class : Class) (local : Local) (channel : Channel
   pub of_class : IsTrue (is_of_class class channel)
   pub planned : nexts.Move local channel ≡ next_by local channel (plan_of v local channel)
 
-pub can-move : (v : View) (class : Class) (local : Local) (channel : Channel) → IsNextIn v class (nexts.Move local channel)
+pub can-move : (v : View) (class : Class) (local : Local) (channel : Channel)
+    → IsNextIn v class (nexts.Move local channel)
     → CanMove v class local channel
 can-move v class local channel next = met next.1
   where
-    at_same : (at : Local) (other : Channel) → local ≡ at → channel ≡ other → at.0 < v.lines.lines → IsTrue (is_of_class class other)
+    at_same : (at : Local) (other : Channel) → local ≡ at → channel ≡ other → at.0 < v.lines.lines
+        → IsTrue (is_of_class class other)
         → nexts.Move local channel ≡ next_by at other (plan_of v at other) → CanMove v class local channel
     at_same at other here same there of_class planned =
         let P : Local → Type 0 = λ l. l.0 < v.lines.lines in
@@ -173,10 +189,14 @@ moved-at old new class local (channels.Ack to from) line of_class found after = 
 moved-at old new class local channels.Home line of_class found after = (of_class, rw found after)
 
 -- a message that could be moved was moved
-pub next-moved : (old new : PartsView) (class : Class) (local : Local) (channel : Channel) (line : LineAddr) (answer : Delivered) (plan : Plan)
-    → CanMove old.view class local channel → local_at old.view.lines line.0 ≡ Some local → plan ≡ plan_of old.view local channel
-    → AfterPlan plan old local channel answer new → AfterDeliverNext old class (delivered_next.Moved (pick_at line channel)) new
+pub next-moved : (old new : PartsView) (class : Class) (local : Local) (channel : Channel) (line : LineAddr)
+    (answer : Delivered) (plan : Plan)
+    → CanMove old.view class local channel → local_at old.view.lines line.0 ≡ Some local
+    → plan ≡ plan_of old.view local channel
+    → AfterPlan plan old local channel answer new
+    → AfterDeliverNext old class (delivered_next.Moved (pick_at line channel)) new
 next-moved old new class local channel line answer plan can found planned after =
     let P : Plan → Type 0 = λ p. AfterPlan p old local channel answer new in
     moved-at old new class local channel line can.of_class found
-    (moved-by local local channel channel (plan_of old.view local channel) old new answer can.planned (subst P planned after))
+    (moved-by local local channel channel (plan_of old.view local channel) old new answer can.planned
+    (subst P planned after))

@@ -143,14 +143,17 @@ no_home (Some block) h = cc
 pub plan-idle : (v : View) (local : Local) (channel : Channel) → messages_at (channels_at v local) channel ≡ []
     → plan_of v local channel ≡ plans.Nothing
 plan-idle v local (channels.Req core) none = ap (request_by v local core) (no_request _ none)
-plan-idle v local (channels.Fwd core) none = ap (λ forwarded. forwarded_by v local core (slice_get forwarded 0)) (no_forwarded _ none)
+plan-idle v local (channels.Fwd core) none =
+    ap (λ forwarded. forwarded_by v local core (slice_get forwarded 0)) (no_forwarded _ none)
 plan-idle v local (channels.Data core) none = ap (data_by v local core) (no_data _ none)
 plan-idle v local (channels.Ack to from) none =
     ap (λ there. if there then by_ack_row v local to
-    (row_of (copy_of (side_at v to) local).state (events.InvAck (copy_of (side_at v to) local).wants (copy_of (side_at v to) local).counted))
+    (row_of (copy_of (side_at v to) local).state
+    (events.InvAck (copy_of (side_at v to) local).wants (copy_of (side_at v to) local).counted))
     else plans.Nothing) (no_ack _ none)
 plan-idle v local channels.Home none =
-    ap (λ home. if is_some home then by_home_row (dir_row_of v.exclusive (entry_at v local) dir_events.DataHome) else plans.Nothing)
+    ap (λ home. if is_some home then by_home_row (dir_row_of v.exclusive (entry_at v local) dir_events.DataHome)
+    else plans.Nothing)
     (no_home _ none)
 
 -- ---- the channels of a line, one after another
@@ -160,7 +163,8 @@ pub record IsNextOf (v : View) (local : Local) (class : Class) (next : Next) (le
   pub covered : (channel : Channel) → IsTrue (is_of_class class channel) → count_by (is_same_channel channel) left ≡ 0
       → IsNoBetter next (next_by local channel (plan_of v local channel))
   pub met : (next ≡ nexts.Nothing)
-      ⊎ ((channel : Channel) × IsTrue (is_of_class class channel) × (next ≡ next_by local channel (plan_of v local channel)))
+      ⊎ ((channel : Channel) × IsTrue (is_of_class class channel)
+      × (next ≡ next_by local channel (plan_of v local channel)))
   pub part : (channel : Channel) → count_by (is_same_channel channel) left
       ≤ (if is_of_class class channel && is_waiting (channels_at v local) channel then 1 else 0)
 
@@ -168,17 +172,20 @@ none-waits : (xs : List Message) → nat_lt 0 (length xs) ≡ false → xs ≡ [
 none-waits [] h = refl
 none-waits (x ∷ xs) h = let clash = ltb-false 0 (length (x ∷ xs)) h in absurd (omega arith)
 
-idle-from_count : (count : ℕ) (of_class waits : Bool) → of_class ≡ true → count ≡ (if of_class && waits then 1 else 0) → count ≡ 0 → waits ≡ false
+idle-from_count : (count : ℕ) (of_class waits : Bool) → of_class ≡ true → count ≡ (if of_class && waits then 1 else 0)
+    → count ≡ 0 → waits ≡ false
 idle-from_count count true false h e none = refl
 idle-from_count count true true h e none = cc
 idle-from_count count false waits h e none = cc
 
-class-from_count : (count : ℕ) (of_class waits : Bool) → 0 < count → count ≤ (if of_class && waits then 1 else 0) → of_class ≡ true
+class-from_count : (count : ℕ) (of_class waits : Bool) → 0 < count → count ≤ (if of_class && waits then 1 else 0)
+    → of_class ≡ true
 class-from_count count true waits some few = refl
 class-from_count count false waits some few = absurd (omega arith)
 
 -- before the first channel
-pub next-begins : (v : View) (local : Local) (class : Class) (names : List Channel) → HasEachOnceIn class (channels_at v local) names
+pub next-begins : (v : View) (local : Local) (class : Class) (names : List Channel)
+    → HasEachOnceIn class (channels_at v local) names
     → IsNextOf v local class nexts.Nothing names
 next-begins v local class names once = record {
   covered = λ channel of_class none.
@@ -190,7 +197,8 @@ next-begins v local class names once = record {
 }
 
 count-head : (channel first : Channel) (rest : List Channel) (same : Bool) → is_same_channel channel first ≡ same
-    → count_by (is_same_channel channel) (first ∷ rest) ≡ (if same then 1 else 0) + count_by (is_same_channel channel) rest
+    → count_by (is_same_channel channel) (first ∷ rest)
+    ≡ (if same then 1 else 0) + count_by (is_same_channel channel) rest
 count-head channel first rest same e =
     let all = sum_by-cons (λ name. if is_same_channel channel name then 1 else 0) first rest in
     let one : (if is_same_channel channel first then 1 else 0) ≡ (if same then 1 else 0) = ap (λ b. number b) e in
@@ -214,43 +222,47 @@ pub next-more : (v : View) (local : Local) (class : Class) (next : Next) (first 
 next-more v local class next first rest so_far = record {
   covered = λ channel of_class none. by_channel channel of_class none (is_same_channel channel first) refl;
   met = by_better (either-one next (next_by local first (plan_of v local first)));
-  part = λ channel. let more = count-head channel first rest (is_same_channel channel first) refl in let few = so_far.part channel in omega arith;
+  part = λ channel. let more = count-head channel first rest (is_same_channel channel first) refl in
+      let few = so_far.part channel in omega arith;
 }
   where
-    by_channel : (channel : Channel) → IsTrue (is_of_class class channel) → count_by (is_same_channel channel) rest ≡ 0 → (same : Bool)
+    by_channel : (channel : Channel) → IsTrue (is_of_class class channel) → count_by (is_same_channel channel) rest ≡ 0
+        → (same : Bool)
         → is_same_channel channel first ≡ same
-        → IsNoBetter (next_or next (next_by local first (plan_of v local first))) (next_by local channel (plan_of v local channel))
+        → IsNoBetter (next_or next (next_by local first (plan_of v local first)))
+        (next_by local channel (plan_of v local channel))
     by_channel channel of_class none true e =
-        let P : Channel → Type 0 = λ x. IsNoBetter (next_or next (next_by local first (plan_of v local first))) (next_by local x (plan_of v local x)) in
-        subst P (sym (same-from_name channel first e)) (no_better-second next (next_by local first (plan_of v local first)))
+        let P : Channel → Type 0 =
+        λ x. IsNoBetter (next_or next (next_by local first (plan_of v local first)))
+        (next_by local x (plan_of v local x)) in
+        subst P (sym (same-from_name channel first e))
+        (no_better-second next (next_by local first (plan_of v local first)))
     by_channel channel of_class none false e =
-        no_better-first next (next_by local first (plan_of v local first)) (next_by local channel (plan_of v local channel))
-        (so_far.covered channel of_class (let more = count-head channel first rest false e in omega (arith, more, none)))
+        no_better-first next (next_by local first (plan_of v local first))
+        (next_by local channel (plan_of v local channel))
+        (so_far.covered channel of_class (let more = count-head channel first rest false e in
+        omega (arith, more, none)))
 
     by_better : (next_or next (next_by local first (plan_of v local first)) ≡ next)
         ⊎ (next_or next (next_by local first (plan_of v local first)) ≡ next_by local first (plan_of v local first))
         → (next_or next (next_by local first (plan_of v local first)) ≡ nexts.Nothing)
         ⊎ ((channel : Channel) × IsTrue (is_of_class class channel)
-        × (next_or next (next_by local first (plan_of v local first)) ≡ next_by local channel (plan_of v local channel)))
+        × (next_or next (next_by local first (plan_of v local first))
+        ≡ next_by local channel (plan_of v local channel)))
     by_better (inl e) = elim so_far.met [ inl none ↦ inl (e ∙ none) | inr some ↦ inr (some.0, some.1, e ∙ some.2) ]
     by_better (inr e) = inr (first, first-of_class v local class next first rest so_far, e)
 
--- behind the last channel
-pub next-done : (v : View) (local : Local) (class : Class) (next : Next) → IsNextOf v local class next [] → IsNextAt v local class next
-next-done v local class next so_far = ((λ channel of_class. so_far.covered channel of_class refl), so_far.met)
-
 -- a list whose first element was taken
-pub taken-first : (left : List Channel) (channel : Channel) → slice_get left 0 ≡ Some channel → left ≡ channel ∷ drop 1 left
+pub taken-first : (left : List Channel) (channel : Channel) → slice_get left 0 ≡ Some channel
+    → left ≡ channel ∷ drop 1 left
 taken-first [] channel h = cc
 taken-first (first ∷ rest) channel h = ap (λ x. x ∷ rest) (let e : first ≡ channel = cc in e)
 
-pub taken-none : (left : List Channel) → slice_get left 0 ≡ None → left ≡ []
-taken-none [] h = refl
-taken-none (first ∷ rest) h = cc
-
 -- one more channel, as it was taken from those that were left
-pub next-more_taken : (v : View) (local : Local) (class : Class) (next one after_next : Next) (left after : List Channel) (channel : Channel) (plan : Plan)
-    → IsNextOf v local class next left → Some channel ≡ slice_get left 0 → after ≡ drop 1 left → plan ≡ plan_of v local channel
+pub next-more_taken : (v : View) (local : Local) (class : Class) (next one after_next : Next)
+    (left after : List Channel) (channel : Channel) (plan : Plan)
+    → IsNextOf v local class next left → Some channel ≡ slice_get left 0 → after ≡ drop 1 left
+    → plan ≡ plan_of v local channel
     → one ≡ next_by local channel plan → after_next ≡ next_or next one → IsNextOf v local class after_next after
 next-more_taken v local class next one after_next left after channel plan so_far first rest planned is better =
     let begins : left ≡ channel ∷ drop 1 left = taken-first left channel (sym first) in
@@ -258,16 +270,20 @@ next-more_taken v local class next one after_next left after channel plan so_far
     let next_is : after_next ≡ next_or next (next_by local channel (plan_of v local channel)) =
     better ∙ ap (next_or next) (is ∙ ap (next_by local channel) planned) in
     let Q : Next → Type 0 = λ n. IsNextOf v local class n after in
-    let R : List Channel → Type 0 = λ names. IsNextOf v local class (next_or next (next_by local channel (plan_of v local channel))) names in
-    subst Q (sym next_is) (subst R (sym rest) (next-more v local class next channel (drop 1 left) (subst P begins so_far)))
+    let R : List Channel → Type 0 =
+    λ names. IsNextOf v local class (next_or next (next_by local channel (plan_of v local channel))) names in
+    subst Q (sym next_is)
+    (subst R (sym rest) (next-more v local class next channel (drop 1 left) (subst P begins so_far)))
 
 -- what can be moved is as good as any
-pub next-moves : (v : View) (local at : Local) (class : Class) (channel other : Channel) (next one : Next) (left : List Channel) (plan : Plan)
+pub next-moves : (v : View) (local at : Local) (class : Class) (channel other : Channel) (next one : Next)
+    (left : List Channel) (plan : Plan)
     → IsNextOf v local class next left → Some channel ≡ slice_get left 0 → plan ≡ plan_of v local channel
     → one ≡ next_by local channel plan → one ≡ nexts.Move at other → IsNextAt v local class one
 next-moves v local at class channel other next one left plan so_far first planned is moves =
     let P : List Channel → Type 0 = λ names. IsNextOf v local class next names in
-    let of_class = first-of_class v local class next channel (drop 1 left) (subst P (taken-first left channel (sym first)) so_far) in
+    let of_class =
+    first-of_class v local class next channel (drop 1 left) (subst P (taken-first left channel (sym first)) so_far) in
     ((λ third of_third. rw moves refl), inr (channel, of_class, is ∙ ap (next_by local channel) planned))
 
 -- where neither of two can be moved, no plan comes with the better
@@ -287,7 +303,8 @@ plan-for_stuck v next one after_next stuck stays better = rw better (by_better (
     by_better (inr e) = rw e (by_one one refl)
 
 -- before the first channel of a line that was looked up
-pub next-begins_at : (v : View) (local : Local) (class : Class) (line : LineChannels) (names : List Channel) → line ≡ channels_at v local
+pub next-begins_at : (v : View) (local : Local) (class : Class) (line : LineChannels) (names : List Channel)
+    → line ≡ channels_at v local
     → HasEachOnceIn class line names → IsNextOf v local class nexts.Nothing names
 next-begins_at v local class line names is once =
     let P : LineChannels → Type 0 = λ l. HasEachOnceIn class l names in
@@ -297,13 +314,15 @@ next-begins_at v local class line names is once =
 
 -- Of the lines that aren't left in the ring none has anything better than this.
 pub record IsNextSoFar (v : View) (class : Class) (next : Next) (left : List ℕ) : Type 0 where
-  pub covered : (local : Local) (channel : Channel) → IsTrue (is_of_class class channel) → is_listed left local.0 ≡ false
+  pub covered : (local : Local) (channel : Channel) → IsTrue (is_of_class class channel)
+      → is_listed left local.0 ≡ false
       → IsNoBetter next (next_by local channel (plan_of v local channel))
   pub met : (next ≡ nexts.Nothing)
       ⊎ ((local : Local) × (channel : Channel) × (local.0 < v.lines.lines) × IsTrue (is_of_class class channel)
       × (next ≡ next_by local channel (plan_of v local channel)))
 
-no-mail : (queues : QueuesView) → IsRing queues → (local : ℕ) → is_listed queues.ring local ≡ false → has_mail_at queues.channels local ≡ false
+no-mail : (queues : QueuesView) → IsRing queues → (local : ℕ) → is_listed queues.ring local ≡ false
+    → has_mail_at queues.channels local ≡ false
 no-mail queues ring local unlisted = by_mail (has_mail_at queues.channels local) refl
   where
     by_mail : (mail : Bool) → has_mail_at queues.channels local ≡ mail → mail ≡ false
@@ -322,7 +341,8 @@ ring-begins v class queues ring same = record {
   met = inl refl;
 }
 
-unlisted-other : (first local : ℕ) (rest : List ℕ) → eqb local first ≡ false → is_listed rest local ≡ false → is_listed (first ∷ rest) local ≡ false
+unlisted-other : (first local : ℕ) (rest : List ℕ) → eqb local first ≡ false → is_listed rest local ≡ false
+    → is_listed (first ∷ rest) local ≡ false
 unlisted-other first local rest differs unlisted = rw differs unlisted
 
 -- one more line
@@ -334,10 +354,12 @@ ring-more v class next one first rest there so_far at = record {
   met = by_better (either-one next one);
 }
   where
-    by_line : (local : Local) (channel : Channel) → IsTrue (is_of_class class channel) → is_listed rest local.0 ≡ false → (same : Bool)
+    by_line : (local : Local) (channel : Channel) → IsTrue (is_of_class class channel) → is_listed rest local.0 ≡ false
+        → (same : Bool)
         → eqb local.0 first ≡ same → IsNoBetter (next_or next one) (next_by local channel (plan_of v local channel))
     by_line local channel of_class unlisted true e =
-        let P : ℕ → Type 0 = λ n. IsNoBetter one (next_by (record { 0 = n }) channel (plan_of v (record { 0 = n }) channel)) in
+        let P : ℕ → Type 0 =
+        λ n. IsNoBetter one (next_by (record { 0 = n }) channel (plan_of v (record { 0 = n }) channel)) in
         no_better-other next one (next_by local channel (plan_of v local channel))
         (subst P (sym (eqb-true local.0 first e)) (at.0 channel of_class))
     by_line local channel of_class unlisted false e =
@@ -348,15 +370,15 @@ ring-more v class next one first rest there so_far at = record {
         → (next_or next one ≡ nexts.Nothing)
         ⊎ ((local : Local) × (channel : Channel) × (local.0 < v.lines.lines) × IsTrue (is_of_class class channel)
         × (next_or next one ≡ next_by local channel (plan_of v local channel)))
-    by_better (inl e) = elim so_far.met [ inl none ↦ inl (e ∙ none) | inr some ↦ inr (some.0, some.1, some.2, some.3, e ∙ some.4) ]
-    by_better (inr e) = elim at.1 [ inl none ↦ inl (e ∙ none) | inr some ↦ inr (record { 0 = first }, some.0, there, some.1, e ∙ some.2) ]
-
--- behind the last line
-pub ring-done : (v : View) (class : Class) (next : Next) → IsNextSoFar v class next [] → IsNextIn v class next
-ring-done v class next so_far = ((λ local channel there of_class. so_far.covered local channel of_class refl), so_far.met)
+    by_better (inl e) =
+        elim so_far.met [ inl none ↦ inl (e ∙ none) | inr some ↦ inr (some.0, some.1, some.2, some.3, e ∙ some.4) ]
+    by_better (inr e) =
+        elim at.1
+        [ inl none ↦ inl (e ∙ none) | inr some ↦ inr (record { 0 = first }, some.0, there, some.1, e ∙ some.2) ]
 
 -- what can be moved is as good as any
-pub ring-moves : (v : View) (class : Class) (one : Next) (local at : Local) (channel : Channel) → local.0 < v.lines.lines
+pub ring-moves : (v : View) (class : Class) (one : Next) (local at : Local) (channel : Channel)
+    → local.0 < v.lines.lines
     → one ≡ nexts.Move at channel → IsNextAt v local class one → IsNextIn v class one
 ring-moves v class one local at channel there is found = ((λ other third within of_class. rw is refl), by_met found.1)
   where
@@ -377,12 +399,14 @@ ring-more_at v class next one after_next ring index local within read there so_f
     let begins : drop index ring ≡ get_or ring index 0 ∷ drop (suc index) ring = drop-cons ring index 0 within in
     let P : List ℕ → Type 0 = λ left. IsNextSoFar v class next left in
     let Q : ℕ → Type 0 = λ first. IsNextSoFar v class next (first ∷ drop (suc index) ring) in
-    let more = ring-more v class next one local.0 (drop (suc index) ring) there (subst Q (sym read) (subst P begins so_far)) at in
+    let more =
+    ring-more v class next one local.0 (drop (suc index) ring) there (subst Q (sym read) (subst P begins so_far)) at in
     let R : Next → Type 0 = λ n. IsNextSoFar v class n (drop (index + 1) ring) in
     subst R (sym better) (rw add-one more)
 
 -- a line of the channels is a line of the slice
-pub line-there : (v : View) (lines : List LineChannels) (local : ℕ) → IsShaped v → lines ≡ v.channels → local < length lines → local < v.lines.lines
+pub line-there : (v : View) (lines : List LineChannels) (local : ℕ) → IsShaped v → lines ≡ v.channels
+    → local < length lines → local < v.lines.lines
 line-there v lines local shaped same within =
     let many = ap length same in
     let are = shaped.lines in

@@ -1,10 +1,9 @@
 -- When a slice is quiet.
-use Rattle.std.proofs.Common.{◌≡◌, ℕ, Bool, true, false, List, refl, sym, ◌∙◌, subst}
+use Rattle.std.proofs.Common.{◌≡◌, ℕ, Bool, true, false, sym, ◌∙◌}
 use Rattle.std.specs.Prelude.{IsTrue, ◌↔◌, All}
 use Rattle.std.proofs.lemmas.Bool.{false≢true}
-use Rattle.address_map.specs.declared.address.Local.{Local}
 use Rattle.slice_core_plan.specs.View.{View, channels_at, IsQuiet}
-use Rattle.slice_core_side.specs.Side.{SideView, IsSideQuiet}
+use Rattle.slice_core_side.specs.Side.{IsSideQuiet}
 use Rattle.slice_queues.specs.Line.{IsEmptyLine}
 
 -- where no message waits, the cores decide

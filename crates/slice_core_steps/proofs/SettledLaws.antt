@@ -90,7 +90,8 @@ pub settles : (old new : PartsView) (local : Local) (core : CoreId) (channel : C
       pending = pending;
     } →
     Settles old local core channel copy new
-settles old new local core channel place copy changed side asks line log stats pending stands is asked taken sound after logged left
+settles old new local core channel place copy changed side asks line log stats pending stands is asked taken sound after
+    logged left
     sent counted made =
     let here : array_copy changed local ≡ copy =
     ap (λ (s : SideView). array_copy s local) is ∙ changed_copy (side_at old.view core) local place copy stands in

@@ -2,12 +2,12 @@
 //!
 //! [`Parts`] puts the directory, the channels, each core's side and the log together. A call decides first, by a pure
 //! function of the state, then changes what was decided, and counts it. The contracts here say exactly what each call
-//! answers and leaves, by the definitions of `slice_core_plan`, and nothing of why that is right: `slice_core` stands on
-//! them.
+//! answers and leaves, by the definitions of `slice_core_plan`, and nothing of why that is right: `slice_core` stands
+//! on them.
 //!
-//! All memory is taken by [`Parts::new`], but for the log, which grows in [`Parts::issue`] alone, before anything changes.
-//! A call looks at its own line and core: no call searches lines or cores, but [`Parts::deliver_next`], which looks at the
-//! lines with mail from the front of their ring.
+//! All memory is taken by [`Parts::new`], but for the log, which grows in [`Parts::issue`] alone, before anything
+//! changes. A call looks at its own line and core: no call searches lines or cores, but [`Parts::deliver_next`], which
+//! looks at the lines with mail from the front of their ring.
 #![tactic(auto)]
 
 pub use line_view::LineView;

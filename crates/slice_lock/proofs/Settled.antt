@@ -1,5 +1,5 @@
 -- What can be said of settled ports where nobody sees the state.
-use Rattle.std.proofs.Common.{◌≡◌, ℕ, ◌∙◌, List, sym}
+use Rattle.std.proofs.Common.{ℕ, ◌∙◌, List, sym}
 use Rattle.address_map.specs.declared.config.Config.{Config}
 use Rattle.receipt_ledger.specs.Port.{PortView}
 use Rattle.receipt_ledger.specs.Settled.{IsSettled}

@@ -40,9 +40,7 @@ core-unreached : (set : ℕ) (requester : CoreId) (n from : ℕ) (line : LineCha
     core_at (after_each requester (filter (has set) (range_with_len from n)) line) core ≡ core_at line core
 core-unreached set requester zero from line core before = refl
 core-unreached set requester (suc n) from line core before =
-    by_test
-    (has set from)
-    (λ other. core-unreached set requester n (from + 1) other core (omega arith))
+    by_test (has set from) (λ other. core-unreached set requester n (from + 1) other core (omega arith))
     (get_or-set_other line.cores from core (with_invalidation requester (core_at line from)) no_messages (omega arith))
   where
     by_test : (there : Bool) →
@@ -75,15 +73,9 @@ core-reached set requester zero from line core behind within there = absurd (ome
 core-reached set requester (suc n) from line core behind within there =
     elim (cases_eq from core) [
       | inl here ↦
-          at_core
-          here
-          (has set from)
-          refl
-          (λ other. core-unreached set requester n (from + 1) other core (omega arith))
+          at_core here (has set from) refl (λ other. core-unreached set requester n (from + 1) other core (omega arith))
       | inr apart ↦
-          past_core
-          apart
-          (has set from)
+          past_core apart (has set from)
           (λ other still. core-reached set requester n (from + 1) other core (omega arith) (omega arith) still)
     ]
   where
@@ -150,10 +142,7 @@ after_each-members set requester line few =
     (after_each requester (filter (has set) (range_with_len 0 64)) line)
     (after_invalidating line set requester)
     (ext_get_or
-    no_messages
-    _
-    _
-    (same_length ∙ sym (length-map-range_with_len (reached set requester line) 0 (length line.cores)))
+    no_messages _ _ (same_length ∙ sym (length-map-range_with_len (reached set requester line) 0 (length line.cores)))
     (λ core within.
     let there : core < length line.cores = omega (arith, same_length) in
     core-reached set requester 64 0 line core (omega arith) (omega arith) there
@@ -243,10 +232,7 @@ core_at-not_invalidated line set requester core apart =
     elim (cases_lt core (length line.cores)) [
       | inl there ↦ core_at-after_invalidating line set requester core there ∙ rw apart refl
       | inr past ↦
-          get_or_past
-          (after_invalidating line set requester).cores
-          core
-          no_messages
+          get_or_past (after_invalidating line set requester).cores core no_messages
           (rw (length-map-range_with_len (reached set requester line) 0 (length line.cores)) past)
           ∙ sym (get_or_past line.cores core no_messages past)
     ]

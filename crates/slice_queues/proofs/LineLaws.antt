@@ -23,7 +23,8 @@ pub same_core : (c d : CoreId) → c.0 ≡ d.0 → c ≡ d
 same_core c d e = let core : ℕ → CoreId = λ n. record { 0 = n } in ap core e
 
 -- what a change at one place leaves alone there is unchanged at every place
-pub read-set_unchanged : {B : Type 0} (f : CoreChannels → B) (xs : List CoreChannels) (c d : ℕ) (x none : CoreChannels) →
+pub read-set_unchanged : {B : Type 0} (f : CoreChannels → B) (xs : List CoreChannels) (c d : ℕ)
+    (x none : CoreChannels) →
     f x ≡ f (get_or xs c none) →
     f (get_or (set xs c x) d none) ≡ f (get_or xs d none)
 read-set_unchanged f [] c d x none e = refl
@@ -48,7 +49,8 @@ IsWithinCores-set cores c x within senders = record {
   at_most_64 = rw length-set within.at_most_64;
   senders_are_cores = λ to from h.
       let P : CoreChannels → Type 0 = λ k. has k.acks from ≡ true → from < length cores in
-      let bound : from < length cores = holds-set P cores c to x no_messages (senders from) (within.senders_are_cores to from) h in
+      let bound : from < length cores =
+      holds-set P cores c to x no_messages (senders from) (within.senders_are_cores to from) h in
       rw length-set bound;
 }
 
@@ -69,7 +71,8 @@ IsWithinCores-with_ack cores to from old new there read is within sender = IsWit
         elim (cases_eq k from) [
           | inl same ↦ rw same sender
           | inr other ↦
-              let kept : has new.acks k ≡ has old.acks k = ap (λ acks. has acks k) is ∙ has-with_other old.acks from k other in
+              let kept : has new.acks k ≡ has old.acks k =
+              ap (λ acks. has acks k) is ∙ has-with_other old.acks from k other in
               let here : old ≡ get_or cores to no_messages = read ∙ read_default cores to old no_messages there in
               within.senders_are_cores to k (sym (ap (λ core. has core.acks k) here) ∙ sym kept ∙ h)
         ]
@@ -94,7 +97,8 @@ IsWithinCores-without_ack cores to from old new there read is within = IsWithinC
               ∙ has-without_same old.acks from)
               h)
           | inr other ↦
-              let kept : has new.acks k ≡ has old.acks k = ap (λ acks. has acks k) is ∙ has-without_other old.acks from k other in
+              let kept : has new.acks k ≡ has old.acks k =
+              ap (λ acks. has acks k) is ∙ has-without_other old.acks from k other in
               let here : old ≡ get_or cores to no_messages = read ∙ read_default cores to old no_messages there in
               within.senders_are_cores to k (sym (ap (λ core. has core.acks k) here) ∙ sym kept ∙ h)
         ]
@@ -126,9 +130,11 @@ nil_of_room (x ∷ xs) room = absurd (omega arith)
 -- another core has another request channel, and so on
 pub request_alone : (line : LineChannels) (core : CoreId) (request : Option RequestMessage) (other : Channel) →
     other ≢ channels.Req core →
-    messages_at (with_core line core.0 (record (core_at line core.0) { request = request })) other ≡ messages_at line other
+    messages_at (with_core line core.0 (record (core_at line core.0) { request = request })) other
+    ≡ messages_at line other
 request_alone line core request (channels.Req d) ne =
-    ap (λ k. request_messages k.request) (get_or-set_other line.cores core.0 d.0 _ no_messages (λ e. ne (ap channels.Req (same_core d core e))))
+    ap (λ k. request_messages k.request)
+    (get_or-set_other line.cores core.0 d.0 _ no_messages (λ e. ne (ap channels.Req (same_core d core e))))
 request_alone line core request (channels.Fwd d) ne =
     read-set_unchanged (λ k. map messages.Forwarded k.forwarded) line.cores core.0 d.0 _ no_messages refl
 request_alone line core request (channels.Data d) ne =
@@ -139,11 +145,13 @@ request_alone line core request channels.Home ne = refl
 
 pub forwarded_alone : (line : LineChannels) (core : CoreId) (forwarded : List ForwardedMessage) (other : Channel) →
     other ≢ channels.Fwd core →
-    messages_at (with_core line core.0 (record (core_at line core.0) { forwarded = forwarded })) other ≡ messages_at line other
+    messages_at (with_core line core.0 (record (core_at line core.0) { forwarded = forwarded })) other
+    ≡ messages_at line other
 forwarded_alone line core forwarded (channels.Req d) ne =
     read-set_unchanged (λ k. request_messages k.request) line.cores core.0 d.0 _ no_messages refl
 forwarded_alone line core forwarded (channels.Fwd d) ne =
-    ap (λ k. map messages.Forwarded k.forwarded) (get_or-set_other line.cores core.0 d.0 _ no_messages (λ e. ne (ap channels.Fwd (same_core d core e))))
+    ap (λ k. map messages.Forwarded k.forwarded)
+    (get_or-set_other line.cores core.0 d.0 _ no_messages (λ e. ne (ap channels.Fwd (same_core d core e))))
 forwarded_alone line core forwarded (channels.Data d) ne =
     read-set_unchanged (λ k. data_messages k.data) line.cores core.0 d.0 _ no_messages refl
 forwarded_alone line core forwarded (channels.Ack to from) ne =
@@ -152,13 +160,15 @@ forwarded_alone line core forwarded channels.Home ne = refl
 
 pub data_alone : (line : LineChannels) (core : CoreId) (message : Option DataMessage) (other : Channel) →
     other ≢ channels.Data core →
-    messages_at (with_core line core.0 (record (core_at line core.0) { «data» = message })) other ≡ messages_at line other
+    messages_at (with_core line core.0 (record (core_at line core.0) { «data» = message })) other
+    ≡ messages_at line other
 data_alone line core message (channels.Req d) ne =
     read-set_unchanged (λ k. request_messages k.request) line.cores core.0 d.0 _ no_messages refl
 data_alone line core message (channels.Fwd d) ne =
     read-set_unchanged (λ k. map messages.Forwarded k.forwarded) line.cores core.0 d.0 _ no_messages refl
 data_alone line core message (channels.Data d) ne =
-    ap (λ k. data_messages k.data) (get_or-set_other line.cores core.0 d.0 _ no_messages (λ e. ne (ap channels.Data (same_core d core e))))
+    ap (λ k. data_messages k.data)
+    (get_or-set_other line.cores core.0 d.0 _ no_messages (λ e. ne (ap channels.Data (same_core d core e))))
 data_alone line core message (channels.Ack to from) ne =
     read-set_unchanged (λ k. ack_messages (has k.acks from.0)) line.cores core.0 to.0 _ no_messages refl
 data_alone line core message channels.Home ne = refl
@@ -175,8 +185,11 @@ acks_alone line to from acks same (channels.Data d) ne =
     read-set_unchanged (λ k. data_messages k.data) line.cores to.0 d.0 _ no_messages refl
 acks_alone line to from acks same (channels.Ack d e) ne =
     elim (cases_eq e.0 from.0) [
-      | inl is ↦ ap (λ k. ack_messages (has k.acks e.0)) (get_or-set_other line.cores to.0 d.0 _ no_messages (λ same_to. ne (cc (same_core d to same_to, same_core e from is))))
-      | inr is_not ↦ read-set_unchanged (λ k. ack_messages (has k.acks e.0)) line.cores to.0 d.0 _ no_messages (ap ack_messages (same e.0 is_not))
+      | inl is ↦ ap (λ k. ack_messages (has k.acks e.0))
+          (get_or-set_other line.cores to.0 d.0 _ no_messages
+          (λ same_to. ne (cc (same_core d to same_to, same_core e from is))))
+      | inr is_not ↦ read-set_unchanged (λ k. ack_messages (has k.acks e.0)) line.cores to.0 d.0 _ no_messages
+          (ap ack_messages (same e.0 is_not))
     ]
 acks_alone line to from acks same channels.Home ne = refl
 
@@ -201,7 +214,8 @@ sends_only line (channels.Req core) (messages.Request message) there room carrie
 }
 sends_only line (channels.Fwd core) (messages.Forwarded message) there room carried known = record {
   appended =
-      ap (λ k. map messages.Forwarded k.forwarded) (get_or-set_same line.cores core.0 _ no_messages there) ∙ simp map-append;
+      ap (λ k. map messages.Forwarded k.forwarded) (get_or-set_same line.cores core.0 _ no_messages there)
+      ∙ simp map-append;
   others = forwarded_alone line core _;
 }
 sends_only line (channels.Data core) (messages.Data message) there room carried known = record {
@@ -243,7 +257,8 @@ takes_only line (channels.Fwd core) there = record {
   others = forwarded_alone line core _;
 }
   where
-    later : (queue : List ForwardedMessage) → map messages.Forwarded (drop 1 queue) ≡ drop 1 (map messages.Forwarded queue)
+    later : (queue : List ForwardedMessage) →
+        map messages.Forwarded (drop 1 queue) ≡ drop 1 (map messages.Forwarded queue)
     later [] = refl
     later (first ∷ queue) = refl
 takes_only line (channels.Data core) there = record {
@@ -315,12 +330,15 @@ cores-from_IsEmptyLine line quiet c =
     zero-from_none _ (λ from. false-from_ack _ (quiet (channels.Ack core (record { 0 = from })))) in
     same_fields (core_at line c) request forwarded message acks
   where
-    same_fields : (k : CoreChannels) → k.request ≡ None → k.forwarded ≡ [] → k.data ≡ None → k.acks ≡ 0 → k ≡ no_messages
+    same_fields : (k : CoreChannels) → k.request ≡ None → k.forwarded ≡ [] → k.data ≡ None → k.acks ≡ 0 →
+        k ≡ no_messages
     same_fields k e f g h =
         ap (λ (r : Option RequestMessage). let x : CoreChannels = record k { request = r } in x) e
         ∙ ap (λ (q : List ForwardedMessage). let x : CoreChannels = record k { request = None; forwarded = q } in x) f
-        ∙ ap (λ (m : Option DataMessage). let x : CoreChannels = record k { request = None; forwarded = []; «data» = m } in x) g
-        ∙ ap (λ (a : ℕ). let x : CoreChannels = record { request = None; forwarded = []; «data» = None; acks = a } in x) h
+        ∙ ap (λ (m : Option DataMessage). let x : CoreChannels =
+        record k { request = None; forwarded = []; «data» = m } in x) g
+        ∙ ap (λ (a : ℕ). let x : CoreChannels = record { request = None; forwarded = []; «data» = None; acks = a } in
+        x) h
 
 -- no acknowledgement waits that isn't from a core of the line
 pub has-past_end : (cores : List CoreChannels) (to from : ℕ) → IsWithinCores cores → length cores ≤ from →
@@ -356,7 +374,8 @@ pub same-from_name : (channel other : Channel) → is_same_channel channel other
 same-from_name channel other e = search (rules, same_core, eqb-true)
 
 -- an empty line stays empty when a message is taken
-pub IsEmptyLine-from_taken : (old new : LineChannels) (channel : Channel) → TakesOnly old new channel → IsEmptyLine old → IsEmptyLine new
+pub IsEmptyLine-from_taken : (old new : LineChannels) (channel : Channel) → TakesOnly old new channel →
+    IsEmptyLine old → IsEmptyLine new
 IsEmptyLine-from_taken old new channel taken empty other = by_name (is_same_channel other channel) refl
   where
     by_name : (same : Bool) → is_same_channel other channel ≡ same → messages_at new other ≡ []
@@ -364,5 +383,6 @@ IsEmptyLine-from_taken old new channel taken empty other = by_name (is_same_chan
         let here : other ≡ channel = same-from_name other channel e in
         ap (messages_at new) here ∙ taken.rest ∙ ap (drop 1) (empty channel)
     by_name false e =
-        let differs : other ≢ channel = λ here. let clash : false ≡ true = sym e ∙ ap (λ c. is_same_channel c channel) here ∙ same_itself channel in cc in
+        let differs : other ≢ channel = λ here. let clash : false ≡ true =
+        sym e ∙ ap (λ c. is_same_channel c channel) here ∙ same_itself channel in cc in
         taken.others other differs ∙ empty other

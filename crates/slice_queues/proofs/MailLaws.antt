@@ -9,14 +9,12 @@ use Rattle.std.proofs.lemmas.Nat.Bits.{bit_at_or, bit_at-lt}
 use Rattle.address_map.specs.CoreSet.{has, with, without}
 use Rattle.address_map.proofs.CoreSets.{has-zero, has-with_same, has-with_other, has-without_same, has-without_other, without-missing, zero-from_none}
 use Rattle.address_map.specs.declared.block.Block.{Block}
-use Rattle.slice_queues_message.specs.declared.channel.Channel.{Channel}
 use Rattle.slice_queues_message.specs.declared.channel.Channel.TheVariants as channels
-use Rattle.slice_queues_message.specs.declared.message.Message.{Message}
 use Rattle.slice_queues_message.specs.declared.message.RequestMessage.{RequestMessage}
 use Rattle.slice_queues_message.specs.declared.message.ForwardedMessage.{ForwardedMessage}
 use Rattle.slice_queues_message.specs.declared.message.DataMessage.{DataMessage}
 use Rattle.slice_queues.specs.declared.mail.Mail.{Mail}
-use Rattle.slice_queues.specs.Line.{CoreChannels, LineChannels, no_messages, core_at, has_request, has_forwarded, has_data, has_acks, has_messages, has_mail, messages_at, IsEmptyLine, IsWithinCores}
+use Rattle.slice_queues.specs.Line.{CoreChannels, LineChannels, no_messages, core_at, has_request, has_forwarded, has_data, has_acks, has_messages, has_mail, IsEmptyLine, IsWithinCores}
 use Rattle.slice_queues.specs.Mail.{no_marks, all_marked, Marks, IsMarked, IsLine}
 use Rattle.slice_queues.proofs.LineLaws.{IsWithinCores-set, IsWithinCores-with_ack, IsWithinCores-without_ack, IsWithinCores-empty, IsEmptyLine-from_cores, cores-from_IsEmptyLine, None-from_home, read_default, read-replicate}
 
@@ -188,17 +186,7 @@ pub IsLine-sent_request : (cores : List CoreChannels) (mail : Mail) (core : ℕ)
     IsLine (set cores core new) (record mail { requests = marks })
 IsLine-sent_request cores mail core old new message marks there read is marks_is line =
     let few : core < 64 = below_64 cores core there line.within in
-    IsLine-request
-    cores
-    mail
-    core
-    old
-    new
-    (Some message)
-    marks
-    there
-    read
-    is
+    IsLine-request cores mail core old new (Some message) marks there read is
     (rw marks_is (Marks-with has_request mail.requests cores core new few there
     (ap has_request is) line.marked.requests))
     line
@@ -208,17 +196,7 @@ pub IsLine-taken_request : (cores : List CoreChannels) (mail : Mail) (core : ℕ
     marks ≡ without mail.requests core → IsLine cores mail →
     IsLine (set cores core new) (record mail { requests = marks })
 IsLine-taken_request cores mail core old new marks there read is marks_is line =
-    IsLine-request
-    cores
-    mail
-    core
-    old
-    new
-    None
-    marks
-    there
-    read
-    is
+    IsLine-request cores mail core old new None marks there read is
     (rw marks_is (Marks-without has_request mail.requests cores core new there
     (ap has_request is) line.marked.requests))
     line
@@ -231,19 +209,8 @@ pub IsLine-sent_forwarded : (cores : List CoreChannels) (mail : Mail) (core : �
 IsLine-sent_forwarded cores mail core old new message marks there read is marks_is line =
     let few : core < 64 = below_64 cores core there line.within in
     let waits : has_forwarded new ≡ true = ap has_forwarded is ∙ some_behind old.forwarded in
-    IsLine-forwarded
-    cores
-    mail
-    core
-    old
-    new
-    (old.forwarded ++ message ∷ [])
-    marks
-    there
-    read
-    is
-    (rw marks_is (Marks-with has_forwarded mail.forwarded cores core new few there waits line.marked.forwarded))
-    line
+    IsLine-forwarded cores mail core old new (old.forwarded ++ message ∷ []) marks there read is
+    (rw marks_is (Marks-with has_forwarded mail.forwarded cores core new few there waits line.marked.forwarded)) line
   where
     some_behind : (queue : List ForwardedMessage) → nat_lt 0 (length (queue ++ message ∷ [])) ≡ true
     some_behind [] = refl
@@ -256,17 +223,7 @@ pub IsLine-taken_forwarded : (cores : List CoreChannels) (mail : Mail) (core : �
 IsLine-taken_forwarded cores mail core old new marks there read is marks_is line =
     let waited : has_forwarded new ≡ true → has_forwarded old ≡ true =
     λ waits. some_before old.forwarded (sym (ap has_forwarded is) ∙ waits) in
-    IsLine-forwarded
-    cores
-    mail
-    core
-    old
-    new
-    (drop 1 old.forwarded)
-    marks
-    there
-    read
-    is
+    IsLine-forwarded cores mail core old new (drop 1 old.forwarded) marks there read is
     (rw marks_is (Marks-unless has_forwarded mail.forwarded cores core old new there read waited line.marked.forwarded))
     line
   where
@@ -282,17 +239,7 @@ pub IsLine-sent_data : (cores : List CoreChannels) (mail : Mail) (core : ℕ) (o
     IsLine (set cores core new) (record mail { data_messages = marks })
 IsLine-sent_data cores mail core old new message marks there read is marks_is line =
     let few : core < 64 = below_64 cores core there line.within in
-    IsLine-data
-    cores
-    mail
-    core
-    old
-    new
-    (Some message)
-    marks
-    there
-    read
-    is
+    IsLine-data cores mail core old new (Some message) marks there read is
     (rw marks_is (Marks-with has_data mail.data_messages cores core new few there
     (ap has_data is) line.marked.data_messages))
     line
@@ -302,17 +249,7 @@ pub IsLine-taken_data : (cores : List CoreChannels) (mail : Mail) (core : ℕ) (
     marks ≡ without mail.data_messages core → IsLine cores mail →
     IsLine (set cores core new) (record mail { data_messages = marks })
 IsLine-taken_data cores mail core old new marks there read is marks_is line =
-    IsLine-data
-    cores
-    mail
-    core
-    old
-    new
-    None
-    marks
-    there
-    read
-    is
+    IsLine-data cores mail core old new None marks there read is
     (rw marks_is (Marks-without has_data mail.data_messages cores core new there
     (ap has_data is) line.marked.data_messages))
     line
@@ -327,20 +264,9 @@ IsLine-sent_ack cores mail to from old new marks there from_there read is marks_
     let from_few : from < 64 = below_64 cores from from_there line.within in
     let waits : has_acks new ≡ true =
     ap has_acks is ∙ some-from_has (with old.acks from) from (has-with_same old.acks from from_few) in
-    IsLine-acks
-    cores
-    mail
-    to
-    old
-    new
-    (with old.acks from)
-    marks
-    there
-    read
-    is
+    IsLine-acks cores mail to old new (with old.acks from) marks there read is
     (IsWithinCores-with_ack cores to from old new there read (ap (λ k. k.acks) is) line.within from_there)
-    (rw marks_is (Marks-with has_acks mail.acks cores to new few there waits line.marked.acks))
-    line
+    (rw marks_is (Marks-with has_acks mail.acks cores to new few there waits line.marked.acks)) line
 
 pub IsLine-taken_ack : (cores : List CoreChannels) (mail : Mail) (to from : ℕ) (old new : CoreChannels) (marks : ℕ) →
     to < length cores → old ≡ get_or cores to old → new ≡ record old { acks = without old.acks from } →
@@ -349,20 +275,9 @@ pub IsLine-taken_ack : (cores : List CoreChannels) (mail : Mail) (to from : ℕ)
 IsLine-taken_ack cores mail to from old new marks there read is marks_is line =
     let waited : has_acks new ≡ true → has_acks old ≡ true =
     λ waits. some_before old.acks (sym (ap has_acks is) ∙ waits) in
-    IsLine-acks
-    cores
-    mail
-    to
-    old
-    new
-    (without old.acks from)
-    marks
-    there
-    read
-    is
+    IsLine-acks cores mail to old new (without old.acks from) marks there read is
     (IsWithinCores-without_ack cores to from old new there read (ap (λ k. k.acks) is) line.within)
-    (rw marks_is (Marks-unless has_acks mail.acks cores to old new there read waited line.marked.acks))
-    line
+    (rw marks_is (Marks-unless has_acks mail.acks cores to old new there read waited line.marked.acks)) line
   where
     some_before : (acks : ℕ) → nat_lt 0 (without acks from) ≡ true → nat_lt 0 acks ≡ true
     some_before zero e = sym (ap (nat_lt 0) (without-missing 0 from (has-zero from))) ∙ e
@@ -405,9 +320,7 @@ Marks-all cores mail marked core =
     _
     (has-or (bit_or mail.requests mail.forwarded) mail.data_messages core
     ∙ joined
-    _
-    _
-    (has-or mail.requests mail.forwarded core ∙ joined _ _ (marked.requests core) (marked.forwarded core))
+    _ _ (has-or mail.requests mail.forwarded core ∙ joined _ _ (marked.requests core) (marked.forwarded core))
     (marked.data_messages core))
     (marked.acks core)
   where
@@ -467,8 +380,7 @@ none-from_each test (first ∷ cores) each =
 pub IsEmptyLine-from_no_mail : (line : LineChannels) → has_mail line ≡ false → IsEmptyLine line
 IsEmptyLine-from_no_mail line quiet =
     let none = or_false _ _ quiet in
-    IsEmptyLine-from_cores
-    line
+    IsEmptyLine-from_cores line
     (λ core. same_as_none (core_at line core) (none_pass has_messages line.cores refl none.1 core))
     (no_block line.home none.0)
   where
@@ -520,12 +432,3 @@ IsEmptyLine-from_quiet line quiet is = by_mail (has_mail line) refl quiet is
           ∙ some in cc),
     )
     by_mail true some true is = cc
-
--- a line has mail where a message waits in one of its channels
-pub has_mail-from_channel : (line : LineChannels) (channel : Channel) (message : Message) (rest : List Message) →
-    messages_at line channel ≡ message ∷ rest → has_mail line ≡ true
-has_mail-from_channel line channel message rest waits = by_test (has_mail line) refl
-  where
-    by_test : (mail : Bool) → has_mail line ≡ mail → mail ≡ true
-    by_test true e = refl
-    by_test false e = let none : messages_at line channel ≡ [] = IsEmptyLine-from_no_mail line e channel in cc

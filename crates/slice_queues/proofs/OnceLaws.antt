@@ -31,7 +31,9 @@ count-no p x xs e = sum_by-append (λ y. cond (p y) 1 0) (x ∷ []) xs ∙ rw e 
 absent : (p : ℕ → Bool) (f n a : ℕ) → ((i : ℕ) → a ≤ i → i < a + n → f ≢ i) →
     count_by (λ k. f == k) (filter p (range_with_len a n)) ≡ 0
 absent p f zero a none = refl
-absent p f (suc n) a none = skipped (p a) _ (ne_eqb f a (none a (omega arith) (omega arith))) (absent p f n (a + 1) (λ i from within. none i (omega arith) (omega arith)))
+absent p f (suc n) a none =
+    skipped (p a) _ (ne_eqb f a (none a (omega arith) (omega arith)))
+    (absent p f n (a + 1) (λ i from within. none i (omega arith) (omega arith)))
   where
     skipped : (b : Bool) (rest : List ℕ) → (f == a) ≡ false → count_by (λ k. f == k) rest ≡ 0 →
         count_by (λ k. f == k) (if b then a ∷ rest else rest) ≡ 0
@@ -45,19 +47,10 @@ present p f zero a from within = absurd (omega arith)
 present p f (suc n) a from within =
     elim (cases_eq a f) [
       | inl here ↦
-          found
-          (p a)
-          (p f)
-          _
-          (ap p here)
-          (eq-eqb f a (sym here))
+          found (p a) (p f) _ (ap p here) (eq-eqb f a (sym here))
           (absent p f n (a + 1) (λ i behind below e. absurd (omega arith)))
       | inr apart ↦
-          passed
-          (p a)
-          _
-          (ne_eqb f a (λ e. apart (sym e)))
-          (present p f n (a + 1) (omega arith) (omega arith))
+          passed (p a) _ (ne_eqb f a (λ e. apart (sym e))) (present p f n (a + 1) (omega arith) (omega arith))
     ]
   where
     found : (b c : Bool) (rest : List ℕ) → b ≡ c → (f == a) ≡ true → count_by (λ k. f == k) rest ≡ 0 →
@@ -104,14 +97,18 @@ times-senders to from core here (k ∷ ks) = by_name (from.0 == k) refl (times-s
     name j = channels.Ack core (record { 0 = j })
 
     by_name : (same : Bool) → (from.0 == k) ≡ same →
-        times (channels.Ack to from) (map (λ k. channels.Ack core (record { 0 = k })) ks) ≡ count_by (λ k. from.0 == k) ks →
-        times (channels.Ack to from) (map (λ k. channels.Ack core (record { 0 = k })) (k ∷ ks)) ≡ count_by (λ j. from.0 == j) (k ∷ ks)
+        times (channels.Ack to from) (map (λ k. channels.Ack core (record { 0 = k })) ks)
+        ≡ count_by (λ k. from.0 == k) ks →
+        times (channels.Ack to from) (map (λ k. channels.Ack core (record { 0 = k })) (k ∷ ks))
+        ≡ count_by (λ j. from.0 == j) (k ∷ ks)
     by_name true f rest =
-        count-yes (is_same_channel (channels.Ack to from)) (channels.Ack core (record { 0 = k })) (map (λ k. channels.Ack core (record { 0 = k })) ks) (rw (here, f) refl)
+        count-yes (is_same_channel (channels.Ack to from)) (channels.Ack core (record { 0 = k }))
+        (map (λ k. channels.Ack core (record { 0 = k })) ks) (rw (here, f) refl)
         ∙ ap (λ n. 1 + n) rest
         ∙ sym (count-yes (λ j. from.0 == j) k ks f)
     by_name false f rest =
-        count-no (is_same_channel (channels.Ack to from)) (channels.Ack core (record { 0 = k })) (map (λ k. channels.Ack core (record { 0 = k })) ks) (rw (here, f) refl)
+        count-no (is_same_channel (channels.Ack to from)) (channels.Ack core (record { 0 = k }))
+        (map (λ k. channels.Ack core (record { 0 = k })) ks) (rw (here, f) refl)
         ∙ rest
         ∙ sym (count-no (λ j. from.0 == j) k ks f)
 
@@ -135,7 +132,8 @@ times-core : (channel : Channel) (core : CoreId) (queues : CoreChannels) →
     + times channel (map (λ k. channels.Ack core (record { 0 = k })) (members queues.acks))))
 times-core channel core queues =
     sum_by-append f first (second ++ (third ++ fourth))
-    ∙ ap (λ n. sum_by f first + n) (sum_by-append f second (third ++ fourth) ∙ ap (λ n. sum_by f second + n) (sum_by-append f third fourth))
+    ∙ ap (λ n. sum_by f first + n)
+    (sum_by-append f second (third ++ fourth) ∙ ap (λ n. sum_by f second + n) (sum_by-append f third fourth))
   where
     f : Channel → ℕ
     f name = cond (is_same_channel channel name) 1 0
@@ -176,7 +174,8 @@ both false true = refl
 both false false = refl
 
 -- another kind's channel
-other_kind : (channel name : Channel) (waits : Bool) → is_same_channel channel name ≡ false → times channel (only_if waits name) ≡ 0
+other_kind : (channel name : Channel) (waits : Bool) → is_same_channel channel name ≡ false →
+    times channel (only_if waits name) ≡ 0
 other_kind channel name waits e =
     times-only_if channel name waits ∙ ap (λ same. if waits then (if same then 1 else 0) else 0) e ∙ none_of_two waits
 
@@ -187,16 +186,12 @@ same_kind channel name waits same e =
 
 -- a core's channels, each once where a message waits
 times-core_request : (d core : CoreId) (queues : CoreChannels) →
-    times (channels.Req d) (core_waiting core queues) ≡ (if d.0 == core.0 then (if is_some queues.request then 1 else 0) else 0)
+    times (channels.Req d) (core_waiting core queues)
+    ≡ (if d.0 == core.0 then (if is_some queues.request then 1 else 0) else 0)
 times-core_request d core queues =
     times-core (channels.Req d) core queues
     ∙ first_of_four
-    _
-    _
-    _
-    _
-    _
-    (same_kind (channels.Req d) (channels.Req core) (is_some queues.request) (d.0 == core.0) refl)
+    _ _ _ _ _ (same_kind (channels.Req d) (channels.Req core) (is_some queues.request) (d.0 == core.0) refl)
     (other_kind (channels.Req d) (channels.Fwd core) (nat_lt 0 (length queues.forwarded)) refl)
     (other_kind (channels.Req d) (channels.Data core) (is_some queues.data) refl)
     (times-none (channels.Req d) _ (λ k. refl) (members queues.acks))
@@ -207,27 +202,18 @@ times-core_forwarded : (d core : CoreId) (queues : CoreChannels) →
 times-core_forwarded d core queues =
     times-core (channels.Fwd d) core queues
     ∙ second_of_four
-    _
-    _
-    _
-    _
-    _
-    (other_kind (channels.Fwd d) (channels.Req core) (is_some queues.request) refl)
+    _ _ _ _ _ (other_kind (channels.Fwd d) (channels.Req core) (is_some queues.request) refl)
     (same_kind (channels.Fwd d) (channels.Fwd core) (nat_lt 0 (length queues.forwarded)) (d.0 == core.0) refl)
     (other_kind (channels.Fwd d) (channels.Data core) (is_some queues.data) refl)
     (times-none (channels.Fwd d) _ (λ k. refl) (members queues.acks))
 
 times-core_data : (d core : CoreId) (queues : CoreChannels) →
-    times (channels.Data d) (core_waiting core queues) ≡ (if d.0 == core.0 then (if is_some queues.data then 1 else 0) else 0)
+    times (channels.Data d) (core_waiting core queues)
+    ≡ (if d.0 == core.0 then (if is_some queues.data then 1 else 0) else 0)
 times-core_data d core queues =
     times-core (channels.Data d) core queues
     ∙ third_of_four
-    _
-    _
-    _
-    _
-    _
-    (other_kind (channels.Data d) (channels.Req core) (is_some queues.request) refl)
+    _ _ _ _ _ (other_kind (channels.Data d) (channels.Req core) (is_some queues.request) refl)
     (other_kind (channels.Data d) (channels.Fwd core) (nat_lt 0 (length queues.forwarded)) refl)
     (same_kind (channels.Data d) (channels.Data core) (is_some queues.data) (d.0 == core.0) refl)
     (times-none (channels.Data d) _ (λ k. refl) (members queues.acks))
@@ -238,12 +224,7 @@ times-core_ack : (to from core : CoreId) (queues : CoreChannels) →
 times-core_ack to from core queues =
     times-core (channels.Ack to from) core queues
     ∙ fourth_of_four
-    _
-    _
-    _
-    _
-    _
-    (other_kind (channels.Ack to from) (channels.Req core) (is_some queues.request) refl)
+    _ _ _ _ _ (other_kind (channels.Ack to from) (channels.Req core) (is_some queues.request) refl)
     (other_kind (channels.Ack to from) (channels.Fwd core) (nat_lt 0 (length queues.forwarded)) refl)
     (other_kind (channels.Ack to from) (channels.Data core) (is_some queues.data) refl)
     (times-acks to from queues.acks core)
@@ -252,12 +233,7 @@ times-core_home : (core : CoreId) (queues : CoreChannels) → times channels.Hom
 times-core_home core queues =
     times-core channels.Home core queues
     ∙ first_of_four
-    _
-    _
-    _
-    _
-    _
-    (other_kind channels.Home (channels.Req core) (is_some queues.request) refl)
+    _ _ _ _ _ (other_kind channels.Home (channels.Req core) (is_some queues.request) refl)
     (other_kind channels.Home (channels.Fwd core) (nat_lt 0 (length queues.forwarded)) refl)
     (other_kind channels.Home (channels.Data core) (is_some queues.data) refl)
     (times-none channels.Home _ (λ k. refl) (members queues.acks))
@@ -272,11 +248,10 @@ times-cores_behind : (channel : Channel) (d : ℕ) (g : CoreChannels → ℕ) (c
     ((i : ℕ) → CountsAt channel d g (get_or cores i no_messages)) → times channel (cores_waiting k cores) ≡ 0
 times-cores_behind channel d g [] k before each = refl
 times-cores_behind channel d g (queues ∷ rest) k before each =
-    sum_by-append (λ name. cond (is_same_channel channel name) 1 0) (core_waiting (record { 0 = k }) queues) (cores_waiting (k + 1) rest)
+    sum_by-append (λ name. cond (is_same_channel channel name) 1 0) (core_waiting (record { 0 = k }) queues)
+    (cores_waiting (k + 1) rest)
     ∙ none
-    _
-    _
-    (each 0 k ∙ ap (λ same. if same then g queues else 0) (ne_eqb d k (λ e. absurd (omega arith))))
+    _ _ (each 0 k ∙ ap (λ same. if same then g queues else 0) (ne_eqb d k (λ e. absurd (omega arith))))
     (times-cores_behind channel d g rest (k + 1) (omega arith) (λ i. each (suc i)))
   where
     none : (a b : ℕ) → a ≡ 0 → b ≡ 0 → a + b ≡ 0
@@ -288,23 +263,19 @@ times-cores : (channel : Channel) (d : ℕ) (g : CoreChannels → ℕ) (cores : 
     times channel (cores_waiting k cores) ≡ g (get_or cores j no_messages)
 times-cores channel d g [] k j at nothing each = sym nothing
 times-cores channel d g (queues ∷ rest) k zero at nothing each =
-    sum_by-append (λ name. cond (is_same_channel channel name) 1 0) (core_waiting (record { 0 = k }) queues) (cores_waiting (k + 1) rest)
+    sum_by-append (λ name. cond (is_same_channel channel name) 1 0) (core_waiting (record { 0 = k }) queues)
+    (cores_waiting (k + 1) rest)
     ∙ first
-    _
-    _
-    _
-    (each 0 k ∙ ap (λ same. if same then g queues else 0) (eq-eqb d k (omega arith)))
+    _ _ _ (each 0 k ∙ ap (λ same. if same then g queues else 0) (eq-eqb d k (omega arith)))
     (times-cores_behind channel d g rest (k + 1) (omega arith) (λ i. each (suc i)))
   where
     first : (a b x : ℕ) → a ≡ x → b ≡ 0 → a + b ≡ x
     first a b x e f = omega arith
 times-cores channel d g (queues ∷ rest) k (suc j) at nothing each =
-    sum_by-append (λ name. cond (is_same_channel channel name) 1 0) (core_waiting (record { 0 = k }) queues) (cores_waiting (k + 1) rest)
+    sum_by-append (λ name. cond (is_same_channel channel name) 1 0) (core_waiting (record { 0 = k }) queues)
+    (cores_waiting (k + 1) rest)
     ∙ second
-    _
-    _
-    _
-    (each 0 k ∙ ap (λ same. if same then g queues else 0) (ne_eqb d k (λ e. absurd (omega arith))))
+    _ _ _ (each 0 k ∙ ap (λ same. if same then g queues else 0) (ne_eqb d k (λ e. absurd (omega arith))))
     (times-cores channel d g rest (k + 1) j (omega arith) nothing (λ i. each (suc i)))
   where
     second : (a b x : ℕ) → a ≡ 0 → b ≡ x → a + b ≡ x
@@ -329,10 +300,12 @@ waits-home (Some block) = refl
 
 -- a line's channels and home
 times-line : (channel : Channel) (line : LineChannels) (a b x : ℕ) →
-    times channel (cores_waiting 0 line.cores) ≡ a → times channel (only_if (is_some line.home) channels.Home) ≡ b → a + b ≡ x →
+    times channel (cores_waiting 0 line.cores) ≡ a → times channel (only_if (is_some line.home) channels.Home) ≡ b →
+    a + b ≡ x →
     times channel (line_waiting line) ≡ x
 times-line channel line a b x e f sum =
-    sum_by-append (λ name. cond (is_same_channel channel name) 1 0) (cores_waiting 0 line.cores) (only_if (is_some line.home) channels.Home)
+    sum_by-append (λ name. cond (is_same_channel channel name) 1 0) (cores_waiting 0 line.cores)
+    (only_if (is_some line.home) channels.Home)
     ∙ total _ _ _ _ _ e f sum
   where
     total : (p q a b x : ℕ) → p ≡ a → q ≡ b → a + b ≡ x → p + q ≡ x
@@ -343,66 +316,40 @@ pub times-line_waiting : (line : LineChannels) (channel : Channel) →
     times channel (line_waiting line) ≡ (if is_from_core channel && is_waiting line channel then 1 else 0)
 times-line_waiting line (channels.Req d) =
     let g : CoreChannels → ℕ = λ queues. if is_some queues.request then 1 else 0 in
-    times-line
-    (channels.Req d)
-    line
-    _
-    _
-    _
-    (times-cores (channels.Req d) d.0 g line.cores 0 d.0 (sym (zero-add d.0)) refl (λ i core. times-core_request d (record { 0 = core }) (core_at line i)))
+    times-line (channels.Req d) line _ _ _
+    (times-cores (channels.Req d) d.0 g line.cores 0 d.0 (sym (zero-add d.0)) refl
+    (λ i core. times-core_request d (record { 0 = core }) (core_at line i)))
     (other_kind (channels.Req d) channels.Home (is_some line.home) refl)
     (add-zero _ ∙ ap (λ waits. if waits then 1 else 0) (waits-request (core_at line d.0).request))
 times-line_waiting line (channels.Fwd d) =
     let g : CoreChannels → ℕ = λ queues. if nat_lt 0 (length queues.forwarded) then 1 else 0 in
-    times-line
-    (channels.Fwd d)
-    line
-    _
-    _
-    _
-    (times-cores (channels.Fwd d) d.0 g line.cores 0 d.0 (sym (zero-add d.0)) refl (λ i core. times-core_forwarded d (record { 0 = core }) (core_at line i)))
+    times-line (channels.Fwd d) line _ _ _
+    (times-cores (channels.Fwd d) d.0 g line.cores 0 d.0 (sym (zero-add d.0)) refl
+    (λ i core. times-core_forwarded d (record { 0 = core }) (core_at line i)))
     (other_kind (channels.Fwd d) channels.Home (is_some line.home) refl)
     (add-zero _ ∙ ap (λ n. if nat_lt 0 n then 1 else 0) (sym (length-map (core_at line d.0).forwarded _)))
 times-line_waiting line (channels.Data d) =
     let g : CoreChannels → ℕ = λ queues. if is_some queues.data then 1 else 0 in
-    times-line
-    (channels.Data d)
-    line
-    _
-    _
-    _
-    (times-cores (channels.Data d) d.0 g line.cores 0 d.0 (sym (zero-add d.0)) refl (λ i core. times-core_data d (record { 0 = core }) (core_at line i)))
+    times-line (channels.Data d) line _ _ _
+    (times-cores (channels.Data d) d.0 g line.cores 0 d.0 (sym (zero-add d.0)) refl
+    (λ i core. times-core_data d (record { 0 = core }) (core_at line i)))
     (other_kind (channels.Data d) channels.Home (is_some line.home) refl)
     (add-zero _ ∙ ap (λ waits. if waits then 1 else 0) (waits-data (core_at line d.0).data))
 times-line_waiting line (channels.Ack to from) =
     let g : CoreChannels → ℕ = λ queues. if nat_lt from.0 64 && has queues.acks from.0 then 1 else 0 in
-    times-line
-    (channels.Ack to from)
-    line
-    _
-    _
-    _
+    times-line (channels.Ack to from) line _ _ _
     (times-cores
     (channels.Ack to from)
-    to.0
-    g
-    line.cores
-    0
-    to.0
-    (sym (zero-add to.0))
-    (rw (has-zero from.0, and-false (nat_lt from.0 64)) refl)
+    to.0 g line.cores 0 to.0 (sym (zero-add to.0)) (rw (has-zero from.0, and-false (nat_lt from.0 64)) refl)
     (λ i core. times-core_ack to from (record { 0 = core }) (core_at line i)))
     (other_kind (channels.Ack to from) channels.Home (is_some line.home) refl)
-    (add-zero _ ∙ ap (λ waits. if nat_lt from.0 64 && waits then 1 else 0) (waits-ack (has (core_at line to.0).acks from.0)))
+    (add-zero _
+    ∙ ap (λ waits. if nat_lt from.0 64 && waits then 1 else 0) (waits-ack (has (core_at line to.0).acks from.0)))
 times-line_waiting line channels.Home =
     let g : CoreChannels → ℕ = λ queues. 0 in
-    times-line
-    channels.Home
-    line
-    _
-    _
-    _
-    (times-cores channels.Home 0 g line.cores 0 0 refl refl (λ i core. times-core_home (record { 0 = core }) (core_at line i) ∙ sym (none_of_two (0 == core))))
+    times-line channels.Home line _ _ _
+    (times-cores channels.Home 0 g line.cores 0 0 refl refl
+    (λ i core. times-core_home (record { 0 = core }) (core_at line i) ∙ sym (none_of_two (0 == core))))
     (same_kind channels.Home channels.Home (is_some line.home) true refl)
     (zero-add _ ∙ ap (λ waits. if waits then 1 else 0) (waits-home line.home))
 

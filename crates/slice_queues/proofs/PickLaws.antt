@@ -31,14 +31,16 @@ count-never [] = refl
 count-never (x ∷ xs) = count-no (λ y. false) x xs refl ∙ count-never xs
 
 -- picks of one line are told by their channels, and those of another line are other picks
-same-pick_at : (pick : Pick) (line : LineAddr) (here : Bool) → ((line_of pick).0 == line.0) ≡ here → (channel : Channel) →
+same-pick_at : (pick : Pick) (line : LineAddr) (here : Bool) → ((line_of pick).0 == line.0) ≡ here →
+    (channel : Channel) →
     is_same_pick pick (pick_at line channel) ≡ (here && is_same_channel (channel_of pick) channel)
 same-pick_at pick line here e channel = rw (line_of-pick_at line channel, channel_of-pick_at line channel, e) refl
 
 times-here : (pick : Pick) (line : LineAddr) (names : List Channel) → ((line_of pick).0 == line.0) ≡ true →
     count_by (is_same_pick pick) (map (pick_at line) names) ≡ times (channel_of pick) names
 times-here pick line names here =
-    count-map (is_same_pick pick) (is_same_channel (channel_of pick)) (pick_at line) (same-pick_at pick line true here) names
+    count-map (is_same_pick pick) (is_same_channel (channel_of pick)) (pick_at line)
+    (same-pick_at pick line true here) names
 
 times-elsewhere : (pick : Pick) (line : LineAddr) (names : List Channel) → ((line_of pick).0 == line.0) ≡ false →
     count_by (is_same_pick pick) (map (pick_at line) names) ≡ 0
@@ -56,10 +58,8 @@ count-lines : (pick : Pick) (slice slices place : ℕ) (line : LineChannels) (re
     count_by (is_same_pick pick) (lines_waiting slice slices (place + 1) rest) ≡ b → a + b ≡ x →
     count_by (is_same_pick pick) (lines_waiting slice slices place (line ∷ rest)) ≡ x
 count-lines pick slice slices place line rest a b x e f sum =
-    sum_by-append
-    (λ other. cond (is_same_pick pick other) 1 0)
-    (map (pick_at (line_number slice slices place)) (line_waiting line))
-    (lines_waiting slice slices (place + 1) rest)
+    sum_by-append (λ other. cond (is_same_pick pick other) 1 0)
+    (map (pick_at (line_number slice slices place)) (line_waiting line)) (lines_waiting slice slices (place + 1) rest)
     ∙ total _ _ e f
   where
     total : (p q : ℕ) → p ≡ a → q ≡ b → p + q ≡ x
@@ -71,19 +71,9 @@ count-none : (pick : Pick) (slice slices : ℕ) (lines : List LineChannels) (pla
     count_by (is_same_pick pick) (lines_waiting slice slices place lines) ≡ 0
 count-none pick slice slices [] place none = refl
 count-none pick slice slices (line ∷ rest) place none =
-    count-lines
-    pick
-    slice
-    slices
-    place
-    line
-    rest
-    0
-    0
-    0
+    count-lines pick slice slices place line rest 0 0 0
     (times-elsewhere pick (line_number slice slices place) (line_waiting line) (ne_eqb _ _ (none place (omega arith))))
-    (count-none pick slice slices rest (place + 1) (λ i from. none i (omega arith)))
-    refl
+    (count-none pick slice slices rest (place + 1) (λ i from. none i (omega arith))) refl
 
 -- a pick of the line that stands `behind` places further on
 count-one : (pick : Pick) (slice slices at : ℕ) →
@@ -95,34 +85,16 @@ count-one pick slice slices at number only [] place behind here = times-line_wai
 count-one pick slice slices at number only (line ∷ rest) place zero here =
     let first : place ≡ at = omega arith in
     let same : (line_of pick).0 ≡ place * slices + slice = number ∙ ap (λ p. p * slices + slice) (sym first) in
-    count-lines
-    pick
-    slice
-    slices
-    place
-    line
-    rest
-    (once_if line (channel_of pick))
-    0
-    (once_if line (channel_of pick))
-    (times-here pick (line_number slice slices place) (line_waiting line) (eq-eqb _ _ same) ∙ times-line_waiting line (channel_of pick))
+    count-lines pick slice slices place line rest (once_if line (channel_of pick)) 0 (once_if line (channel_of pick))
+    (times-here pick (line_number slice slices place) (line_waiting line) (eq-eqb _ _ same)
+    ∙ times-line_waiting line (channel_of pick))
     (count-none pick slice slices rest (place + 1) (λ i from e. let now : i ≡ at = only i e in absurd (omega arith)))
     (add-zero _)
 count-one pick slice slices at number only (line ∷ rest) place (suc behind) here =
-    count-lines
-    pick
-    slice
-    slices
-    place
-    line
-    rest
-    0
-    (once_if (get_or rest behind (empty_line 0)) (channel_of pick))
+    count-lines pick slice slices place line rest 0 (once_if (get_or rest behind (empty_line 0)) (channel_of pick))
     (once_if (get_or rest behind (empty_line 0)) (channel_of pick))
     (times-elsewhere
-    pick
-    (line_number slice slices place)
-    (line_waiting line)
+    pick (line_number slice slices place) (line_waiting line)
     (ne_eqb _ _ (λ e. let now : place ≡ at = only place e in absurd (omega arith))))
     (count-one pick slice slices at number only rest (place + 1) behind (omega arith))
     (zero-add _)
@@ -138,7 +110,8 @@ lines_waiting-split slice slices (suc n) (line ∷ rest) place =
     let next : place + 1 + n ≡ place + suc n = omega arith in
     let first : List Pick = map (pick_at (line_number slice slices place)) (line_waiting line) in
     ap (λ picks. first ++ picks) (lines_waiting-split slice slices n rest (place + 1))
-    ∙ sym (append_assoc first (lines_waiting slice slices (place + 1) (take n rest)) (lines_waiting slice slices (place + 1 + n) (drop n rest)))
+    ∙ sym (append_assoc first (lines_waiting slice slices (place + 1) (take n rest))
+    (lines_waiting slice slices (place + 1 + n) (drop n rest)))
     ∙ ap
     (λ p. (first ++ lines_waiting slice slices (place + 1) (take n rest)) ++ lines_waiting slice slices p (drop n rest))
     next
@@ -156,7 +129,8 @@ count-round pick queues start =
     let split : lines_waiting queues.slice queues.slices 0 queues.lines ≡ before ++ from =
     lines_waiting-split queues.slice queues.slices n queues.lines 0
     ∙ ap (λ p. before ++ lines_waiting queues.slice queues.slices p (drop n queues.lines)) zero_n in
-    sum_by-append f from before ∙ turned (sum_by f from) (sum_by f before) ∙ sym (sum_by-append f before from) ∙ ap (λ picks. sum_by f picks) (sym split)
+    sum_by-append f from before ∙ turned (sum_by f from) (sum_by f before) ∙ sym (sum_by-append f before from)
+    ∙ ap (λ picks. sum_by f picks) (sym split)
   where
     turned : (a b : ℕ) → a + b ≡ b + a
     turned a b = omega arith
@@ -169,24 +143,13 @@ picks_waiting-once queues start one pick =
       | inl here ↦
           rw (eq-eqb rest queues.slice here)
           (count-one
-          pick
-          queues.slice
-          queues.slices
-          at
-          (number here)
-          (λ i e. sym (div-mul-add i queues.slices queues.slice one) ∙ ap (λ n. n / queues.slices) (sym e))
-          queues.lines
-          0
-          at
-          (sym (zero-add at)))
+          pick queues.slice queues.slices at (number here)
+          (λ i e. sym (div-mul-add i queues.slices queues.slice one) ∙ ap (λ n. n / queues.slices) (sym e)) queues.lines
+          0 at (sym (zero-add at)))
       | inr apart ↦
           rw (ne_eqb rest queues.slice apart, and-false (is_from_core (channel_of pick)))
           (count-none
-          pick
-          queues.slice
-          queues.slices
-          queues.lines
-          0
+          pick queues.slice queues.slices queues.lines 0
           (λ i from e. apart (ap (λ n. n % queues.slices) e ∙ mod-mul-add i queues.slices queues.slice one)))
     ]
   where

@@ -8,7 +8,7 @@ use Rattle.std.proofs.lemmas.Bool.{cases_eq, cases_lt, ne_eqb}
 use Rattle.std.proofs.lemmas.Cmp.{nat_eq_equiv}
 use Rattle.std.proofs.lemmas.List.{get_or-set_same, get_or-set_other, get_or_past, length-replicate}
 use Rattle.std.proofs.lemmas.List.Elements.{filter_more}
-use Rattle.std.proofs.lemmas.List.Folds.{list_any-append, list_any_at, Any-from_list_any}
+use Rattle.std.proofs.lemmas.List.Folds.{list_any-append, Any-from_list_any}
 use Rattle.std.proofs.lemmas.Map.Keys.{IsDistinct-push, IsDistinct-head, IsDistinct-tail}
 use Rattle.std.proofs.lemmas.Map.Steps.{length-le_from_distinct_below}
 use Rattle.circular_buffer.specs.Buffer.{Buffer, buffer, keep_last}
@@ -18,7 +18,7 @@ use Rattle.slice_queues_message.specs.declared.channel.Channel.{Channel}
 use Rattle.slice_queues.proofs.LineLaws.{read_default, IsEmptyLine-from_taken}
 use Rattle.slice_queues.proofs.SliceLaws.{IsEmptyLine-empty_line}
 use Rattle.slice_queues.proofs.MailLaws.{or_false, no_mail-from_IsEmptyLine, IsEmptyLine-from_no_mail}
-use Rattle.slice_queues.specs.Ring.{QueuesView, IsQueues, IsRing, has_mail_at, LineOrder, is_listed, with_listed, IsOrder, IsRound}
+use Rattle.slice_queues.specs.Ring.{IsQueues, LineOrder, is_listed, with_listed, IsOrder, IsRound}
 
 -- a line of the round is a line of the slice
 pub listed-below : (order : List ℕ) (listed : List Bool) (capacity local : ℕ) → IsRound order listed capacity →
@@ -30,12 +30,6 @@ listed-below order listed capacity local round there =
           let clash : false ≡ true = sym (get_or_past listed local false past) ∙ round.flags local ∙ there in
           absurd (cc clash)
     ]
-
--- what stands at an index stands in the list
-pub listed-at : (order : List ℕ) (index none : ℕ) → index < length order →
-    is_listed order (get_or order index none) ≡ true
-listed-at order index none within =
-    list_any_at (eqb (get_or order index none)) order index none within (eq-eqb _ _ refl)
 
 -- the lines of a round, each of the slice
 pub IsOrder-from_round : (order : List ℕ) (listed : List Bool) (capacity : ℕ) → IsRound order listed capacity →
@@ -281,14 +275,8 @@ IsQueues-turn lines ring new own first stays line says is queues = record {
   lines_here = queues.lines_here;
   ring_for_all = ap (λ r. r.lines) is ∙ queues.ring_for_all;
   quiet = λ local apart.
-      turned-quiet
-      (λ place. has_mail (get_or lines place (empty_line 0)))
-      ring.order
-      stays
-      local
-      (says ∙ ap has_mail line)
-      (queues.quiet local)
-      (sym (ap (λ r. is_listed r.order local) is) ∙ apart);
+      turned-quiet (λ place. has_mail (get_or lines place (empty_line 0))) ring.order stays local
+      (says ∙ ap has_mail line) (queues.quiet local) (sym (ap (λ r. is_listed r.order local) is) ∙ apart);
 }
 
 -- where no line of the ring has a message, no line has
@@ -341,19 +329,3 @@ IsQueues-take lines ring own local old new channel there read taken queues = rec
           | inr differs ↦
               ap has_mail (get_or-set_other lines local other new (empty_line 0) differs) ∙ queues.quiet other apart
         ]
-
--- a line of which the ring says nothing has no message: where no line of the ring has one, none has
-pub no_mail-from_ring : (queues : QueuesView) → IsRing queues →
-    ((i : ℕ) → i < length queues.ring → has_mail_at queues.channels (get_or queues.ring i 0) ≡ false) →
-    (local : ℕ) → has_mail_at queues.channels local ≡ false
-no_mail-from_ring queues is each local = by_test (has_mail_at queues.channels local) refl
-  where
-    by_test : (mail : Bool) → has_mail_at queues.channels local ≡ mail → mail ≡ false
-    by_test false e = refl
-    by_test true e =
-        let found = Any-from_list_any (eqb local) queues.ring (is.mail local e) in
-        let same : local ≡ found.1 = eqb-true local found.1 found.4 in
-        let here : local ≡ get_or queues.ring found.0 0 =
-        same ∙ sym found.3 ∙ read_default queues.ring found.0 found.1 0 found.2 in
-        let clash : true ≡ false = sym e ∙ ap (has_mail_at queues.channels) here ∙ each found.0 found.2 in
-        cc

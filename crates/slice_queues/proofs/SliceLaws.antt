@@ -99,9 +99,7 @@ messages_in-with_line_other queues pick new there alone other ne = by_slice (is_
 -- what is sent waits behind the others at its pick, and no other pick changes
 pub sends_only_in : (queues : SliceChannels) (pick : Pick) (message : Message) →
     HasLine queues (line_of pick) →
-    SendsOnly
-    (line_at queues (line_of pick))
-    (after_send (line_at queues (line_of pick)) (channel_of pick) message)
+    SendsOnly (line_at queues (line_of pick)) (after_send (line_at queues (line_of pick)) (channel_of pick) message)
     (channel_of pick)
     message →
     SendsOnlyIn queues (after_send_in queues pick message) pick message

@@ -46,10 +46,7 @@ filter-core : (p : Channel → Bool) (core : CoreId) (request forwarded message 
     p (channels.Data core) ≡ keeps_data → ((from : ℕ) → p (channels.Ack core (record { 0 = from })) ≡ keeps_acks) →
     filter p (channels_left core request forwarded message acks)
     ≡ channels_left
-    core
-    (keeps_request && request)
-    (keeps_forwarded && forwarded)
-    (keeps_data && message)
+    core (keeps_request && request) (keeps_forwarded && forwarded) (keeps_data && message)
     (if keeps_acks then acks else 0)
 filter-core p core request forwarded message acks keeps_request keeps_forwarded keeps_data keeps_acks e f g h =
     filter-append p (only_if request (channels.Req core)) _
@@ -110,11 +107,8 @@ core_left-of_class class cores mail marked core = by_class class
         ((from : ℕ) → is_of_class class (channels.Ack id (record { 0 = from })) ≡ keeps_acks) →
         filter (is_of_class class) (core_waiting id queues)
         ≡ channels_left
-        id
-        (keeps_request && is_some queues.request)
-        (keeps_forwarded && nat_lt 0 (length queues.forwarded))
-        (keeps_data && is_some queues.data)
-        (if keeps_acks then queues.acks else 0)
+        id (keeps_request && is_some queues.request) (keeps_forwarded && nat_lt 0 (length queues.forwarded))
+        (keeps_data && is_some queues.data) (if keeps_acks then queues.acks else 0)
     kept class a b c d e f g h = filter-core (is_of_class class) id _ _ _ _ a b c d e f g h
 
     by_class : (class : Class) →
@@ -286,44 +280,20 @@ marks_of-below class cores mail marked core there =
 
     unmarked : length cores ≤ core → (class : Class) → has (all_marked (marks_of class mail)) core ≡ false
     unmarked past classes.Any =
-        all_unmarked
-        mail
-        core
-        (marked.requests core ∙ ap has_request (past_end past))
+        all_unmarked mail core (marked.requests core ∙ ap has_request (past_end past))
         (marked.forwarded core ∙ ap has_forwarded (past_end past))
-        (marked.data_messages core ∙ ap has_data (past_end past))
-        (marked.acks core ∙ ap has_acks (past_end past))
+        (marked.data_messages core ∙ ap has_data (past_end past)) (marked.acks core ∙ ap has_acks (past_end past))
     unmarked past classes.Req =
-        all_unmarked
-        _
-        core
-        (marked.requests core ∙ ap has_request (past_end past))
-        (has-zero core)
-        (has-zero core)
+        all_unmarked _ core (marked.requests core ∙ ap has_request (past_end past)) (has-zero core) (has-zero core)
         (has-zero core)
     unmarked past classes.Fwd =
-        all_unmarked
-        _
-        core
-        (has-zero core)
-        (marked.forwarded core ∙ ap has_forwarded (past_end past))
-        (has-zero core)
+        all_unmarked _ core (has-zero core) (marked.forwarded core ∙ ap has_forwarded (past_end past)) (has-zero core)
         (has-zero core)
     unmarked past classes.Data =
-        all_unmarked
-        _
-        core
-        (has-zero core)
-        (has-zero core)
-        (marked.data_messages core ∙ ap has_data (past_end past))
+        all_unmarked _ core (has-zero core) (has-zero core) (marked.data_messages core ∙ ap has_data (past_end past))
         (has-zero core)
     unmarked past classes.Ack =
-        all_unmarked
-        _
-        core
-        (has-zero core)
-        (has-zero core)
-        (has-zero core)
+        all_unmarked _ core (has-zero core) (has-zero core) (has-zero core)
         (marked.acks core ∙ ap has_acks (past_end past))
     unmarked past classes.Home =
         all_unmarked _ core (has-zero core) (has-zero core) (has-zero core) (has-zero core)

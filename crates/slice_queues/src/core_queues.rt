@@ -22,7 +22,13 @@ impl Model for CoreQueues {
 
     ghost Value = { CoreChannels };
 
-    ghost view = { λ core. record { request = core.request; forwarded = queued core.forwarded; «data» = core.data_message; acks = core.acks } };
+    ghost view = { λ core. record {
+      request = core.request;
+      forwarded = queued core.forwarded;
+      «data» = core.data_message;
+      acks =
+          core.acks;
+    } };
 }
 
 impl CoreQueues {

@@ -23,7 +23,13 @@ impl Model for Queues {
 
     ghost Value = { QueuesView };
 
-    ghost view = { λ queues. record { channels = record { lines = queues.lines.items; slice = queues.locator.slice; slices = queues.locator.slices }; ring = queues.ring.order } };
+    ghost view = { λ queues.
+        record {
+          channels =
+              record { lines = queues.lines.items; slice = queues.locator.slice; slices = queues.locator.slices };
+          ring =
+              queues.ring.order;
+        } };
 
     ghost invariant = { λ queues. IsQueues queues.lines.items queues.ring queues.locator };
 }
@@ -38,7 +44,12 @@ impl Queues {
     /// Takes all the memory that the slice will ever need, for the slice's lines of `cores` cores each.
     pub fn build(alloc: Global, cores: usize, locator: Locator) -> Result<Self, AllocError>
         requires { cores ≤ 64 }
-        ensures { IfOk result (λ queues. queues ≡ record { channels = empty_slice locator.lines cores locator.slice locator.slices; ring = [] }) }
+        ensures { IfOk result
+            (λ queues. queues ≡ record {
+              channels = empty_slice locator.lines cores locator.slice locator.slices;
+              ring =
+                  [];
+            }) }
     {
         let count = locator.lines();
         let mut lines = Vec::with_capacity(alloc, count)?;
@@ -99,7 +110,8 @@ impl Queues {
     /// Of the first `count` lines of the ring those with a message go to the back, and the others leave it.
     pub fn rotate(&mut self, count: usize)
         requires { count ≤ length self.old.ring }
-        ensures ring { self.new.ring ≡ drop count self.old.ring ++ filter (has_mail_at self.old.channels) (take count self.old.ring) }
+        ensures ring { self.new.ring
+            ≡ drop count self.old.ring ++ filter (has_mail_at self.old.channels) (take count self.old.ring) }
         ensures channels { self.new.channels ≡ self.old.channels }
     {
         for turn in 0..count {
@@ -202,8 +214,12 @@ impl Queues {
     fn take_at(&mut self, local: Local, channel: Channel) -> Option<Message>
         requires { local.0 < length self.old.channels.lines }
         ensures taken { result ≡ slice_get (messages_at (at_local self.old.channels local.0) channel) 0 }
-        ensures after { self.new ≡ record self.old { channels = with_local self.old.channels local.0 (after_take (at_local self.old.channels local.0) channel) } }
-        ensures rest { TakesOnly (at_local self.old.channels local.0) (after_take (at_local self.old.channels local.0) channel) channel }
+        ensures after { self.new ≡ record self.old {
+          channels =
+              with_local self.old.channels local.0 (after_take (at_local self.old.channels local.0) channel);
+        } }
+        ensures rest { TakesOnly (at_local self.old.channels local.0) (after_take (at_local self.old.channels local.0) channel)
+            channel }
     {
         self.lines[local.0].take(channel)
     }

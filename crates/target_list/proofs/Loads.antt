@@ -27,7 +27,8 @@ behind-writes (first ∷ rest) =
     (λ write. rw write write)
     (cases_Bool (is_load first))
 
-pub takes_loads : (old taken left : List Target) → taken ≡ front_loads old → left ≡ behind_loads old → TakesLoads old taken left
+pub takes_loads : (old taken left : List Target) → taken ≡ front_loads old → left ≡ behind_loads old →
+    TakesLoads old taken left
 takes_loads old taken left front behind =
     rw (front, behind)
     (record {

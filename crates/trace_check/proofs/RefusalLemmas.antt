@@ -161,7 +161,8 @@ no_trace check version all left s same reading none init entries trace =
     (same_lines check.version reading.done parts.before
     (lines_of reading.init reading.entries) parts.first reading.written) in
     none parts.line parts.next
-    (may_follow check reading.init init reading.entries entries parts.before parts.after parts.line reading.stands trace.ascending names parts.shape)
+    (may_follow check reading.init init reading.entries entries parts.before parts.after parts.line reading.stands
+    trace.ascending names parts.shape)
 
 -- a text with a first line, and no trace behind it, is no trace
 pub no_text : (text : List ℕ) (number : ℕ) (first : List (List ℕ)) (rest : List (ℕ × List (List ℕ))) (version : Version)
@@ -186,6 +187,3 @@ IsNoMemoryOr-weaker P Q faults.NoMemory f h = tt
 IsNoMemoryOr-weaker P Q (faults.Line number fault) f h = f h
 IsNoMemoryOr-weaker P Q (faults.Config error) f h = absurd h
 IsNoMemoryOr-weaker P Q faults.CannotWrite f h = absurd h
-
-pub IsNoMemoryOr-memory : (P : Type 0) (fault : TextFault) → fault ≡ faults.NoMemory → IsNoMemoryOr P fault
-IsNoMemoryOr-memory P fault is = rw is tt

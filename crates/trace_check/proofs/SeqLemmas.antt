@@ -24,34 +24,43 @@ slot_line : (d e : Entry) → d.core.0 < 64 → e.core.0 < 64 → slot_of d ≡ 
 slot_line d e small_d small_e same = omega arith
 
 -- an entry that has its core and line for itself is in order
-pub in_order_alone : (latest : List (Option ℕ)) (log : List Entry) (e : Entry) → AreGreatest latest log → get_or latest (slot_of e) None ≡ None
+pub in_order_alone : (latest : List (Option ℕ)) (log : List Entry) (e : Entry) → AreGreatest latest log
+    → get_or latest (slot_of e) None ≡ None
     → IsInOrder log e
 in_order_alone latest log e greatest none = λ k d within core line.
     let x = get_or log k d in
     let kept = greatest.above k x (slice_get-get_or log k d within) in
-    absurd (subst (λ o. IsUpTo o x.seq) none (subst (λ n. IsUpTo (get_or latest n None) x.seq) (same_slot x e core line) kept))
+    absurd (subst (λ o. IsUpTo o x.seq) none
+    (subst (λ n. IsUpTo (get_or latest n None) x.seq) (same_slot x e core line) kept))
 
 -- an entry above the greatest seq is in order
-pub in_order_above : (latest : List (Option ℕ)) (log : List Entry) (e : Entry) (s : ℕ) → AreGreatest latest log → get_or latest (slot_of e) None ≡ Some s
+pub in_order_above : (latest : List (Option ℕ)) (log : List Entry) (e : Entry) (s : ℕ) → AreGreatest latest log
+    → get_or latest (slot_of e) None ≡ Some s
     → s < e.seq → IsInOrder log e
 in_order_above latest log e s greatest some above = λ k d within core line.
     let x = get_or log k d in
     let kept = greatest.above k x (slice_get-get_or log k d within) in
-    let at_most : x.seq ≤ s = subst (λ o. IsUpTo o x.seq) some (subst (λ n. IsUpTo (get_or latest n None) x.seq) (same_slot x e core line) kept) in
+    let at_most : x.seq ≤ s =
+    subst (λ o. IsUpTo o x.seq) some
+    (subst (λ n. IsUpTo (get_or latest n None) x.seq) (same_slot x e core line) kept) in
     omega arith
 
 -- an entry that is in order is above it
-pub above_in_order : (latest : List (Option ℕ)) (log : List Entry) (e : Entry) (s : ℕ) → AreGreatest latest log → e.core.0 < 64
+pub above_in_order : (latest : List (Option ℕ)) (log : List Entry) (e : Entry) (s : ℕ) → AreGreatest latest log
+    → e.core.0 < 64
     → get_or latest (slot_of e) None ≡ Some s → IsInOrder log e → s < e.seq
 above_in_order latest log e s greatest small some in_order =
     let r = greatest.reached (slot_of e) s some in
     let found : get_or log r.at r.entry ≡ r.entry = get_or_from_slice_get log r.at r.entry r.entry r.stands in
-    let after : IsAfter r.entry e = subst (λ d. IsAfter d e) found (in_order r.at r.entry (slice_get_within log r.at r.entry r.stands)) in
-    let above : r.entry.seq < e.seq = after (slot_core r.entry e r.core small r.slot) (slot_line r.entry e r.core small r.slot) in
+    let after : IsAfter r.entry e =
+    subst (λ d. IsAfter d e) found (in_order r.at r.entry (slice_get_within log r.at r.entry r.stands)) in
+    let above : r.entry.seq < e.seq =
+    after (slot_core r.entry e r.core small r.slot) (slot_line r.entry e r.core small r.slot) in
     let seq : r.entry.seq ≡ s = r.seq in
     omega arith
 
-pub slice_get-append : {X : Type 0} (xs ys : List X) (k : ℕ) (x : X) → slice_get xs k ≡ Some x → slice_get (xs ++ ys) k ≡ Some x
+pub slice_get-append : {X : Type 0} (xs ys : List X) (k : ℕ) (x : X) → slice_get xs k ≡ Some x
+    → slice_get (xs ++ ys) k ≡ Some x
 slice_get-append [] ys k x h = cc
 slice_get-append (z ∷ zs) ys zero x h = h
 slice_get-append (z ∷ zs) ys (suc k) x h = slice_get-append zs ys k x h
@@ -64,7 +73,8 @@ pub greatest-nil : AreGreatest [] []
 greatest-nil = record { above = λ k d at. cc; reached = λ place seq at. cc }
 
 -- what reaches a seq in a log reaches it in a longer one
-reaches-push : (log : List Entry) (e : Entry) (place seq : ℕ) → Reaches log place seq → Reaches (log ++ e ∷ []) place seq
+reaches-push : (log : List Entry) (e : Entry) (place seq : ℕ) → Reaches log place seq
+    → Reaches (log ++ e ∷ []) place seq
 reaches-push log e place seq r = record {
   at = r.at;
   entry = r.entry;
@@ -75,14 +85,16 @@ reaches-push log e place seq r = record {
 }
 
 -- a kept seq that is replaced by a greater one stays at least as great
-up_to-replaced : (b : Bool) (was : Option ℕ) (seq new : ℕ) → IsUpTo was seq → (b ≡ true → (s : ℕ) → was ≡ Some s → s < new)
+up_to-replaced : (b : Bool) (was : Option ℕ) (seq new : ℕ) → IsUpTo was seq
+    → (b ≡ true → (s : ℕ) → was ≡ Some s → s < new)
     → IsUpTo (cond b (Some new) was) seq
 up_to-replaced true None seq new kept above = absurd kept
 up_to-replaced true (Some s) seq new kept above = let greater : s < new = above refl s refl in omega arith
 up_to-replaced false was seq new kept above = kept
 
 -- what is kept after a replacement is the new seq, or was there before
-kept_cases : (b : Bool) (was : Option ℕ) (new seq : ℕ) → cond b (Some new) was ≡ Some seq → ((b ≡ true) × (new ≡ seq)) ⊎ (was ≡ Some seq)
+kept_cases : (b : Bool) (was : Option ℕ) (new seq : ℕ) → cond b (Some new) was ≡ Some seq
+    → ((b ≡ true) × (new ≡ seq)) ⊎ (was ≡ Some seq)
 kept_cases true was new seq h = inl (refl, cc)
 kept_cases false was new seq h = inr h
 
@@ -94,19 +106,25 @@ greatest-push was now log e greatest is small in_order = record {
   above = λ k d at. elim (slice_get-push log e k d at) [
     | inl w ↦ subst (λ o. IsUpTo o d.seq) (sym (is (slot_of d)))
         (up_to-replaced (eqb (slot_of e) (slot_of d)) (get_or was (slot_of d) None) d.seq e.seq (greatest.above k d w.1)
-        (λ same s kept. above_in_order was log e s greatest small (ap (λ i. get_or was i None) (eqb-true (slot_of e) (slot_of d) same) ∙ kept) in_order))
+        (λ same s kept. above_in_order was log e s greatest small
+        (ap (λ i. get_or was i None) (eqb-true (slot_of e) (slot_of d) same) ∙ kept) in_order))
     | inr w ↦ subst (λ (x : Entry). IsUpTo (get_or now (slot_of x) None) x.seq) (sym w.1)
-        (subst (λ o. IsUpTo o e.seq) (sym (is (slot_of e) ∙ ap (λ b. cond b (Some e.seq) (get_or was (slot_of e) None)) (eq-eqb (slot_of e) (slot_of e) refl))) (omega arith))
+        (subst (λ o. IsUpTo o e.seq)
+        (sym (is (slot_of e)
+        ∙ ap (λ b. cond b (Some e.seq) (get_or was (slot_of e) None)) (eq-eqb (slot_of e) (slot_of e) refl)))
+        (omega arith))
   ];
-  reached = λ place seq at. elim (kept_cases (eqb (slot_of e) place) (get_or was place None) e.seq seq (sym (is place) ∙ at)) [
-    | inl w ↦ record {
-      at = length log;
-      entry = e;
-      stands = slice_get-last log e;
-      core = small;
-      slot = eqb-true (slot_of e) place w.0;
-      seq = w.1;
-    }
-    | inr w ↦ reaches-push log e place seq (greatest.reached place seq w)
-  ];
+  reached =
+      λ place seq at.
+      elim (kept_cases (eqb (slot_of e) place) (get_or was place None) e.seq seq (sym (is place) ∙ at)) [
+        | inl w ↦ record {
+          at = length log;
+          entry = e;
+          stands = slice_get-last log e;
+          core = small;
+          slot = eqb-true (slot_of e) place w.0;
+          seq = w.1;
+        }
+        | inr w ↦ reaches-push log e place seq (greatest.reached place seq w)
+      ];
 }

@@ -13,7 +13,8 @@ use Rattle.slice_core_log.specs.declared.entry.Entry.{Entry}
 use Rattle.slice_core_log.proofs.Values.{value-nil, value-perform, value-perform_other}
 use Rattle.trace_check.specs.Verdict.{IsItsReply}
 
-choice-same : (b : Bool) (pair : WordAddr × ℕ) → option_map_or (λ (p : WordAddr × ℕ). p.1) (cond b (Some pair) None) 0 ≡ cond b pair.1 0
+choice-same : (b : Bool) (pair : WordAddr × ℕ) → option_map_or (λ (p : WordAddr × ℕ). p.1) (cond b (Some pair) None) 0
+    ≡ cond b pair.1 0
 choice-same true pair = refl
 choice-same false pair = refl
 
@@ -28,10 +29,12 @@ initially-push (p ∷ init) word v w below =
         | inl other ↦ absurd (let a : p.0.0 ≡ w = here.1 in let b : word.0 ≡ w = other.1 in omega arith)
         | inr other ↦ rw (here.0, other.0) refl
       ]
-      | inr elsewhere ↦ rw elsewhere.0 (initially-push init word v w (All-tail (λ pair. pair.0.0 < word.0) p init below))
+      | inr elsewhere ↦ rw elsewhere.0
+          (initially-push init word v w (All-tail (λ pair. pair.0.0 < word.0) p init below))
     ]
 
-begun : (b : Bool) (was first v w : ℕ) → v < 2 ^ 64 → was ≡ value first [] w → cond b v was ≡ value (cond b v first) [] w
+begun : (b : Bool) (was first v w : ℕ) → v < 2 ^ 64 → was ≡ value first [] w
+    → cond b v was ≡ value (cond b v first) [] w
 begun true was first v w small is = sym (value-nil v w small)
 begun false was first v w small is = is
 
@@ -52,7 +55,8 @@ pub values-take : (was now : List ℕ) (initial : ℕ → ℕ) (log : List Entry
 values-take was now initial log e values reply set w =
     elim (eqb_tells e.word.0 w) [
       | inl here ↦
-          let found : get_or now w 0 ≡ value_of e.op (get_or was e.word.0 0) = set w ∙ ap (λ b. cond b (value_of e.op (get_or was e.word.0 0)) (get_or was w 0)) here.0 in
+          let found : get_or now w 0 ≡ value_of e.op (get_or was e.word.0 0) =
+          set w ∙ ap (λ b. cond b (value_of e.op (get_or was e.word.0 0)) (get_or was w 0)) here.0 in
           let left : value_of e.op (get_or was e.word.0 0) ≡ value (initial e.word.0) (log ++ e ∷ []) e.word.0 =
           ap (value_of e.op) (values e.word.0) ∙ sym (value-perform (initial e.word.0) log e e.word.0 refl reply) in
           found ∙ left ∙ ap (λ n. value (initial n) (log ++ e ∷ []) n) here.1
@@ -62,7 +66,8 @@ values-take was now initial log e values reply set w =
     ]
 
 -- where words ascend, those before a place are below the one there
-pub named_below : (init : List (WordAddr × ℕ)) (i : ℕ) (d : WordAddr × ℕ) → IsAscendingBy (λ pair. pair.0.0) init → i < length init
+pub named_below : (init : List (WordAddr × ℕ)) (i : ℕ) (d : WordAddr × ℕ) → IsAscendingBy (λ pair. pair.0.0) init
+    → i < length init
     → All (λ pair. pair.0.0 < (get_or init i d).0.0) (take i init)
 named_below init i d ascending within = λ k e below.
     let whole : length (take i init) ≡ i = length-take-le i init (omega arith) in

@@ -25,8 +25,11 @@ knows-begin was now init word v small below knows same set = record {
 }
 
 pub knows-take : (was now : Judge) (initial : ℕ → ℕ) (log : List Entry) (e : Entry) → e.core.0 < 64
-    → ((w : ℕ) → get_or now.values.items w 0 ≡ cond (eqb e.word.0 w) (value_of e.op (get_or was.values.items e.word.0 0)) (get_or was.values.items w 0))
-    → ((i : ℕ) → get_or now.latest.items i None ≡ cond (eqb (slot_of e) i) (Some e.seq) (get_or was.latest.items i None))
+    → ((w : ℕ)
+    → get_or now.values.items w 0
+    ≡ cond (eqb e.word.0 w) (value_of e.op (get_or was.values.items e.word.0 0)) (get_or was.values.items w 0))
+    → ((i : ℕ)
+    → get_or now.latest.items i None ≡ cond (eqb (slot_of e) i) (Some e.seq) (get_or was.latest.items i None))
     → Knows was initial log → IsRight initial log e → Knows now initial (log ++ e ∷ [])
 knows-take was now initial log e small set kept knows right = record {
   values = values-take was.values.items now.values.items initial log e knows.values right.reply set;

@@ -26,19 +26,22 @@ unfoldable pub AreLines : Version → List (ℕ × List (List ℕ)) → List Tra
 AreLines version [] [] = Unit {0}
 AreLines version [] (line ∷ lines) = ⊥
 AreLines version (statement ∷ statements) [] = ⊥
-AreLines version (statement ∷ statements) (line ∷ lines) = IsLineOf version statement.1 line × AreLines version statements lines
+AreLines version (statement ∷ statements) (line ∷ lines) =
+    IsLineOf version statement.1 line × AreLines version statements lines
 
 -- the lines of a trace behind the first: what words begin with, and then the entries
 abbrev pub lines_of : List (WordAddr × ℕ) → List Entry → List TraceLine
 lines_of init entries = map (λ pair. trace_lines.Init pair.0 pair.1) init ++ map trace_lines.Entry entries
 
 -- the statements are such lines, and the words that begin with a value ascend
-pub record AreTrace (version : Version) (init : List (WordAddr × ℕ)) (entries : List Entry) (statements : List (ℕ × List (List ℕ))) : Type 0 where
+pub record AreTrace (version : Version) (init : List (WordAddr × ℕ)) (entries : List Entry)
+    (statements : List (ℕ × List (List ℕ))) : Type 0 where
   pub written : AreLines version statements (lines_of init entries)
   pub ascending : IsAscendingBy (λ pair. pair.0.0) init
 
 -- the text is a trace with these initial values and entries: its first line, and the others
-pub record IsTrace (version : Version) (init : List (WordAddr × ℕ)) (entries : List Entry) (text : List ℕ) : Type 0 where
+pub record IsTrace (version : Version) (init : List (WordAddr × ℕ)) (entries : List Entry)
+    (text : List ℕ) : Type 0 where
   pub number : ℕ
   pub first : List (List ℕ)
   pub rest : List (ℕ × List (List ℕ))
@@ -56,11 +59,13 @@ pub record IsJudged (text : List ℕ) (verdict : Verdict) : Type 0 where
 
 -- the text is no trace, whatever values it were to begin with and whatever entries it were to have
 abbrev pub IsNoTrace : List ℕ → Type 0
-IsNoTrace text = (version : Version) (init : List (WordAddr × ℕ)) (entries : List Entry) → ¬ IsTrace version init entries text
+IsNoTrace text =
+    (version : Version) (init : List (WordAddr × ℕ)) (entries : List Entry) → ¬ IsTrace version init entries text
 
 -- the statements are no trace of this version behind its first line
 abbrev pub AreNoTrace : Version → List (ℕ × List (List ℕ)) → Type 0
-AreNoTrace version statements = (init : List (WordAddr × ℕ)) (entries : List Entry) → ¬ AreTrace version init entries statements
+AreNoTrace version statements =
+    (init : List (WordAddr × ℕ)) (entries : List Entry) → ¬ AreTrace version init entries statements
 
 -- why a text was read no further: there was no memory, or a line is at fault, and then it is refused for this
 abbrev pub IsNoMemoryOr : Type 0 → TextFault → Type 0

@@ -82,7 +82,10 @@ impl Check {
     }
 
     fn take(&mut self, statement: &Statement<'_>) -> Result<(), TextFault>
-        ensures reading { OnOk result ((all left : List (ℕ × List (List ℕ))) → IsReading self.old all ((statement.now.number, map (λ w. w.now) statement.now.words.items) ∷ left) → IsReading self.new all left) }
+        ensures reading { OnOk result
+            ((all left : List (ℕ × List (List ℕ)))
+            → IsReading self.old all ((statement.now.number, map (λ w. w.now) statement.now.words.items) ∷ left)
+            → IsReading self.new all left) }
         ensures refused { IfErr result (IsNoMemoryOr (IsNoNextLine self.old (map (λ w. w.now) statement.now.words.items))) }
         ensures version { self.new.version ≡ self.old.version }
     {
@@ -128,7 +131,8 @@ impl Check {
     fn begin(&mut self, word: WordAddr, value: u64) -> Result<(), TextFault>
         requires word { word.0 < MOST_WORDS }
         requires place { MayBegin self.old word }
-        ensures stands { OnOk result ((init : List (WordAddr × ℕ)) → Stands self.old init [] → Stands self.new (init ++ (word, value) ∷ []) []) }
+        ensures stands { OnOk result
+            ((init : List (WordAddr × ℕ)) → Stands self.old init [] → Stands self.new (init ++ (word, value) ∷ []) []) }
         ensures refused { IfErr result (λ fault. fault ≡ TextFault.NoMemory) }
         ensures version { self.new.version ≡ self.old.version }
     {
@@ -141,7 +145,9 @@ impl Check {
 
     fn judge(&mut self, entry: &Entry) -> Result<(), TextFault>
         requires { IsNameable entry.now }
-        ensures stands { OnOk result ((init : List (WordAddr × ℕ)) (entries : List Entry) → Stands self.old init entries → Stands self.new init (entries ++ entry.now ∷ [])) }
+        ensures stands { OnOk result
+            ((init : List (WordAddr × ℕ)) (entries : List Entry) → Stands self.old init entries
+            → Stands self.new init (entries ++ entry.now ∷ [])) }
         ensures refused { IfErr result (λ fault. fault ≡ TextFault.NoMemory) }
         ensures version { self.new.version ≡ self.old.version }
     {
@@ -159,7 +165,10 @@ impl Check {
     // Judges one more entry, up to the first at fault.
     fn step(&mut self, entry: &Entry) -> Result<(), AllocError>
         requires { IsNameable entry.now }
-        ensures so_far { OnOk result ((initial : ℕ → ℕ) (entries : List Entry) → self.old.entries ≡ length entries → IsSoFar self.old.judge initial entries self.old.fault → IsSoFar self.new.judge initial (entries ++ entry.now ∷ []) self.new.fault) }
+        ensures so_far { OnOk result
+            ((initial : ℕ → ℕ) (entries : List Entry) → self.old.entries ≡ length entries
+            → IsSoFar self.old.judge initial entries self.old.fault
+            → IsSoFar self.new.judge initial (entries ++ entry.now ∷ []) self.new.fault) }
         ensures version { self.new.version ≡ self.old.version }
         ensures last { self.new.last ≡ self.old.last }
         ensures entries { self.new.entries ≡ self.old.entries }
@@ -177,7 +186,8 @@ impl Check {
     }
 
     fn verdict(&self) -> Verdict
-        ensures { (init : List (WordAddr × ℕ)) (entries : List Entry) → Stands self.now init entries → IsVerdict (initially init) entries result }
+        ensures { (init : List (WordAddr × ℕ)) (entries : List Entry) → Stands self.now init entries
+            → IsVerdict (initially init) entries result }
     {
         match self.fault {
             Some((entry, reason)) => Verdict::Illegal(entry, reason),

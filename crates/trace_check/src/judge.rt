@@ -42,7 +42,9 @@ impl Judge {
     /// Names the value that a word begins with.
     pub fn begin(&mut self, word: WordAddr, value: u64) -> Result<(), AllocError>
         requires { word.0 < MOST_WORDS }
-        ensures { OnOk result ((init : List (WordAddr × ℕ)) → All (λ pair. pair.0.0 < word.0) init → Knows self.old (initially init) [] → Knows self.new (initially (init ++ (word, value) ∷ [])) []) }
+        ensures { OnOk result
+            ((init : List (WordAddr × ℕ)) → All (λ pair. pair.0.0 < word.0) init → Knows self.old (initially init) []
+            → Knows self.new (initially (init ++ (word, value) ∷ [])) []) }
     {
         set_slot(&mut self.values, 0, word.0 as usize, value)
     }
@@ -50,7 +52,8 @@ impl Judge {
     /// Why an entry can't stand behind those that were taken, of which there are `number`.
     pub fn fault(&self, number: usize, entry: &Entry) -> Option<Reason>
         requires { IsNameable entry.now }
-        ensures { (initial : ℕ → ℕ) (log : List Entry) → number ≡ length log → Knows self.now initial log → MatchOption result (IsRight initial log entry.now) (IsWrong initial log entry.now) }
+        ensures { (initial : ℕ → ℕ) (log : List Entry) → number ≡ length log → Knows self.now initial log
+            → MatchOption result (IsRight initial log entry.now) (IsWrong initial log entry.now) }
     {
         if entry.reply != reply_to(entry.op, self.value(entry.word)) {
             return Some(Reason::Reply);
@@ -67,7 +70,9 @@ impl Judge {
     /// Takes an entry that can stand behind those that were taken.
     pub fn take(&mut self, entry: &Entry) -> Result<(), AllocError>
         requires { IsNameable entry.now }
-        ensures { OnOk result ((initial : ℕ → ℕ) (log : List Entry) → Knows self.old initial log → IsRight initial log entry.now → Knows self.new initial (log ++ entry.now ∷ [])) }
+        ensures { OnOk result
+            ((initial : ℕ → ℕ) (log : List Entry) → Knows self.old initial log → IsRight initial log entry.now
+            → Knows self.new initial (log ++ entry.now ∷ [])) }
     {
         let value = performed(entry.op, self.value(entry.word));
         set_slot(&mut self.values, 0, entry.word.0 as usize, value)?;
@@ -86,7 +91,8 @@ impl Judge {
     // Whether the entry was asked for after all of its core and line that were taken.
     fn is_in_order(&self, entry: &Entry) -> bool
         requires { IsNameable entry.now }
-        ensures { (log : List Entry) → AreGreatest self.now.latest.items log → (IsTrue result ↔ IsInOrder log entry.now) }
+        ensures { (log : List Entry) → AreGreatest self.now.latest.items log
+            → (IsTrue result ↔ IsInOrder log entry.now) }
     {
         match self.latest(entry) {
             Some(seq) => seq < entry.seq,
@@ -140,5 +146,6 @@ pub fn judge_log(
 
 /// A log has one verdict alone, so one that is legal and ordered is judged legal, and no other is.
 pub fn one_verdict()
-    ensures { (initial : ℕ → ℕ) (entries : List Entry) (a b : Verdict) → IsVerdict initial entries a → IsVerdict initial entries b → a ≡ b }
+    ensures { (initial : ℕ → ℕ) (entries : List Entry) (a b : Verdict) → IsVerdict initial entries a
+        → IsVerdict initial entries b → a ≡ b }
 {}

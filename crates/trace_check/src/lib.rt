@@ -6,8 +6,8 @@
 //!   is a fault of its own (specs/Trace.antt). [`one_judgement`] says that no text has two verdicts.
 //! - [`judge_log`] judges a log that is at hand (specs/Verdict.antt), and [`one_verdict`] says that no log has two
 //!   verdicts.
-//! - [`TraceLine`] is a line of a trace. At Ok of [`TraceLine::parse`] the words write that line, and it names only what
-//!   a trace of this version can; they are refused only where they write no such line (specs/TraceLine.antt).
+//! - [`TraceLine`] is a line of a trace. At Ok of [`TraceLine::parse`] the words write that line, and it names only
+//!   what a trace of this version can; they are refused only where they write no such line (specs/TraceLine.antt).
 //! - [`Judge`] has the value of each word and the greatest seq of each core and line (specs/Judge.antt), so an entry is
 //!   judged without a look at earlier ones.
 //!

@@ -10,7 +10,9 @@ pub fn set_slot<T: Copy>(
     value: T,
 ) -> Result<(), AllocError>
     requires { place < 2 ^ 32 }
-    ensures { OnOk result ((i : ℕ) → slice_index_or slots.new.items i empty ≡ (if place == i then value else slice_index_or slots.old.items i empty)) }
+    ensures { OnOk result
+        ((i : ℕ) → slice_index_or slots.new.items i empty
+        ≡ (if place == i then value else slice_index_or slots.old.items i empty)) }
 {
     if place >= slots.len() {
         slots.resize(place + 1, empty)?;

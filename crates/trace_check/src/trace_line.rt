@@ -51,7 +51,8 @@ impl Version {
 
     /// Whether a trace of this version can have the access, by its name.
     fn has_access(self, access: &[&[u8]]) -> bool
-        ensures { (op : Op) (word : ℕ) → Writes (map (λ w. w.now) access.now) (parts_of_op op word) → (IsTrue result ↔ IsOfVersion self op) }
+        ensures { (op : Op) (word : ℕ) → Writes (map (λ w. w.now) access.now) (parts_of_op op word)
+            → (IsTrue result ↔ IsOfVersion self op) }
     {
         match self {
             Version::One => !is_compare_exchange(access),
@@ -74,7 +75,8 @@ impl Version {
 #[tactic(auto, using(litmus_text::proofs::FormLemmas::wrong_count))]
 fn version_of(words: &[&[u8]]) -> Result<Version, LineFault>
     ensures written { IfOk result (λ version. Writes (map (λ w. w.now) words.now) (key (number_of version) ∷ [])) }
-    ensures refused { IfErr result (λ fault. (version : Version) → Writes (map (λ w. w.now) words.now) (key (number_of version) ∷ []) → ⊥) }
+    ensures refused { IfErr result
+        (λ fault. (version : Version) → Writes (map (λ w. w.now) words.now) (key (number_of version) ∷ []) → ⊥) }
 {
     let [number] = words else {
         return Err(LineFault::NotATrace);
@@ -139,7 +141,9 @@ struct EntryWords<'a> {
 }
 
 fn entry_words<'a>(words: &'a [&'a [u8]]) -> Option<EntryWords<'a>>
-    ensures parts { IfSome result (λ e. map (λ w. w.now) words.now ≡ e.core.now ∷ e.seq.now ∷ e.tag.now ∷ (map (λ w. w.now) e.access.now ++ e.reply.now ∷ e.since.now ∷ [])) }
+    ensures parts { IfSome result
+        (λ e. map (λ w. w.now) words.now
+        ≡ e.core.now ∷ e.seq.now ∷ e.tag.now ∷ (map (λ w. w.now) e.access.now ++ e.reply.now ∷ e.since.now ∷ [])) }
     ensures short { IfNone result (length words.now < 5) }
 {
     let [core, seq, tag, access @ .., reply, since] = words else {

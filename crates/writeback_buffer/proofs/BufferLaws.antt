@@ -20,7 +20,8 @@ use Rattle.writeback_buffer.proofs.HeldLaws.{held_at-only, held_at-none, none-fr
 -- ---- a search
 
 -- the place that a search answers is the line's only one
-pub only-found : (buffer : Buffer) (line place : ℕ) → IsBuffer buffer → position (is_of line) buffer.entries ≡ Some place
+pub only-found : (buffer : Buffer) (line place : ℕ) → IsBuffer buffer
+    → position (is_of line) buffer.entries ≡ Some place
     → PassesOnlyAt (is_of line) buffer.entries place
 only-found buffer line place sound found =
     let at_place = position-Some (is_of line) buffer.entries place blank found in
@@ -33,10 +34,12 @@ only-found buffer line place sound found =
 pub held-found : (buffer : Buffer) (line place : ℕ) (d : Entry) → IsBuffer buffer
     → position (is_of line) buffer.entries ≡ Some place
     → held_at buffer.entries line ≡ Some (get_or buffer.entries place d).leaving
-held-found buffer line place d sound found = held_at-only buffer.entries line place d (only-found buffer line place sound found)
+held-found buffer line place d sound found =
+    held_at-only buffer.entries line place d (only-found buffer line place sound found)
 
 -- and where it answers none, nothing is held
-pub held-missing : (buffer : Buffer) (line : ℕ) → position (is_of line) buffer.entries ≡ None → held_at buffer.entries line ≡ None
+pub held-missing : (buffer : Buffer) (line : ℕ) → position (is_of line) buffer.entries ≡ None
+    → held_at buffer.entries line ≡ None
 held-missing buffer line missing = held_at-none buffer.entries line (none-passes (is_of line) buffer.entries missing)
 
 -- a buffer has no entry just where nothing is held of any line
@@ -67,7 +70,8 @@ ChangesOnly-with_line old new line leaving absent put =
     })
 
 -- it had no entry before, so it has one now
-pub IsBuffer-with_line : (old new : Buffer) (line : ℕ) (leaving : Leaving) → IsBuffer old → length old.entries < old.capacity
+pub IsBuffer-with_line : (old new : Buffer) (line : ℕ) (leaving : Leaving) → IsBuffer old
+    → length old.entries < old.capacity
     → held_at old.entries line ≡ None → new ≡ with_line old line leaving → IsBuffer new
 IsBuffer-with_line old new line leaving sound room absent put =
     let entry : Entry = record { leaving = leaving; line = record { 0 = line } } in
@@ -96,17 +100,21 @@ abbrev with_entry_state : CopyState → Entry → Entry
 with_entry_state state entry = record entry { leaving = in_state state entry.leaving }
 
 -- the state is written at the line's place
-pub with_state-written : (inside buffer : Buffer) (line place : ℕ) (state : CopyState) (read : List Entry) (d : Entry) → inside ≡ buffer
+pub with_state-written : (inside buffer : Buffer) (line place : ℕ) (state : CopyState) (read : List Entry) (d : Entry)
+    → inside ≡ buffer
     → read ≡ inside.entries → IsBuffer buffer → position (is_of line) buffer.entries ≡ Some place
     → record {
-      entries = refill (length inside.entries) inside.entries (slice_set read place (with_entry_state state (get_or read place d)));
+      entries =
+          refill (length inside.entries) inside.entries
+          (slice_set read place (with_entry_state state (get_or read place d)));
       capacity = inside.capacity;
     }
     ≡ with_state buffer line state
 with_state-written inside buffer line place state read d same listed sound found =
     let only = only-found buffer line place sound found in
     let there = only.there d in
-    let changed : advanced_entry line state (get_or buffer.entries place d) ≡ with_entry_state state (get_or buffer.entries place d) =
+    let changed : advanced_entry line state (get_or buffer.entries place d)
+    ≡ with_entry_state state (get_or buffer.entries place d) =
     rw there refl in
     let written = set-only (is_of line) (advanced_entry line state) kept buffer.entries place d only in
     rw (listed, same, refill-same buffer.entries _ (length-set buffer.entries place _), ← changed, written) refl
@@ -152,13 +160,15 @@ pub IsBuffer-without_line : (old new : Buffer) (line : ℕ) → IsBuffer old →
 IsBuffer-without_line old new line sound removed =
     rw removed
     (record {
-      once = AllPairs-filter (λ earlier later. earlier.line.0 ≢ later.line.0) (λ entry. not (is_of line entry)) old.entries sound.once;
+      once = AllPairs-filter (λ earlier later. earlier.line.0 ≢ later.line.0)
+          (λ entry. not (is_of line entry)) old.entries sound.once;
       fits = omega (arith, length-filter_both (is_of line) (λ entry. not (is_of line entry)) (λ _. refl) old.entries);
       small = sound.small;
     })
 
 -- the line is held no more, and of the others what was
-pub ChangesOnly-without_line : (old new : Buffer) (line : ℕ) → new ≡ without_line old line → ChangesOnly old new line None
+pub ChangesOnly-without_line : (old new : Buffer) (line : ℕ) → new ≡ without_line old line
+    → ChangesOnly old new line None
 ChangesOnly-without_line old new line removed =
     rw removed
     (record {

@@ -23,7 +23,8 @@ module _ (buffer : Buffer) (line : ℕ) where
 
   pub put_sound : (leaving : Leaving) → IsBuffer buffer → length buffer.entries < buffer.capacity →
       held_at buffer.entries line ≡ None → IsBuffer (with_line buffer line leaving)
-  put_sound leaving sound room absent = IsBuffer-with_line buffer (with_line buffer line leaving) line leaving sound room absent refl
+  put_sound leaving sound room absent =
+      IsBuffer-with_line buffer (with_line buffer line leaving) line leaving sound room absent refl
 
   -- a line that was moved to a state is held in it with its block, and of the others what was
   pub advanced_held : (state : CopyState) →

@@ -11,7 +11,8 @@ use Rattle.writeback_buffer.proofs.Places.{PassesOnlyAt, NonePasses, only-later,
 
 -- an entry is of one line alone
 is_of-other : (entry : Entry) (line other : ℕ) → other ≢ line → is_of line entry ≡ true → is_of other entry ≡ false
-is_of-other entry line other apart same = ne_eqb entry.line.0 other (λ e. apart (sym e ∙ eqb-true entry.line.0 line same))
+is_of-other entry line other apart same =
+    ne_eqb entry.line.0 other (λ e. apart (sym e ∙ eqb-true entry.line.0 line same))
 
 -- what is held is what stands at the line's place
 pub held_at-only : (entries : List Entry) (line place : ℕ) (d : Entry) → PassesOnlyAt (is_of line) entries place
@@ -32,7 +33,8 @@ held_at-none (entry ∷ rest) line none =
     rw first (held_at-none rest line (none-later (is_of line) entry rest none))
 
 -- a line of which nothing is held has no entry
-pub none-from_held_at : (entries : List Entry) (line : ℕ) → held_at entries line ≡ None → NonePasses (is_of line) entries
+pub none-from_held_at : (entries : List Entry) (line : ℕ) → held_at entries line ≡ None
+    → NonePasses (is_of line) entries
 none-from_held_at [] line absent = λ k d within. absurd (omega arith)
 none-from_held_at (entry ∷ rest) line absent =
     elim (cases_Bool (is_of line entry)) [
@@ -45,7 +47,8 @@ none-from_held_at (entry ∷ rest) line absent =
     at-each apart later (suc k) d within = later k d (omega arith)
 
 -- an entry of the line, among entries of which no two are of one line, is the only one
-pub only-from_once : (entries : List Entry) (line place : ℕ) (d : Entry) → HasEachLineOnce entries → place < length entries
+pub only-from_once : (entries : List Entry) (line place : ℕ) (d : Entry) → HasEachLineOnce entries
+    → place < length entries
     → is_of line (get_or entries place d) ≡ true → PassesOnlyAt (is_of line) entries place
 only-from_once entries line place d once within same = record {
   within = within;
@@ -64,21 +67,25 @@ only-from_once entries line place d once within same = record {
     here e = rw (get_or_default entries place e d within) same
 
 -- a line of which nothing is held may be put behind the others
-pub once-append : (entries : List Entry) (entry : Entry) → HasEachLineOnce entries → NonePasses (is_of entry.line.0) entries
+pub once-append : (entries : List Entry) (entry : Entry) → HasEachLineOnce entries
+    → NonePasses (is_of entry.line.0) entries
     → HasEachLineOnce (entries ++ entry ∷ [])
 once-append entries entry once none i j d before within =
     let longer = length_push entries entry in
     let inside : i < length entries = omega (arith, longer) in
-    let as_before : get_or (entries ++ entry ∷ []) i d ≡ get_or entries i d = get_or_append_left entries (entry ∷ []) d i inside in
+    let as_before : get_or (entries ++ entry ∷ []) i d ≡ get_or entries i d =
+    get_or_append_left entries (entry ∷ []) d i inside in
     elim (cases_lt j (length entries)) [
-      | inl inside_too ↦ rw (as_before, get_or_append_left entries (entry ∷ []) d j inside_too) (once i j d before inside_too)
+      | inl inside_too ↦ rw (as_before, get_or_append_left entries (entry ∷ []) d j inside_too)
+          (once i j d before inside_too)
       | inr last ↦
           let place_is : length entries ≡ j = omega (arith, longer) in
           rw (as_before, get_or_push entries entry d j place_is) (eqb-false _ _ (none i d inside))
     ]
 
 -- a change that leaves each entry its line
-pub once-map : (change : Entry → Entry) → ((entry : Entry) → (change entry).line.0 ≡ entry.line.0) → (entries : List Entry)
+pub once-map : (change : Entry → Entry) → ((entry : Entry) → (change entry).line.0 ≡ entry.line.0)
+    → (entries : List Entry)
     → HasEachLineOnce entries → HasEachLineOnce (map change entries)
 once-map change keeps entries once i j d before within =
     let as_many = length-map entries change in
@@ -89,7 +96,8 @@ once-map change keeps entries once i j d before within =
 
 -- ---- a line is put
 
-pub held_at-append_same : (entries : List Entry) (entry : Entry) (line : ℕ) → is_of line entry ≡ true → held_at entries line ≡ None
+pub held_at-append_same : (entries : List Entry) (entry : Entry) (line : ℕ) → is_of line entry ≡ true
+    → held_at entries line ≡ None
     → held_at (entries ++ entry ∷ []) line ≡ Some entry.leaving
 held_at-append_same [] entry line same absent = rw same refl
 held_at-append_same (first ∷ rest) entry line same absent =
@@ -125,12 +133,14 @@ held_at-map_other (entry ∷ rest) line other state apart =
           rw same (rw not_other (held_at-map_other rest line other state apart))
       | inr differs ↦
           rw differs
-          (ap (λ later. if is_of other entry then Some entry.leaving else later) (held_at-map_other rest line other state apart))
+          (ap (λ later. if is_of other entry then Some entry.leaving else later)
+          (held_at-map_other rest line other state apart))
     ]
 
 -- ---- a line is removed
 
-pub held_at-filter_same : (entries : List Entry) (line : ℕ) → held_at (filter (λ entry. not (is_of line entry)) entries) line ≡ None
+pub held_at-filter_same : (entries : List Entry) (line : ℕ)
+    → held_at (filter (λ entry. not (is_of line entry)) entries) line ≡ None
 held_at-filter_same [] line = refl
 held_at-filter_same (entry ∷ rest) line =
     elim (cases_Bool (is_of line entry)) [
@@ -148,5 +158,6 @@ held_at-filter_other (entry ∷ rest) line other apart =
           rw same (rw not_other (held_at-filter_other rest line other apart))
       | inr differs ↦
           rw differs
-          (ap (λ later. if is_of other entry then Some entry.leaving else later) (held_at-filter_other rest line other apart))
+          (ap (λ later. if is_of other entry then Some entry.leaving else later)
+          (held_at-filter_other rest line other apart))
     ]

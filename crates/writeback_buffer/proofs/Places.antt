@@ -48,7 +48,8 @@ module _ {X : Type 0} (test : X → Bool) where
       rw (first, ← remove-only xs place (only-later x xs place only)) refl
 
   -- a change of what passes changes nothing where none passes
-  pub map-none : (change : X → X) → ((x : X) → test x ≡ false → change x ≡ x) → (xs : List X) → NonePasses xs → map change xs ≡ xs
+  pub map-none : (change : X → X) → ((x : X) → test x ≡ false → change x ≡ x) → (xs : List X) → NonePasses xs
+      → map change xs ≡ xs
   map-none change keeps [] none = refl
   map-none change keeps (x ∷ xs) none =
       let first : change x ≡ x = keeps x (none 0 x (omega arith)) in

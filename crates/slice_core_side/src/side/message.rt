@@ -71,7 +71,8 @@ impl<F: MissFile> Side<F> {
         requires room { length log.old.items + length (targets_of self.old.misses local.0) ≤ vec_capacity log.old }
         requires first { first + 8 ≤ 2 ^ 64 }
         ensures asks { result ≡ asks_to_write (array_copy self.old local).state (targets_of self.old.misses local.0) }
-        ensures taken { TakesTargets self.old.misses self.new.misses local.0 (performed_in (array_copy self.old local).state (targets_of self.old.misses local.0)) }
+        ensures taken { TakesTargets self.old.misses self.new.misses local.0
+            (performed_in (array_copy self.old local).state (targets_of self.old.misses local.0)) }
         ensures sound { IsMissFile self.old.misses → IsMissFile self.new.misses }
         ensures after { self.new ≡ after_settle self.old local (length log.old.items) self.new.misses }
         ensures log { log.new.items ≡ log.old.items ++ entries_of core first (array_copy self.old local).block

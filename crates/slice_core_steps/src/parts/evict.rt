@@ -35,7 +35,11 @@ impl<F: MissFile> Parts<F> {
         requires stats { length self.old.stats.cores ≡ length self.old.view.sides }
         requires leaves { CanLeave (side_at self.old.view core) local }
         requires idle { (core_at (channels_at self.old.view local) core.0).request ≡ None }
-        ensures { self.new ≡ record self.old { view = after_evict self.old.view core local; stats = after_eviction self.old.stats core } }
+        ensures { self.new ≡ record self.old {
+          view = after_evict self.old.view core local;
+          stats =
+              after_eviction self.old.stats core;
+        } }
     {
         self.stats.count_eviction(core);
         let put = self.sides[core.0 as usize].evict(local);

@@ -31,7 +31,8 @@ impl<F: MissFile> Parts<F> {
         self.queues.is_empty() && are_quiet(&self.sides)
     }
 
-    /// The word at a place of a line of a quiet slice: the owner's copy has it where there is an owner, else the home copy.
+    /// The word at a place of a line of a quiet slice: the owner's copy has it where there is an owner, else the home
+    /// copy.
     pub fn word_now(&self, local: Local, offset: Offset) -> u64
         requires line { local.0 < length self.now.view.entries }
         requires within { offset.0 < 8 }

@@ -122,7 +122,11 @@ impl<F: MissFile> Parts<F> {
         requires counted { (side_at self.old.view core).accepted + 1 < 2 ^ 64 }
         requires room { length self.old.view.log < self.old.room }
         ensures number { result ≡ length self.old.view.log }
-        ensures after { self.new ≡ record self.old { view = after_hit self.old.view core request local next; stats = hit_counted self.old.stats core silent } }
+        ensures after { self.new ≡ record self.old {
+          view = after_hit self.old.view core request local next;
+          stats =
+              hit_counted self.old.stats core silent;
+        } }
     {
         self.stats.count_hit(core, silent);
         let number = self.log.len() as u64;
@@ -146,11 +150,18 @@ impl<F: MissFile> Parts<F> {
         requires can { CanIssue self.old core }
         requires tag { request.tag < 64 }
         requires found { has_miss (side_at self.old.view core).misses local.0 ≡ true }
-        requires room { can_join (side_at self.old.view core).bound (side_at self.old.view core).misses local.0 request.tag ≡ true }
+        requires room { can_join (side_at self.old.view core).bound (side_at self.old.view core).misses local.0 request.tag
+            ≡ true }
         ensures seq { result ≡ (side_at self.old.view core).accepted }
-        ensures added { AddsTarget (side_at self.old.view core).misses (side_at self.new.view core).misses local.0 (target_for self.old core request) }
+        ensures added { AddsTarget (side_at self.old.view core).misses (side_at self.new.view core).misses local.0
+            (target_for self.old core request) }
         ensures sound { IsMissFile (side_at self.new.view core).misses }
-        ensures after { self.new ≡ record self.old { view = after_join self.old.view core request (side_at self.new.view core).misses; stats = after_secondary self.old.stats core; pending = self.old.pending + 1 } }
+        ensures after { self.new
+            ≡ record self.old {
+              view = after_join self.old.view core request (side_at self.new.view core).misses;
+              stats = after_secondary self.old.stats core;
+              pending = self.old.pending + 1;
+            } }
     {
         let since = self.log.len() as u64;
         self.pending += 1;
@@ -174,9 +185,17 @@ impl<F: MissFile> Parts<F> {
         requires tag { request.tag < 64 }
         requires within { IsWithin (side_at self.old.view core) local request.tag (Access.Open next ask way) }
         ensures seq { result ≡ (side_at self.old.view core).accepted }
-        ensures added { AddsTarget (side_at self.old.view core).misses (side_at self.new.view core).misses local.0 (target_for self.old core request) }
+        ensures added { AddsTarget (side_at self.old.view core).misses (side_at self.new.view core).misses local.0
+            (target_for self.old core request) }
         ensures sound { IsMissFile (side_at self.new.view core).misses }
-        ensures after { self.new ≡ record self.old { view = after_open self.old.view core request local way next ask (side_at self.new.view core).misses; stats = opened_stats self.old.stats core way; pending = self.old.pending + 1 } }
+        ensures after { self.new
+            ≡ record self.old {
+              view =
+                  after_open self.old.view core request local way next ask (side_at self.new.view core).misses;
+              stats =
+                  opened_stats self.old.stats core way;
+              pending = self.old.pending + 1;
+            } }
     {
         match way {
             Way::Held => self.open_way(core, request, local, true, next, ask),
@@ -193,7 +212,11 @@ impl<F: MissFile> Parts<F> {
         requires can { CanIssue self.old core }
         requires line { local.0 < self.old.view.lines.lines }
         requires replaces { CanReplace (side_at self.old.view core) local }
-        ensures after { self.new ≡ record self.old { view = with_way self.old.view core local Way.Victim; stats = after_eviction self.old.stats core } }
+        ensures after { self.new ≡ record self.old {
+          view = with_way self.old.view core local Way.Victim;
+          stats =
+              after_eviction self.old.stats core;
+        } }
         ensures stands { CanStand (side_at self.new.view core) local false }
         ensures idle { (core_at (channels_at self.new.view local) core.0).request ≡ None }
     {
@@ -203,7 +226,8 @@ impl<F: MissFile> Parts<F> {
         self.queues.line_mut(victim).send_request(core, put);
     }
 
-    // Opens a miss register for the access, whose copy stands in the array (`held`) or has a way, and asks the directory.
+    // Opens a miss register for the access, whose copy stands in the array (`held`) or has a way, and asks the
+    // directory.
     fn open_way(
         &mut self,
         core: CoreId,
@@ -219,15 +243,24 @@ impl<F: MissFile> Parts<F> {
         requires stats { length self.old.stats.cores ≡ length self.old.view.sides }
         requires tag { request.tag < 64 }
         requires free { has_miss (side_at self.old.view core).misses local.0 ≡ false }
-        requires room { can_open (side_at self.old.view core).bound (side_at self.old.view core).misses request.tag ≡ true }
+        requires room { can_open (side_at self.old.view core).bound (side_at self.old.view core).misses request.tag
+            ≡ true }
         requires stands { CanStand (side_at self.old.view core) local held }
         requires idle { (core_at (channels_at self.old.view local) core.0).request ≡ None }
         requires counted { (side_at self.old.view core).accepted + 1 < 2 ^ 64 }
         requires pending { self.old.pending + 1 < 2 ^ 64 }
         ensures seq { result ≡ (side_at self.old.view core).accepted }
-        ensures added { AddsTarget (side_at self.old.view core).misses (side_at self.new.view core).misses local.0 (target_for self.old core request) }
+        ensures added { AddsTarget (side_at self.old.view core).misses (side_at self.new.view core).misses local.0
+            (target_for self.old core request) }
         ensures sound { IsMissFile (side_at self.new.view core).misses }
-        ensures after { self.new ≡ record self.old { view = after_opening self.old.view core request local held next ask (side_at self.new.view core).misses; stats = after_primary self.old.stats core; pending = self.old.pending + 1 } }
+        ensures after { self.new
+            ≡ record self.old {
+              view =
+                  after_opening self.old.view core request local held next ask (side_at self.new.view core).misses;
+              stats =
+                  after_primary self.old.stats core;
+              pending = self.old.pending + 1;
+            } }
     {
         let since = self.log.len() as u64;
         self.pending += 1;

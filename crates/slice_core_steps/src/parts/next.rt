@@ -32,8 +32,8 @@ impl Found {
 }
 
 impl<F: MissFile> Parts<F> {
-    /// Makes one delivery of the class, if one can be made. It looks at the lines with mail, those first that have waited
-    /// longest; the lines that it looked at go behind the others.
+    /// Makes one delivery of the class, if one can be made. It looks at the lines with mail, those first that have
+    /// waited longest; the lines that it looked at go behind the others.
     pub fn deliver_next(&mut self, class: Class) -> DeliveredNext
         requires { CanDeliver self.old }
         ensures { AfterDeliverNext self.old class result self.new }

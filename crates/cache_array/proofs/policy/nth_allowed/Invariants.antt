@@ -5,4 +5,5 @@ use Rattle.cache_array.proofs.Choices.{slots_from}
 use Rattle.cache_array.proofs.policy.nth_allowed.Given as goal
 
 abbrev pub invariant-loop-slot : goal.invariant-loop-slot
-invariant-loop-slot l = slice_get (slots_from l.slot (drop l.slot l.allowed)) l.before ≡ slice_get (allowed_slots l.allowed) l.rank
+invariant-loop-slot l =
+    slice_get (slots_from l.slot (drop l.slot l.allowed)) l.before ≡ slice_get (allowed_slots l.allowed) l.rank

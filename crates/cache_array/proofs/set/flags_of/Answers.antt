@@ -12,7 +12,9 @@ slots-preserved g c =
     let slot = get_or slots i c.index-slots-i.result in
     let within : i < length slots = omega arith in
     let more = (take_at_read slots i c.index-slots-i.result within).1 in
-    let answer : FnReturnsAt g.F.Fn c.args.allowed slot.value c.allowed.result = says_at g.F.Fn c.allowed.ensures refl in (
+    let answer : FnReturnsAt g.F.Fn c.args.allowed slot.value c.allowed.result =
+    says_at g.F.Fn c.allowed.ensures refl in (
       omega arith,
-      rw (more, c.push.ensures.items) (asked_more _ (take i slots) c.slots.flags.items slot c.allowed.result c.slots.invariant.1 answer),
+      rw (more, c.push.ensures.items)
+          (asked_more _ (take i slots) c.slots.flags.items slot c.allowed.result c.slots.invariant.1 answer),
     )

@@ -6,4 +6,5 @@ use Rattle.cache_array.proofs.set.flags_of.Given as goal
 
 abbrev pub invariant-slots : goal.invariant-slots
 invariant-slots g l =
-    (length l.flags.items ≡ l.i) × AllZip (λ slot flag. FnReturnsAt g.F.Fn l.allowed slot.value flag) (take l.i l.slots) l.flags.items
+    (length l.flags.items ≡ l.i)
+    × AllZip (λ slot flag. FnReturnsAt g.F.Fn l.allowed slot.value flag) (take l.i l.slots) l.flags.items

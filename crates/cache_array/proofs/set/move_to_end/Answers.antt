@@ -14,4 +14,5 @@ pub returns-else-behind-eq1 : goal.returns-else-behind-eq1
 returns-else-behind-eq1 g c =
     λ d.
     let slots = c.args.slots.now in
-    put_mid-rotated c.args.place (length slots - c.args.place) slots c.turn.new.slots d (omega arith) (omega arith) c.turn.ensures
+    put_mid-rotated c.args.place (length slots - c.args.place) slots c.turn.new.slots d (omega arith)
+    (omega arith) c.turn.ensures

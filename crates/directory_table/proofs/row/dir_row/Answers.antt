@@ -20,7 +20,8 @@ pub returns-clause-invalidated : goal.returns-clause-invalidated
 returns-clause-invalidated c = rw c.cell.ensures (lawful c.args.exclusive c.args.entry.now c.args.event).invalidated
 
 pub returns-clause-acknowledgements : goal.returns-clause-acknowledgements
-returns-clause-acknowledgements c = rw c.cell.ensures (lawful c.args.exclusive c.args.entry.now c.args.event).acknowledgements
+returns-clause-acknowledgements c =
+    rw c.cell.ensures (lawful c.args.exclusive c.args.entry.now c.args.event).acknowledgements
 
 pub returns-clause-sharers : goal.returns-clause-sharers
 returns-clause-sharers c = rw c.cell.ensures (lawful c.args.exclusive c.args.entry.now c.args.event).shared

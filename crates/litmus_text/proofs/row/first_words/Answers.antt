@@ -7,7 +7,8 @@ use Rattle.litmus_text.proofs.row.first_words.Goals as goal
 
 pub returns-in-None : goal.returns-in-None
 returns-in-None c =
-    row_of_few _ c.loop-word.word-iterator _ MOST_WORDS c.loop-word.invariant.all c.in-None.ensures.steps.0 (rw length-map c.loop-word.invariant.few)
+    row_of_few _ c.loop-word.word-iterator _ MOST_WORDS c.loop-word.invariant.all c.in-None.ensures.steps.0
+    (rw length-map c.loop-word.invariant.few)
 
 pub returns-then-is_full : goal.returns-then-is_full
 returns-then-is_full c =

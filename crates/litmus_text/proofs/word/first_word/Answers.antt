@@ -12,10 +12,12 @@ split_at-requires c =
     omega (arith, begins.within)
 
 pub split_word-requires-clause-some : goal.split_word-requires-clause-some
-split_word-requires-clause-some c = rw c.split_at.ensures.back (words_begin c.args.text.now c.in_ok-start.start (sym c.in_ok-start.ensures)).some
+split_word-requires-clause-some c =
+    rw c.split_at.ensures.back (words_begin c.args.text.now c.in_ok-start.start (sym c.in_ok-start.ensures)).some
 
 pub split_word-requires-clause-begins : goal.split_word-requires-clause-begins
-split_word-requires-clause-begins c = rw c.split_at.ensures.back (words_begin c.args.text.now c.in_ok-start.start (sym c.in_ok-start.ensures)).no_blank
+split_word-requires-clause-begins c =
+    rw c.split_at.ensures.back (words_begin c.args.text.now c.in_ok-start.start (sym c.in_ok-start.ensures)).no_blank
 
 pub returns : goal.returns
 returns c =

@@ -53,17 +53,10 @@ step c =
       order =
           c.remove-tag.new.self;
     })
-    c.args.line.0
-    c.unwrap-place.result
-    c.remove-tag.result
-    c.unwrap.result
-    c.requires.kept
-    c.requires.some
+    c.args.line.0 c.unwrap-place.result c.remove-tag.result c.unwrap.result c.requires.kept c.requires.some
     (ap (position (slot_for c.args.line.0)) (sym c.as_slice.ensures.value) ∙ sym c.first_for.ensures
     ∙ c.unwrap-place.ensures)
-    c.remove-tag.ensures.value
-    (ap (λ held. unwrap_or held no_waiting) (sym c.unwrap.ensures))
-    refl
+    c.remove-tag.ensures.value (ap (λ held. unwrap_or held no_waiting) (sym c.unwrap.ensures)) refl
     c.remove-tag.ensures.items
 
 pub returns-clause-kept : goal.returns-clause-kept

@@ -10,13 +10,8 @@ pub take_entry-requires-clause-some : goal.take_entry-requires-clause-some
 take_entry-requires-clause-some c =
     let counted = c.loop.invariant.counted in
     let enough = c.requires.enough in
-    one_left
-    c.args.line.0
-    (waiting_in c.args.table.now)
-    (waiting_in c.loop.table)
-    c.loop.taken.items
-    c.loop.invariant.takes
-    (omega (arith, counted, enough, c.loop-test.true))
+    one_left c.args.line.0 (waiting_in c.args.table.now) (waiting_in c.loop.table) c.loop.taken.items
+    c.loop.invariant.takes (omega (arith, counted, enough, c.loop-test.true))
 
 pub loop-preserved : goal.loop-preserved
 loop-preserved c = record {
@@ -25,21 +20,11 @@ loop-preserved c = record {
   takes =
       rw c.push.ensures.items
       (takes_more
-      c.args.line.0
-      (waiting_in c.args.table.now)
-      (waiting_in c.loop.table)
-      (waiting_in c.take_entry.new.table)
-      c.loop.taken.items
-      (c.take_entry.result ∷ [])
-      c.loop.invariant.takes
+      c.args.line.0 (waiting_in c.args.table.now) (waiting_in c.loop.table) (waiting_in c.take_entry.new.table)
+      c.loop.taken.items (c.take_entry.result ∷ []) c.loop.invariant.takes
       (let counted = c.loop.invariant.counted in
       let enough = c.requires.enough in
-      one_left
-      c.args.line.0
-      (waiting_in c.args.table.now)
-      (waiting_in c.loop.table)
-      c.loop.taken.items
-      c.loop.invariant.takes
-      (omega (arith, counted, enough, c.loop-test.true)))
+      one_left c.args.line.0 (waiting_in c.args.table.now) (waiting_in c.loop.table) c.loop.taken.items
+      c.loop.invariant.takes (omega (arith, counted, enough, c.loop-test.true)))
       c.take_entry.ensures.taken);
 }

@@ -13,7 +13,8 @@ pub gather-returns-in-None-clause-whole : goal.gather-returns-in-None-clause-who
 gather-returns-in-None-clause-whole g t c =
     let none = c.in-None.ensures.cases in
     let parts = c.requires.parts in
-    ap (λ ports. together c.args.share.now.held (held_in g.N.SliceNames.setup g.N.SliceNames.number (map g.T.Lends.part ports)))
+    ap (λ ports. together c.args.share.now.held
+    (held_in g.N.SliceNames.setup g.N.SliceNames.number (map g.T.Lends.part ports)))
     (nil_from_length c.args.ports.now none)
     ∙ together_nothing c.args.share.now.held ∙ c.audit.ensures.whole (omega (arith, none, parts))
 
@@ -30,7 +31,8 @@ gather_port-returns-clause-share g t c =
     let held = ap (λ (s : Amounts). s.held) c.port.invariant.held in
     let given : totals c.args.words.now c.port.inside.accepted (entries_of c.deref.result.now) ≡ had.held =
     ap (λ words. totals words c.port.inside.accepted (entries_of c.deref.result.now)) c.requires.words.are
-    ∙ ap (λ (rs : List Receipt). totals (counters_of setup number) c.port.inside.accepted (entries_of rs)) c.deref.ensures.value
+    ∙ ap (λ (rs : List Receipt). totals (counters_of setup number) c.port.inside.accepted (entries_of rs))
+    c.deref.ensures.value
     ∙ sym held in
     let one = ap (λ (s : Amounts). s.parts) c.port.invariant.held in
     let kept = ap (λ (s : Amounts). s.parts) c.gather-2.ensures.share in

@@ -12,7 +12,8 @@ loop-word-preserved c =
     let i = c.loop-word.word-index in
     let d : WordAddr × ℕ = (record { 0 = 0 }, 0) in
     rw (take_more init i d c.loop-word-test.true)
-    (c.in_ok-begin.ensures (take i init) (named_below init i d c.requires.ascending c.loop-word-test.true) c.loop-word.invariant)
+    (c.in_ok-begin.ensures (take i init) (named_below init i d c.requires.ascending c.loop-word-test.true)
+    c.loop-word.invariant)
 
 pub returns-in-Some : goal.returns-in-Some
 unfolding IsVerdict
@@ -24,7 +25,8 @@ returns-in-Some c =
       (
         get_or entries number _,
         slice_get-get_or entries number _ c.loop-number-test.true,
-        c.in-Some.ensures _ (take number entries) (sym (length-take-le number entries (omega arith))) c.loop-number.invariant,
+        c.in-Some.ensures _ (take number entries) (sym (length-take-le number entries (omega arith)))
+            c.loop-number.invariant,
       ),
     )
 

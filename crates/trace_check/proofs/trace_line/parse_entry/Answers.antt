@@ -11,10 +11,14 @@ unfolding IsInRange
 returns-clause-written c =
     let words = c.in-Some.words in
     record {
-      written = entry_written _ words.core.now words.seq.now words.tag.now _ words.reply.now words.since.now _ c.in-Some.ensures.parts
-          c.in_ok-core.ensures.ok c.in_ok-seq.ensures.ok c.in_ok-tag.ensures.ok c.in_ok-op.ensures.written c.in_ok-reply.ensures.ok c.in_ok-since.ensures.ok;
+      written =
+          entry_written _ words.core.now words.seq.now words.tag.now _ words.reply.now words.since.now _
+          c.in-Some.ensures.parts
+          c.in_ok-core.ensures.ok c.in_ok-seq.ensures.ok c.in_ok-tag.ensures.ok c.in_ok-op.ensures.written
+          c.in_ok-reply.ensures.ok c.in_ok-since.ensures.ok;
       in_range = record {
-        op = (c.has_access.ensures c.in_ok-op.op c.in_ok-op.word.0 c.in_ok-op.ensures.written).0 c.if-not-has_access.false;
+        op = (c.has_access.ensures c.in_ok-op.op c.in_ok-op.word.0 c.in_ok-op.ensures.written).0
+            c.if-not-has_access.false;
         core = omega arith;
         tag = omega arith;
         word = omega arith;

@@ -12,4 +12,5 @@ returns-then-has c =
     (without-cleared c.self.inside.bits c.args.core.0 there below)
 
 pub returns-else-has : goal.returns-else-has
-returns-else-has c = rw c.self.view_is (sym (without-missing c.args.self c.args.core.0 (sym c.has.ensures ∙ c.if-has.false)))
+returns-else-has c =
+    rw c.self.view_is (sym (without-missing c.args.self c.args.core.0 (sym c.has.ensures ∙ c.if-has.false)))

@@ -6,5 +6,7 @@ use Rattle.address_map.proofs.words.InitialValues.is_ascending.Goals as goal
 
 pub returns : goal.returns
 returns c =
-    let by_word = c.is_sorted_by.ensures.cases (λ first next. nat_lt first.0.0 next.0.0) (answers_always _ _ _ (λ f a r g called. search rules)) in
+    let by_word =
+    c.is_sorted_by.ensures.cases (λ first next. nat_lt first.0.0 next.0.0)
+    (answers_always _ _ _ (λ f a r g called. search rules)) in
     rw (← c.as_slice.ensures) (test-from_is_sorted (λ x. x.0.0) c.as_slice.result.now c.is_sorted_by.result by_word)

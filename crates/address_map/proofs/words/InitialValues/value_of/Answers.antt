@@ -14,9 +14,11 @@ returns-in-Ok c =
 
 pub returns-in-Err : goal.returns-in-Err
 returns-in-Err c =
-    let by_word = c.in-Err.ensures.position (λ pair. pair.0.0) (answers_always _ _ _ (λ f a r g called. search rules)) in
+    let by_word =
+    c.in-Err.ensures.position (λ pair. pair.0.0) (answers_always _ _ _ (λ f a r g called. search rules)) in
     let missing =
-    find-searched (λ pair. pair.0.0) c.as_slice-pairs.result.now c.args.word.0 (record { 0 = 0 }, 0) (Err c.in-Err.field-0)
+    find-searched (λ pair. pair.0.0) c.as_slice-pairs.result.now c.args.word.0 (record { 0 = 0 }, 0)
+    (Err c.in-Err.field-0)
     (rw c.as_slice-pairs.ensures c.requires) c.in-Err.ensures.bound by_word
     in
     rw (← c.as_slice-pairs.ensures, missing) refl

@@ -7,7 +7,8 @@ pub returns-clause-some : goal.returns-clause-some
 returns-clause-some g c =
     λ test answers.
     some_read (record { sets = c.self.inside.sets.items; policy = c.self.inside.policy }) c.args.self.now c.args.line
-    c.set_index.result c.index.result.now test c.has_victim.result c.self.view_is c.self.invariant c.set_index.ensures.index c.index.ensures (c.has_victim.ensures test answers)
+    c.set_index.result c.index.result.now test c.has_victim.result c.self.view_is c.self.invariant
+    c.set_index.ensures.index c.index.ensures (c.has_victim.ensures test answers)
 
 pub returns-clause-none : goal.returns-clause-none
 returns-clause-none g c =

@@ -19,7 +19,8 @@ returns-in-Lru-clause-preferred c =
 
 pub returns-in-Random-clause-allowed : goal.returns-in-Random-clause-allowed
 returns-in-Random-clause-allowed c =
-    let choice : c.pick.result ≡ choice_of c.args.self.now c.args.allowed.now c.args.word = rw c.in-Random.is c.pick.ensures in
+    let choice : c.pick.result ≡ choice_of c.args.self.now c.args.allowed.now c.args.word =
+    rw c.in-Random.is c.pick.ensures in
     rw choice (choice_is_allowed c.args.self.now c.args.allowed.now c.args.word)
 
 pub returns-in-Random-clause-random : goal.returns-in-Random-clause-random

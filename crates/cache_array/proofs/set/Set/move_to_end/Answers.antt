@@ -5,4 +5,5 @@ pub returns : goal.returns
 returns g c =
     moved_set c.args.line (record { slots = c.self.inside.slots.items; ways = c.self.inside.ways })
     c.args.self.now c.deref_mut.result.now c.move_to_end.new.slots c.self.inside.slots.len c.args.place
-    c.self.inside.slots.ok.0 c.self.view_is c.deref_mut.ensures.value c.move_to_end.auto.slots c.requires c.move_to_end.ensures
+    c.self.inside.slots.ok.0 c.self.view_is c.deref_mut.ensures.value c.move_to_end.auto.slots c.requires
+    c.move_to_end.ensures

@@ -10,7 +10,9 @@ use Rattle.cache_array.proofs.set.Set.victim.Goals as goal
 pub index-requires : goal.index-requires
 index-requires g c =
     let allowed = subst (λ flags. IsAllowed flags c.choose.result) c.deref-2.ensures.0 c.choose.ensures.allowed in
-    let within = choice_within _ c.deref.result.now c.flags_of-flags.result.items c.choose.result c.in-Some.place c.flags_of-flags.ensures allowed c.in-Some.is in
+    let within =
+    choice_within _ c.deref.result.now c.flags_of-flags.result.items c.choose.result c.in-Some.place
+    c.flags_of-flags.ensures allowed c.in-Some.is in
     omega (arith, within, ap length c.deref.ensures.value, c.self.inside.slots.ok.0)
 
 pub returns : goal.returns
@@ -19,14 +21,27 @@ returns g c =
     let flags = c.deref-2.result.now in
     let choice = c.choose.ensures.choice in
     let slots = ap (λ (s : _). s.slots) c.self.view_is in
-    let asked = asked_as _ says (λ x y e. record { shown = e.shown; shows = e.shows; says = record { met = e.says.met } }) c.deref.result.now c.flags_of-flags.result.items c.flags_of-flags.ensures in
+    let asked =
+    asked_as _ says (λ x y e. record { shown = e.shown; shows = e.shows; says = record { met = e.says.met } })
+    c.deref.result.now c.flags_of-flags.result.items c.flags_of-flags.ensures in
     let within : c.in-Some.place < length c.self.inside.slots.items =
-    omega (arith, choice_within _ c.deref.result.now c.flags_of-flags.result.items c.choose.result c.in-Some.place c.flags_of-flags.ensures (subst (λ fs. IsAllowed fs c.choose.result) c.deref-2.ensures.0 c.choose.ensures.allowed) c.in-Some.is, ap length c.deref.ensures.value) in (
+    omega (
+      arith,
+      choice_within _ c.deref.result.now c.flags_of-flags.result.items c.choose.result c.in-Some.place
+          c.flags_of-flags.ensures
+          (subst (λ fs. IsAllowed fs c.choose.result) c.deref-2.ensures.0 c.choose.ensures.allowed)
+          c.in-Some.is,
+      ap length c.deref.ensures.value,
+    ) in (
       flags,
-      subst (λ all. AllZip says all flags) (c.deref.ensures.value ∙ slots) (subst (AllZip says c.deref.result.now) (sym c.deref-2.ensures.0) asked),
+      subst (λ all. AllZip says all flags) (c.deref.ensures.value ∙ slots)
+          (subst (AllZip says c.deref.result.now) (sym c.deref-2.ensures.0) asked),
       subst (IsAllowed flags) choice c.choose.ensures.allowed,
-      subst (λ chosen. IfSome chosen (IsPreferred (g.P.Policy.moves c.args.policy.now) (g.P.Policy.prefers c.args.policy.now) flags)) choice c.choose.ensures.preferred,
-      line_at c.self.inside.slots.items c.args.self.now.slots _ c.in-Some.place c.index.result.now slots within (sym choice ∙ c.in-Some.is) c.index.ensures,
+      subst (λ chosen.
+          IfSome chosen (IsPreferred (g.P.Policy.moves c.args.policy.now) (g.P.Policy.prefers c.args.policy.now) flags))
+          choice c.choose.ensures.preferred,
+      line_at c.self.inside.slots.items c.args.self.now.slots _ c.in-Some.place c.index.result.now slots within
+          (sym choice ∙ c.in-Some.is) c.index.ensures,
     )
 
 pub returns-in_default : goal.returns-in_default
@@ -35,10 +50,15 @@ returns-in_default g c =
     let flags = c.deref-2.result.now in
     let choice = c.choose.ensures.choice in
     let slots = ap (λ (s : _). s.slots) c.self.view_is in
-    let asked = asked_as _ says (λ x y e. record { shown = e.shown; shows = e.shows; says = record { met = e.says.met } }) c.deref.result.now c.flags_of-flags.result.items c.flags_of-flags.ensures in (
+    let asked =
+    asked_as _ says (λ x y e. record { shown = e.shown; shows = e.shows; says = record { met = e.says.met } })
+    c.deref.result.now c.flags_of-flags.result.items c.flags_of-flags.ensures in (
       flags,
-      subst (λ all. AllZip says all flags) (c.deref.ensures.value ∙ slots) (subst (AllZip says c.deref.result.now) (sym c.deref-2.ensures.0) asked),
+      subst (λ all. AllZip says all flags) (c.deref.ensures.value ∙ slots)
+          (subst (AllZip says c.deref.result.now) (sym c.deref-2.ensures.0) asked),
       subst (IsAllowed flags) choice c.choose.ensures.allowed,
-      subst (λ chosen. IfSome chosen (IsPreferred (g.P.Policy.moves c.args.policy.now) (g.P.Policy.prefers c.args.policy.now) flags)) choice c.choose.ensures.preferred,
+      subst (λ chosen.
+          IfSome chosen (IsPreferred (g.P.Policy.moves c.args.policy.now) (g.P.Policy.prefers c.args.policy.now) flags))
+          choice c.choose.ensures.preferred,
       ap (line_in c.args.self.now.slots) (sym c.in_default.is ∙ choice),
     )

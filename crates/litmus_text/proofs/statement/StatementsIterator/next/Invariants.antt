@@ -5,7 +5,8 @@ use Rattle.litmus_text.proofs.statement.StatementsIterator.next.Given as goal
 -- what was skipped was no statement
 abbrev pub invariant-loop-line : goal.invariant-loop-line
 invariant-loop-line l = record {
-  same : statements_from l.self-inside.number l.self-inside.lines ≡ statements_from l.initial.self-inside.number l.initial.self-inside.lines;
+  same : statements_from l.self-inside.number l.self-inside.lines
+      ≡ statements_from l.initial.self-inside.number l.initial.self-inside.lines;
   counted : l.self-inside.number + length l.self-inside.lines < 2 ^ 64;
 }
 

@@ -10,10 +10,7 @@ pub push-requires : goal.push-requires
 push-requires c = (
   omega arith,
   slot_room
-      c.args.self.now
-      (record { target = c.args.target; line = c.args.line })
-      c.requires.kept
-      c.requires.tag
+      c.args.self.now (record { target = c.args.target; line = c.args.line }) c.requires.kept c.requires.tag
       (free_at c.args.target.tag (waiting_in c.args.self.now) c.requires.free),
 )
 
@@ -43,10 +40,7 @@ step c =
       order = c.push.new.self;
     })
     (record { target = c.args.target; line = c.args.line })
-    c.requires.kept
-    c.requires.tag
-    (free_at c.args.target.tag (waiting_in c.args.self.now) c.requires.free)
-    refl
+    c.requires.kept c.requires.tag (free_at c.args.target.tag (waiting_in c.args.self.now) c.requires.free) refl
     (c.push.ensures.items
     ∙ ap (λ load. c.args.self.now.order.items ++
     (record { line = c.args.line; tag = c.args.target.tag; load = load }) ∷ []) c.is_load.ensures)
@@ -65,7 +59,8 @@ returns-clause-sound c =
     (waiting_in
     (record {
       entries =
-          slice_set c.args.self.now.entries c.args.target.tag (Some (record { target = c.args.target; line = c.args.line }));
+          slice_set c.args.self.now.entries c.args.target.tag
+          (Some (record { target = c.args.target; line = c.args.line }));
       order = c.push.new.self;
     }))
 

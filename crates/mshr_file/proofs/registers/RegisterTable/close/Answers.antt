@@ -10,7 +10,8 @@ same : (c : goal.After-self-3-1) →
     c.index_mut-register.result.now ≡ slice_index_or c.args.self.now.registers.items c.place_of-place.result no_register
 same c =
     c.index_mut-register.ensures.value
-    ∙ get_or_default c.args.self.now.registers.items c.place_of-place.result c.index_mut-register.result.now no_register c.place_of-place.ensures.inside
+    ∙ get_or_default c.args.self.now.registers.items c.place_of-place.result c.index_mut-register.result.now no_register
+    c.place_of-place.ensures.inside
 
 step : (c : goal.After-self-3-1) →
     IsTaken c.args.self.now.registers.items
@@ -18,35 +19,18 @@ step : (c : goal.After-self-3-1) →
     (record { targets = c.take_all-all.new.self; line = c.index_mut-register.result.now.line }))
     c.args.line.0 c.index_mut-register.result.now (c.take_all-all.result.items) c.take_all-all.new.self
 step c =
-    took
-    c.args.self.now.registers.items
-    c.place_of-place.result
-    c.args.line.0
-    c.index_mut-register.result.now
-    (c.take_all-all.result.items)
-    c.take_all-all.new.self
-    c.requires.kept.single
-    c.place_of-place.ensures.inside
-    (same c)
-    c.place_of-place.ensures.serves
+    took c.args.self.now.registers.items c.place_of-place.result c.args.line.0 c.index_mut-register.result.now
+    (c.take_all-all.result.items) c.take_all-all.new.self c.requires.kept.single c.place_of-place.ensures.inside
+    (same c) c.place_of-place.ensures.serves
     (sym c.take_all-all.ensures.taken
     ∙ sym (ap (λ rest. c.take_all-all.result.items ++ rest) c.take_all-all.ensures.left
     ∙ append-nil c.take_all-all.result.items))
 
 pub returns-clause-kept : goal.returns-clause-kept
 returns-clause-kept c =
-    kept_after
-    c.args.self.now
-    _
-    c.place_of-place.result
-    (record { targets = c.take_all-all.new.self; line = c.index_mut-register.result.now.line })
-    c.row-row.result
-    c.requires.kept
-    (step c).single
-    refl
-    refl
-    c.row-row.ensures.value
-    c.row-row.ensures.few
+    kept_after c.args.self.now _ c.place_of-place.result
+    (record { targets = c.take_all-all.new.self; line = c.index_mut-register.result.now.line }) c.row-row.result
+    c.requires.kept (step c).single refl refl c.row-row.ensures.value c.row-row.ensures.few
     (let count = (step c).count in
     let none = nothing_left c.take_all-all.new.self c.take_all-all.ensures.left in
     let counted = c.requires.kept.counted in

@@ -23,7 +23,8 @@ same : (c : goal.After-self-2-1) →
     c.index_mut-register.result.now ≡ slice_index_or c.args.self.now.registers.items c.place_of-place.result no_register
 same c =
     c.index_mut-register.ensures.value
-    ∙ get_or_default c.args.self.now.registers.items c.place_of-place.result c.index_mut-register.result.now no_register c.place_of-place.ensures.inside
+    ∙ get_or_default c.args.self.now.registers.items c.place_of-place.result c.index_mut-register.result.now no_register
+    c.place_of-place.ensures.inside
 
 step : (c : goal.After-self-2-1) →
     IsAdded c.args.self.now.registers.items
@@ -31,33 +32,15 @@ step : (c : goal.After-self-2-1) →
     (record { targets = c.push.new.self; line = c.index_mut-register.result.now.line }))
     c.args.line.0 c.args.target 0
 step c =
-    joined
-    c.args.self.now.registers.items
-    c.place_of-place.result
-    c.args.line.0
-    c.index_mut-register.result.now
-    c.args.target
-    c.push.new.self
-    c.requires.kept.single
-    c.place_of-place.ensures.inside
-    (same c)
-    c.place_of-place.ensures.serves
-    c.push.ensures
+    joined c.args.self.now.registers.items c.place_of-place.result c.args.line.0 c.index_mut-register.result.now
+    c.args.target c.push.new.self c.requires.kept.single c.place_of-place.ensures.inside (same c)
+    c.place_of-place.ensures.serves c.push.ensures
 
 pub returns-clause-kept : goal.returns-clause-kept
 returns-clause-kept c =
-    kept_after
-    c.args.self.now
-    _
-    c.place_of-place.result
-    (record { targets = c.push.new.self; line = c.index_mut-register.result.now.line })
-    c.row-row.result
-    c.requires.kept
-    (step c).single
-    refl
-    refl
-    c.row-row.ensures.value
-    c.row-row.ensures.few
+    kept_after c.args.self.now _ c.place_of-place.result
+    (record { targets = c.push.new.self; line = c.index_mut-register.result.now.line }) c.row-row.result c.requires.kept
+    (step c).single refl refl c.row-row.ensures.value c.row-row.ensures.few
     (let count = (step c).count in let counted = c.requires.kept.counted in omega (arith, count, counted))
 
 pub returns-clause-sound : goal.returns-clause-sound

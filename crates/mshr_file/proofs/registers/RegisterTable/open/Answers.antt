@@ -11,7 +11,8 @@ same : (c : goal.After-self-3-1) →
     ≡ slice_index_or c.args.self.now.registers.items c.free_place-place.result no_register
 same c =
     c.index_mut-register.ensures.value
-    ∙ get_or_default c.args.self.now.registers.items c.free_place-place.result c.index_mut-register.result.now no_register c.free_place-place.ensures.inside
+    ∙ get_or_default c.args.self.now.registers.items c.free_place-place.result c.index_mut-register.result.now
+    no_register c.free_place-place.ensures.inside
 
 step : (c : goal.After-self-3-1) →
     IsAdded c.args.self.now.registers.items
@@ -19,34 +20,14 @@ step : (c : goal.After-self-3-1) →
     (record { targets = c.push.new.self; line = c.args.line }))
     c.args.line.0 c.args.target 1
 step c =
-    opened
-    c.args.self.now.registers.items
-    c.free_place-place.result
-    c.args.line
-    c.index_mut-register.result.now
-    c.args.target
-    c.push.new.self
-    c.requires.kept.single
-    c.free_place-place.ensures.inside
-    (same c)
-    c.free_place-place.ensures.free
-    c.requires.unserved
-    c.push.ensures
+    opened c.args.self.now.registers.items c.free_place-place.result c.args.line c.index_mut-register.result.now
+    c.args.target c.push.new.self c.requires.kept.single c.free_place-place.ensures.inside (same c)
+    c.free_place-place.ensures.free c.requires.unserved c.push.ensures
 
 pub returns-clause-kept : goal.returns-clause-kept
 returns-clause-kept c =
-    kept_after
-    c.args.self.now
-    _
-    c.free_place-place.result
-    (record { targets = c.push.new.self; line = c.args.line })
-    c.row-row.result
-    c.requires.kept
-    (step c).single
-    refl
-    refl
-    c.row-row.ensures.value
-    c.row-row.ensures.few
+    kept_after c.args.self.now _ c.free_place-place.result (record { targets = c.push.new.self; line = c.args.line })
+    c.row-row.result c.requires.kept (step c).single refl refl c.row-row.ensures.value c.row-row.ensures.few
     (let count = (step c).count in let counted = c.requires.kept.counted in omega (arith, count, counted))
 
 pub returns-clause-sound : goal.returns-clause-sound

@@ -11,7 +11,8 @@ same : (c : goal.After-self-3-1) →
     c.index_mut-register.result.now ≡ slice_index_or c.args.self.now.registers.items c.place_of-place.result no_register
 same c =
     c.index_mut-register.ensures.value
-    ∙ get_or_default c.args.self.now.registers.items c.place_of-place.result c.index_mut-register.result.now no_register c.place_of-place.ensures.inside
+    ∙ get_or_default c.args.self.now.registers.items c.place_of-place.result c.index_mut-register.result.now no_register
+    c.place_of-place.ensures.inside
 
 step : (c : goal.After-self-3-1) →
     IsTaken c.args.self.now.registers.items
@@ -19,33 +20,15 @@ step : (c : goal.After-self-3-1) →
     (record { targets = c.take_first-first.new.self; line = c.index_mut-register.result.now.line }))
     c.args.line.0 c.index_mut-register.result.now (c.take_first-first.result ∷ []) c.take_first-first.new.self
 step c =
-    took
-    c.args.self.now.registers.items
-    c.place_of-place.result
-    c.args.line.0
-    c.index_mut-register.result.now
-    (c.take_first-first.result ∷ [])
-    c.take_first-first.new.self
-    c.requires.kept.single
-    c.place_of-place.ensures.inside
-    (same c)
-    c.place_of-place.ensures.serves
-    c.take_first-first.ensures
+    took c.args.self.now.registers.items c.place_of-place.result c.args.line.0 c.index_mut-register.result.now
+    (c.take_first-first.result ∷ []) c.take_first-first.new.self c.requires.kept.single c.place_of-place.ensures.inside
+    (same c) c.place_of-place.ensures.serves c.take_first-first.ensures
 
 pub returns-clause-kept : goal.returns-clause-kept
 returns-clause-kept c =
-    kept_after
-    c.args.self.now
-    _
-    c.place_of-place.result
-    (record { targets = c.take_first-first.new.self; line = c.index_mut-register.result.now.line })
-    c.row-row.result
-    c.requires.kept
-    (step c).single
-    refl
-    refl
-    c.row-row.ensures.value
-    c.row-row.ensures.few
+    kept_after c.args.self.now _ c.place_of-place.result
+    (record { targets = c.take_first-first.new.self; line = c.index_mut-register.result.now.line }) c.row-row.result
+    c.requires.kept (step c).single refl refl c.row-row.ensures.value c.row-row.ensures.few
     (let count = (step c).count in
     let counted = c.requires.kept.counted in
     let closed = c.from.ensures ∙ closed_one c.row-row.result

@@ -9,5 +9,6 @@ invariant-loop-word g l = record {
   few : length l.word-items ≤ 8;
   found :
       l.values.items
-      ≡ map (λ word. value (initially l.state.view.init word.0) l.state.view.log word.0) (take l.word-index l.word-items);
+      ≡ map (λ word. value (initially l.state.view.init word.0) l.state.view.log word.0)
+      (take l.word-index l.word-items);
 }

@@ -4,7 +4,8 @@ use Rattle.slice_core.proofs.state.SliceState.build.Goals as goal
 use Rattle.slice_core_machine.proofs.Beginning.{new_shows}
 
 pub invariant_of-result : goal.invariant_of-result
-invariant_of-result g c = sound-begins c.args.config.now _ c.args.slice c.in_ok-new.field-0 c.in_ok-new.ensures c.requires
+invariant_of-result g c =
+    sound-begins c.args.config.now _ c.args.slice c.in_ok-new.field-0 c.in_ok-new.ensures c.requires
 
 pub returns-clause-machine : goal.returns-clause-machine
 returns-clause-machine g c = new_shows c.args.config.now _ c.args.slice c.in_ok-new.field-0 c.in_ok-new.ensures

@@ -14,7 +14,8 @@ use Rattle.slice_core_plan.specs.Parts.{PartsView}
 -- the slice that the step leaves
 sound : (g : Over) (c : goal.After-deliver g) → IsSound c.deliver.new.self
 sound g c =
-    sound-delivery c.self.inside.parts c.self.invariant c.deliver.new.self c.args.pick c.deliver.result c.deliver.ensures
+    sound-delivery c.self.inside.parts c.self.invariant c.deliver.new.self c.args.pick c.deliver.result
+    c.deliver.ensures
 
 pub deliver-requires : goal.deliver-requires
 deliver-requires g c = can-deliver c.self.inside.parts c.self.invariant

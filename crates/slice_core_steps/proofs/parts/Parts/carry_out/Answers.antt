@@ -14,5 +14,6 @@ returns-in-Fill g c =
 pub returns-in-Ack : goal.returns-in-Ack
 returns-in-Ack g c =
     rw (c.in-Acknowledge.is, c.in-Ack.is)
-    (after_acknowledge c.args.self.now c.acknowledge.new.self c.args.local c.in-Ack.to c.in-Ack.from c.in-Acknowledge.place
+    (after_acknowledge c.args.self.now c.acknowledge.new.self c.args.local c.in-Ack.to c.in-Ack.from
+    c.in-Acknowledge.place
     c.in-Acknowledge.next c.acknowledge.ensures)

@@ -4,14 +4,18 @@ use Rattle.slice_core_steps.proofs.NextLaws.{line-there, plan-for_stuck, ring-be
 use Rattle.slice_core_steps.proofs.parts.Parts.find_next.Goals as goal
 
 pub loop-index-init : goal.loop-index-init
-loop-index-init g c =
-    (ring-begins _ _ c.self.inside.queues c.ring_len-index-end.ensures.ring (ap (λ (p : PartsView). p.view.channels) c.self.view_is), tt)
+loop-index-init g c = (
+  ring-begins _ _ c.self.inside.queues c.ring_len-index-end.ensures.ring
+      (ap (λ (p : PartsView). p.view.channels) c.self.view_is),
+  tt,
+)
 
 pub returns-in-Move-clause-next : goal.returns-in-Move-clause-next
 returns-in-Move-clause-next g c =
     let same = ap (λ (p : PartsView). p.view.channels) c.self.view_is in
     ring-moves c.args.self.now.view _ _ c.ring_at.result _ _
-    (line-there c.args.self.now.view c.self.inside.queues.channels.lines c.ring_at.result.0 c.requires.shaped same c.ring_at.ensures.there)
+    (line-there c.args.self.now.view c.self.inside.queues.channels.lines c.ring_at.result.0 c.requires.shaped same
+    c.ring_at.ensures.there)
     c.in-Move.is c.next_at-found.ensures.next
 
 pub loop-index-preserved : goal.loop-index-preserved
@@ -19,7 +23,8 @@ loop-index-preserved g c =
     let same = ap (λ (p : PartsView). p.view.channels) c.self.view_is in (
       ring-more_at _ _ _ _ _ c.self.inside.queues.ring c.loop-index.index c.ring_at.result
           (omega (arith, c.loop-index-test.true, c.ring_len-index-end.ensures.len)) c.ring_at.ensures.line
-          (line-there c.args.self.now.view c.self.inside.queues.channels.lines c.ring_at.result.0 c.requires.shaped same c.ring_at.ensures.there)
+          (line-there c.args.self.now.view c.self.inside.queues.channels.lines c.ring_at.result.0 c.requires.shaped same
+          c.ring_at.ensures.there)
           c.loop-index.invariant.0 c.next_at-found.ensures.next c.or-next.ensures,
       plan-for_stuck c.args.self.now.view _ _ _ c.loop-index.invariant.1 c.in_default.not-Move c.or-next.ensures,
     )

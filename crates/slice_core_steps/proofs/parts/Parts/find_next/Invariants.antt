@@ -5,4 +5,6 @@ use Rattle.slice_core_steps.specs.Found.{IsPlanFor}
 use Rattle.slice_core_steps.proofs.parts.Parts.find_next.Given as goal
 
 abbrev pub invariant-loop-index : goal.invariant-loop-index
-invariant-loop-index g l = IsNextSoFar l.self.view l.class l.next (drop l.index l.self-inside.queues.ring) × IsPlanFor l.self.view l.next plans.Nothing
+invariant-loop-index g l =
+    IsNextSoFar l.self.view l.class l.next (drop l.index l.self-inside.queues.ring)
+    × IsPlanFor l.self.view l.next plans.Nothing

@@ -1,7 +1,7 @@
-use Rattle.std.proofs.Common.{◌≡◌, ℕ, subst, ◌∙◌, ap, List}
+use Rattle.std.proofs.Common.{subst, List}
 use Rattle.std.specs.Prelude.{IsTrue, ◌↔◌, All}
 use Rattle.slice_core_plan.specs.Parts.{PartsView}
-use Rattle.slice_core_plan.specs.View.{channels_at, IsQuiet}
+use Rattle.slice_core_plan.specs.View.{IsQuiet}
 use Rattle.slice_core_side.specs.Side.{SideView, IsSideQuiet}
 use Rattle.slice_core_steps.proofs.Quiet.{quiet-by_cores, quiet-not}
 use Rattle.slice_core_steps.proofs.parts.Parts.is_quiet.Goals as goal
@@ -11,7 +11,8 @@ returns-then-is_empty g c =
     let P : PartsView → Type 0 = λ p. IsTrue c.are_quiet.result ↔ IsQuiet p.view in
     let Q : List SideView → Type 0 = λ sides. IsTrue c.are_quiet.result ↔ All IsSideQuiet sides in
     subst P c.self.view_is
-    (quiet-by_cores _ c.is_empty.result c.are_quiet.result c.if-is_empty.true c.is_empty.ensures.lines (subst Q c.deref.ensures.value c.are_quiet.ensures))
+    (quiet-by_cores _ c.is_empty.result c.are_quiet.result c.if-is_empty.true c.is_empty.ensures.lines
+    (subst Q c.deref.ensures.value c.are_quiet.ensures))
 
 pub returns-else-is_empty : goal.returns-else-is_empty
 returns-else-is_empty g c =

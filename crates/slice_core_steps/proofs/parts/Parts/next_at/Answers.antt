@@ -5,16 +5,21 @@ use Rattle.slice_core_steps.proofs.NextLaws.{next-begins_at, next-more_taken, ne
 use Rattle.slice_core_steps.proofs.parts.Parts.next_at.Goals as goal
 
 pub loop-next-init : goal.loop-next-init
-loop-next-init g c =
-    (next-begins_at _ _ _ _ _ (c.line.ensures ∙ ap (λ (p : PartsView). channels_at p.view c.args.local) c.self.view_is) c.waiting_in-waiting.ensures.once, tt)
+loop-next-init g c = (
+  next-begins_at _ _ _ _ _ (c.line.ensures ∙ ap (λ (p : PartsView). channels_at p.view c.args.local) c.self.view_is)
+      c.waiting_in-waiting.ensures.once,
+  tt,
+)
 
 pub returns-in-Move-clause-next : goal.returns-in-Move-clause-next
 returns-in-Move-clause-next g c =
-    next-moves _ _ _ _ _ _ _ _ _ _ c.loop-next.invariant.0 c.in-Some.ensures.first c.plan.ensures.planned c.of-one.ensures.next c.in-Move.is
+    next-moves _ _ _ _ _ _ _ _ _ _ c.loop-next.invariant.0 c.in-Some.ensures.first c.plan.ensures.planned
+    c.of-one.ensures.next c.in-Move.is
 
 pub loop-next-preserved : goal.loop-next-preserved
 loop-next-preserved g c = (
-  next-more_taken _ _ _ _ _ _ _ _ _ _ c.loop-next.invariant.0 c.in-Some.ensures.first c.in-Some.ensures.rest c.plan.ensures.planned
+  next-more_taken _ _ _ _ _ _ _ _ _ _ c.loop-next.invariant.0 c.in-Some.ensures.first c.in-Some.ensures.rest
+      c.plan.ensures.planned
       c.of-one.ensures.next c.or-next.ensures,
   plan-for_stuck c.args.self.now.view _ _ _ c.loop-next.invariant.1 c.in_default-next.not-Move c.or-next.ensures,
 )

@@ -5,7 +5,8 @@ use Rattle.slice_core_steps.specs.Found.{IsPlanFor}
 use Rattle.slice_core_steps.proofs.parts.Parts.next_at.Given as goal
 
 abbrev pub invariant-loop-next : goal.invariant-loop-next
-invariant-loop-next g l = IsNextOf l.self.view l.local l.fn.class l.next l.waiting × IsPlanFor l.self.view l.next plans.Nothing
+invariant-loop-next g l =
+    IsNextOf l.self.view l.local l.fn.class l.next l.waiting × IsPlanFor l.self.view l.next plans.Nothing
 
 abbrev pub decreases-loop-next : goal.decreases-loop-next
 decreases-loop-next g l = length l.waiting

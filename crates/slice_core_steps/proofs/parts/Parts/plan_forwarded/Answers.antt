@@ -17,6 +17,7 @@ returns-in-Go-3-clause-within g c =
     rw (← side) (cc (c.cache_row.ensures.table, c.look-look.ensures.state)) in (
       c.requires.core,
       stands_forwarded
-          (side_at c.args.self.now.view c.args.core) c.args.local c.in-Some.message.now c.in-Go-3.next c.in-Go-3.sends row,
+          (side_at c.args.self.now.view c.args.core) c.args.local c.in-Some.message.now c.in-Go-3.next c.in-Go-3.sends
+          row,
       rw (← line) (sym c.cache_room.ensures ∙ c.if-not-cache_room.false),
     )

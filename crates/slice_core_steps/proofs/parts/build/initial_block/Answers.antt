@@ -10,7 +10,8 @@ loop-offset-preserved c = record {
   size = length-set c.loop-offset.words c.loop-offset.offset c.initial_word.result ∙ c.loop-offset.invariant.size;
   so_far = words-more c.loop-offset.words c.loop-offset.offset c.initial_word.result
       (λ k. initial_value c.args.config.now.init (word_at c.args.lines c.args.local (record { 0 = k })))
-      (omega arith) c.loop-offset.invariant.so_far (c.initial_word.ensures ∙ ap (initial_value c.args.config.now.init) c.word_at.ensures.word);
+      (omega arith) c.loop-offset.invariant.so_far
+      (c.initial_word.ensures ∙ ap (initial_value c.args.config.now.init) c.word_at.ensures.word);
   fits = words-fit c.loop-offset.words c.loop-offset.offset c.initial_word.result (2 ^ 64) (omega arith)
       c.loop-offset.invariant.fits (omega arith);
 }

@@ -4,4 +4,5 @@ use Rattle.slice_core_steps.proofs.parts.build.new_entries.Goals as goal
 pub loop-local-preserved : goal.loop-local-preserved
 loop-local-preserved c =
     rw (c.in_ok-push.ensures.items, c.none.ensures)
-    (entries-more c.args.config.now c.args.lines c.loop-local.local c.loop-local.all.items c.initial_block.result c.loop-local.invariant c.initial_block.ensures)
+    (entries-more c.args.config.now c.args.lines c.loop-local.local c.loop-local.all.items c.initial_block.result
+    c.loop-local.invariant c.initial_block.ensures)

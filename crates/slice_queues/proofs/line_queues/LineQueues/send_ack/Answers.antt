@@ -26,10 +26,5 @@ returns-clause-sent c =
     rw
     (returns-clause-after c)
     (sends_only
-    c.args.self.now
-    (channels.Ack c.args.to c.args.from)
-    messages.InvAck
-    c.requires.there
-    c.requires.room
-    tt
+    c.args.self.now (channels.Ack c.args.to c.args.from) messages.InvAck c.requires.there c.requires.room tt
     (lt-ltb c.args.from.0 64 few))

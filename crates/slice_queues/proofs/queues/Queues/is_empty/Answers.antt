@@ -12,8 +12,10 @@ use Rattle.slice_queues.proofs.queues.Queues.is_empty.Goals as goal
 pub returns-then-has_mail-clause-lines : goal.returns-then-has_mail-clause-lines
 returns-then-has_mail-clause-lines c =
     let place = c.at-line.result.0 in
-    let P : QueuesView → Type 0 = λ queues. ((local : ℕ) → IsEmptyLine (at_local queues.channels local)) → IsTrue false in
-    let there : place < length c.self.inside.lines.items = omega (arith, c.at-line.ensures.there, c.self.invariant.ring_for_all) in
+    let P : QueuesView → Type 0 =
+    λ queues. ((local : ℕ) → IsEmptyLine (at_local queues.channels local)) → IsTrue false in
+    let there : place < length c.self.inside.lines.items =
+    omega (arith, c.at-line.ensures.there, c.self.invariant.ring_for_all) in
     let line : c.index.result.now ≡ get_or c.self.inside.lines.items place (empty_line 0) =
     c.index.ensures ∙ read_default c.self.inside.lines.items place c.index.result.now (empty_line 0) there in (
       (λ t. absurd (search rules)),
@@ -27,9 +29,12 @@ returns-then-has_mail-clause-lines c =
 
 pub returns-then-has_mail-clause-slice : goal.returns-then-has_mail-clause-slice
 returns-then-has_mail-clause-slice c =
-    let P : QueuesView → Type 0 = λ queues. (((local : ℕ) → IsEmptyLine (at_local queues.channels local)) → IsTrue false) → IsEmptySlice queues.channels → IsTrue false in (
+    let P : QueuesView → Type 0 =
+    λ queues. (((local : ℕ) → IsEmptyLine (at_local queues.channels local)) → IsTrue false) →
+    IsEmptySlice queues.channels → IsTrue false in (
       (λ t. absurd (search rules)),
-      subst P c.self.view_is (λ no_line empty. no_line (lines-from_IsEmptySlice _ c.self.invariant.machine.slice empty)) (returns-then-has_mail-clause-lines c).1,
+      subst P c.self.view_is (λ no_line empty. no_line (lines-from_IsEmptySlice _ c.self.invariant.machine.slice empty))
+          (returns-then-has_mail-clause-lines c).1,
     )
 
 -- no line in the ring has a message, and so none has

@@ -23,25 +23,11 @@ loop-turn-preserved c =
     omega (arith, ap (λ v. length v.ring) c.self.view_is, c.requires, c.loop-turn-test.true) in (
       ap (λ r. r.order) c.turn.ensures
           ∙ rotate-step
-          mail
-          c.self.inside.ring.order
-          now.ring.order
-          c.loop-turn.turn
-          c.has_mail-has_mail.result
-          within
-          c.loop-turn.invariant.0
-          says,
+          mail c.self.inside.ring.order now.ring.order c.loop-turn.turn c.has_mail-has_mail.result within
+          c.loop-turn.invariant.0 says,
       c.loop-turn.invariant.1,
       c.loop-turn.invariant.2,
       IsQueues-turn
-          now.lines.items
-          now.ring
-          _
-          now.locator
-          c.index.result.now
-          c.has_mail-has_mail.result
-          line
-          c.has_mail-has_mail.ensures
-          c.turn.ensures
-          queues,
+          now.lines.items now.ring _ now.locator c.index.result.now c.has_mail-has_mail.result line
+          c.has_mail-has_mail.ensures c.turn.ensures queues,
     )

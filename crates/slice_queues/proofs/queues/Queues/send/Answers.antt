@@ -6,10 +6,7 @@ returns-clause-sent c =
     rw
     (c.send.ensures.after, c.line_mut.ensures.value, c.place_of-local.ensures, c.channel.ensures, c.line.ensures)
     (sends_only_in
-    c.args.self.now.channels
-    c.args.pick
-    c.args.message
-    c.requires.there.0
+    c.args.self.now.channels c.args.pick c.args.message c.requires.there.0
     (rw
     (c.send.ensures.after, c.line_mut.ensures.value, c.place_of-local.ensures, c.channel.ensures, c.line.ensures)
     at c.send.ensures.sent))

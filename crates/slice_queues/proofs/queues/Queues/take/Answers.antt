@@ -10,11 +10,7 @@ returns-then-has_line-clause-rest c =
     rw
     (c.take_at.ensures.after, c.place_of.ensures, c.channel.ensures, c.line-then-has_line.ensures)
     (takes_only_in
-    _
-    _
-    _
-    there
-    (rw (c.place_of.ensures, c.channel.ensures, c.line-then-has_line.ensures) at c.take_at.ensures.rest))
+    _ _ _ there (rw (c.place_of.ensures, c.channel.ensures, c.line-then-has_line.ensures) at c.take_at.ensures.rest))
 
 pub returns-else-has_line-clause-taken : goal.returns-else-has_line-clause-taken
 returns-else-has_line-clause-taken c =

@@ -37,10 +37,7 @@ returns-then-not-index c =
     P
     c.self.view_is
     (listed-view
-    c.self.inside.order.items
-    c.self.inside.listed.items
-    c.args.local.0
-    c.self.inside.order.capacity
+    c.self.inside.order.items c.self.inside.listed.items c.args.local.0 c.self.inside.order.capacity
     c.push_back.new.self
     (pushed-items c.self.inside.order.items _ c.args.local.0 c.self.inside.order _ refl round c.push_back.ensures.items)
     apart_too)

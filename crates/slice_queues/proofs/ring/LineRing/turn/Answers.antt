@@ -31,22 +31,9 @@ returns-then-stays c =
     P
     c.self.view_is
     (turned-view
-    c.self.inside.order.items
-    (length c.self.inside.listed.items)
-    c.self.inside.order.capacity
-    c.in-Some.first
-    c.push_back.new.self
-    c.args.stays
-    front
+    c.self.inside.order.items (length c.self.inside.listed.items) c.self.inside.order.capacity c.in-Some.first
+    c.push_back.new.self c.args.stays front
     (turned-buffer
-    _
-    c.self.inside.listed.items
-    _
-    c.in-Some.first
-    _
-    _
-    front
-    c.self.invariant
-    c.pop_front.ensures.items
+    _ c.self.inside.listed.items _ c.in-Some.first _ _ front c.self.invariant c.pop_front.ensures.items
     c.push_back.ensures.items)
     c.if-stays.true)

@@ -8,7 +8,8 @@ returns-in-Some-clause-so_far c = λ initial entries count so_far.
 
 pub returns-in-Some-fault-clause-so_far : goal.returns-in-Some-fault-clause-so_far
 returns-in-Some-fault-clause-so_far c = λ initial entries count so_far.
-    step_wrong c.args.self.now.judge initial entries c.args.entry.now c.args.self.now.fault c.args.self.now.entries c.in-Some-fault.reason
+    step_wrong c.args.self.now.judge initial entries c.args.entry.now c.args.self.now.fault c.args.self.now.entries
+    c.in-Some-fault.reason
     c.in_default.is count so_far (c.in-Some-fault.ensures initial entries count)
 
 pub returns-in-None-clause-so_far : goal.returns-in-None-clause-so_far

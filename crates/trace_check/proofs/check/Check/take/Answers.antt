@@ -23,8 +23,10 @@ pub returns-in-Ok-Init-clause-reading : goal.returns-in-Ok-Init-clause-reading
 unfolding MayFollow
 returns-in-Ok-Init-clause-reading c =
     on_ok_weaker c.begin.result
-    (λ stands all left reading. reading-begin c.args.self.now _ all left _ c.in-Ok-Init.word c.in-Ok-Init.value c.begin.ensures.version
-    (rw c.in-Ok-Init.field-0-is at c.in-Ok-Init.ensures.follows) (rw (c.as_slice.ensures.value, c.in-Ok-Init.field-0-is) at c.in-Ok-Init.ensures.written) stands reading)
+    (λ stands all left reading. reading-begin c.args.self.now _ all left _ c.in-Ok-Init.word c.in-Ok-Init.value
+    c.begin.ensures.version
+    (rw c.in-Ok-Init.field-0-is at c.in-Ok-Init.ensures.follows)
+    (rw (c.as_slice.ensures.value, c.in-Ok-Init.field-0-is) at c.in-Ok-Init.ensures.written) stands reading)
     c.begin.ensures.stands
 
 pub returns-in-Ok-Entry-clause-reading : goal.returns-in-Ok-Entry-clause-reading

@@ -11,11 +11,14 @@ unreachable-requires c =
 
 pub returns-clause-advanced : goal.returns-clause-advanced
 returns-clause-advanced c =
-    with_state-written _ c.args.self.now c.args.line.0 c.in-Some.place c.args.state c.deref_mut.result.now _ c.self.view_is
+    with_state-written _ c.args.self.now c.args.line.0 c.in-Some.place c.args.state c.deref_mut.result.now _
+    c.self.view_is
     c.deref_mut.ensures.value c.place_of.ensures.sound (sym c.place_of.ensures.place ∙ c.in-Some.is)
 
 pub invariant_of-self : goal.invariant_of-self
-invariant_of-self c = IsBuffer-with_state c.args.self.now _ c.args.line.0 c.args.state c.place_of.ensures.sound (returns-clause-advanced c)
+invariant_of-self c =
+    IsBuffer-with_state c.args.self.now _ c.args.line.0 c.args.state c.place_of.ensures.sound
+    (returns-clause-advanced c)
 
 pub returns-clause-kept : goal.returns-clause-kept
 returns-clause-kept c = ChangesOnly-with_state c.args.self.now _ c.args.line.0 c.args.state (returns-clause-advanced c)

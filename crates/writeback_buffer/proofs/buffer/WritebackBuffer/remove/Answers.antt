@@ -3,7 +3,8 @@ use Rattle.writeback_buffer.proofs.BufferLaws.{ChangesOnly-without_line, IsBuffe
 use Rattle.writeback_buffer.proofs.buffer.WritebackBuffer.remove.Goals as goal
 
 pub returns-in_default-clause-taken : goal.returns-in_default-clause-taken
-returns-in_default-clause-taken c = sym (held-missing c.args.self.now c.args.line.0 (sym c.place_of.ensures.place ∙ c.in_default.is))
+returns-in_default-clause-taken c =
+    sym (held-missing c.args.self.now c.args.line.0 (sym c.place_of.ensures.place ∙ c.in_default.is))
 
 pub returns-in_default-clause-removed : goal.returns-in_default-clause-removed
 returns-in_default-clause-removed c =
@@ -28,7 +29,8 @@ returns-clause-removed c =
     c.remove.ensures.items c.place_of.ensures.sound (sym c.place_of.ensures.place ∙ c.in-Some.is)
 
 pub invariant_of-self : goal.invariant_of-self
-invariant_of-self c = IsBuffer-without_line c.args.self.now _ c.args.line.0 c.place_of.ensures.sound (returns-clause-removed c)
+invariant_of-self c =
+    IsBuffer-without_line c.args.self.now _ c.args.line.0 c.place_of.ensures.sound (returns-clause-removed c)
 
 pub returns-clause-absent : goal.returns-clause-absent
 returns-clause-absent c = ChangesOnly-without_line c.args.self.now _ c.args.line.0 (returns-clause-removed c)

@@ -158,7 +158,8 @@ fn settles_once_home<N: SliceNames, R: Wait>(
     let before = settled(rt, slice, &mut ports) == Some(5);
     let leaving = slice.evict(rt, &mut ports[0].port, LINE) == Evicted::Evicting;
     let put = settled(rt, slice, &mut ports).is_none() && moved(slice.deliver_next(rt, Class::Req));
-    let home = settled(rt, slice, &mut ports).is_none() && moved(slice.deliver_next(rt, Class::Fwd));
+    let home = settled(rt, slice, &mut ports).is_none()
+        && moved(slice.deliver_next(rt, Class::Fwd));
     let after = settled(rt, slice, &mut ports) == Some(5);
     pending && asked && filled && received && before && leaving && put && home && after
 }

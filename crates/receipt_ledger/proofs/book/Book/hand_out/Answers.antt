@@ -23,11 +23,13 @@ entry-is g c =
     ∙ get_or_from_slice_get log given.number given.entry given.entry step.2
 
 pub returns-in-Some-clause-port : goal.returns-in-Some-clause-port
-returns-in-Some-clause-port g c =
-    (record {
-      slice = c.give.ensures.slice;
-      core = ap (λ (e : Entry). e.core) (entry-is g c) ∙ c.in-Some.ensures.core ∙ c.core.ensures.core;
-    }, c.give.ensures.port)
+returns-in-Some-clause-port g c = (
+  record {
+    slice = c.give.ensures.slice;
+    core = ap (λ (e : Entry). e.core) (entry-is g c) ∙ c.in-Some.ensures.core ∙ c.core.ensures.core;
+  },
+  c.give.ensures.port,
+)
 
 pub returns-in-Some-clause-tied : goal.returns-in-Some-clause-tied
 returns-in-Some-clause-tied g c =

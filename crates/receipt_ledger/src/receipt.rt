@@ -5,9 +5,9 @@ use slice_core_log::Entry;
 /// A performed request in the hands of the core that made it.
 #[derive(Clone, Copy, Debug, PartialEq, Eq)]
 pub struct Receipt {
+    pub entry: Entry,
     /// Its place in the slice's log, from 0.
     pub number: u64,
-    pub entry: Entry,
     pub slice: SliceId,
 }
 

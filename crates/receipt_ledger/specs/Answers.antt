@@ -37,6 +37,11 @@ IsGenuine log r = slice_get log r.number ≡ Some r.entry
 abbrev pub IsLastOf : List Receipt → Receipt → Type 0
 IsLastOf receipts r = slice_get receipts (length receipts - 1) ≡ Some r
 
+-- The request wasn't done at once.
+abbrev pub IsUndone : Result Issue Refused → Type 0
+IsUndone (Ok (issues.Done number)) = ⊥
+IsUndone asked = Unit {0}
+
 -- The port's answer tells what the slice's does.
 abbrev pub Tells : Result Issue Refused → Result Answer Refused → Type 0
 Tells (Ok (issues.Done number)) (Ok (answers.Done r)) = r.number ≡ number

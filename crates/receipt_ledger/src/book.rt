@@ -51,10 +51,9 @@ impl<N: SliceNames> Book<N> {
         ensures genuine { IsGenuineAnswer state.new.view.log result }
         ensures tied { IsTied N.setup N.number self.new state.new }
     {
-        match self.ask(state, port, request)? {
-            Issue::Done(_) => Ok(Answer::Done(port.last())),
-            Issue::Pending(_) => Ok(Answer::Pending),
-            Issue::Stall(stall) => Ok(Answer::Stall(stall)),
+        match self.ask(state, port, request) {
+            Ok(Issue::Done(_)) => Ok(Answer::Done(port.last())),
+            undone => Answer::of_undone(undone),
         }
     }
 

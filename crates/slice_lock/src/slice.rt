@@ -64,8 +64,7 @@ impl<F: MissFile, N: SliceNames> Slice<F, N> {
         // The lock is free here: the receipt is copied from the port alone.
         match issue {
             Issue::Done(_) => Ok(Answer::Done(port.last())),
-            Issue::Pending(_) => Ok(Answer::Pending),
-            Issue::Stall(stall) => Ok(Answer::Stall(stall)),
+            undone => Answer::of_undone(Ok(undone)),
         }
     }
 

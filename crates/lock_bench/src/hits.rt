@@ -1,7 +1,8 @@
 ghost use Rattle.std.specs.Prelude.{◌≡◌, ◌<◌};
 ghost use Rattle.receipt_shares.specs.Names.{AreLedgersOf};
 
-use super::slices::{LOAD, MOST_DELIVERIES, configure};
+use super::requests::Hits;
+use super::slices::{MOST_DELIVERIES, configure};
 use address_map::{Checked, CoreId, SliceId};
 use mshr_file::ExplicitFile;
 use receipt_ledger::{Answer, Port};
@@ -18,7 +19,7 @@ use std::thread::Threads;
 
 const CORE: CoreId = CoreId(0);
 
-/// A load wasn't answered as a hit, or there was no memory for it.
+/// A request wasn't answered as a hit, or there was no memory for it.
 #[derive(Clone, Copy, Debug, PartialEq, Eq)]
 pub struct Fault;
 
@@ -34,29 +35,31 @@ impl From<Refused> for Fault {
     }
 }
 
-/// Makes so many loads that hit on a slice's state.
-pub fn hit_state(alloc: Global, loads: u64) -> Result<(), Fault> {
+/// Makes so many requests that hit on a slice's state.
+pub fn hit_state(alloc: Global, hits: Hits, requests: u64) -> Result<(), Fault> {
     let config = configure(alloc, 1).ok_or(Fault)?;
     let _slices = config.slices();
     let mut state = SliceState::<ExplicitFile>::build(alloc, &config, SliceId(0))?;
-    fetch_state(&mut state)?;
-    for _ in 0..loads {
+    for line in 0..hits.lines() {
+        fetch_state(&mut state, hits, line)?;
+    }
+    for number in 0..requests {
         if state.cores() == 0 {
             return Err(Fault);
         }
-        let Issue::Done(_) = state.issue(CORE, LOAD)? else {
+        let Issue::Done(_) = state.issue(CORE, hits.request(number))? else {
             return Err(Fault);
         };
     }
     Ok(())
 }
 
-/// Brings the line to the core.
-fn fetch_state(state: &mut SliceState<ExplicitFile>) -> Result<(), Fault> {
+/// Brings a line to the core.
+fn fetch_state(state: &mut SliceState<ExplicitFile>, hits: Hits, line: u64) -> Result<(), Fault> {
     if state.cores() == 0 {
         return Err(Fault);
     }
-    let _ = state.issue(CORE, LOAD)?;
+    let _ = state.issue(CORE, hits.fetch(line))?;
     for _ in 0..MOST_DELIVERIES {
         let _ = state.deliver_next(Class::Any);
     }
@@ -67,22 +70,23 @@ fn fetch_state(state: &mut SliceState<ExplicitFile>) -> Result<(), Fault> {
     Ok(())
 }
 
-/// Makes so many loads that hit on a slice behind its lock.
-pub fn hit_locked<R: AllocGlobal + Wait>(rt: &R, loads: u64) -> Result<(), Fault> {
+/// Makes so many requests that hit on a slice behind its lock.
+pub fn hit_locked<R: AllocGlobal + Wait>(rt: &R, hits: Hits, requests: u64) -> Result<(), Fault> {
     let config = configure(rt.alloc(), 1).ok_or(Fault)?;
     let _slices = config.slices();
     if config.cores() != 1 {
         return Err(Fault);
     }
     let blanks = Blanks::new(1);
-    named_locked::<Brand, R>(rt, &config, blanks, loads)
+    named_locked::<Brand, R>(rt, &config, blanks, hits, requests)
 }
 
 fn named_locked<N: SliceNames, R: AllocGlobal + Wait>(
     rt: &R,
     config: &Checked,
     blanks: Blanks,
-    loads: u64,
+    hits: Hits,
+    requests: u64,
 ) -> Result<(), Fault>
     requires slices { 0 < config.now.slices }
     requires setup { config.now ≡ N.setup }
@@ -92,11 +96,11 @@ fn named_locked<N: SliceNames, R: AllocGlobal + Wait>(
     let (slice, ports) = Slice::<ExplicitFile, N>::build(rt.alloc(), config, SliceId(0), blanks)?;
     let mut ports = ports;
     let mut port = ports.pop().ok_or(Fault)?;
-    fetch(rt, &slice, &mut port)?;
-    hit(rt, &slice, &mut port, loads)
+    fetch(rt, &slice, &mut port, hits)?;
+    hit(rt, &slice, &mut port, hits, requests)
 }
 
-/// Makes so many loads that hit by each of two threads on one slice.
+/// Makes so many loads of one word that hit by each of two threads on one slice.
 pub fn hit_shared<R: AllocGlobal + Threads + Wait + Sync>(rt: &R, loads: u64) -> Result<(), Fault> {
     let config = configure(rt.alloc(), 2).ok_or(Fault)?;
     let _slices = config.slices();
@@ -122,46 +126,58 @@ fn named_shared<N: SliceNames + Send + Sync, R: AllocGlobal + Threads + Wait + S
     let mut ports = ports;
     let mut second = ports.pop().ok_or(Fault)?;
     let mut first = ports.pop().ok_or(Fault)?;
-    fetch(rt, &slice, &mut first)?;
-    fetch(rt, &slice, &mut second)?;
+    fetch(rt, &slice, &mut first, Hits::Word)?;
+    fetch(rt, &slice, &mut second, Hits::Word)?;
     let (one, other) = thread::join(
         rt,
-        || hit(rt, &slice, &mut first, loads),
-        || hit(rt, &slice, &mut second, loads),
+        || hit(rt, &slice, &mut first, Hits::Word, loads),
+        || hit(rt, &slice, &mut second, Hits::Word, loads),
     );
     one?;
     other
 }
 
-/// Makes so many loads that hit by each of two threads on a slice of its own.
+/// Makes so many loads of one word that hit by each of two threads on a slice of its own.
 pub fn hit_apart<R: AllocGlobal + Threads + Wait + Sync>(rt: &R, loads: u64) -> Result<(), Fault> {
-    let (one, other) = thread::join(rt, || hit_locked(rt, loads), || hit_locked(rt, loads));
+    let (one, other) = thread::join(
+        rt,
+        || hit_locked(rt, Hits::Word, loads),
+        || hit_locked(rt, Hits::Word, loads),
+    );
     one?;
     other
 }
 
-/// Brings the line to the port's core.
+/// Brings the lines to the port's core.
 fn fetch<N: SliceNames, R: Wait>(
     rt: &R,
     slice: &Slice<ExplicitFile, N>,
     port: &mut Port<N>,
+    hits: Hits,
 ) -> Result<(), Fault> {
-    let _ = slice.issue(rt, port, LOAD)?;
+    for line in 0..hits.lines() {
+        let _ = slice.issue(rt, port, hits.fetch(line))?;
+        deliver_all(rt, slice);
+        slice.collect(rt, port).ok_or(Fault)?;
+    }
+    Ok(())
+}
+
+fn deliver_all<N: SliceNames, R: Wait>(rt: &R, slice: &Slice<ExplicitFile, N>) {
     for _ in 0..MOST_DELIVERIES {
         let _ = slice.deliver_next(rt, Class::Any);
     }
-    slice.collect(rt, port).ok_or(Fault)?;
-    Ok(())
 }
 
 fn hit<N: SliceNames, R: Wait>(
     rt: &R,
     slice: &Slice<ExplicitFile, N>,
     port: &mut Port<N>,
-    loads: u64,
+    hits: Hits,
+    requests: u64,
 ) -> Result<(), Fault> {
-    for _ in 0..loads {
-        let Answer::Done(_) = slice.issue(rt, port, LOAD)? else {
+    for number in 0..requests {
+        let Answer::Done(_) = slice.issue(rt, port, hits.request(number))? else {
             return Err(Fault);
         };
     }

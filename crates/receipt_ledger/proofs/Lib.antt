@@ -2,6 +2,7 @@ pub mod Booked
 pub mod Counts
 pub mod Gathered
 pub mod Issued
+pub mod Last
 pub mod Marks
 pub mod New
 pub mod Ports

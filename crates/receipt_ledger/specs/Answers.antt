@@ -1,12 +1,14 @@
 -- What a port's calls answer, and what they leave.
-use Rattle.std.specs.Prelude.{◌≡◌, ◌⊎◌, ◌<◌, ◌≤◌, List, length, slice_get, Option, Some, None, Result, Ok, Err}
+use Rattle.std.specs.Prelude.{◌≡◌, ◌⊎◌, ◌<◌, ◌≤◌, ◌-◌, ℕ, List, length, slice_get, Option, Some, None, Result, Ok, Err}
 use Rattle.std.specs.Option.{option_map}
 use Rattle.address_map.specs.declared.address.SliceId.{SliceId}
+use Rattle.address_map.specs.declared.address.WordAddr.{WordAddr}
 use Rattle.address_map.specs.declared.request.Request.{Request}
 use Rattle.receipt_ledger.specs.Port.{PortView, IsWithRoom, with_receipt, with_request}
 use Rattle.receipt_ledger.specs.declared.receipt.Answer.{Answer}
 use Rattle.receipt_ledger.specs.declared.receipt.Answer.TheVariants as answers
 use Rattle.receipt_ledger.specs.declared.receipt.Receipt.{Receipt}
+use Rattle.receipt_shares.specs.Totals.{Totals, only_handed, together}
 use Rattle.slice_core_answer.specs.declared.answer.Issue.{Issue}
 use Rattle.slice_core_answer.specs.declared.answer.Issue.TheVariants as issues
 use Rattle.slice_core_answer.specs.declared.answer.Refused.{Refused}
@@ -31,6 +33,15 @@ pub record IsReceiptFor (p : PortView) (request : Request) (r : Receipt) : Type 
 abbrev pub IsGenuine : List Entry → Receipt → Type 0
 IsGenuine log r = slice_get log r.number ≡ Some r.entry
 
+-- The receipt is the list's last.
+abbrev pub IsLastOf : List Receipt → Receipt → Type 0
+IsLastOf receipts r = slice_get receipts (length receipts - 1) ≡ Some r
+
+-- The request wasn't done at once.
+abbrev pub IsUndone : Result Issue Refused → Type 0
+IsUndone (Ok (issues.Done number)) = ⊥
+IsUndone asked = Unit {0}
+
 -- The port's answer tells what the slice's does.
 abbrev pub Tells : Result Issue Refused → Result Answer Refused → Type 0
 Tells (Ok (issues.Done number)) (Ok (answers.Done r)) = r.number ≡ number
@@ -45,6 +56,11 @@ AsksSlice old port request answer new =
     ((issue : Result Issue Refused) × AfterIssue old port.core request issue new × Tells issue answer)
     ⊎ ((answer ≡ Err refusals.Memory) × (new ≡ old))
 
+-- The slice was asked; or there was no room for a receipt, and nothing has changed.
+abbrev pub AsksFor : PartsView → PortView → Request → Result Issue Refused → PartsView → Type 0
+AsksFor old port request issue new =
+    AfterIssue old port.core request issue new ⊎ ((issue ≡ Err refusals.Memory) × (new ≡ old))
+
 -- What a port has after a request that was answered so: what is accepted is counted, and what is done at once is
 -- handed out.
 abbrev pub AfterRequest : PortView → Request → Result Answer Refused → PortView → Type 0
@@ -52,6 +68,14 @@ AfterRequest old request (Ok (answers.Done r)) new = IsReceiptFor old request r 
 AfterRequest old request (Ok answers.Pending) new = IsWithRoom (with_request old) new
 AfterRequest old request (Ok (answers.Stall stall)) new = IsWithRoom old new
 AfterRequest old request (Err refused) new = IsWithRoom old new
+
+-- The same by the slice's own answer.
+abbrev pub AfterAsking : PortView → Request → Result Issue Refused → PortView → Type 0
+AfterAsking old request (Ok (issues.Done number)) new =
+    (r : Receipt) × IsReceiptFor old request r × (r.number ≡ number) × IsWithRoom (with_receipt (with_request old) r) new
+AfterAsking old request (Ok (issues.Pending seq)) new = IsWithRoom (with_request old) new
+AfterAsking old request (Ok (issues.Stall stall)) new = IsWithRoom old new
+AfterAsking old request (Err refused) new = IsWithRoom old new
 
 -- the receipt of an entry with its number
 abbrev pub receipt_of : SliceId → Numbered → Receipt
@@ -72,3 +96,16 @@ AfterReply old None new = new ≡ old
 abbrev pub IsGenuineAnswer : List Entry → Result Answer Refused → Type 0
 IsGenuineAnswer log (Ok (answers.Done r)) = IsGenuine log r
 IsGenuineAnswer log answer = Unit {0}
+
+-- Where the slice did a request at once, the port's last receipt is genuine.
+abbrev pub IsGenuineLast : List Entry → Result Issue Refused → PortView → Type 0
+IsGenuineLast log (Ok (issues.Done number)) p = (r : Receipt) → IsLastOf p.receipts r → IsGenuine log r
+IsGenuineLast log issue p = Unit {0}
+
+-- The port got one more receipt, that of the log's entry of this number, and the totals count it.
+pub record IsGiven (counters : List WordAddr) (log : List Entry) (number : ℕ) (old new : PortView) (before after : Totals)
+    : Type 0 where
+  pub entry : Entry
+  pub there : slice_get log number ≡ Some entry
+  pub port : new ≡ with_receipt old (receipt_of old.slice (record { number = number; entry = entry }))
+  pub totals : after ≡ together before (only_handed counters entry)

@@ -1,9 +1,10 @@
 ghost use Rattle.std.specs.Prelude.{◌≡◌, ◌<◌, length, IfSome};
-ghost use Rattle.receipt_ledger.specs.Answers.{AfterReply, AfterRequest, AsksReply, AsksSlice, IsGenuine, IsGenuineAnswer};
+ghost use Rattle.receipt_ledger.specs.Answers.{AfterAsking, AfterReply, AfterRequest, AsksFor, AsksReply, AsksSlice};
+ghost use Rattle.receipt_ledger.specs.Answers.{IsGenuine, IsGenuineAnswer, IsGenuineLast, IsGiven};
 ghost use Rattle.receipt_ledger.specs.Booked.{IsTied};
-ghost use Rattle.receipt_ledger.specs.Port.{with_receipt, with_request};
+ghost use Rattle.receipt_ledger.specs.Port.{with_request};
 ghost use Rattle.receipt_shares.specs.Names.{counters_of};
-ghost use Rattle.receipt_shares.specs.Totals.{only_accepted, only_handed, together};
+ghost use Rattle.receipt_shares.specs.Totals.{only_accepted, together};
 
 use super::port::Port;
 use super::receipt::{Answer, Receipt};
@@ -50,19 +51,40 @@ impl<N: SliceNames> Book<N> {
         ensures genuine { IsGenuineAnswer state.new.view.log result }
         ensures tied { IsTied N.setup N.number self.new state.new }
     {
+        match self.ask(state, port, request) {
+            Ok(Issue::Done(_)) => Ok(Answer::Done(port.last())),
+            undone => Answer::of_undone(undone),
+        }
+    }
+
+    /// The same, with the slice's own answer. The receipt of what was done at once is the port's last: whoever has state
+    /// and book behind a lock may give it back before that is copied.
+    pub fn ask<F: MissFile>(
+        &mut self,
+        state: &mut SliceState<F>,
+        port: &mut Port<N>,
+        request: Request,
+    ) -> Result<Issue, Refused>
+        requires { IsTied N.setup N.number self.old state.old }
+        ensures slice { AsksFor state.old port.old request result state.new }
+        ensures port { AfterAsking port.old request result port.new }
+        ensures genuine { IsGenuineLast state.new.view.log result port.new }
+        ensures tied { IsTied N.setup N.number self.new state.new }
+    {
         let Ok(()) = port.make_room() else {
             return Err(Refused::Memory);
         };
         match state.issue(port.core(), request) {
             Ok(Issue::Done(number)) => {
                 self.count(port);
-                Ok(Answer::Done(self.give(state, port, number)))
+                self.give(state, port, number);
+                Ok(Issue::Done(number))
             }
-            Ok(Issue::Pending(_)) => {
+            Ok(Issue::Pending(seq)) => {
                 self.count(port);
-                Ok(Answer::Pending)
+                Ok(Issue::Pending(seq))
             }
-            Ok(Issue::Stall(stall)) => Ok(Answer::Stall(stall)),
+            Ok(Issue::Stall(stall)) => Ok(Issue::Stall(stall)),
             Err(refused) => Err(refused),
         }
     }
@@ -83,7 +105,10 @@ impl<N: SliceNames> Book<N> {
             return None;
         }
         match state.hand(port.core()) {
-            Some(given) => Some(self.give(state, port, given.number)),
+            Some(given) => {
+                self.give(state, port, given.number);
+                Some(port.last())
+            }
             None => None,
         }
     }
@@ -98,20 +123,11 @@ impl<N: SliceNames> Book<N> {
     }
 
     // Gives the port the receipt of an entry of the log, and counts it.
-    fn give<F: MissFile>(
-        &mut self,
-        state: &SliceState<F>,
-        port: &mut Port<N>,
-        number: u64,
-    ) -> Receipt
+    fn give<F: MissFile>(&mut self, state: &SliceState<F>, port: &mut Port<N>, number: u64)
         requires waiting { length port.old.receipts < port.old.accepted }
         requires within { number < length state.now.view.log }
-        ensures slice { result.slice ≡ port.old.slice }
-        ensures number { result.number ≡ number }
-        ensures genuine { IsGenuine state.now.view.log result }
-        ensures port { port.new ≡ with_receipt port.old result }
-        ensures book { self.new ≡ together self.old (only_handed (counters_of N.setup N.number) result.entry) }
+        ensures { IsGiven (counters_of N.setup N.number) state.now.view.log number port.old port.new self.old self.new }
     {
-        port.receive(&mut self.books, &self.counters, state.log(), number)
+        port.receive(&mut self.books, &self.counters, state.log(), number);
     }
 }

@@ -8,7 +8,7 @@
 //!
 //! - [`Book::open`] makes a slice, its book and a port for each core.
 //! - [`Book::accept`] asks the slice for a port. Its contract says that state and answer are those of the slice's own
-//!   call, and what the port has then.
+//!   call, and what the port has then. [`Book::ask`] leaves the receipt to be copied later, from the port ([`Port::last`]).
 //! - [`Book::hand_out`] hands out a reply, as the slice does.
 //! - [`Book::settle`] looks at a quiet slice with all its ports, each lent by whoever holds it ([`Lends`]): the ports
 //!   hold a receipt of each entry of the log, and the value of each counter is its initial value and the sum of what

@@ -1,8 +1,8 @@
 ghost use Rattle.std.specs.Prelude.{◌≡◌, ◌+◌, ◌<◌, ◌≤◌, true, false, length, slice_get, vec_capacity, vec_len, OnOk, Some};
-ghost use Rattle.receipt_ledger.specs.Answers.{IsGenuine};
-ghost use Rattle.receipt_ledger.specs.Port.{IsWithRoom, fresh_port, with_receipt, with_request};
+ghost use Rattle.receipt_ledger.specs.Answers.{IsGiven, IsLastOf};
+ghost use Rattle.receipt_ledger.specs.Port.{IsWithRoom, fresh_port, with_request};
 ghost use Rattle.receipt_shares.specs.Names.{AreCounters};
-ghost use Rattle.receipt_shares.specs.Totals.{nothing, only_accepted, only_handed, together};
+ghost use Rattle.receipt_shares.specs.Totals.{nothing, only_accepted, together};
 
 use super::receipt::Receipt;
 use address_map::{CoreId, SliceId, WordAddr};
@@ -126,26 +126,28 @@ impl<N: SliceNames> Port<N> {
         words: &[WordAddr],
         log: &[Entry],
         number: u64,
-    ) -> Receipt
+    )
         requires waiting { length self.old.receipts < self.old.accepted }
         requires words { AreCounters N.setup N.number words.now }
         requires within { number < length log.now }
-        ensures slice { result.slice ≡ self.old.slice }
-        ensures number { result.number ≡ number }
-        ensures genuine { IsGenuine log.now result }
-        ensures port { self.new ≡ with_receipt self.old result }
-        ensures books { books.new ≡ together books.old (only_handed words.now result.entry) }
+        ensures { IsGiven words.now log.now number self.old self.new books.old books.new }
     {
         let entry = entry_at(log, number);
         books.hand(&mut self.shares, words, entry);
-        let receipt = Receipt {
-            number,
-            entry: *entry,
-            slice: self.slice,
-        };
         self.seen = self.seen.max(after(log, number));
-        self.receipts.push_reserved(receipt);
-        receipt
+        self.receipts.push_reserved(Receipt {
+            entry: *entry,
+            number,
+            slice: self.slice,
+        });
+    }
+
+    /// The last of its receipts.
+    pub fn last(&self) -> Receipt
+        requires some { 0 < length self.now.receipts }
+        ensures { IsLastOf self.now.receipts result }
+    {
+        self.receipts[self.receipts.len() - 1]
     }
 }
 

@@ -1,13 +1,15 @@
+ghost use Rattle.receipt_ledger.specs.Answers.{IsUndone, Tells};
+
 use address_map::SliceId;
-use slice_core_answer::Stall;
+use slice_core_answer::{Issue, Refused, Stall};
 use slice_core_log::Entry;
 
 /// A performed request in the hands of the core that made it.
 #[derive(Clone, Copy, Debug, PartialEq, Eq)]
 pub struct Receipt {
+    pub entry: Entry,
     /// Its place in the slice's log, from 0.
     pub number: u64,
-    pub entry: Entry,
     pub slice: SliceId,
 }
 
@@ -20,4 +22,21 @@ pub enum Answer {
     Pending,
     /// It has to wait, and wasn't accepted.
     Stall(Stall),
+}
+
+impl Answer {
+    /// What is told of a request that wasn't done at once. It isn't inlined, so that whoever is told of one that was
+    /// prepares no room for these answers.
+    #[inline(never)]
+    pub fn of_undone(asked: Result<Issue, Refused>) -> Result<Answer, Refused>
+        requires { IsUndone asked }
+        ensures { Tells asked result }
+    {
+        match asked {
+            Ok(Issue::Done(_)) => unreachable!(),
+            Ok(Issue::Pending(_)) => Ok(Answer::Pending),
+            Ok(Issue::Stall(stall)) => Ok(Answer::Stall(stall)),
+            Err(refused) => Err(refused),
+        }
+    }
 }

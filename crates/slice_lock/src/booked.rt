@@ -1,5 +1,5 @@
 ghost use Rattle.std.specs.Prelude.{◌≡◌, ◌<◌, ◌↔◌, length, map, IfSome, IsSome, IsTrue};
-ghost use Rattle.receipt_ledger.specs.Answers.{AfterReply, AfterRequest, AsksReply, AsksSlice};
+ghost use Rattle.receipt_ledger.specs.Answers.{AfterAsking, AfterReply, AsksFor, AsksReply};
 ghost use Rattle.slice_core.specs.Facts.{IsNotBroken, IsNotBrokenNext};
 ghost use Rattle.slice_core_plan.specs.Parts.{AfterDeliverNext, AfterDelivery, AfterEvict};
 ghost use Rattle.slice_core_plan.specs.View.{IsQuiet};
@@ -9,10 +9,10 @@ ghost use Rattle.slice_lock.specs.Settled.{AreSettled};
 use address_map::{CoreId, LineAddr, Request};
 use arrayvec::ArrayVec;
 use mshr_file::MissFile;
-use receipt_ledger::{Answer, Book, Lends, Port, Receipt};
+use receipt_ledger::{Book, Lends, Port, Receipt};
 use receipt_shares::SliceNames;
 use slice_core::SliceState;
-use slice_core_answer::{Delivered, DeliveredNext, Evicted, Refused};
+use slice_core_answer::{Delivered, DeliveredNext, Evicted, Issue, Refused};
 use slice_queues_message::{Class, Pick};
 use std::marker::Model;
 
@@ -35,12 +35,12 @@ impl<F: MissFile, N: SliceNames> Model for Booked<F, N> {
 }
 
 impl<F: MissFile, N: SliceNames> Booked<F, N> {
-    /// Asks the slice for a word.
-    pub fn issue(&mut self, port: &mut Port<N>, request: Request) -> Result<Answer, Refused>
-        ensures slice { AsksSlice self.old.state port.old request result self.new.state }
-        ensures port { AfterRequest port.old request result port.new }
+    /// Asks the slice for a word. What was done at once is the port's last receipt.
+    pub fn ask(&mut self, port: &mut Port<N>, request: Request) -> Result<Issue, Refused>
+        ensures slice { AsksFor self.old.state port.old request result self.new.state }
+        ensures port { AfterAsking port.old request result port.new }
     {
-        self.book.accept(&mut self.state, port, request)
+        self.book.ask(&mut self.state, port, request)
     }
 
     /// Hands out a reply.

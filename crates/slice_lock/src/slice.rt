@@ -13,7 +13,7 @@ use mshr_file::MissFile;
 use receipt_ledger::{Answer, Book, Lends, Port, Receipt};
 use receipt_shares::{Blanks, SliceNames};
 use slice_core::SliceState;
-use slice_core_answer::{Delivered, DeliveredNext, Evicted, Refused};
+use slice_core_answer::{Delivered, DeliveredNext, Evicted, Issue, Refused};
 use slice_queues_message::{Class, Pick};
 use std::alloc::{AllocError, Global};
 use std::sync::{Mutex, MutexGuard, Wait};
@@ -60,7 +60,12 @@ impl<F: MissFile, N: SliceNames> Slice<F, N> {
     ) -> Result<Answer, Refused>
         ensures { AfterRequest port.old request result port.new }
     {
-        self.booked.lock(rt).issue(port, request)
+        let issue = self.booked.lock(rt).ask(port, request)?;
+        // The lock is free here: the receipt is copied from the port alone.
+        match issue {
+            Issue::Done(_) => Ok(Answer::Done(port.last())),
+            undone => Answer::of_undone(Ok(undone)),
+        }
     }
 
     /// Hands out the reply of the least number that waits for the port's core, if any does.

@@ -1,0 +1,74 @@
+use Rattle.std.proofs.Common.{ap, refl, subst, sym, ◌∙◌}
+use Rattle.receipt_ledger.proofs.Ports.{with-room}
+use Rattle.receipt_ledger.proofs.Tied.{done-last, done-tied, pending-tied, same-tied}
+use Rattle.receipt_ledger.specs.Answers.{receipt_of}
+use Rattle.receipt_ledger.specs.Booked.{IsTied}
+use Rattle.receipt_ledger.specs.Port.{PortView, with_receipt, with_request}
+use Rattle.receipt_ledger.specs.declared.receipt.Receipt.{Receipt}
+use Rattle.receipt_shares.specs.Names.{counters_of}
+use Rattle.receipt_shares.specs.Totals.{only_handed, together}
+use Rattle.slice_core_log.specs.declared.entry.Entry.{Entry}
+use Rattle.receipt_ledger.proofs.book.Book.ask.Given.{Over}
+use Rattle.receipt_ledger.proofs.book.Book.ask.Goals as goal
+
+-- the receipt that is given at once
+abbrev given : (g : Over) (c : goal.After-give g) → Receipt
+given g c =
+    receipt_of c.args.port.now.slice (record { number = c.in-Ok-Done.number; entry = c.give.ensures.entry })
+
+pub returns-in-Ok-Done-clause-port : goal.returns-in-Ok-Done-clause-port
+returns-in-Ok-Done-clause-port g c =
+    let told = rw c.in-Ok-Done.field-0-is at c.in-Ok-Done.ensures in
+    let last =
+    done-last c.args.state.now c.issue.new.self c.core.result c.args.request c.in-Ok-Done.number told.step told.machine in
+    let is = last.is c.give.ensures.entry c.give.ensures.there in
+    let same = c.make_room.ensures.same in (
+      given g c,
+      record {
+        of = record {
+          slice = refl;
+          core = ap (λ (e : Entry). e.core) is ∙ c.core.ensures.core ∙ ap (λ (p : PortView). p.core) same;
+        };
+        tag = ap (λ (e : Entry). e.tag) is;
+        word = ap (λ (e : Entry). e.word) is;
+        op = ap (λ (e : Entry). e.op) is;
+      },
+      refl,
+      with-room (with_receipt (with_request c.args.port.now) (given g c)) c.give.new.port c.make_room.new.self.room
+          (c.give.ensures.port
+          ∙ ap (λ p. with_receipt p (receipt_of p.slice (record { number = c.in-Ok-Done.number; entry = c.give.ensures.entry })))
+          (c.count.ensures.port ∙ ap with_request same)),
+    )
+
+pub returns-in-Ok-Done-clause-tied : goal.returns-in-Ok-Done-clause-tied
+returns-in-Ok-Done-clause-tied g c =
+    let setup = g.N.SliceNames.setup in
+    let number = g.N.SliceNames.number in
+    let new = c.issue.new.self in
+    let told = rw c.in-Ok-Done.field-0-is at c.in-Ok-Done.ensures in
+    subst (λ t. IsTied setup number t new)
+    (sym (c.give.ensures.totals
+    ∙ ap (λ t. together t (only_handed (counters_of setup number) c.give.ensures.entry)) c.count.ensures.book))
+    (done-tied setup number c.args.self.now c.args.state.now new c.requires c.core.result c.args.request
+    c.in-Ok-Done.number c.give.ensures.entry told.step told.same told.machine c.give.ensures.there)
+
+pub returns-in-Ok-Pending-clause-tied : goal.returns-in-Ok-Pending-clause-tied
+returns-in-Ok-Pending-clause-tied g c =
+    let setup = g.N.SliceNames.setup in
+    let number = g.N.SliceNames.number in
+    let new = c.issue.new.self in
+    let told = rw c.in-Ok-Pending.field-0-is at c.in-Ok-Pending.ensures in
+    subst (λ t. IsTied setup number t new) (sym c.count-in-Ok-Pending.ensures.book)
+    (pending-tied setup number c.args.self.now c.args.state.now new c.requires c.core.result c.args.request
+    c.in-Ok-Pending.seq told.step told.same told.machine)
+
+pub returns-in-Ok-Stall-clause-tied : goal.returns-in-Ok-Stall-clause-tied
+returns-in-Ok-Stall-clause-tied g c =
+    let told = rw c.in-Ok-Stall.field-0-is at c.in-Ok-Stall.ensures in
+    same-tied g.N.SliceNames.setup g.N.SliceNames.number c.args.self.now c.args.state.now c.issue.new.self c.requires
+    told.same told.machine
+
+pub returns-in-Err-clause-tied : goal.returns-in-Err-clause-tied
+returns-in-Err-clause-tied g c =
+    same-tied g.N.SliceNames.setup g.N.SliceNames.number c.args.self.now c.args.state.now c.issue.new.self c.requires
+    c.in-Err.ensures.same c.in-Err.ensures.machine

@@ -1,5 +1,5 @@
 -- What a core's calls answer, and what they leave.
-use Rattle.std.specs.Prelude.{◌≡◌, ℕ, ◌+◌, ◌<◌, ◌%◌, nat_lt, if◌then◌else◌, Option, Some, None, Result, Ok, Err, MatchOption}
+use Rattle.std.specs.Prelude.{◌≡◌, ℕ, ◌+◌, ◌<◌, ◌%◌, nat_le, if◌then◌else◌, Option, Some, None, Result, Ok, Err, MatchOption}
 use Rattle.address_map.specs.Config.{word_count}
 use Rattle.address_map.specs.CoreSet.{has, with, without}
 use Rattle.address_map.specs.Place.{line_of, slice_of}
@@ -13,15 +13,13 @@ use Rattle.receipt_ledger.specs.declared.receipt.Receipt.{Receipt}
 use Rattle.slice_core_answer.specs.declared.answer.Refused.{Refused}
 use Rattle.slice_core_answer.specs.declared.answer.Refused.TheVariants as refusals
 
--- Why the core itself refuses a request, whichever tags of it are in flight: the first of these in this order.
+-- Why the core itself refuses a request while these tags are in flight: the first of these reasons, in this order.
 unfoldable pub refusal_of : Config → ℕ → Request → Option Refused
 refusal_of c tags request =
-    if nat_lt request.word.0 (word_count c)
-    then
-    (if nat_lt request.tag 64
-    then (if has tags request.tag then Some refusals.TagBusy else None)
-    else Some refusals.TagRange)
-    else Some refusals.OutOfRange
+    if nat_le (word_count c) request.word.0 then Some refusals.OutOfRange
+    else if nat_le 64 request.tag then Some refusals.TagRange
+    else if has tags request.tag then Some refusals.TagBusy
+    else None
 
 -- A tag is in flight from the moment at which its request has to wait.
 abbrev pub tags_after : ℕ → Request → Result Answer Refused → ℕ
@@ -29,14 +27,16 @@ tags_after tags request (Ok answers.Pending) = with tags request.tag
 tags_after tags request answer = tags
 
 -- The slice of this number was asked, through the core's port of it, and no other port has changed.
-pub record AfterAsking (slice : ℕ) (old : CoreView) (request : Request) (answer : Result Answer Refused) (new : CoreView) : Type 0 where
+pub record AfterAsking (slice : ℕ) (old : CoreView) (request : Request) (answer : Result Answer Refused)
+    (new : CoreView) : Type 0 where
   pub port : AfterRequest (port_at old slice) request answer (port_at new slice)
   pub others : new ≡ record (with_port old slice (port_at new slice)) { tags = tags_after old.tags request answer }
 
 -- The core refuses the request, and nothing has changed; or it asks the slice that has the word.
 abbrev pub AfterIssue : Config → CoreView → Request → Result Answer Refused → CoreView → Type 0
 AfterIssue c old request answer new =
-    MatchOption (refusal_of c old.tags request) (AfterAsking (slice_of c (line_of request.word)).0 old request answer new)
+    MatchOption (refusal_of c old.tags request)
+    (AfterAsking (slice_of c (line_of request.word)).0 old request answer new)
     (λ refused. (answer ≡ Err refused) × (new ≡ old))
 
 -- A reply was handed out: it is the receipt's slice whose port has one more receipt, the receipt's tag is no longer in

@@ -5,6 +5,7 @@ ghost use Rattle.receipt_ledger.specs.Answers.{AfterReply, AfterRequest};
 ghost use Rattle.slice_core.specs.Facts.{IsNotBrokenNext};
 ghost use Rattle.slice_core_answer.specs.declared.answer.Evicted.TheVariants.{NotHeld};
 
+use super::look::SystemLook;
 use super::names::SystemNames;
 use super::port_set::PortSet;
 use super::system::System;
@@ -244,6 +245,14 @@ impl<'a, F: MissFile, M: SystemNames> Core<'a, F, M> {
         ensures { IsNotBrokenNext result }
     {
         self.system.deliver_next(rt, slice, class)
+    }
+
+    /// Takes a slice's lock for a look at its state, and keeps it until the look is dropped.
+    pub fn look<'l, R: Wait>(&'l self, rt: &R, slice: SliceId) -> SystemLook<'l, F, M>
+        requires { slice.0 < M.setup.slices }
+        ensures { result ≡ slice }
+    {
+        self.system.look(rt, slice)
     }
 
     /// Takes the next reply, and then makes one delivery in each slice.

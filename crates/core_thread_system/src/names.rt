@@ -19,8 +19,10 @@ pub trait SystemNames {
 
     type S3: SliceNames;
 
+    /// The slices have the numbers 0 to 3.
     ghost numbers: { (Self.S0.number ≡ 0) × (Self.S1.number ≡ 1) × (Self.S2.number ≡ 2) × (Self.S3.number ≡ 3) };
 
+    /// They are slices of this machine.
     ghost setups: { (Self.S0.setup ≡ setup) × (Self.S1.setup ≡ setup) × (Self.S2.setup ≡ setup) × (Self.S3.setup ≡ setup) };
 }
 

@@ -172,7 +172,8 @@ impl<F: MissFile, M: SystemNames> System<F, M> {
         at_slice!(self, slice, |at| at.deliver_next(rt, class))
     }
 
-    /// Whether in a slice no message is in flight, no miss register is held, no line leaves and each reply is handed out.
+    /// Whether in a slice no message is in flight, no miss register is held, no line leaves and each reply is handed
+    /// out.
     pub fn quiet<R: Wait>(&self, rt: &R, slice: SliceId) -> bool
         requires { slice.0 < M.setup.slices }
     {

@@ -1,5 +1,5 @@
-//! Lets two cores share a machine of two slices, in one thread. Both add to a counter of each slice, take turns until all
-//! replies are handed out, and then each slice is settled with both cores.
+//! Lets two cores share a machine of two slices, in one thread. Both add to a counter of each slice and take turns until
+//! all replies are handed out, and then each slice is settled with both cores.
 //!
 //! It prints a line, and ends with status 1 where an answer isn't the one wanted.
 #![tactic(auto)]

@@ -57,7 +57,8 @@ fn cores_of<'a, M: SystemNames>(
     Ok(cores)
 }
 
-/// Makes all cores ask, and lets them take turns until all is handed out. Answers whether each answer is the one wanted.
+/// Makes all cores ask, and lets them take turns until all is handed out. Answers whether each answer is the one
+/// wanted.
 fn play<M: SystemNames, R: Wait>(rt: &R, cores: &mut [Core<'_, ExplicitFile, M>]) -> bool {
     let mut wanted = true;
     for core in &mut *cores {

@@ -6,7 +6,8 @@
 //! ports hold together is what the slice accepted and handed out: no request is lost, doubled or made up, and no sum of
 //! a counter is off.
 //!
-//! - [`Book::open`] makes a slice, its book and a port for each core.
+//! - [`Book::open`] makes a slice, its book and a port for each core; [`Port::idle_ports`] makes ports for a slice that
+//!   isn't there.
 //! - [`Book::accept`] asks the slice for a port. Its contract says that state and answer are those of the slice's own
 //!   call, and what the port has then. [`Book::ask`] leaves the receipt to be copied later, from the port ([`Port::last`]).
 //! - [`Book::hand_out`] hands out a reply, as the slice does.
@@ -26,6 +27,7 @@ pub use receipt::{Answer, Receipt};
 
 mod book;
 mod gather;
+mod idle;
 mod lends;
 mod open;
 mod port;

@@ -57,7 +57,7 @@ fn counters_of_slice(
 }
 
 // A port for each core, each with one part of a share that has all.
-fn cut_ports<N: SliceNames>(
+pub(crate) fn cut_ports<N: SliceNames>(
     alloc: Global,
     cores: usize,
     slice: SliceId,

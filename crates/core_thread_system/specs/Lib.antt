@@ -1,0 +1,4 @@
+pub mod Answers
+pub mod Core
+pub mod Error
+pub mod System

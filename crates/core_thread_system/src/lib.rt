@@ -1,0 +1,37 @@
+//! A machine of several slices that threads share, and the cores that ask it.
+//!
+//! A [`System`] has each slice of the configured machine behind a lock of its own (`slice_lock`). [`System::build`]
+//! makes it, and for each core a [`PortSet`]: its port of each slice, of which there are always four. A [`Core`] is such
+//! a set in the hands of one thread, with the system that it asks. It knows the slice of each word, and which of its
+//! tags are in flight.
+//!
+//! - [`Core::issue`] asks the word's slice. A word past the memory, a tag above 63 and a tag in flight are refused by
+//!   the core itself.
+//! - [`Core::collect`] takes the next reply, from whichever slice has one; [`Core::turn`] moves messages on besides.
+//! - [`Core::settle`] settles a slice with the ports that all cores lend.
+//! - [`System::look`] keeps a slice's lock for a look at its state.
+//!
+//! A contract sees a core as a `CoreView` (`specs/Core.antt`): its four ports, its tags and the slice that it asks
+//! first. `specs/Answers.antt` says what each call leaves of it. Of which machine all this is, the type says: a
+//! [`SystemNames`], which whoever builds a system gets from [`SystemKeys`] by picking the configuration and the names of
+//! the ledgers.
+#![tactic(auto)]
+
+pub use blanks::SystemBlanks;
+pub use cores::Core;
+pub use error::BuildError;
+pub use look::SystemLook;
+pub use names::{All, Nth, SystemKeys, SystemNames};
+pub use port_set::PortSet;
+pub use system::System;
+
+mod blanks;
+mod cores;
+mod error;
+mod lends;
+mod look;
+mod names;
+mod port_set;
+mod settle;
+mod system;
+mod tags;

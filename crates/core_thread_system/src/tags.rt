@@ -1,0 +1,27 @@
+ghost use Rattle.std.specs.Prelude.{◌≡◌};
+ghost use Rattle.address_map.specs.CoreSet.{has, with, without};
+
+use address_map::{CoreId, CoreSet};
+
+// A set of tags is kept in 64 bits as a set of cores is: both have the members 0 to 63.
+
+/// Whether the tag is among these.
+pub(crate) const fn has_tag(tags: u64, tag: u8) -> bool
+    ensures { result ≡ has tags tag }
+{
+    CoreSet::from_bits(tags).has(CoreId(tag))
+}
+
+/// These tags and one more.
+pub(crate) const fn with_tag(tags: u64, tag: u8) -> u64
+    ensures { result ≡ with tags tag }
+{
+    CoreSet::from_bits(tags).with(CoreId(tag)).bits()
+}
+
+/// These tags but one.
+pub(crate) const fn without_tag(tags: u64, tag: u8) -> u64
+    ensures { result ≡ without tags tag }
+{
+    CoreSet::from_bits(tags).without(CoreId(tag)).bits()
+}

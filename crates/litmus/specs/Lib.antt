@@ -1,4 +1,1 @@
-pub mod Machine
-pub mod CommandLine
 pub mod Check
-pub mod Chart

@@ -1,7 +1,7 @@
 ghost use Rattle.std.specs.Prelude.{IfOk};
 ghost use Rattle.litmus.specs.Check.{IsChecked};
 
-use super::answers::Answers;
+use litmus_script::Answers;
 use litmus_text::TextFault;
 use std::alloc::Global;
 use std::fmt::Write as _;

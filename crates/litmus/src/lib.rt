@@ -1,29 +1,18 @@
-//! Runs the texts that drive the machine, and reads the program's command line.
+//! What the program `lockup` does: it reads its command line, and runs the texts that this names.
 //!
-//! - [`run_script`] runs a script line by line on one slice's state for each slice, without threads. It writes each
-//!   answer as it comes, and keeps nothing of it: a call takes memory for the machine, for the log's growth and for a
-//!   report's text alone. What plays a script's commands is a `Player` (`player.rt`): the machine, or another on it.
-//! - [`run_chart`] draws a script's run as a sequence diagram, on two machines that are one call apart.
+//! - [`read_line`] reads what the program's own words ask for.
+//! - [`run_script`] runs a script, and [`run_chart`] draws its run as a sequence diagram.
 //! - [`run_check`] judges a trace, and writes what it comes to.
 //! - [`run_table`] prints a table of the protocol.
-//! - [`read_line`] reads what the program's own words ask for.
+//!
+//! Each part but the last two is a crate of its own.
 #![tactic(auto)]
 
-pub use chart::run_chart;
 pub use check::run_check;
-pub use command_line::{CommandLine, read_line};
-pub use script::run_script;
-pub use table::{Table, run_table};
+pub use litmus_chart::run_chart;
+pub use litmus_command_line::{CommandLine, Table, read_line};
+pub use litmus_script::run_script;
+pub use table::run_table;
 
-mod answers;
-mod chart;
 mod check;
-mod command_line;
-mod echo;
-mod line;
-mod machine;
-mod player;
-mod script;
 mod table;
-mod trace;
-mod watcher;

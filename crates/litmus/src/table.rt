@@ -1,18 +1,10 @@
 ghost use Rattle.std.specs.Prelude.{◌≡◌, IfOk};
 
-use super::answers::Answers;
+use litmus_command_line::Table;
+use litmus_script::Answers;
 use litmus_text::TextFault;
 use protocol_tables::{write_cache_table, write_directory_table};
 use std::io::Write;
-
-/// A table of the protocol.
-#[derive(Clone, Copy, Debug, PartialEq, Eq)]
-pub enum Table {
-    /// Of a private cache.
-    Cache,
-    /// Of a slice's directory.
-    Directory,
-}
 
 /// Prints a table, with what the exclusive state adds to it or without that. Answers the exit status.
 pub fn run_table<W: Write>(table: Table, exclusive: bool, out: &mut W) -> Result<u8, TextFault>

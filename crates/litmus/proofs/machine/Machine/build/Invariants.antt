@@ -1,9 +1,0 @@
-use Rattle.std.proofs.Common.{◌≡◌, length}
-use Rattle.litmus.specs.Machine.{AreSlicesOf}
-use Rattle.litmus.proofs.machine.Machine.build.Given as goal
-
-abbrev pub invariant-loop-slice : goal.invariant-loop-slice
-invariant-loop-slice g l = record {
-  count : length l.slices.items ≡ l.slice;
-  each : AreSlicesOf l.fn.config l.slices.items;
-}

@@ -1,0 +1,79 @@
+-- Who takes part in a chart, and what its arrows say.
+use Rattle.std.specs.Prelude.{ℕ, List, ◌++◌, codes, decimal, Option, Some, None}
+use Rattle.address_map.specs.declared.address.CoreId.{CoreId}
+use Rattle.litmus_chart.specs.declared.arrow.Arrow.{Arrow}
+use Rattle.litmus_chart.specs.declared.arrow.Fate.{Fate}
+use Rattle.litmus_chart.specs.declared.arrow.Fate.TheVariants as fates
+use Rattle.litmus_chart.specs.declared.arrow.Participant.{Participant}
+use Rattle.litmus_chart.specs.declared.arrow.Participant.TheVariants.{Directory, Core}
+use Rattle.slice_core_answer.specs.Text.{text_of_cell}
+use Rattle.slice_queues_message.specs.declared.channel.Pick.{Pick}
+use Rattle.slice_queues_message.specs.declared.channel.Pick.TheVariants as picks
+use Rattle.slice_queues_message.specs.declared.message.DataMessage.TheVariants as replies
+use Rattle.slice_queues_message.specs.declared.message.ForwardedMessage.TheVariants as forwards
+use Rattle.slice_queues_message.specs.declared.message.Message.{Message}
+use Rattle.slice_queues_message.specs.declared.message.Message.TheVariants as messages
+use Rattle.slice_queues_message.specs.declared.message.RequestMessage.{RequestMessage}
+use Rattle.slice_queues_message.specs.declared.message.RequestMessage.TheVariants as requests
+
+-- the name under which a participant is declared
+abbrev pub text_of_participant : Participant → List ℕ
+text_of_participant (Directory slice) = codes "D" ++ decimal slice
+text_of_participant (Core core) = codes "C" ++ decimal core.0
+
+-- messages under their names in the tables, with the requester that they name, or the acknowledgements to await
+abbrev pub text_of_request : RequestMessage → List ℕ
+text_of_request requests.GetS = codes "GetS"
+text_of_request requests.GetM = codes "GetM"
+text_of_request requests.PutS = codes "PutS"
+text_of_request (requests.PutM block) = codes "PutM"
+
+abbrev pub text_of_message : Message → List ℕ
+text_of_message (messages.Request request) = text_of_request request
+text_of_message (messages.Forwarded (forwards.FwdGetS requester)) = codes "Fwd-GetS for core " ++ decimal requester.0
+text_of_message (messages.Forwarded (forwards.FwdGetM requester)) = codes "Fwd-GetM for core " ++ decimal requester.0
+text_of_message (messages.Forwarded (forwards.Inv requester)) = codes "Inv for core " ++ decimal requester.0
+text_of_message (messages.Forwarded forwards.PutAck) = codes "Put-Ack"
+text_of_message (messages.Data (replies.Data block acks)) = codes "Data(" ++ decimal acks ++ codes ")"
+text_of_message (messages.Data (replies.DataE block)) = codes "Data-E"
+text_of_message messages.InvAck = codes "Inv-Ack"
+text_of_message (messages.Home block) = codes "Data home"
+
+-- an arrow that was delivered has a head, and any other a cross
+abbrev pub head_of : Fate → List ℕ
+head_of fates.Delivered = codes "->>"
+head_of fates.Blocked = codes "-x"
+head_of (fates.Broken cell) = codes "-x"
+
+-- what is said behind the message that isn't delivered
+abbrev pub remark_of : Fate → List ℕ
+remark_of fates.Delivered = codes ""
+remark_of fates.Blocked = codes " (blocked)"
+remark_of (fates.Broken cell) = codes " (broken " ++ text_of_cell cell ++ codes ")"
+
+-- from whom, to whom, which message and which line
+abbrev pub text_of_arrow : Arrow → List ℕ
+text_of_arrow arrow =
+    text_of_participant arrow.from ++ head_of arrow.fate ++ text_of_participant arrow.to ++ codes ": "
+    ++ text_of_message arrow.message ++ codes ", line " ++ decimal arrow.line.0 ++ remark_of arrow.fate
+
+-- who takes the messages of a channel
+abbrev pub receiver_of : ℕ → Pick → Participant
+receiver_of slice (picks.Req line core) = Directory slice
+receiver_of slice (picks.Fwd line core) = Core core
+receiver_of slice (picks.Data line core) = Core core
+receiver_of slice (picks.Ack line to from) = Core to
+receiver_of slice (picks.Home line) = Directory slice
+
+-- the core that sent data, where one is known, and else the directory
+abbrev pub by_core : ℕ → Option CoreId → Participant
+by_core slice None = Directory slice
+by_core slice (Some core) = Core core
+
+-- who sent the message of a channel
+abbrev pub sender_of : ℕ → Pick → Option CoreId → Participant
+sender_of slice (picks.Req line core) known = Core core
+sender_of slice (picks.Fwd line core) known = Directory slice
+sender_of slice (picks.Data line core) known = by_core slice known
+sender_of slice (picks.Ack line to from) known = Core from
+sender_of slice (picks.Home line) known = by_core slice known

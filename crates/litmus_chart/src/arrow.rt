@@ -1,0 +1,130 @@
+ghost use Rattle.std.specs.Prelude.{◌≡◌};
+ghost use Rattle.litmus_chart.specs.Chart.{receiver_of, sender_of, text_of_request};
+
+use address_map::{CoreId, LineAddr};
+use slice_core::{Cell, DataMessage, ForwardedMessage, Message, Pick, RequestMessage};
+use std::fmt;
+
+/// Who takes part in a chart.
+#[derive(Clone, Copy, Debug, PartialEq, Eq)]
+pub enum Participant {
+    /// The directory of a slice.
+    Directory(usize),
+    Core(CoreId),
+}
+
+impl fmt::Display for Participant {
+    ghost use Rattle.std.specs.Prelude.{Some};
+    ghost use Rattle.litmus_chart.specs.Chart.{text_of_participant};
+
+    ghost output = { λ participant. Some (text_of_participant participant) };
+
+    fn fmt<W: fmt::Write>(&self, f: &mut fmt::Formatter<W>) -> fmt::Result {
+        match self {
+            Participant::Directory(slice) => write!(f, "D{slice}"),
+            Participant::Core(CoreId(core)) => write!(f, "C{core}"),
+        }
+    }
+}
+
+/// A message under its name in the tables, with the core that it names or the acknowledgements to await.
+#[derive(Drop)]
+pub struct Name(pub Message);
+
+impl fmt::Display for Name {
+    ghost use Rattle.std.specs.Prelude.{Some};
+    ghost use Rattle.litmus_chart.specs.Chart.{text_of_message};
+
+    ghost output = { λ name. Some (text_of_message name.0) };
+
+    fn fmt<W: fmt::Write>(&self, f: &mut fmt::Formatter<W>) -> fmt::Result {
+        match self.0 {
+            Message::Request(request) => f.write_str(request_name(request)),
+            Message::Forwarded(ForwardedMessage::FwdGetS(CoreId(core))) => {
+                write!(f, "Fwd-GetS for core {core}")
+            }
+            Message::Forwarded(ForwardedMessage::FwdGetM(CoreId(core))) => {
+                write!(f, "Fwd-GetM for core {core}")
+            }
+            Message::Forwarded(ForwardedMessage::Inv(CoreId(core))) => {
+                write!(f, "Inv for core {core}")
+            }
+            Message::Forwarded(ForwardedMessage::PutAck) => f.write_str("Put-Ack"),
+            Message::Data(DataMessage::Data { acks, .. }) => write!(f, "Data({acks})"),
+            Message::Data(DataMessage::DataE(_)) => f.write_str("Data-E"),
+            Message::InvAck => f.write_str("Inv-Ack"),
+            Message::Home(_) => f.write_str("Data home"),
+        }
+    }
+}
+
+fn request_name(request: RequestMessage) -> &'static str
+    ensures { result.now ≡ text_of_request request }
+{
+    match request {
+        RequestMessage::GetS => "GetS",
+        RequestMessage::GetM => "GetM",
+        RequestMessage::PutS => "PutS",
+        RequestMessage::PutM(_) => "PutM",
+    }
+}
+
+/// What became of a message in front of its channel.
+#[derive(Clone, Copy, Debug, PartialEq, Eq)]
+pub enum Fate {
+    Delivered,
+    Blocked,
+    Broken(Cell),
+}
+
+/// A message on its way: an arrow, which ends in a cross where the message isn't delivered.
+#[derive(Drop)]
+pub struct Arrow {
+    pub from: Participant,
+    pub to: Participant,
+    pub message: Message,
+    pub line: LineAddr,
+    pub fate: Fate,
+}
+
+impl fmt::Display for Arrow {
+    ghost use Rattle.std.specs.Prelude.{Some};
+    ghost use Rattle.litmus_chart.specs.Chart.{text_of_arrow};
+
+    ghost output = { λ arrow. Some (text_of_arrow arrow) };
+
+    fn fmt<W: fmt::Write>(&self, f: &mut fmt::Formatter<W>) -> fmt::Result {
+        let from = self.from;
+        let to = self.to;
+        let name = Name(self.message);
+        let line = self.line.0;
+        match self.fate {
+            Fate::Delivered => write!(f, "{from}->>{to}: {name}, line {line}"),
+            Fate::Blocked => write!(f, "{from}-x{to}: {name}, line {line} (blocked)"),
+            Fate::Broken(cell) => write!(f, "{from}-x{to}: {name}, line {line} (broken {cell})"),
+        }
+    }
+}
+
+/// Who takes the messages of a channel of a slice.
+pub fn receiver(slice: usize, pick: Pick) -> Participant
+    ensures { result ≡ receiver_of slice pick }
+{
+    match pick {
+        Pick::Req(..) | Pick::Home(_) => Participant::Directory(slice),
+        Pick::Fwd(_, core) | Pick::Data(_, core) | Pick::Ack { to: core, .. } => {
+            Participant::Core(core)
+        }
+    }
+}
+
+/// Who sent the message of a channel of a slice, where a core is known to have sent it, and where none is.
+pub fn sender(slice: usize, pick: Pick, known: Option<CoreId>) -> Participant
+    ensures { result ≡ sender_of slice pick known }
+{
+    match (pick, known) {
+        (Pick::Req(_, core) | Pick::Ack { from: core, .. }, _) => Participant::Core(core),
+        (Pick::Data(..) | Pick::Home(_), Some(core)) => Participant::Core(core),
+        _ => Participant::Directory(slice),
+    }
+}

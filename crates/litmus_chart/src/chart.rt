@@ -1,0 +1,221 @@
+ghost use Rattle.std.specs.Prelude.{◌≡◌, ◌<◌, IfOk};
+ghost use Rattle.litmus_text.specs.Command.{HasCore};
+
+use super::arrow::{Fate, Participant};
+use super::note::{begin_cross, begin_note, write_participants};
+use super::picture::Picture;
+use super::twin::twin_of;
+use address_map::{Checked, CoreId, LineAddr, Request, SliceId};
+use litmus_script::{
+    Answers, Issued, Machine, Player, Script, write_delivered, write_evicted, write_handed,
+    write_issued, write_pumped, written,
+};
+use litmus_text::{Command, MissKind, Settings, Statement, TextFault};
+use mshr_file::{ExplicitFile, InvertedFile, MissFile};
+use slice_core::{Delivered, Pick};
+use std::alloc::Global;
+use std::io::Write;
+
+/// Draws the run of a script: a sequence diagram in Mermaid's words. Answers the exit status. A fault ends the chart;
+/// what was written before it stays.
+pub fn run_chart<W: Write>(alloc: Global, input: &[u8], out: &mut W) -> Result<u8, TextFault>
+    ensures { IfOk result (λ status. status ≡ 0) }
+{
+    let mut answers = Answers { out };
+    match Script::read(alloc, input)? {
+        Some(script) => match script.misses {
+            MissKind::Explicit => chart_on::<ExplicitFile, W>(alloc, script, &mut answers)?,
+            MissKind::Inverted => chart_on::<InvertedFile, W>(alloc, script, &mut answers)?,
+        },
+        None => chart_of_nothing(alloc, &mut answers)?,
+    }
+    Ok(0)
+}
+
+/// The chart of a script that says nothing has those who take part in any other.
+fn chart_of_nothing<W: Write>(alloc: Global, out: &mut Answers<'_, W>) -> Result<(), TextFault> {
+    let Settings { config, .. } = Settings::new(alloc);
+    let config = config.check().map_err(TextFault::Config)?;
+    written(write_participants(&config, out))
+}
+
+/// Draws a script on machines with miss registers of type `F`.
+fn chart_on<F: MissFile, W: Write>(
+    alloc: Global,
+    script: Script<'_>,
+    out: &mut Answers<'_, W>,
+) -> Result<(), TextFault> {
+    let Script {
+        config,
+        commands,
+        ..
+    } = script;
+    let twin = twin_of(alloc, &config)?;
+    let mut chart: Chart<F> = Chart {
+        ahead: Machine::build(alloc, config)?,
+        picture: Picture::new(alloc, twin)?,
+        alloc,
+    };
+    written(write_participants(chart.config(), out))?;
+    commands.play(&mut chart, out)
+}
+
+/// A player that draws what each command does.
+#[derive(Drop)]
+struct Chart<F: MissFile> {
+    /// Does each command as a script does.
+    ahead: Machine<F>,
+    /// Does the same, one call later.
+    picture: Picture<F>,
+    alloc: Global,
+    ghost alike: { picture.behind.config ≡ ahead.config },
+}
+
+impl<F: MissFile> Player for Chart<F> {
+    ghost config_of = { λ chart. chart.ahead.config };
+
+    fn config(&self) -> &Checked {
+        &self.ahead.config
+    }
+
+    fn play<W: Write>(
+        &mut self,
+        statement: &Statement<'_>,
+        command: Command,
+        out: &mut Answers<'_, W>,
+    ) -> Result<(), TextFault> {
+        match command {
+            Command::Issue { core, request } => self.issue(statement, core, request, out),
+            Command::Evict { core, line } => self.evict(statement, core, line, out),
+            Command::Deliver(pick) => self.deliver(statement, pick, out),
+            Command::Hand { core, slice } => self.hand(statement, core, slice, out),
+            Command::Word(word) => {
+                let directory = self.directory(word.line());
+                written(begin_note(directory, statement, out))?;
+                self.ahead.run(command, out)
+            }
+            Command::State(line) => {
+                let directory = self.directory(line);
+                written(begin_note(directory, statement, out))?;
+                self.ahead.run(command, out)
+            }
+            Command::Log(_) | Command::Stats => Ok(()),
+            Command::Pump(calls) => self.pump(statement, calls, out),
+        }
+    }
+}
+
+impl<F: MissFile> Chart<F> {
+    /// An access that isn't accepted is drawn as an arrow of the core to itself, which ends in a cross.
+    fn issue<W: Write>(
+        &mut self,
+        statement: &Statement<'_>,
+        core: CoreId,
+        request: Request,
+        out: &mut Answers<'_, W>,
+    ) -> Result<(), TextFault>
+        requires { HasCore self.old.ahead.config core }
+        ensures { self.new.ahead.config ≡ self.old.ahead.config }
+    {
+        let issued = self.ahead.issue(core, request)?;
+        let who = Participant::Core(core);
+        written(match issued {
+            Issued::Done { .. } | Issued::Pending(_) => begin_note(who, statement, out),
+            Issued::Stall(_) | Issued::Refused(_) => begin_cross(who, statement, out),
+        })?;
+        written(write_issued(issued, out))?;
+        if let Issued::Pending(_) = issued {
+            self.picture.name(request.word.line())?;
+        }
+        written(
+            self.picture
+                .write_changes(&self.ahead, request.word.line(), out),
+        )?;
+        self.picture.behind.issue(core, request)?;
+        Ok(())
+    }
+
+    fn evict<W: Write>(
+        &mut self,
+        statement: &Statement<'_>,
+        core: CoreId,
+        line: LineAddr,
+        out: &mut Answers<'_, W>,
+    ) -> Result<(), TextFault>
+        requires { HasCore self.old.ahead.config core }
+        ensures { self.new.ahead.config ≡ self.old.ahead.config }
+    {
+        let evicted = self.ahead.evict(core, line);
+        written(begin_note(Participant::Core(core), statement, out))?;
+        written(write_evicted(evicted, out))?;
+        written(self.picture.write_changes(&self.ahead, line, out))?;
+        self.picture.behind.evict(core, line);
+        Ok(())
+    }
+
+    /// Where nothing waits, a note says so.
+    fn deliver<W: Write>(
+        &mut self,
+        statement: &Statement<'_>,
+        pick: Pick,
+        out: &mut Answers<'_, W>,
+    ) -> Result<(), TextFault>
+        ensures { self.new.ahead.config ≡ self.old.ahead.config }
+    {
+        let delivered = self.ahead.deliver(pick);
+        match delivered {
+            Delivered::Moved => self.picture.deliver(pick, out),
+            Delivered::Blocked => written(self.picture.write_arrow(pick, Fate::Blocked, out)),
+            Delivered::Broken(cell) => {
+                written(self.picture.write_arrow(pick, Fate::Broken(cell), out))
+            }
+            Delivered::Nothing => {
+                written(begin_note(self.picture.receiver(pick), statement, out))?;
+                written(write_delivered(delivered, out))
+            }
+        }
+    }
+
+    fn hand<W: Write>(
+        &mut self,
+        statement: &Statement<'_>,
+        core: CoreId,
+        slice: SliceId,
+        out: &mut Answers<'_, W>,
+    ) -> Result<(), TextFault>
+        requires core { HasCore self.old.ahead.config core }
+        requires slice { slice.0 < self.old.ahead.config.slices }
+        ensures { self.new.ahead.config ≡ self.old.ahead.config }
+    {
+        let handed = self.ahead.hand(core, slice);
+        written(begin_note(Participant::Core(core), statement, out))?;
+        written(write_handed(handed, out))?;
+        self.picture.behind.hand(core, slice);
+        Ok(())
+    }
+
+    /// Which messages are delivered is known only afterwards.
+    fn pump<W: Write>(
+        &mut self,
+        statement: &Statement<'_>,
+        calls: u64,
+        out: &mut Answers<'_, W>,
+    ) -> Result<(), TextFault>
+        ensures { self.new.ahead.config ≡ self.old.ahead.config }
+    {
+        let mut moved = Vec::new(self.alloc);
+        let Ok(pumped) = self.ahead.pump(calls, &mut moved) else {
+            return Err(TextFault::NoMemory);
+        };
+        for pick in &moved {
+            self.picture.deliver(*pick, out)?;
+        }
+        let last = self.ahead.config.cores() - 1;
+        written(begin_note(format_args!("D0,C{last}"), statement, out))?;
+        written(write_pumped(pumped, out))
+    }
+
+    fn directory(&self, line: LineAddr) -> Participant {
+        Participant::Directory(self.ahead.slice_of(line))
+    }
+}

@@ -1,0 +1,32 @@
+use Rattle.std.proofs.Common.{codes}
+use Rattle.clap.specs.Words.{found_of, rows_of}
+use Rattle.litmus_command_line.proofs.AskedLemmas.{asked_of}
+use Rattle.litmus_command_line.proofs.command_line.asked.Goals as goal
+
+pub returns-in-script : goal.returns-in-script
+returns-in-script c =
+    let named = rw c.in-script.is at c.in_ok-name.ensures.name in
+    let rows = rows_of (found_of c.in_ok-name.given.now) in
+    let found = c.in_ok-name.ensures.rows in
+    asked_of c.args.matches.now (codes "script") rows c.script_line.result named found c.script_line.ensures
+
+pub returns-in-chart : goal.returns-in-chart
+returns-in-chart c =
+    let named = rw c.in-chart.is at c.in_ok-name.ensures.name in
+    let rows = rows_of (found_of c.in_ok-name.given.now) in
+    let found = c.in_ok-name.ensures.rows in
+    asked_of c.args.matches.now (codes "chart") rows c.chart_line.result named found c.chart_line.ensures
+
+pub returns-in-check : goal.returns-in-check
+returns-in-check c =
+    let named = rw c.in-check.is at c.in_ok-name.ensures.name in
+    let rows = rows_of (found_of c.in_ok-name.given.now) in
+    let found = c.in_ok-name.ensures.rows in
+    asked_of c.args.matches.now (codes "check") rows c.check_line.result named found c.check_line.ensures
+
+pub returns-in-table : goal.returns-in-table
+returns-in-table c =
+    let named = rw c.in-table.is at c.in_ok-name.ensures.name in
+    let rows = rows_of (found_of c.in_ok-name.given.now) in
+    let found = c.in_ok-name.ensures.rows in
+    asked_of c.args.matches.now (codes "table") rows c.table_line.result named found c.table_line.ensures

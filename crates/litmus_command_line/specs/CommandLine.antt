@@ -1,0 +1,97 @@
+-- What the program's words ask for, as `clap` reads them.
+use Rattle.std.specs.Prelude.{◌≡◌, Bool, true, false, List, [], ◌∷◌, map, Option, Some, IsSomeAnd, codes}
+use Rattle.std.specs.Option.{option_map_or}
+use Rattle.std.specs.Str.{bytes_eq}
+use Rattle.std.specs.Borrow.{Bor}
+use Rattle.clap.specs.Words.{App, Row, Rule, Text, first_of, new_app, new_rule, one_of, subcommand_of}
+use Rattle.clap.specs.Words.{with_rule, with_subcommand}
+use Rattle.clap.specs.declared.builder.action.ArgAction.TheVariants.{SetTrue}
+use Rattle.clap.specs.declared.builder.value_parser.ValueParser.TheVariants as parsers
+use Rattle.litmus_command_line.specs.declared.command_line.CommandLine.{CommandLine}
+use Rattle.litmus_command_line.specs.declared.command_line.CommandLine.TheVariants as lines
+use Rattle.litmus_command_line.specs.declared.table.Table.{Table}
+use Rattle.litmus_command_line.specs.declared.table.Table.TheVariants.{Cache, Directory}
+
+-- the argument of a subcommand that reads a text, which has to be there
+abbrev pub file_rule : Rule
+file_rule = record (new_rule (codes "FILE")) { required = true }
+
+-- the argument that is one of these names, and has to be there
+abbrev pub table_rule : Bor (List (Bor Text)) → Rule
+table_rule names = record (new_rule (codes "TABLE")) { required = true; parser = Some (parsers.Names names) }
+
+-- an option `--name`, which takes no value
+abbrev pub flag_rule : Text → Rule
+flag_rule name = record (new_rule name) { long = Some name; action = Some SetTrue }
+
+-- the subcommand that runs a script
+abbrev pub script_app : App
+script_app = with_rule (with_rule (new_app (codes "script")) file_rule) (flag_rule (codes "echo"))
+
+-- the subcommand that draws the run of a script
+abbrev pub chart_app : App
+chart_app = with_rule (new_app (codes "chart")) file_rule
+
+-- the subcommand that judges a trace
+abbrev pub check_app : App
+check_app = with_rule (new_app (codes "check")) file_rule
+
+-- the subcommand that prints one of these tables
+abbrev pub table_app : Bor (List (Bor Text)) → App
+table_app names = with_rule (with_rule (new_app (codes "table")) (table_rule names)) (flag_rule (codes "exclusive"))
+
+-- the program itself, which asks for a subcommand
+abbrev pub top_app : App
+top_app = record (new_app (codes "lockup")) {
+  top = record (new_app (codes "lockup")).top { subcommand_required = true; has_version = true };
+}
+
+-- the program with its subcommands
+abbrev pub lockup_app : Bor (List (Bor Text)) → App
+lockup_app names =
+    with_subcommand
+    (with_subcommand (with_subcommand (with_subcommand top_app script_app.top) chart_app.top) check_app.top)
+    (table_app names).top
+
+-- the word that names a table
+abbrev pub word_of : Table → Text
+word_of Cache = codes "cache"
+word_of Directory = codes "directory"
+
+-- these are the names of the tables, wherever they lie in memory
+abbrev pub AreTables : Bor (List (Bor Text)) → Type 0
+AreTables names = map (λ name. name.now) names.now ≡ word_of Cache ∷ word_of Directory ∷ []
+
+-- the subcommand that prints a table
+pub record IsTable (app : App) : Type 0 where
+  pub names : Bor (List (Bor Text))
+  pub words : AreTables names
+  pub is : app ≡ table_app names
+
+-- the program
+pub record IsLockup (app : App) : Type 0 where
+  pub names : Bor (List (Bor Text))
+  pub words : AreTables names
+  pub is : app ≡ lockup_app names
+
+-- whether an option was given
+abbrev pub is_given : Text → List Row → Bool
+is_given name rows = option_map_or (λ text. bytes_eq text (codes "true")) (one_of name rows) false
+
+-- the subcommand of this name, with these values, is what the line holds
+abbrev pub IsLine : Text → List Row → CommandLine → Type 0
+IsLine name rows (lines.Script file echo) =
+    (name ≡ codes "script") × (first_of (codes "FILE") rows ≡ Some file.now) × (echo ≡ is_given (codes "echo") rows)
+IsLine name rows (lines.Chart file) = (name ≡ codes "chart") × (first_of (codes "FILE") rows ≡ Some file.now)
+IsLine name rows (lines.Check file) = (name ≡ codes "check") × (first_of (codes "FILE") rows ≡ Some file.now)
+IsLine name rows (lines.Table table exclusive) =
+    (name ≡ codes "table") × (first_of (codes "TABLE") rows ≡ Some (word_of table))
+    × (exclusive ≡ is_given (codes "exclusive") rows)
+
+-- the subcommand that was read is what the line holds
+abbrev pub IsAsked : Option (Text × List Row) → CommandLine → Type 0
+IsAsked read line = IsSomeAnd read (λ p. IsLine p.0 p.1 line)
+
+-- the line is what the program's words ask for
+abbrev pub IsRead : List Text → CommandLine → Type 0
+IsRead words line = (app : App) × IsLockup app × IsAsked (subcommand_of app words) line

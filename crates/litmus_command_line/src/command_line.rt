@@ -1,0 +1,292 @@
+ghost use Rattle.std.specs.Prelude.{◌≡◌, map, IfOk, IfSome, string_bytes, codes, false};
+ghost use Rattle.clap.specs.declared.builder.command.Command.TheViews.{out-Command as fields_of};
+ghost use Rattle.litmus_command_line.specs.CommandLine.{IsAsked, IsLine, IsLockup, IsRead, IsTable, chart_app, check_app};
+ghost use Rattle.litmus_command_line.specs.CommandLine.{file_rule, flag_rule, is_given, script_app, word_of};
+ghost use Rattle.clap.specs.Words.{app_of, found_of, rows_of, rule_of, first_of, subcommand_rows_of};
+
+use super::table::Table;
+use clap::error::ErrorKind;
+use clap::{Arg, ArgAction, ArgMatches, Command, Error};
+use std::alloc::{AllocError, Global};
+
+/// What the program's command line asks for.
+#[derive(Clone, Copy, Debug, PartialEq, Eq)]
+pub enum CommandLine<'a> {
+    /// Run the script in this file. With `echo`, print each command's line before its answer.
+    Script { file: &'a str, echo: bool },
+    /// Draw the run of the script in this file.
+    Chart { file: &'a str },
+    /// Judge the trace in this file.
+    Check { file: &'a str },
+    /// Print a table of the protocol, with the exclusive state or without it.
+    Table { table: Table, exclusive: bool },
+}
+
+/// The words that name a table.
+static TABLES: [&str; 2] = ["cache", "directory"];
+
+/// Reads the program's words, of which the first is its own name. What is refused, and help, is an error that
+/// says what to show, where and with which status.
+pub fn read_line<'a>(alloc: Global, words: &'a [String]) -> Result<CommandLine<'a>, Error>
+    ensures { IfOk result (IsRead (map string_bytes words.entry.now)) }
+{
+    let matches = lockup(alloc)?.try_get_matches_from(words)?;
+    match asked(&matches) {
+        Some(line) => Ok(line),
+        // The command asks for a subcommand and its arguments, so this isn't met.
+        None => Err(lockup(alloc)?.error(ErrorKind::MissingSubcommand, "a subcommand is missing")?),
+    }
+}
+
+fn asked<'a>(matches: &ArgMatches<'a>) -> Option<CommandLine<'a>>
+    ensures { IfSome result (IsAsked (subcommand_rows_of matches.now)) }
+{
+    let (name, given) = matches.subcommand()?;
+    match name {
+        "script" => script_line(given),
+        "chart" => chart_line(given),
+        "check" => check_line(given),
+        "table" => table_line(given),
+        _ => None,
+    }
+}
+
+fn script_line<'a>(given: &ArgMatches<'a>) -> Option<CommandLine<'a>>
+    ensures { IfSome result (IsLine (codes "script") (rows_of (found_of given.now))) }
+{
+    let file = file_of(given)?;
+    let echo = is_given(given, "echo");
+    Some(CommandLine::Script { file, echo })
+}
+
+fn chart_line<'a>(given: &ArgMatches<'a>) -> Option<CommandLine<'a>>
+    ensures { IfSome result (IsLine (codes "chart") (rows_of (found_of given.now))) }
+{
+    let file = file_of(given)?;
+    Some(CommandLine::Chart { file })
+}
+
+fn check_line<'a>(given: &ArgMatches<'a>) -> Option<CommandLine<'a>>
+    ensures { IfSome result (IsLine (codes "check") (rows_of (found_of given.now))) }
+{
+    let file = file_of(given)?;
+    Some(CommandLine::Check { file })
+}
+
+fn table_line<'a>(given: &ArgMatches<'a>) -> Option<CommandLine<'a>>
+    ensures { IfSome result (IsLine (codes "table") (rows_of (found_of given.now))) }
+{
+    let table = table_of(given)?;
+    let exclusive = is_given(given, "exclusive");
+    Some(CommandLine::Table { table, exclusive })
+}
+
+fn file_of<'a>(given: &ArgMatches<'a>) -> Option<&'a str>
+    ensures { IfSome result (λ file. first_of (codes "FILE") (rows_of (found_of given.now)) ≡ Some file.now) }
+{
+    given.get_str("FILE")
+}
+
+fn table_of(given: &ArgMatches<'_>) -> Option<Table>
+    ensures { IfSome result (λ table. first_of (codes "TABLE") (rows_of (found_of given.now)) ≡ Some (word_of table)) }
+{
+    match given.get_str("TABLE")? {
+        "cache" => Some(Table::Cache),
+        "directory" => Some(Table::Directory),
+        _ => None,
+    }
+}
+
+/// Whether an option without a value was given.
+fn is_given(given: &ArgMatches<'_>, name: &str) -> bool
+    ensures { result ≡ is_given name.now (rows_of (found_of given.now)) }
+{
+    given.get_one::<bool>(name).unwrap_or(false)
+}
+
+fn lockup<'a>(alloc: Global) -> Result<Command<'a>, AllocError>
+    ensures { IfOk result (λ c. IsLockup (app_of c)) }
+{
+    let script = script(alloc)?;
+    let chart = chart(alloc)?;
+    let check = check(alloc)?;
+    let table = table(alloc)?;
+    Command::new(alloc, "lockup")
+        .about("Runs a verified model of lockup-free caches under a directory protocol")
+        .version("0.1.0")
+        .subcommand_required(true)
+        .subcommand(script)?
+        .subcommand(chart)?
+        .subcommand(check)?
+        .subcommand(table)
+}
+
+fn script<'a>(alloc: Global) -> Result<Command<'a>, AllocError>
+    ensures reads { IfOk result (λ c. app_of c ≡ script_app) }
+    ensures plain { IfOk result (λ c. (fields_of c).has_globals ≡ false) }
+{
+    let echo = flag(alloc, "echo", "Print each command's line before its answer");
+    Command::new(alloc, "script")
+        .about("Runs a script on the state of each slice, without threads, and prints its answers")
+        .after_help(help::SCRIPT)
+        .arg(file(alloc, "The script: one command a line; - is standard input"))?
+        .arg(echo)
+}
+
+fn chart<'a>(alloc: Global) -> Result<Command<'a>, AllocError>
+    ensures reads { IfOk result (λ c. app_of c ≡ chart_app) }
+    ensures plain { IfOk result (λ c. (fields_of c).has_globals ≡ false) }
+{
+    Command::new(alloc, "chart")
+        .about("Draws the run of a script as a sequence diagram, in Mermaid's words")
+        .after_help("Example: lockup chart examples/shared_line.txt")
+        .arg(file(alloc, "The script: one command a line; - is standard input"))
+}
+
+fn check<'a>(alloc: Global) -> Result<Command<'a>, AllocError>
+    ensures reads { IfOk result (λ c. app_of c ≡ check_app) }
+    ensures plain { IfOk result (λ c. (fields_of c).has_globals ≡ false) }
+{
+    Command::new(alloc, "check")
+        .about(
+            "Judges a trace: whether its log is legal and ordered, or which entry is wrong, and why",
+        )
+        .after_help("Example: lockup check examples/illegal_trace.txt")
+        .arg(file(alloc, "The trace: one entry a line; - is standard input"))
+}
+
+fn table<'a>(alloc: Global) -> Result<Command<'a>, AllocError>
+    ensures reads { IfOk result (λ c. IsTable (app_of c)) }
+    ensures plain { IfOk result (λ c. (fields_of c).has_globals ≡ false) }
+{
+    let exclusive = flag(alloc, "exclusive", "Also show the exclusive state");
+    Command::new(alloc, "table")
+        .about("Prints a table of the protocol: what a state does at each event")
+        .after_help("Example: lockup table cache --exclusive")
+        .arg(
+            Arg::new(alloc, "TABLE")
+                .help("Of a private cache, or of a slice's directory")
+                .required(true)
+                .value_parser(TABLES.as_slice()),
+        )?
+        .arg(exclusive)
+}
+
+/// The argument that names the file of a text.
+fn file<'a>(alloc: Global, help: &'a str) -> Arg<'a>
+    ensures rule { rule_of result ≡ file_rule }
+    ensures plain { result.global ≡ false }
+{
+    Arg::new(alloc, "FILE").help(help).required(true)
+}
+
+/// An option without a value.
+fn flag<'a>(alloc: Global, name: &'a str, help: &'a str) -> Arg<'a>
+    ensures rule { rule_of result ≡ flag_rule name.entry.now }
+    ensures plain { result.global ≡ false }
+{
+    Arg::new(alloc, name)
+        .long(name)
+        .help(help)
+        .action(ArgAction::SetTrue)
+}
+
+mod help;
+
+#[cfg(test)]
+mod tests {
+    use super::*;
+    use std::test::Fail;
+
+    fn words(alloc: Global, given: &[&str]) -> Result<Vec<String>, AllocError> {
+        let mut all = Vec::new(alloc);
+        for word in given {
+            all.push(String::from_str(alloc, word)?)?;
+        }
+        Ok(all)
+    }
+
+    fn is_read(alloc: Global, given: &[&str], line: CommandLine<'_>) -> Result<bool, Error> {
+        let words = words(alloc, given)?;
+        Ok(read_line(alloc, &words)? == line)
+    }
+
+    #[test]
+    fn reads_a_script(rt: HostRuntime) -> Result<(), Fail> {
+        let file = "first.txt";
+        let plain = CommandLine::Script { file, echo: false };
+        let echo = CommandLine::Script { file, echo: true };
+        assert!(rt; is_read(rt.alloc(), &["lockup", "script", file], plain)?);
+        assert!(rt; is_read(rt.alloc(), &["lockup", "script", "--echo", file], echo)?);
+        assert!(rt; is_read(rt.alloc(), &["lockup", "script", file, "--echo"], echo)?);
+        Ok(())
+    }
+
+    #[test]
+    fn reads_a_chart_and_a_check(rt: HostRuntime) -> Result<(), Fail> {
+        let chart = CommandLine::Chart { file: "first.txt" };
+        let check = CommandLine::Check { file: "-" };
+        assert!(rt; is_read(rt.alloc(), &["lockup", "chart", "first.txt"], chart)?);
+        assert!(rt; is_read(rt.alloc(), &["lockup", "check", "-"], check)?);
+        Ok(())
+    }
+
+    #[test]
+    fn reads_a_table(rt: HostRuntime) -> Result<(), Fail> {
+        let cache = CommandLine::Table {
+            table: Table::Cache,
+            exclusive: false,
+        };
+        let directory = CommandLine::Table {
+            table: Table::Directory,
+            exclusive: true,
+        };
+        assert!(rt; is_read(rt.alloc(), &["lockup", "table", "cache"], cache)?);
+        assert!(rt;
+            is_read(
+                rt.alloc(),
+                &["lockup", "table", "--exclusive", "directory"],
+                directory
+            )?
+        );
+        Ok(())
+    }
+
+    #[test]
+    fn a_refused_line_ends_with_2(rt: HostRuntime) -> Result<(), Fail> {
+        let refused: [&[&str]; 9] = [
+            &["lockup"],
+            &["lockup", "script"],
+            &["lockup", "script", "a", "b"],
+            &["lockup", "script", "--echo", "--echo", "a"],
+            &["lockup", "scripts", "a"],
+            &["lockup", "check", "--echo", "a"],
+            &["lockup", "table"],
+            &["lockup", "table", "caches"],
+            &["lockup", "table", "cache", "directory"],
+        ];
+        for given in refused {
+            let words = words(rt.alloc(), given)?;
+            let error = read_line(rt.alloc(), &words).err().ok_or("refused")?;
+            assert_eq!(rt; error.exit_code(), 2);
+        }
+        Ok(())
+    }
+
+    #[test]
+    fn help_and_version_end_with_0(rt: HostRuntime) -> Result<(), Fail> {
+        let asking: [&[&str]; 5] = [
+            &["lockup", "--help"],
+            &["lockup", "help"],
+            &["lockup", "script", "--help"],
+            &["lockup", "--version"],
+            &["lockup", "-V"],
+        ];
+        for given in asking {
+            let words = words(rt.alloc(), given)?;
+            let error = read_line(rt.alloc(), &words).err().ok_or("help")?;
+            assert_eq!(rt; error.exit_code(), 0);
+        }
+        Ok(())
+    }
+}

@@ -1,0 +1,44 @@
+-- A machine that is built has its slices in order, and what they have counted is alike.
+use Rattle.std.proofs.Common.{◌≡◌, ℕ, ◌≤◌, List, [], ◌∷◌, ◌++◌, length, get_or, sym, ap, ◌∙◌, subst, arith, inl, inr, length-append}
+use Rattle.std.proofs.lemmas.List.Elements.{All-head, All-tail, All-weaker}
+use Rattle.std.proofs.Math.ListN.{get_or-append}
+use Rattle.std.proofs.Math.Seq.{get_or-append_seam}
+use Rattle.std.proofs.lemmas.Bool.{cases_lt}
+use Rattle.std.specs.Prelude.{All}
+use Rattle.address_map.specs.declared.config.Config.{Config}
+use Rattle.address_map.specs.declared.address.SliceId.{SliceId}
+use Rattle.mshr_file.specs.Miss.{Bound}
+use Rattle.slice_core_plan.specs.Parts.{PartsView, IsNew}
+use Rattle.slice_core_answer.specs.Stats.{StatsView}
+use Rattle.stats_report.specs.Report.{AreAlike, IsLike}
+use Rattle.litmus_script.specs.Machine.{IsSliceOf, AreSlicesOf, IsCountOf}
+
+-- a state that was built is a slice's
+pub of_new : (config : Config) (bound : Bound) (slice : SliceId) (p : PartsView) → IsNew config bound slice p
+    → IsSliceOf config slice.0 p
+of_new config bound slice p new = record {
+  cores = new.sides.count_is;
+  lines = new.lines;
+  exclusive = ap (λ s. s.exclusive) new.stats;
+}
+
+-- one more state, of the next slice
+pub are_slices_push : (config : Config) (slices : List PartsView) (i : ℕ) (p : PartsView) → AreSlicesOf config slices
+    → length slices ≡ i → IsSliceOf config i p → AreSlicesOf config (slices ++ p ∷ [])
+are_slices_push config slices i p each count is = λ j d below. elim (cases_lt j (length slices)) [
+  | inl before ↦ rw (get_or-append slices (p ∷ []) d j before) (each j d before)
+  | inr last ↦
+      let at : j ≡ length slices = omega (arith, simp length-append at below) in
+      subst (λ k. IsSliceOf config k (get_or (slices ++ p ∷ []) k d)) (sym at)
+      (rw (get_or-append_seam slices p [] d) (rw count is))
+]
+
+like : (config : Config) (first other : StatsView) → IsCountOf config first → IsCountOf config other → IsLike first other
+like config first other one two = record { cores = two.cores ∙ sym one.cores; exclusive = two.exclusive ∙ sym one.exclusive }
+
+-- counts of one machine are alike
+pub are_alike : (config : Config) (all : List StatsView) → 1 ≤ length all → All (IsCountOf config) all → AreAlike all
+are_alike config [] some each = absurd (omega (arith, some))
+are_alike config (first ∷ rest) some each =
+    All-weaker (IsCountOf config) (IsLike first) (λ other. like config first other (All-head (IsCountOf config) first rest each)) rest
+    (All-tail (IsCountOf config) first rest each)

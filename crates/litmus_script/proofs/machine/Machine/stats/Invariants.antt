@@ -1,0 +1,10 @@
+use Rattle.std.proofs.Common.{◌≡◌, length, All}
+use Rattle.litmus_script.specs.Machine.{IsCountOf}
+use Rattle.stats_report.specs.Report.{views_of}
+use Rattle.litmus_script.proofs.machine.Machine.stats.Given as goal
+
+abbrev pub invariant-loop-slice : goal.invariant-loop-slice
+invariant-loop-slice g l = record {
+  count : length l.stats.items ≡ l.slice;
+  each : All (IsCountOf l.fn.self.config) (views_of l.stats.items);
+}

@@ -1,0 +1,50 @@
+-- What the answers to commands say. Each ends its line.
+use Rattle.std.specs.Prelude.{ℕ, List, [], ◌∷◌, ◌++◌, codes, decimal, Option, Some, None}
+use Rattle.std.specs.Fmt.{WritesInCalls}
+use Rattle.std.specs.List.{flat_map}
+use Rattle.litmus_script.specs.declared.answers.Issued.{Issued}
+use Rattle.litmus_script.specs.declared.answers.Issued.TheVariants as issues
+use Rattle.litmus_script.specs.declared.answers.Pumped.{Pumped}
+use Rattle.litmus_script.specs.declared.answers.Pumped.TheVariants as pumps
+use Rattle.slice_core_answer.specs.Text.{text_of_cell, text_of_refused, text_of_stall}
+use Rattle.slice_core_answer.specs.declared.answer.Delivered.{Delivered}
+use Rattle.slice_core_answer.specs.declared.answer.Delivered.TheVariants as deliveries
+use Rattle.slice_core_log.specs.declared.entry.Numbered.{Numbered}
+
+-- what became of an access
+abbrev pub text_of_issued : Issued → List ℕ
+text_of_issued (issues.Done number reply) = codes "done " ++ decimal number ++ codes " reply " ++ decimal reply
+text_of_issued (issues.Pending seq) = codes "pending " ++ decimal seq
+text_of_issued (issues.Stall stall) = codes "stall " ++ text_of_stall stall
+text_of_issued (issues.Refused refused) = codes "refused " ++ text_of_refused refused
+
+-- what became of a delivery
+abbrev pub text_of_delivered : Delivered → List ℕ
+text_of_delivered deliveries.Moved = codes "moved"
+text_of_delivered deliveries.Blocked = codes "blocked"
+text_of_delivered deliveries.Nothing = codes "nothing"
+text_of_delivered (deliveries.Broken cell) = codes "broken " ++ text_of_cell cell
+
+-- a reply that is handed out, or that there is none
+abbrev pub text_of_handed : Option Numbered → List ℕ
+text_of_handed (Some given) =
+    codes "receipt " ++ decimal given.number ++ codes " tag " ++ decimal given.entry.tag ++ codes " reply " ++ decimal given.entry.reply
+text_of_handed None = codes "none"
+
+-- what is left after a pump
+abbrev pub text_of_pumped : Pumped → List ℕ
+text_of_pumped pumps.Empty = codes "empty"
+text_of_pumped pumps.Left = codes "left"
+
+-- these cores, each behind a comma
+abbrev pub further_cores : List ℕ → List ℕ
+further_cores cores = flat_map (λ core. codes "," ++ decimal core) cores
+
+-- these cores with commas between them, or a dash where there is none
+abbrev pub text_of_cores : List ℕ → List ℕ
+text_of_cores [] = codes "-"
+text_of_cores (core ∷ cores) = decimal core ++ further_cores cores
+
+-- the writer took a line of this text, in some calls, and went from old to new
+abbrev pub WritesLine : {W : Type 0} → (W → List ℕ → W → Type 0) → W → List ℕ → W → Type 0
+WritesLine took old text new = WritesInCalls took old (text ++ codes "\n") new

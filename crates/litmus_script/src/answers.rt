@@ -1,0 +1,147 @@
+ghost use Rattle.std.specs.Prelude.{◌≡◌, ◌↔◌, ◌++◌, IfErr, IsOk, OnOk, codes, decimal};
+ghost use Rattle.std.specs.Io.KnownBytes.{Appends};
+ghost use Rattle.slice_core_answer.specs.Text.{text_of_evicted};
+ghost use Rattle.litmus_script.specs.Answer.{WritesLine, text_of_delivered, text_of_handed, text_of_issued, text_of_pumped};
+
+use arrayvec::ArrayString;
+use itoa::Buffer;
+use litmus_text::TextFault;
+use slice_core::{Delivered, Evicted, Numbered, Refused, Stall};
+use stats_report::{Cut, write_text};
+use std::fmt;
+use std::io::Write;
+
+/// Where answers go: each piece of text is written whole, or the writing fails.
+#[derive(Drop)]
+pub struct Answers<'a, W> {
+    pub out: &'a mut W,
+}
+
+impl<W: Write> fmt::Write for Answers<'_, W> {
+    ghost write_str_gives = { λ old text new. (new.out.ghost_name ≡ old.out.ghost_name)
+        × Appends (W.contents old.out.now) (W.contents new.out.now) text };
+
+    fn write_str(&mut self, text: &str) -> fmt::Result {
+        write_text(self.out, text.as_bytes()).map_err(|_| fmt::Error)
+    }
+}
+
+impl<W: Write> Answers<'_, W> {
+    /// Writes any bytes.
+    pub fn write_bytes(&mut self, bytes: &[u8]) -> fmt::Result
+        ensures { OnOk result (Appends (W.contents self.old.out.now) (W.contents self.new.out.now) bytes.now) }
+    {
+        write_text(self.out, bytes).map_err(|_| fmt::Error)
+    }
+
+    /// Writes a line of any bytes, and its end.
+    pub(crate) fn write_line(&mut self, line: &[u8]) -> Result<(), Cut>
+        ensures { OnOk result (Appends (W.contents self.old.out.now) (W.contents self.new.out.now) (line.now ++ codes "\n")) }
+    {
+        write_text(self.out, line)?;
+        write_text(self.out, b"\n")
+    }
+}
+
+/// What a write came to, as what it comes to for a text.
+pub fn written(wrote: fmt::Result) -> Result<(), TextFault>
+    ensures fine { IsOk result ↔ IsOk wrote }
+    ensures fault { IfErr result (λ fault. fault ≡ TextFault.CannotWrite) }
+{
+    wrote.map_err(|_| TextFault::CannotWrite)
+}
+
+/// What became of an access.
+#[derive(Clone, Copy, Debug, PartialEq, Eq)]
+pub enum Issued {
+    /// It is performed, under this number in the log.
+    Done { number: u64, reply: u64 },
+    /// It is the core's request of this number, and waits.
+    Pending(u64),
+    Stall(Stall),
+    Refused(Refused),
+}
+
+/// What is left after a pump.
+#[derive(Clone, Copy, Debug, PartialEq, Eq)]
+pub enum Pumped {
+    /// No message waited in any slice.
+    Empty,
+    /// Messages may wait.
+    Left,
+}
+
+/// Writes what became of an access.
+#[inline(always)]
+pub fn write_issued<W: fmt::Write>(issued: Issued, out: &mut W) -> fmt::Result
+    ensures { OnOk result (WritesLine W.write_str_gives out.old (text_of_issued issued) out.new) }
+{
+    match issued {
+        Issued::Done { number, reply } => write_done(number, reply, out),
+        Issued::Pending(seq) => writeln!(out, "pending {seq}"),
+        Issued::Stall(stall) => writeln!(out, "stall {stall}"),
+        Issued::Refused(refused) => writeln!(out, "refused {refused}"),
+    }
+}
+
+/// Writes what became of an eviction.
+pub fn write_evicted<W: fmt::Write>(evicted: Evicted, out: &mut W) -> fmt::Result
+    ensures { OnOk result (WritesLine W.write_str_gives out.old (text_of_evicted evicted) out.new) }
+{
+    writeln!(out, "{evicted}")
+}
+
+/// Writes what became of a delivery.
+pub fn write_delivered<W: fmt::Write>(delivered: Delivered, out: &mut W) -> fmt::Result
+    ensures { OnOk result (WritesLine W.write_str_gives out.old (text_of_delivered delivered) out.new) }
+{
+    match delivered {
+        Delivered::Moved => writeln!(out, "moved"),
+        Delivered::Blocked => writeln!(out, "blocked"),
+        Delivered::Nothing => writeln!(out, "nothing"),
+        Delivered::Broken(cell) => writeln!(out, "broken {cell}"),
+    }
+}
+
+/// Writes the reply that is handed out, or that there is none.
+pub fn write_handed<W: fmt::Write>(handed: Option<Numbered>, out: &mut W) -> fmt::Result
+    ensures { OnOk result (WritesLine W.write_str_gives out.old (text_of_handed handed) out.new) }
+{
+    match handed {
+        Some(Numbered { number, entry }) => {
+            let tag = entry.tag;
+            let reply = entry.reply;
+            writeln!(out, "receipt {number} tag {tag} reply {reply}")
+        }
+        None => writeln!(out, "none"),
+    }
+}
+
+/// Writes what is left after a pump.
+pub fn write_pumped<W: fmt::Write>(pumped: Pumped, out: &mut W) -> fmt::Result
+    ensures { OnOk result (WritesLine W.write_str_gives out.old (text_of_pumped pumped) out.new) }
+{
+    match pumped {
+        Pumped::Empty => writeln!(out, "empty"),
+        Pumped::Left => writeln!(out, "left"),
+    }
+}
+
+/// Room for the longest answer to an access that is done: two numbers of twenty digits, and the words around them.
+const DONE_ROOM: usize = 64;
+
+/// Writes the answer to an access that is done. Most answers are such ones, so its text is put together before it is
+/// written.
+fn write_done<W: fmt::Write>(number: u64, reply: u64, out: &mut W) -> fmt::Result
+    ensures { OnOk result (W.write_str_gives out.old
+        (codes "done " ++ decimal number ++ codes " reply " ++ decimal reply ++ codes "\n") out.new) }
+{
+    let mut text = ArrayString::<DONE_ROOM>::new();
+    let mut digits = Buffer::new();
+    text.push_str("done ");
+    text.push_str(digits.format(number));
+    text.push_str(" reply ");
+    text.push_str(digits.format(reply));
+    text.push_str("\n");
+    out.write_str(text.as_str())
+}

@@ -1,0 +1,28 @@
+//! Runs scripts on a machine, on one thread.
+//!
+//! - [`run_script`] runs a script line by line on one slice's state for each slice. It writes each answer as it comes,
+//!   and keeps nothing of it: a call takes memory for the machine, for the log's growth and for a report's text alone.
+//! - [`Script`] is a script whose configuration was read. Its [`Commands`] are played in order by a [`Player`]: the
+//!   [`Machine`] itself, or another on it.
+//! - [`Answers`] is where answers go, and the functions beside it write the text of each.
+//! - A [`Watcher`] is told of each message that [`Machine::pump`] delivers.
+#![tactic(auto)]
+
+pub use answers::{
+    Answers, Issued, Pumped, write_delivered, write_evicted, write_handed, write_issued,
+    write_pumped, written,
+};
+pub use line::write_sharers;
+pub use machine::Machine;
+pub use player::Player;
+pub use script::{Commands, Script, run_script};
+pub use watcher::Watcher;
+
+mod answers;
+mod echo;
+mod line;
+mod machine;
+mod player;
+mod script;
+mod trace;
+mod watcher;

@@ -1,0 +1,272 @@
+ghost use Rattle.std.specs.Prelude.{◌≡◌, ◌/◌, ◌%◌, ◌<◌, ◌≤◌, length, IfOk};
+ghost use Rattle.litmus_text.specs.Command.{IsInRange, HasCore, HasLine};
+ghost use Rattle.address_map.specs.Config.{IsAllowed};
+ghost use Rattle.stats_report.specs.Report.{AreAlike, views_of};
+ghost use Rattle.litmus_script.specs.Machine.{IsMachine};
+
+use super::answers::{
+    Answers, Issued, Pumped, write_delivered, write_evicted, write_handed, write_issued,
+    write_pumped,
+};
+use super::line::write_line;
+use super::player::Player;
+use super::trace::write_trace;
+use super::watcher::{Nobody, Watcher};
+use address_map::{Checked, CoreId, LineAddr, Request, SliceId, WordAddr};
+use litmus_text::{Command, Statement, TextFault};
+use mshr_file::MissFile;
+use slice_core::{
+    Class, Delivered, DeliveredNext, Evicted, Issue, LineView, Message, Numbered, Pick, Refused,
+    SliceState, Stats,
+};
+use stats_report::{ReportError, write_report};
+use std::alloc::{AllocError, Global};
+use std::fmt::Write;
+use std::{fmt, io};
+
+/// A machine on one thread: the state of each slice. Its caches keep track of their misses in files of type `F`.
+#[derive(Drop)]
+pub struct Machine<F: MissFile> {
+    pub config: Checked,
+    slices: Vec<SliceState<F>>,
+    alloc: Global,
+    ghost shaped: { IsMachine config slices.items },
+}
+
+/// What a round of deliveries over the slices came to.
+#[derive(Clone, Copy, Debug, PartialEq, Eq)]
+enum Round {
+    /// No message waited in any slice.
+    Empty,
+    /// A message was delivered.
+    Moved,
+    /// Messages waited, and none could be delivered.
+    Stuck,
+}
+
+impl<F: MissFile> Player for Machine<F> {
+    ghost config_of = { λ machine. machine.config };
+
+    fn config(&self) -> &Checked {
+        &self.config
+    }
+
+    fn play<W: io::Write>(
+        &mut self,
+        _statement: &Statement<'_>,
+        command: Command,
+        out: &mut Answers<'_, W>,
+    ) -> Result<(), TextFault> {
+        self.run(command, out)
+    }
+}
+
+impl<F: MissFile> Machine<F> {
+    pub fn build(alloc: Global, config: Checked) -> Result<Self, TextFault>
+        ensures { IfOk result (λ machine. machine.config ≡ config) }
+    {
+        let mut slices = Vec::new(alloc);
+        for slice in 0..config.slices() {
+            let Ok(state) = SliceState::build(alloc, &config, SliceId(slice as u8)) else {
+                return Err(TextFault::NoMemory);
+            };
+            let Ok(()) = slices.push(state) else {
+                return Err(TextFault::NoMemory);
+            };
+        }
+        Ok(Machine {
+            config,
+            slices,
+            alloc,
+        })
+    }
+
+    /// Does what the command says, and writes the answer.
+    pub fn run<W: io::Write>(
+        &mut self,
+        command: Command,
+        out: &mut Answers<'_, W>,
+    ) -> Result<(), TextFault>
+        requires { IsInRange self.old.config command }
+        ensures { self.new.config ≡ self.old.config }
+    {
+        let written = match command {
+            Command::Issue { core, request } => write_issued(self.issue(core, request)?, out),
+            Command::Evict { core, line } => write_evicted(self.evict(core, line), out),
+            Command::Deliver(pick) => write_delivered(self.deliver(pick), out),
+            Command::Hand { core, slice } => write_handed(self.hand(core, slice), out),
+            Command::Word(word) => self.word(word, out),
+            Command::State(line) => self.state(line, out),
+            Command::Log(slice) => self.log(slice, out),
+            Command::Stats => return self.report(out),
+            Command::Pump(calls) => match self.pump(calls, &mut Nobody) {
+                Ok(pumped) => write_pumped(pumped, out),
+                Err(AllocError) => return Err(TextFault::NoMemory),
+            },
+        };
+        written.map_err(|_| TextFault::CannotWrite)
+    }
+
+    /// A word past the memory goes to slice 0, which refuses it.
+    // Most commands are accesses: what became of one isn't put together where it is written at once.
+    #[inline(always)]
+    pub fn issue(&mut self, core: CoreId, request: Request) -> Result<Issued, TextFault>
+        requires { HasCore self.old.config core }
+        ensures { self.new.config ≡ self.old.config }
+    {
+        let slice = self.slice_of(request.word.line());
+        let state = &mut self.slices[slice];
+        match state.issue(core, request) {
+            Ok(Issue::Done(number)) => {
+                let reply = state.log()[number as usize].reply;
+                Ok(Issued::Done { number, reply })
+            }
+            Ok(Issue::Pending(seq)) => Ok(Issued::Pending(seq)),
+            Ok(Issue::Stall(stall)) => Ok(Issued::Stall(stall)),
+            Err(Refused::Memory) => Err(TextFault::NoMemory),
+            Err(refused) => Ok(Issued::Refused(refused)),
+        }
+    }
+
+    pub fn evict(&mut self, core: CoreId, line: LineAddr) -> Evicted
+        requires { HasCore self.old.config core }
+        ensures { self.new.config ≡ self.old.config }
+    {
+        let slice = self.slice_of(line);
+        self.slices[slice].evict(core, line)
+    }
+
+    pub fn deliver(&mut self, pick: Pick) -> Delivered
+        ensures { self.new.config ≡ self.old.config }
+    {
+        let slice = self.slice_of(pick.line());
+        self.slices[slice].deliver(pick)
+    }
+
+    pub fn hand(&mut self, core: CoreId, slice: SliceId) -> Option<Numbered>
+        requires core { HasCore self.old.config core }
+        requires slice { slice.0 < self.old.config.slices }
+        ensures { self.new.config ≡ self.old.config }
+    {
+        self.slices[slice.0 as usize].hand(core)
+    }
+
+    /// The message that a delivery at the pick would take.
+    pub fn front(&self, pick: Pick) -> Option<Message> {
+        self.slices[self.slice_of(pick.line())].front(pick)
+    }
+
+    /// What its slice has of a line of the memory.
+    pub fn view(&self, line: LineAddr) -> Option<LineView> {
+        self.slices[self.slice_of(line)].line_view(line)
+    }
+
+    fn word<W: Write>(&self, word: WordAddr, out: &mut W) -> fmt::Result
+        requires { word.0 / 8 < self.now.config.lines }
+    {
+        let state = &self.slices[self.slice_of(word.line())];
+        if !state.is_quiet() {
+            return writeln!(out, "not quiet");
+        }
+        let value = state.word_now(word);
+        writeln!(out, "{value}")
+    }
+
+    fn state<W: Write>(&self, line: LineAddr, out: &mut W) -> fmt::Result
+        requires { HasLine self.now.config line }
+    {
+        match self.view(line) {
+            Some(view) => write_line(line, &view, out),
+            // Each line of the memory is its slice's, so this isn't met.
+            None => Ok(()),
+        }
+    }
+
+    fn log<W: Write>(&self, slice: SliceId, out: &mut W) -> fmt::Result
+        requires { slice.0 < self.now.config.slices }
+    {
+        let state = &self.slices[slice.0 as usize];
+        write_trace(&self.config, state.init(), state.log(), out)
+    }
+
+    fn report<W: io::Write>(&self, out: &mut Answers<'_, W>) -> Result<(), TextFault> {
+        let Ok(stats) = self.stats() else {
+            return Err(TextFault::NoMemory);
+        };
+        match write_report(self.alloc, stats.as_slice(), out.out) {
+            Ok(()) => Ok(()),
+            Err(ReportError::Memory) => Err(TextFault::NoMemory),
+            Err(ReportError::Cut(_)) => Err(TextFault::CannotWrite),
+        }
+    }
+
+    /// What each slice has counted.
+    fn stats(&self) -> Result<Vec<&Stats>, AllocError>
+        ensures { IfOk result (λ stats. AreAlike (views_of stats.items)) }
+    {
+        let mut stats = Vec::with_capacity(self.alloc, self.slices.len())?;
+        for slice in 0..self.config.slices() {
+            stats.push(self.slices[slice].stats())?;
+        }
+        Ok(stats)
+    }
+
+    /// Delivers messages, by so many calls at most, round and round over the slices.
+    pub fn pump<T: Watcher>(&mut self, calls: u64, watcher: &mut T) -> Result<Pumped, AllocError>
+        ensures { self.new.config ≡ self.old.config }
+    {
+        let slices = self.config.slices();
+        let round = self.rounds(calls / slices as u64, watcher)?;
+        if round == Round::Empty {
+            return Ok(Pumped::Empty);
+        }
+        if round == Round::Moved {
+            // the calls that are left make no whole round
+            self.round((calls % slices as u64) as usize, watcher)?;
+        }
+        Ok(Pumped::Left)
+    }
+
+    /// Makes so many rounds over all slices, up to one that moves nothing. Answers what the last came to.
+    fn rounds<T: Watcher>(&mut self, count: u64, watcher: &mut T) -> Result<Round, AllocError>
+        ensures { self.new.config ≡ self.old.config }
+    {
+        let slices = self.config.slices();
+        for _ in 0..count {
+            let round = self.round(slices, watcher)?;
+            if round != Round::Moved {
+                return Ok(round);
+            }
+        }
+        Ok(Round::Moved)
+    }
+
+    /// Makes a delivery in each of the first slices, where one can be made.
+    fn round<T: Watcher>(&mut self, count: usize, watcher: &mut T) -> Result<Round, AllocError>
+        requires { count ≤ self.old.config.slices }
+        ensures { self.new.config ≡ self.old.config }
+    {
+        let mut round = Round::Empty;
+        for slice in 0..count {
+            match self.slices[slice].deliver_next(Class::Any) {
+                DeliveredNext::Moved(pick) => {
+                    watcher.moved(pick)?;
+                    round = Round::Moved;
+                }
+                DeliveredNext::Nothing => {}
+                _ if round == Round::Empty => round = Round::Stuck,
+                _ => {}
+            }
+        }
+        Ok(round)
+    }
+
+    /// The slice of a line. Lines go to the slices in turn.
+    pub fn slice_of(&self, line: LineAddr) -> usize
+        ensures slice { result ≡ line.0 % self.now.config.slices }
+        ensures known { result < length self.now.slices.items }
+        ensures allowed { IsAllowed self.now.config }
+    {
+        (line.0 % self.config.slices() as u64) as usize
+    }
+}

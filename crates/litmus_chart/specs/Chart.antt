@@ -18,8 +18,8 @@ use Rattle.slice_queues_message.specs.declared.message.RequestMessage.TheVariant
 
 -- the name under which a participant is declared
 abbrev pub text_of_participant : Participant → List ℕ
-text_of_participant (Directory slice) = codes "D" ++ decimal slice
-text_of_participant (Core core) = codes "C" ++ decimal core.0
+text_of_participant (Directory slice) = codes "dir" ++ decimal slice
+text_of_participant (Core core) = codes "core" ++ decimal core.0
 
 -- messages under their names in the tables, with the requester that they name, or the acknowledgements to await
 abbrev pub text_of_request : RequestMessage → List ℕ

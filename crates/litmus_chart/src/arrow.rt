@@ -21,8 +21,8 @@ impl fmt::Display for Participant {
 
     fn fmt<W: fmt::Write>(&self, f: &mut fmt::Formatter<W>) -> fmt::Result {
         match self {
-            Participant::Directory(slice) => write!(f, "D{slice}"),
-            Participant::Core(CoreId(core)) => write!(f, "C{core}"),
+            Participant::Directory(slice) => write!(f, "dir{slice}"),
+            Participant::Core(CoreId(core)) => write!(f, "core{core}"),
         }
     }
 }

@@ -211,7 +211,7 @@ impl<F: MissFile> Chart<F> {
             self.picture.deliver(*pick, out)?;
         }
         let last = self.ahead.config.cores() - 1;
-        written(begin_note(format_args!("D0,C{last}"), statement, out))?;
+        written(begin_note(format_args!("dir0,core{last}"), statement, out))?;
         written(write_pumped(pumped, out))
     }
 

@@ -11,17 +11,17 @@ pub fn write_participants<W: Write>(config: &Checked, out: &mut W) -> fmt::Resul
     writeln!(out, "sequenceDiagram")?;
     write_directories(config.slices(), out)?;
     for core in 0..config.cores() {
-        writeln!(out, "    participant C{core} as core {core}")?;
+        writeln!(out, "    participant core{core} as core {core}")?;
     }
     Ok(())
 }
 
 fn write_directories<W: Write>(slices: usize, out: &mut W) -> fmt::Result {
     if slices == 1 {
-        return writeln!(out, "    participant D0 as directory");
+        return writeln!(out, "    participant dir0 as directory");
     }
     for slice in 0..slices {
-        writeln!(out, "    participant D{slice} as slice {slice} directory")?;
+        writeln!(out, "    participant dir{slice} as slice {slice} directory")?;
     }
     Ok(())
 }
@@ -74,7 +74,7 @@ pub fn write_changes<W: Write>(
         if before != after {
             writeln!(
                 out,
-                "    Note over C{core}: line {number}: {before} to {after}"
+                "    Note over core{core}: line {number}: {before} to {after}"
             )?;
         }
     }

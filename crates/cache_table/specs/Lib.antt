@@ -1,3 +1,4 @@
 pub mod CopyState
 pub mod Law
+pub mod Name
 pub mod Row

@@ -87,6 +87,11 @@ impl Default for CopyState {
 }
 
 impl fmt::Display for CopyState {
+    ghost use Rattle.std.specs.Prelude.{Some};
+    ghost use Rattle.cache_table.specs.Name.{name_of};
+
+    ghost output = { λ state. Some (name_of state) };
+
     fn fmt<W: fmt::Write>(&self, f: &mut fmt::Formatter<W>) -> fmt::Result {
         f.write_str(match self {
             CopyState::I => "I",

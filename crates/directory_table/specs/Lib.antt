@@ -1,2 +1,3 @@
 pub mod Law
+pub mod Name
 pub mod Row

@@ -16,6 +16,11 @@ pub enum DirState {
 }
 
 impl fmt::Display for DirState {
+    ghost use Rattle.std.specs.Prelude.{Some};
+    ghost use Rattle.directory_table.specs.Name.{name_of};
+
+    ghost output = { λ state. Some (name_of state) };
+
     fn fmt<W: fmt::Write>(&self, f: &mut fmt::Formatter<W>) -> fmt::Result {
         f.write_str(match self {
             DirState::I => "I",

@@ -1,10 +1,15 @@
 //! The table of a private cache, in two parts.
 
+ghost use Rattle.std.specs.Prelude.{◌≡◌, OnOk, option_map};
+ghost use Rattle.std.specs.Fmt.{WritesInCalls};
+ghost use Rattle.protocol_tables.specs.Cache.{all_states, answered, before_the_table, cells_of, columns_of, heading_of, line_of, lines_of};
+ghost use Rattle.protocol_tables.specs.Cache.{needs_exclusive, part_of, rules_of, setting_of, shown_line, table_of, text_of_deed, text_of_sends, titles_of};
+
 use cache_table::{CacheEvent, CacheSends, CopyState, Row, cache_row};
 use std::fmt;
 use std::fmt::Write;
 
-const STATES: [CopyState; 12] = [
+static STATES: [CopyState; 12] = [
     CopyState::I,
     CopyState::IS_D,
     CopyState::IM_AD,
@@ -23,7 +28,7 @@ const STATES: [CopyState; 12] = [
 type Column = (&'static str, CacheEvent);
 
 /// What a core does, and what is asked of it.
-const ASKED: [Column; 7] = [
+static ASKED: [Column; 7] = [
     ("load", CacheEvent::Load),
     ("write", CacheEvent::Write),
     ("eviction", CacheEvent::Eviction),
@@ -33,8 +38,8 @@ const ASKED: [Column; 7] = [
     ("Put-Ack", CacheEvent::PutAck),
 ];
 
-/// What answers a core.
-const ANSWERED: [Column; 8] = [
+/// What answers a core. Only the exclusive state brings the last two.
+static ANSWERED: [Column; 8] = [
     ("Data, k = n", CacheEvent::Data { n: 1, k: 1 }),
     ("Data, k < n", CacheEvent::Data { n: 1, k: 0 }),
     ("Data, k > n", CacheEvent::Data { n: 0, k: 1 }),
@@ -51,60 +56,77 @@ const ANSWERED: [Column; 8] = [
     ),
 ];
 
+/// What answers a core under the setting.
+fn answered(exclusive: bool) -> &'static [Column]
+    ensures { columns_of result.now ≡ answered exclusive }
+{
+    if exclusive { &ANSWERED } else { &ANSWERED[..6] }
+}
+
 /// One cell as text: what is done, what is sent, and the next state.
 #[derive(Clone, Copy)]
 struct Cell {
+    exclusive: bool,
     state: CopyState,
     event: CacheEvent,
 }
 
 impl fmt::Display for Cell {
+    ghost use Rattle.std.specs.Prelude.{Some};
+    ghost use Rattle.protocol_tables.specs.Cache.{text_of_cell};
+
+    ghost output = { λ cell. Some (text_of_cell cell.exclusive cell.state cell.event) };
+
     fn fmt<W: fmt::Write>(&self, f: &mut fmt::Formatter<W>) -> fmt::Result {
         if let Some(word) = before_the_table(self.state, self.event) {
             return f.write_str(word);
         }
-        match (cache_row(self.state, self.event), self.event) {
-            (Row::Go(next, CacheSends::Nothing), CacheEvent::Load | CacheEvent::Write) => {
-                write!(f, "hit; {next}")
-            }
-            (Row::Go(next, _), CacheEvent::InvAck { .. }) => write!(f, "k + 1; {next}"),
-            (Row::Go(next, sends), _) => write!(f, "{}{next}", text_of(sends)),
-            (Row::Blocked, _) => f.write_str("blocked"),
-            (Row::NoEntry, _) => f.write_str("-"),
+        if !self.exclusive && needs_exclusive(self.state, self.event) {
+            return f.write_str("-");
+        }
+        match cache_row(self.state, self.event) {
+            Row::Go(next, sends) => write!(f, "{}{next}", text_of_deed(self.event, sends)),
+            Row::Blocked => f.write_str("blocked"),
+            Row::NoEntry => f.write_str("-"),
         }
     }
 }
 
 /// What becomes of an access or an eviction that never comes to the table: the line has a miss register, or leaves.
-const fn before_the_table(state: CopyState, event: CacheEvent) -> Option<&'static str> {
-    match (state, event) {
-        (
-            CopyState::IS_D
-            | CopyState::IM_AD
-            | CopyState::IM_A
-            | CopyState::SM_AD
-            | CopyState::SM_A,
-            CacheEvent::Load | CacheEvent::Write,
-        ) => Some("joins"),
-        (
-            CopyState::MI_A | CopyState::SI_A | CopyState::II_A,
-            CacheEvent::Load | CacheEvent::Write,
-        ) => Some("stalls"),
-        (CopyState::I | CopyState::S | CopyState::M | CopyState::E, _) => None,
-        (_, CacheEvent::Eviction) => Some("busy"),
+const fn before_the_table(state: CopyState, event: CacheEvent) -> Option<&'static str>
+    ensures { option_map (λ word. word.now) result ≡ before_the_table state event }
+{
+    match event {
+        CacheEvent::Load | CacheEvent::Write if state.is_waiting() => Some("joins"),
+        CacheEvent::Load | CacheEvent::Write if state.is_leaving() => Some("stalls"),
+        CacheEvent::Eviction if state.is_waiting() || state.is_leaving() => Some("busy"),
         _ => None,
     }
 }
 
-/// The setting without which no copy comes to the state.
-const fn setting_of(state: CopyState) -> &'static str {
-    match state {
-        CopyState::E => " (exclusive on)",
-        _ => "",
+/// Whether the event comes to the state only where there is the exclusive state. Without it no reader becomes the owner
+/// of its line, so no request is forwarded to it.
+const fn needs_exclusive(state: CopyState, event: CacheEvent) -> bool
+    ensures { result ≡ needs_exclusive state event }
+{
+    matches!(state, CopyState::IS_D) && matches!(event, CacheEvent::FwdGetS | CacheEvent::FwdGetM)
+}
+
+/// What is done where a row goes on: an access that sends nothing is a hit, and an acknowledgement is counted.
+const fn text_of_deed(event: CacheEvent, sends: CacheSends) -> &'static str
+    ensures { result.now ≡ text_of_deed event sends }
+{
+    match (event, sends) {
+        (CacheEvent::Load | CacheEvent::Write, CacheSends::Nothing) => "hit; ",
+        (CacheEvent::InvAck { .. }, _) => "k + 1; ",
+        _ => text_of_sends(sends),
     }
 }
 
-const fn text_of(sends: CacheSends) -> &'static str {
+/// What is sent.
+const fn text_of_sends(sends: CacheSends) -> &'static str
+    ensures { result.now ≡ text_of_sends sends }
+{
     match sends {
         CacheSends::Nothing => "",
         CacheSends::GetS => "GetS; ",
@@ -117,56 +139,120 @@ const fn text_of(sends: CacheSends) -> &'static str {
     }
 }
 
-/// Writes the table of a private cache in two parts, with an empty line between them.
-pub fn write_cache_table<W: Write>(exclusive: bool, out: &mut W) -> fmt::Result {
-    write_part(exclusive, &ASKED, out)?;
-    writeln!(out)?;
-    write_part(exclusive, &ANSWERED, out)
+/// The setting without which no copy comes to the state.
+const fn setting_of(state: CopyState) -> &'static str
+    ensures { result.now ≡ setting_of state }
+{
+    match state {
+        CopyState::E => " (exclusive on)",
+        _ => "",
+    }
 }
 
-fn write_part<W: Write>(exclusive: bool, columns: &[Column], out: &mut W) -> fmt::Result {
-    write_head(exclusive, columns, out)?;
-    for state in STATES {
-        // no copy comes to E without the setting
-        if exclusive || state != CopyState::E {
-            write_row(exclusive, state, columns, out)?;
-        }
+/// Writes the table of a private cache in two parts, with an empty line between them.
+pub fn write_cache_table<W: Write>(exclusive: bool, out: &mut W) -> fmt::Result
+    ensures { OnOk result (WritesInCalls W.write_str_gives out.old (table_of exclusive) out.new) }
+{
+    write_part(exclusive, &ASKED, out)?;
+    writeln!(out)?;
+    write_part(exclusive, answered(exclusive), out)
+}
+
+fn write_part<W: Write>(exclusive: bool, columns: &[Column], out: &mut W) -> fmt::Result
+    ensures { OnOk result
+        (WritesInCalls W.write_str_gives out.old (part_of exclusive (columns_of columns.now)) out.new) }
+{
+    write_heading(columns, out)?;
+    write_lines(exclusive, columns, out)
+}
+
+fn write_heading<W: Write>(columns: &[Column], out: &mut W) -> fmt::Result
+    ensures { OnOk result
+        (WritesInCalls W.write_str_gives out.old (heading_of (columns_of columns.now)) out.new) }
+{
+    write!(out, "| Cache |")?;
+    write_titles(columns, out)?;
+    write!(out, "\n|---|")?;
+    write_rules(columns, out)?;
+    writeln!(out)
+}
+
+fn write_titles<W: Write>(columns: &[Column], out: &mut W) -> fmt::Result
+    ensures { OnOk result
+        (WritesInCalls W.write_str_gives out.old (titles_of (columns_of columns.now)) out.new) }
+{
+    for &(title, _) in columns {
+        write!(out, " {title} |")?;
     }
     Ok(())
 }
 
-/// Whether the event comes under the setting.
-const fn is_shown(exclusive: bool, event: CacheEvent) -> bool {
-    exclusive || !matches!(event, CacheEvent::DataE { .. })
+fn write_rules<W: Write>(columns: &[Column], out: &mut W) -> fmt::Result
+    ensures { OnOk result
+        (WritesInCalls W.write_str_gives out.old (rules_of (columns_of columns.now)) out.new) }
+{
+    for _ in columns {
+        write!(out, "---|")?;
+    }
+    Ok(())
 }
 
-fn write_head<W: Write>(exclusive: bool, columns: &[Column], out: &mut W) -> fmt::Result {
-    write!(out, "| Cache |")?;
-    for &(title, event) in columns {
-        if is_shown(exclusive, event) {
-            write!(out, " {title} |")?;
-        }
+fn write_lines<W: Write>(exclusive: bool, columns: &[Column], out: &mut W) -> fmt::Result
+    ensures { OnOk result
+        (WritesInCalls W.write_str_gives out.old (lines_of exclusive (columns_of columns.now) all_states) out.new) }
+{
+    for state in &STATES {
+        write_line(exclusive, *state, columns, out)?;
     }
-    write!(out, "\n|---|")?;
-    for &(_, event) in columns {
-        if is_shown(exclusive, event) {
-            write!(out, "---|")?;
-        }
-    }
-    writeln!(out)
+    Ok(())
 }
 
-fn write_row<W: Write>(
+/// Writes nothing of a state to which no copy comes under the setting.
+fn write_line<W: Write>(
     exclusive: bool,
     state: CopyState,
     columns: &[Column],
     out: &mut W,
-) -> fmt::Result {
-    write!(out, "| {state}{} |", setting_of(state))?;
-    for &(_, event) in columns {
-        if is_shown(exclusive, event) {
-            write!(out, " {} |", Cell { state, event })?;
-        }
+) -> fmt::Result
+    ensures { OnOk result
+        (WritesInCalls W.write_str_gives out.old (line_of exclusive (columns_of columns.now) state) out.new) }
+{
+    if !exclusive && matches!(state, CopyState::E) {
+        return Ok(());
     }
+    write_shown(exclusive, state, columns, out)
+}
+
+fn write_shown<W: Write>(
+    exclusive: bool,
+    state: CopyState,
+    columns: &[Column],
+    out: &mut W,
+) -> fmt::Result
+    ensures { OnOk result
+        (WritesInCalls W.write_str_gives out.old (shown_line exclusive (columns_of columns.now) state) out.new) }
+{
+    write!(out, "| {state}{} |", setting_of(state))?;
+    write_cells(exclusive, state, columns, out)?;
     writeln!(out)
+}
+
+fn write_cells<W: Write>(
+    exclusive: bool,
+    state: CopyState,
+    columns: &[Column],
+    out: &mut W,
+) -> fmt::Result
+    ensures { OnOk result
+        (WritesInCalls W.write_str_gives out.old (cells_of exclusive state (columns_of columns.now)) out.new) }
+{
+    for &(_, event) in columns {
+        let cell = Cell {
+            exclusive,
+            state,
+            event,
+        };
+        write!(out, " {cell} |")?;
+    }
+    Ok(())
 }

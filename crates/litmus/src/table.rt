@@ -1,22 +1,32 @@
-ghost use Rattle.std.specs.Prelude.{◌≡◌, IfOk};
+ghost use Rattle.std.specs.Prelude.{◌≡◌, IfOk, OnOk};
+ghost use Rattle.std.specs.Fmt.{WritesInCalls};
+ghost use Rattle.std.specs.Io.KnownBytes.{Appends};
+ghost use Rattle.litmus.specs.Table.{text_of_table};
 
 use litmus_command_line::Table;
 use litmus_script::Answers;
 use litmus_text::TextFault;
 use protocol_tables::{write_cache_table, write_directory_table};
+use std::fmt;
 use std::io::Write;
 
 /// Prints a table, with what the exclusive state adds to it or without that. Answers the exit status.
 pub fn run_table<W: Write>(table: Table, exclusive: bool, out: &mut W) -> Result<u8, TextFault>
-    ensures { IfOk result (λ status. status ≡ 0) }
+    ensures status { IfOk result (λ status. status ≡ 0) }
+    ensures printed { OnOk result (Appends (W.contents out.old) (W.contents out.new) (text_of_table table exclusive)) }
 {
     let mut answers = Answers { out };
-    let written = match table {
-        Table::Cache => write_cache_table(exclusive, &mut answers),
-        Table::Directory => write_directory_table(exclusive, &mut answers),
-    };
-    match written {
+    match write_table(table, exclusive, &mut answers) {
         Ok(()) => Ok(0),
         Err(_) => Err(TextFault::CannotWrite),
+    }
+}
+
+fn write_table<W: fmt::Write>(table: Table, exclusive: bool, out: &mut W) -> fmt::Result
+    ensures { OnOk result (WritesInCalls W.write_str_gives out.old (text_of_table table exclusive) out.new) }
+{
+    match table {
+        Table::Cache => write_cache_table(exclusive, out),
+        Table::Directory => write_directory_table(exclusive, out),
     }
 }

@@ -1,0 +1,11 @@
+-- What is printed as a table of the protocol.
+use Rattle.std.specs.Prelude.{Bool, ℕ, List}
+use Rattle.litmus_command_line.specs.declared.table.Table.{Table}
+use Rattle.litmus_command_line.specs.declared.table.Table.TheVariants as tables
+use Rattle.protocol_tables.specs.Cache.{table_of as cache_table}
+use Rattle.protocol_tables.specs.Directory.{table_of as directory_table}
+
+-- the text of a table, with what the exclusive state adds to it or without that
+abbrev pub text_of_table : Table → Bool → List ℕ
+text_of_table tables.Cache exclusive = cache_table exclusive
+text_of_table tables.Directory exclusive = directory_table exclusive

@@ -24,6 +24,4 @@ mod core_set;
 mod locator;
 mod place;
 mod request;
-#[cfg(test)]
-mod tests;
 mod words;

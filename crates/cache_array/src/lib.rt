@@ -34,5 +34,3 @@ pub use policy::Policy;
 mod array;
 mod policy;
 mod set;
-#[cfg(test)]
-mod tests;

@@ -26,11 +26,20 @@ pub fn run_script<W: Write>(
         return Ok(0);
     };
     let mut answers = Answers { out };
-    match script.misses {
-        MissKind::Explicit => run_on::<ExplicitFile, W>(alloc, script, echo, &mut answers)?,
-        MissKind::Inverted => run_on::<InvertedFile, W>(alloc, script, echo, &mut answers)?,
-    }
+    run_read(alloc, script, echo, &mut answers)?;
     Ok(0)
+}
+
+fn run_read<W: Write>(
+    alloc: Global,
+    script: Script<'_>,
+    echo: bool,
+    out: &mut Answers<'_, W>,
+) -> Result<(), TextFault> {
+    match script.misses {
+        MissKind::Explicit => run_on::<ExplicitFile, W>(alloc, script, echo, out),
+        MissKind::Inverted => run_on::<InvertedFile, W>(alloc, script, echo, out),
+    }
 }
 
 /// Runs a script on a machine with miss registers of type `F`.
@@ -69,16 +78,22 @@ impl<'a> Script<'a> {
         let Some(first) = statements.next() else {
             return Ok(None);
         };
-        let (settings, first) = read_settings(alloc, first, &mut statements)?;
+        Ok(Some(Script::read_from(alloc, first, statements)?))
+    }
+
+    fn read_from(
+        alloc: Global,
+        first: Statement<'a>,
+        statements: Statements<'a>,
+    ) -> Result<Self, TextFault> {
+        let mut rest = statements;
+        let (settings, first) = read_settings(alloc, first, &mut rest)?;
         let Settings { config, misses } = settings;
-        Ok(Some(Script {
+        Ok(Script {
             config: checked(config)?,
             misses,
-            commands: Commands {
-                first,
-                rest: statements,
-            },
-        }))
+            commands: Commands { first, rest },
+        })
     }
 }
 
@@ -100,11 +115,19 @@ impl Commands<'_> {
         if let Some(statement) = first {
             play_statement(player, &statement, out)?;
         }
-        for statement in rest {
-            play_statement(player, &statement, out)?;
-        }
-        Ok(())
+        play_all(rest, player, out)
     }
+}
+
+fn play_all<P: Player, W: Write>(
+    statements: Statements<'_>,
+    player: &mut P,
+    out: &mut Answers<'_, W>,
+) -> Result<(), TextFault> {
+    for statement in statements {
+        play_statement(player, &statement, out)?;
+    }
+    Ok(())
 }
 
 fn play_statement<P: Player, W: Write>(
@@ -169,6 +192,3 @@ fn late(words: &[&[u8]]) -> Option<LineFault> {
         Err(fault) => Some(fault),
     }
 }
-
-#[cfg(test)]
-mod tests;

@@ -2,12 +2,16 @@
 //! delivers messages until all that it asked for is handed out. Then the slice is settled with both ports: there is a
 //! receipt of each request, and each counter is what was added to it.
 //!
-//! It prints a line for each setting, or the first difference, and then it ends with status 1.
+//! At last two cores share a machine of two slices, in one thread: both add to a counter of each slice and take turns
+//! until all replies are handed out, and then each slice is settled with both cores.
+//!
+//! It prints a line for each of these, or the first difference, and then it ends with status 1.
 //!
 //! `lock_tester memory` makes requests of one core instead, each again where memory was refused for it, and prints how many
 //! were. Nothing refuses memory to it of itself: whoever runs it so does (tests/memory).
 #![tactic(auto)]
 
+use core_thread_system::BuildError;
 use mshr_file::{ExplicitFile, InvertedFile, MissFile};
 use std::alloc::AllocError;
 use std::process::ExitCode;
@@ -19,12 +23,14 @@ use std::{env, io};
 mod memory;
 mod round;
 mod setting;
+mod system;
 mod work;
 mod worked;
 
 use memory::ask_again;
 use round::one_round;
 use setting::configure;
+use system::two_cores_share_two_slices;
 use worked::WORKED;
 
 /// How many times the slice of a setting is built, shared and settled.
@@ -42,7 +48,7 @@ fn run<R: AllocGlobal + Env + Print + Threads + Wait + Sync>(rt: &R) -> io::Resu
     let words: Vec<String> = env::args(rt)?.collect(rt.alloc())?;
     match words.get(1) {
         Some(word) if word.as_str() == "memory" => test_memory(rt),
-        _ => Ok(test_worked(rt)? && test_settings(rt)?),
+        _ => Ok(test_worked(rt)? && test_settings(rt)? && test_system(rt)?),
     }
 }
 
@@ -106,4 +112,16 @@ fn test_rounds<F: MissFile + Send, R: AllocGlobal + Threads + Wait + Sync>(
         }
     }
     Ok(ROUNDS)
+}
+
+/// Answers whether two cores got what was wanted of a machine of two slices.
+fn test_system<R: AllocGlobal + Print + Wait>(rt: &R) -> io::Result<bool> {
+    let told = match two_cores_share_two_slices(rt) {
+        Ok(true) => "as wanted",
+        Ok(false) => "not as wanted",
+        Err(BuildError::Config(_)) => "no such machine",
+        Err(BuildError::Memory) => "no memory",
+    };
+    println!(rt; "two cores share two slices: {told}")?;
+    Ok(told == "as wanted")
 }

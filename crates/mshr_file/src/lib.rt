@@ -38,6 +38,4 @@ mod explicit;
 mod inverted;
 mod miss_file;
 mod registers;
-#[cfg(test)]
-mod tests;
 mod waiting;

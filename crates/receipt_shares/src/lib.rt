@@ -20,5 +20,3 @@ mod counters;
 mod names;
 mod place;
 mod shares;
-#[cfg(test)]
-mod tests;

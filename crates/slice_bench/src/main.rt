@@ -1,22 +1,33 @@
-//! The program `slice_bench`: makes calls on a slice, and prints how many they were and how long they took.
+//! The program `slice_bench`: makes calls on a slice, and prints how many they were and how long they took. With `lock` it
+//! measures what a slice's lock costs.
 //!
 //! Nothing is promised here but that no call is faulty; what the calls do is proved in `slice_core`. Times are those of
 //! the clock, so they are right only where nothing else runs beside.
 #![tactic(auto)]
 
 use load::{LOADS, Load};
+use lock::run_lock;
 use measure::{Measure, peak_memory, run_load};
 use player::Fault;
 use std::process::ExitCode;
 use std::rt::{Clock, Env, Files};
+use std::sync::Wait;
+use std::thread::Threads;
 use std::{env, io};
 
 mod load;
+mod lock;
 mod measure;
 mod player;
 
 /// The exit status where the command line is refused, or a load ended early.
 const REFUSED: u8 = 2;
+
+/// How many requests a round makes to measure the lock, and how many rounds there are, where the command line leaves it
+/// out.
+const LOCK_REQUESTS: u64 = 4000;
+
+const LOCK_ROUNDS: u64 = 200;
 
 fn main(rt: HostRuntime) -> ExitCode {
     ExitCode::from(match run(&rt) {
@@ -26,21 +37,49 @@ fn main(rt: HostRuntime) -> ExitCode {
 }
 
 /// Does what the command line asks for, and answers the exit status.
-fn run<R: Env + Files + Clock + AllocGlobal + Print + Eprint>(rt: &R) -> io::Result<u8> {
+fn run<R: Env + Files + Clock + AllocGlobal + Print + Eprint + Threads + Wait + Sync>(
+    rt: &R,
+) -> io::Result<u8> {
     let words: Vec<String> = env::args(rt)?.collect(rt.alloc())?;
-    let Some(name) = words.get(1) else {
-        print_usage(rt)?;
-        return Ok(0);
+    match words.get(1) {
+        None => {
+            print_usage(rt)?;
+            Ok(0)
+        }
+        Some(name) if name.as_str() == "lock" => measure_lock(rt, &words),
+        Some(name) => measure_load(rt, name, words.get(2)),
+    }
+}
+
+/// Measures what a slice's lock costs.
+fn measure_lock<R: AllocGlobal + Clock + Print + Eprint + Threads + Wait + Sync>(
+    rt: &R,
+    words: &[String],
+) -> io::Result<u8> {
+    let Some(requests) = number_or(words.get(2), LOCK_REQUESTS) else {
+        return refuse(rt, "REQUESTS is a number");
     };
+    let Some(rounds) = number_or(words.get(3), LOCK_ROUNDS) else {
+        return refuse(rt, "ROUNDS is a number");
+    };
+    if run_lock(rt, requests, rounds)? {
+        Ok(0)
+    } else {
+        refuse(rt, "a request wasn't answered as a hit")
+    }
+}
+
+/// Makes the calls of a load.
+fn measure_load<R: Files + Clock + AllocGlobal + Print + Eprint>(
+    rt: &R,
+    name: &String,
+    requests: Option<&String>,
+) -> io::Result<u8> {
     let Some(load) = LOADS.iter().find(|load| load.name == name.as_str()) else {
         return refuse(rt, "no such load");
     };
-    let requests = match words.get(2) {
-        Some(word) => match word.parse::<u64>() {
-            Ok(requests) => requests,
-            Err(_) => return refuse(rt, "REQUESTS is a number"),
-        },
-        None => load.requests,
+    let Some(requests) = number_or(requests, load.requests) else {
+        return refuse(rt, "REQUESTS is a number");
     };
     match run_load(rt, load, requests)? {
         Ok(measure) => {
@@ -52,6 +91,14 @@ fn run<R: Env + Files + Clock + AllocGlobal + Print + Eprint>(rt: &R) -> io::Res
     }
 }
 
+/// The number that a word is, or the usual one where there is no word. None where it is no number.
+fn number_or(word: Option<&String>, usual: u64) -> Option<u64> {
+    match word {
+        Some(word) => word.parse::<u64>().ok(),
+        None => Some(usual),
+    }
+}
+
 fn print_usage(rt: &impl Print) -> io::Result<()> {
     println!(rt; "slice_bench LOAD [REQUESTS]")?;
     println!(rt;
@@ -59,6 +106,10 @@ fn print_usage(rt: &impl Print) -> io::Result<()> {
     )?;
     println!(rt;
         "how much of it went into building slices, and the most memory that the process had."
+    )?;
+    println!(rt; "slice_bench lock [REQUESTS [ROUNDS]]")?;
+    println!(rt;
+        "Times rounds of requests that hit: on a slice's state, behind its lock, and by two threads."
     )?;
     println!(rt;)?;
     for load in &LOADS {

@@ -14,5 +14,3 @@ pub use stats::{CoreStats, MessageCounts, Stats};
 
 mod answer;
 mod stats;
-#[cfg(test)]
-mod tests;

@@ -110,20 +110,3 @@ pub fn each_block_is_newest()
     ensures quiet { (v : View) (local : Local) → IsWhole v → 0 < length v.sides → WaitsForMisses v → IsFaithful v
         → IsQuiet v → local.0 < v.lines.lines → IsNewest v local (newest_block v local) }
 {}
-
-#[cfg(test)]
-mod tests {
-    use super::*;
-
-    #[test]
-    fn theorems_are_calls() {
-        new_slice_is_reached();
-        accesses_keep_lines_reached();
-        deliveries_keep_lines_reached();
-        one_core_writes_or_many_read();
-        accesses_keep_slice_faithful();
-        deliveries_keep_slice_faithful();
-        no_message_is_broken();
-        each_block_is_newest();
-    }
-}

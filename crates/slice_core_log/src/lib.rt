@@ -14,5 +14,3 @@ mod checks;
 mod entry;
 mod history;
 mod perform;
-#[cfg(test)]
-mod tests;

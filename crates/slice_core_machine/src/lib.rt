@@ -75,18 +75,3 @@ pub fn runs_go_on()
     ensures { (u v w : View) (first second : List Step) → Leads first u v → Leads second v w
         → Leads (first ++ second) u w }
 {}
-
-#[cfg(test)]
-mod tests {
-    use super::*;
-
-    #[test]
-    fn theorems_are_calls() {
-        new_slice_shows_nothing();
-        hand_is_a_step();
-        issue_is_steps();
-        evict_is_no_step();
-        deliveries_are_steps();
-        runs_go_on();
-    }
-}

@@ -67,19 +67,3 @@ pub fn cores_read_and_write()
     ensures written { (exclusive : Bool) → CanBeWritten exclusive }
     ensures read { (exclusive : Bool) → CanBeRead exclusive }
 {}
-
-#[cfg(test)]
-mod tests {
-    use super::*;
-
-    #[test]
-    fn theorems_are_calls() {
-        one_writer();
-        each_message_has_a_row();
-        each_send_has_room();
-        nothing_comes_early();
-        owner_has_the_line();
-        each_block_is_newest();
-        cores_read_and_write();
-    }
-}

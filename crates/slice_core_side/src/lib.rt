@@ -22,5 +22,3 @@ mod copy;
 mod perform;
 mod side;
 mod tags;
-#[cfg(test)]
-mod tests;

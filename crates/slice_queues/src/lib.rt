@@ -44,6 +44,4 @@ mod mail;
 mod picks;
 mod queues;
 mod ring;
-#[cfg(test)]
-mod tests;
 mod waiting;

@@ -14,7 +14,5 @@ pub use write::{Cut, write_text};
 
 mod column;
 mod report;
-#[cfg(test)]
-mod tests;
 mod total;
 mod write;

@@ -16,5 +16,3 @@ pub use target::Target;
 
 mod list;
 mod target;
-#[cfg(test)]
-mod tests;

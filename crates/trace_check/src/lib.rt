@@ -23,7 +23,5 @@ pub use verdict::{Reason, Verdict};
 mod check;
 mod judge;
 mod slots;
-#[cfg(test)]
-mod tests;
 mod trace_line;
 mod verdict;

@@ -21,5 +21,3 @@ pub use entry::Leaving;
 
 mod buffer;
 mod entry;
-#[cfg(test)]
-mod tests;

@@ -1,0 +1,96 @@
+use clap::Error;
+use litmus_command_line::{CommandLine, Table, read_line};
+use std::alloc::{AllocError, Global};
+use std::test::Fail;
+
+fn words(alloc: Global, given: &[&str]) -> Result<Vec<String>, AllocError> {
+    let mut all = Vec::new(alloc);
+    for word in given {
+        all.push(String::from_str(alloc, word)?)?;
+    }
+    Ok(all)
+}
+
+fn is_read(alloc: Global, given: &[&str], line: CommandLine<'_>) -> Result<bool, Error> {
+    let words = words(alloc, given)?;
+    Ok(read_line(alloc, &words)? == line)
+}
+
+#[test]
+fn reads_a_script(rt: HostRuntime) -> Result<(), Fail> {
+    let file = "first.txt";
+    let plain = CommandLine::Script { file, echo: false };
+    let echo = CommandLine::Script { file, echo: true };
+    assert!(rt; is_read(rt.alloc(), &["lockup", "script", file], plain)?);
+    assert!(rt; is_read(rt.alloc(), &["lockup", "script", "--echo", file], echo)?);
+    assert!(rt; is_read(rt.alloc(), &["lockup", "script", file, "--echo"], echo)?);
+    Ok(())
+}
+
+#[test]
+fn reads_a_chart_and_a_check(rt: HostRuntime) -> Result<(), Fail> {
+    let chart = CommandLine::Chart { file: "first.txt" };
+    let check = CommandLine::Check { file: "-" };
+    assert!(rt; is_read(rt.alloc(), &["lockup", "chart", "first.txt"], chart)?);
+    assert!(rt; is_read(rt.alloc(), &["lockup", "check", "-"], check)?);
+    Ok(())
+}
+
+#[test]
+fn reads_a_table(rt: HostRuntime) -> Result<(), Fail> {
+    let cache = CommandLine::Table {
+        table: Table::Cache,
+        exclusive: false,
+    };
+    let directory = CommandLine::Table {
+        table: Table::Directory,
+        exclusive: true,
+    };
+    assert!(rt; is_read(rt.alloc(), &["lockup", "table", "cache"], cache)?);
+    assert!(rt;
+        is_read(
+            rt.alloc(),
+            &["lockup", "table", "--exclusive", "directory"],
+            directory
+        )?
+    );
+    Ok(())
+}
+
+#[test]
+fn a_refused_line_ends_with_2(rt: HostRuntime) -> Result<(), Fail> {
+    let refused: [&[&str]; 9] = [
+        &["lockup"],
+        &["lockup", "script"],
+        &["lockup", "script", "a", "b"],
+        &["lockup", "script", "--echo", "--echo", "a"],
+        &["lockup", "scripts", "a"],
+        &["lockup", "check", "--echo", "a"],
+        &["lockup", "table"],
+        &["lockup", "table", "caches"],
+        &["lockup", "table", "cache", "directory"],
+    ];
+    for given in refused {
+        let words = words(rt.alloc(), given)?;
+        let error = read_line(rt.alloc(), &words).err().ok_or("refused")?;
+        assert_eq!(rt; error.exit_code(), 2);
+    }
+    Ok(())
+}
+
+#[test]
+fn help_and_version_end_with_0(rt: HostRuntime) -> Result<(), Fail> {
+    let asking: [&[&str]; 5] = [
+        &["lockup", "--help"],
+        &["lockup", "help"],
+        &["lockup", "script", "--help"],
+        &["lockup", "--version"],
+        &["lockup", "-V"],
+    ];
+    for given in asking {
+        let words = words(rt.alloc(), given)?;
+        let error = read_line(rt.alloc(), &words).err().ok_or("help")?;
+        assert_eq!(rt; error.exit_code(), 0);
+    }
+    Ok(())
+}

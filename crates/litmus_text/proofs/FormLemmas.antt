@@ -1,5 +1,5 @@
 -- What words are that write parts.
-use Rattle.std.proofs.Common.{◌≡◌, ℕ, ◌≢◌, List, [], ◌∷◌, length, map, refl, sym, ◌∙◌, ap, suc}
+use Rattle.std.proofs.Common.{◌≡◌, ℕ, ◌≢◌, List, [], ◌∷◌, length, map, refl, sym, ◌∙◌, ap, suc, arith}
 use Rattle.std.proofs.lemmas.List.{length-map}
 use Rattle.litmus_text.specs.declared.config_line.ConfigLine.{ConfigLine}
 use Rattle.litmus_text.specs.declared.config_line.ConfigLine.TheVariants as lines
@@ -8,6 +8,11 @@ use Rattle.litmus_text.specs.declared.field.Field.TheVariants as fields
 use Rattle.litmus_text.specs.ConfigLine.{parts_of_config_line}
 use Rattle.litmus_text.specs.Field.{name_of}
 use Rattle.litmus_text.specs.Form.{Part, key, num, Writes, HasForm}
+
+-- the texts of no words
+pub no_words : {X : Type 0} (text : X → List ℕ) (words : List X) → length words ≡ 0 → map text words ≡ []
+no_words text [] e = refl
+no_words text (word ∷ words) e = absurd (omega arith)
 
 -- there is a word for each part
 Writes-length : (words : List (List ℕ)) (parts : List Part) → Writes words parts → length words ≡ length parts
@@ -37,7 +42,7 @@ pub wrong_form : {X : Type 0} (text : X → List ℕ) (words : List X) (parts : 
 wrong_form text words parts other w = other (sym (length-map words text) ∙ HasForm-length (map text words) parts w)
 
 -- words that write parts have their form
-HasForm-Writes : (words : List (List ℕ)) (parts : List Part) → Writes words parts → HasForm words parts
+pub HasForm-Writes : (words : List (List ℕ)) (parts : List Part) → Writes words parts → HasForm words parts
 HasForm-Writes [] [] w = tt
 HasForm-Writes [] (key text ∷ parts) w = w
 HasForm-Writes [] (num n ∷ parts) w = w

@@ -4,3 +4,8 @@ pub mod WordLemmas
 pub mod NumberLemmas
 pub mod RowLemmas
 pub mod FormLemmas
+pub mod TableLemmas
+pub mod CommandLemmas
+pub mod AccessLemmas
+pub mod ChannelLemmas
+pub mod PolicyLemmas

@@ -1,5 +1,5 @@
 -- How the commands of a script are written.
-use Rattle.std.specs.Prelude.{ℕ, ◌<◌, ◌/◌, List, [], ◌∷◌, codes}
+use Rattle.std.specs.Prelude.{◌≡◌, ◌≢◌, ℕ, ◌<◌, ◌/◌, List, [], ◌∷◌, Result, IfOk, IfErr, codes}
 use Rattle.address_map.specs.declared.config.Config.{Config}
 use Rattle.address_map.specs.declared.address.CoreId.{CoreId}
 use Rattle.address_map.specs.declared.address.LineAddr.{LineAddr}
@@ -9,7 +9,9 @@ use Rattle.slice_queues_message.specs.declared.channel.Pick.{Pick}
 use Rattle.slice_queues_message.specs.declared.channel.Pick.TheVariants as picks
 use Rattle.litmus_text.specs.declared.command.Command.{Command}
 use Rattle.litmus_text.specs.declared.command.Command.TheVariants as commands
-use Rattle.litmus_text.specs.Form.{Part, key, num, Writes}
+use Rattle.litmus_text.specs.declared.fault.LineFault.{LineFault}
+use Rattle.litmus_text.specs.declared.fault.LineFault.TheVariants as faults
+use Rattle.litmus_text.specs.Form.{Part, key, num, Writes, HasForm}
 
 -- an access, by its name, its word and what else it takes
 unfoldable pub parts_of_op : Op → ℕ → List Part
@@ -54,6 +56,15 @@ HasPick config (picks.Data line core) = HasLine config line × HasCore config co
 HasPick config (picks.Ack line to from) = HasLine config line × HasCore config to × HasCore config from
 HasPick config (picks.Home line) = HasLine config line
 
+-- what words are read as, at a machine of this configuration: a channel that they write, or a fault where they write none.
+-- Words that have the form of a channel are none only by their numbers, and those that write one only by its range.
+pub record ReadsAsPick (config : Config) (words : List (List ℕ)) (result : Result Pick LineFault) : Type 0 where
+  pub written : IfOk result (λ pick. Writes words (parts_of_pick pick))
+  pub in_range : IfOk result (HasPick config)
+  pub refused : IfErr result (λ fault. (pick : Pick) → Writes words (parts_of_pick pick) → HasPick config pick → ⊥)
+  pub form : IfErr result (λ fault. (pick : Pick) → HasForm words (parts_of_pick pick) → fault ≢ faults.NotACommand)
+  pub range : IfErr result (λ fault. (pick : Pick) → Writes words (parts_of_pick pick) → fault ≡ faults.OutOfRange)
+
 -- the machine has all that the command names; the word of an access may be any
 abbrev pub IsInRange : Config → Command → Type 0
 IsInRange config (commands.Issue core request) = HasCore config core
@@ -76,3 +87,12 @@ pub record IsRead (config : Config) (words : List (List ℕ)) (command : Command
   pub written : Writes words (parts_of command)
   pub tag : HasTag command
   pub in_range : IsInRange config command
+
+-- what words are read as, at a machine of this configuration: a command that they write, or a fault where they write none.
+-- Words that have the form of a command are no command only by their numbers, and those that write one only by its range.
+pub record ReadsAs (config : Config) (words : List (List ℕ)) (result : Result Command LineFault) : Type 0 where
+  pub read : IfOk result (IsRead config words)
+  pub refused : IfErr result (λ fault. (command : Command) → IsRead config words command → ⊥)
+  pub form : IfErr result (λ fault. (command : Command) → HasForm words (parts_of command) → fault ≢ faults.NotACommand)
+  pub range : IfErr result
+      (λ fault. (command : Command) → Writes words (parts_of command) → HasTag command → fault ≡ faults.OutOfRange)

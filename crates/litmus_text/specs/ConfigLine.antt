@@ -3,6 +3,8 @@ use Rattle.std.specs.Prelude.{ℕ, Bool, true, false, List, [], ◌∷◌, ◌++
 use Rattle.address_map.specs.declared.config.Config.{Config}
 use Rattle.address_map.specs.declared.config.PolicyKind.{PolicyKind}
 use Rattle.address_map.specs.declared.config.PolicyKind.TheVariants as policies
+use Rattle.litmus_text.specs.declared.policy.PolicyName.{PolicyName}
+use Rattle.litmus_text.specs.declared.policy.PolicyName.TheVariants as names
 use Rattle.litmus_text.specs.declared.settings.MissKind.{MissKind}
 use Rattle.litmus_text.specs.declared.settings.MissKind.TheVariants as misses
 use Rattle.litmus_text.specs.declared.settings.Settings.{Settings}
@@ -12,7 +14,13 @@ use Rattle.litmus_text.specs.declared.field.Field.TheVariants as fields
 use Rattle.litmus_text.specs.Field.{name_of, with_count}
 use Rattle.litmus_text.specs.Form.{Part, key, num}
 
--- how a replacement policy is written
+-- how a replacement policy is called
+abbrev pub name_of_policy : PolicyName → List ℕ
+name_of_policy names.Lru = codes "lru"
+name_of_policy names.Fifo = codes "fifo"
+name_of_policy names.Random = codes "random"
+
+-- how it is written
 abbrev pub parts_of_policy : PolicyKind → List Part
 parts_of_policy policies.Lru = key (codes "lru") ∷ []
 parts_of_policy policies.Fifo = key (codes "fifo") ∷ []
@@ -24,16 +32,16 @@ name_of_misses misses.Explicit = codes "explicit"
 name_of_misses misses.Inverted = codes "inverted"
 
 -- how a setting is written that is on or off
-abbrev pub parts_of_setting : Bool → List Part
-parts_of_setting true = key (codes "on") ∷ []
-parts_of_setting false = key (codes "off") ∷ []
+abbrev pub name_of_setting : Bool → List ℕ
+name_of_setting true = codes "on"
+name_of_setting false = codes "off"
 
 -- each line begins with the name of its field
 abbrev pub parts_of_config_line : ConfigLine → List Part
 parts_of_config_line (lines.Count count n) = key (name_of (fields.Count count)) ∷ num n ∷ []
 parts_of_config_line (lines.Policy policy) = key (name_of fields.Policy) ∷ parts_of_policy policy
 parts_of_config_line (lines.Misses kind) = key (name_of fields.Misses) ∷ key (name_of_misses kind) ∷ []
-parts_of_config_line (lines.Exclusive is_on) = key (name_of fields.Exclusive) ∷ parts_of_setting is_on
+parts_of_config_line (lines.Exclusive is_on) = key (name_of fields.Exclusive) ∷ key (name_of_setting is_on) ∷ []
 parts_of_config_line (lines.Init word value) = key (name_of fields.Init) ∷ num word.0 ∷ num value ∷ []
 parts_of_config_line (lines.Counter word) = key (name_of fields.Counter) ∷ num word.0 ∷ []
 

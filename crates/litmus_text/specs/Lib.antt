@@ -7,3 +7,7 @@ pub mod ConfigLine
 pub mod Statement
 pub mod Field
 pub mod Settings
+pub mod Table
+pub mod Verb
+pub mod Access
+pub mod Class

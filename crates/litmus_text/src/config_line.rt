@@ -1,14 +1,15 @@
-ghost use Rattle.std.specs.Prelude.{◌≡◌, ◌↔◌, IsTrue, ◌≢◌, ℕ, Bool, IfOk, IfErr, OnOk, OnErr, map};
-ghost use Rattle.std.specs.Prelude.{[], ◌∷◌, codes};
+ghost use Rattle.std.specs.Prelude.{◌≡◌, ◌↔◌, IsTrue, ◌≢◌, ℕ, Bool, IfOk, IfErr, IfSome, IfNone, OnOk, OnErr, map};
+ghost use Rattle.std.specs.Prelude.{[], ◌∷◌};
 ghost use Rattle.litmus_text.specs.Form.{Writes, HasForm, key};
-ghost use Rattle.litmus_text.specs.ConfigLine.{parts_of_policy, name_of_misses, parts_of_setting};
-ghost use Rattle.address_map.specs.declared.config.PolicyKind.{PolicyKind};
+ghost use Rattle.litmus_text.specs.ConfigLine.{name_of_misses, name_of_setting};
 ghost use Rattle.litmus_text.specs.declared.settings.MissKind.{MissKind};
 
 use super::fault::LineFault;
 use super::field::{Count, Field};
-use super::number::{no_numbers, one_number, two_numbers};
+use super::number::{one_number, two_numbers};
+use super::policy::parse_policy;
 use super::settings::{MissKind, Settings};
+use super::table::value_named;
 use address_map::{PolicyKind, WordAddr};
 use std::alloc::AllocError;
 
@@ -54,7 +55,7 @@ impl ConfigLine {
         };
         match field {
             Field::Count(count) => Ok(ConfigLine::Count(count, one_number(rest)?)),
-            Field::Policy => Ok(ConfigLine::Policy(policy(rest)?)),
+            Field::Policy => Ok(ConfigLine::Policy(parse_policy(rest)?)),
             Field::Misses => Ok(ConfigLine::Misses(misses(rest)?)),
             Field::Exclusive => Ok(ConfigLine::Exclusive(setting(rest)?)),
             Field::Init => {
@@ -83,30 +84,6 @@ impl ConfigLine {
     }
 }
 
-// A replacement policy, by its name and its seed where it has one.
-fn policy(words: &[&[u8]]) -> Result<PolicyKind, LineFault>
-    ensures written { IfOk result (λ kind. Writes (map (λ w. w.now) words.now) (parts_of_policy kind)) }
-    ensures refused { IfErr result (λ fault. (kind : PolicyKind) → Writes (map (λ w. w.now) words.now) (parts_of_policy kind) → ⊥) }
-    ensures form { IfErr result (λ fault. (kind : PolicyKind) → HasForm (map (λ w. w.now) words.now) (parts_of_policy kind)
-        → fault ≡ LineFault.BadNumber) }
-{
-    let Some((name, rest)) = words.split_first() else {
-        return Err(LineFault::NotACommand);
-    };
-    match *name {
-        b"lru" => {
-            no_numbers(rest)?;
-            Ok(PolicyKind::Lru)
-        }
-        b"fifo" => {
-            no_numbers(rest)?;
-            Ok(PolicyKind::Fifo)
-        }
-        b"random" => Ok(PolicyKind::Random(one_number(rest)?)),
-        _ => Err(LineFault::NotACommand),
-    }
-}
-
 #[tactic(auto, using(crate::proofs::FormLemmas::wrong_count, crate::proofs::FormLemmas::wrong_form))]
 fn misses(words: &[&[u8]]) -> Result<MissKind, LineFault>
     ensures written { IfOk result (λ kind. Writes (map (λ w. w.now) words.now) (key (name_of_misses kind) ∷ [])) }
@@ -116,31 +93,44 @@ fn misses(words: &[&[u8]]) -> Result<MissKind, LineFault>
         (λ fault. (kind : MissKind) → HasForm (map (λ w. w.now) words.now) (key (name_of_misses kind) ∷ []) → ⊥) }
 {
     match words {
-        [name] => miss_kind(name),
+        [name] => miss_kind(name).ok_or(LineFault::NotACommand),
         _ => Err(LineFault::NotACommand),
     }
 }
 
-fn miss_kind(name: &[u8]) -> Result<MissKind, LineFault>
-    ensures named { IfOk result (λ kind. name.now ≡ name_of_misses kind) }
-    ensures refused { IfErr result (λ fault. (kind : MissKind) → name.now ≢ name_of_misses kind) }
+/// Each kind of miss registers, by its name.
+static MISS_KINDS: [(&[u8], MissKind); 2] = [
+    (b"explicit", MissKind::Explicit),
+    (b"inverted", MissKind::Inverted),
+];
+
+fn miss_kind(name: &[u8]) -> Option<MissKind>
+    ensures named { IfSome result (λ kind. name.now ≡ name_of_misses kind) }
+    ensures refused { IfNone result ((kind : MissKind) → name.now ≢ name_of_misses kind) }
 {
-    match name {
-        b"explicit" => Ok(MissKind::Explicit),
-        b"inverted" => Ok(MissKind::Inverted),
-        _ => Err(LineFault::NotACommand),
-    }
+    value_named(&MISS_KINDS, name)
 }
 
 #[tactic(auto, using(crate::proofs::FormLemmas::wrong_count, crate::proofs::FormLemmas::wrong_form))]
 fn setting(words: &[&[u8]]) -> Result<bool, LineFault>
-    ensures written { IfOk result (λ is_on. Writes (map (λ w. w.now) words.now) (parts_of_setting is_on)) }
-    ensures refused { IfErr result (λ fault. (is_on : Bool) → Writes (map (λ w. w.now) words.now) (parts_of_setting is_on) → ⊥) }
-    ensures form { IfErr result (λ fault. (is_on : Bool) → HasForm (map (λ w. w.now) words.now) (parts_of_setting is_on) → ⊥) }
+    ensures written { IfOk result (λ is_on. Writes (map (λ w. w.now) words.now) (key (name_of_setting is_on) ∷ [])) }
+    ensures refused { IfErr result
+        (λ fault. (is_on : Bool) → Writes (map (λ w. w.now) words.now) (key (name_of_setting is_on) ∷ []) → ⊥) }
+    ensures form { IfErr result
+        (λ fault. (is_on : Bool) → HasForm (map (λ w. w.now) words.now) (key (name_of_setting is_on) ∷ []) → ⊥) }
 {
     match words {
-        [b"on"] => Ok(true),
-        [b"off"] => Ok(false),
+        [name] => is_on(name).ok_or(LineFault::NotACommand),
         _ => Err(LineFault::NotACommand),
     }
+}
+
+/// How a setting is written that is on or off.
+static SETTINGS: [(&[u8], bool); 2] = [(b"on", true), (b"off", false)];
+
+fn is_on(name: &[u8]) -> Option<bool>
+    ensures named { IfSome result (λ is_on. name.now ≡ name_of_setting is_on) }
+    ensures refused { IfNone result ((is_on : Bool) → name.now ≢ name_of_setting is_on) }
+{
+    value_named(&SETTINGS, name)
 }

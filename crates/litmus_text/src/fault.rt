@@ -59,31 +59,3 @@ impl TextFault {
         }
     }
 }
-
-#[cfg(test)]
-mod tests {
-    use super::*;
-    use std::test::Fail;
-
-    #[test]
-    fn displays_the_fault(rt: HostRuntime) -> Result<(), Fail> {
-        let cases = [
-            (LineFault::NotACommand.at(3), "line 3: not a command"),
-            (LineFault::NotATrace.at(1), "line 1: not a trace"),
-            (LineFault::BadNumber.at(1), "line 1: bad number"),
-            (
-                LineFault::LateConfiguration.at(20),
-                "line 20: configuration after a command",
-            ),
-            (LineFault::OutOfRange.at(2), "line 2: out of range"),
-            (TextFault::Config(ConfigError::Cores), "config 1 Cores"),
-            (TextFault::CannotWrite, "cannot write"),
-            (TextFault::NoMemory, "no memory"),
-        ];
-        for (fault, text) in cases {
-            let shown = fault.to_string(rt.alloc())?;
-            assert_eq!(rt; shown.as_str(), text);
-        }
-        Ok(())
-    }
-}

@@ -2,6 +2,7 @@ ghost use Rattle.std.specs.Prelude.{◌≡◌, ◌≢◌, IfSome, IfNone};
 ghost use Rattle.litmus_text.specs.declared.field.Field.{Field};
 ghost use Rattle.litmus_text.specs.Field.{name_of};
 
+use super::table::value_named;
 use address_map::Config;
 
 /// A number of a machine's shape.
@@ -48,27 +49,29 @@ pub(super) enum Field {
     Counter,
 }
 
+/// Each field, by its name.
+static FIELDS: [(&[u8], Field); 13] = [
+    (b"cores", Field::Count(Count::Cores)),
+    (b"slices", Field::Count(Count::Slices)),
+    (b"lines", Field::Count(Count::Lines)),
+    (b"sets", Field::Count(Count::Sets)),
+    (b"ways", Field::Count(Count::Ways)),
+    (b"mshrs", Field::Count(Count::Mshrs)),
+    (b"targets", Field::Count(Count::Targets)),
+    (b"writebacks", Field::Count(Count::Writebacks)),
+    (b"policy", Field::Policy),
+    (b"misses", Field::Misses),
+    (b"exclusive", Field::Exclusive),
+    (b"init", Field::Init),
+    (b"counter", Field::Counter),
+];
+
 impl Field {
     /// The field with this name.
     pub(super) fn named(name: &[u8]) -> Option<Field>
         ensures found { IfSome result (λ field. name.now ≡ name_of field) }
         ensures none { IfNone result ((field : Field) → name.now ≢ name_of field) }
     {
-        match name {
-            b"cores" => Some(Field::Count(Count::Cores)),
-            b"slices" => Some(Field::Count(Count::Slices)),
-            b"lines" => Some(Field::Count(Count::Lines)),
-            b"sets" => Some(Field::Count(Count::Sets)),
-            b"ways" => Some(Field::Count(Count::Ways)),
-            b"mshrs" => Some(Field::Count(Count::Mshrs)),
-            b"targets" => Some(Field::Count(Count::Targets)),
-            b"writebacks" => Some(Field::Count(Count::Writebacks)),
-            b"policy" => Some(Field::Policy),
-            b"misses" => Some(Field::Misses),
-            b"exclusive" => Some(Field::Exclusive),
-            b"init" => Some(Field::Init),
-            b"counter" => Some(Field::Counter),
-            _ => None,
-        }
+        value_named(&FIELDS, name)
     }
 }

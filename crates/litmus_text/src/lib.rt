@@ -15,18 +15,21 @@
 //! at a few times.
 #![tactic(auto)]
 
+pub use access::parse_access;
 pub use command::Command;
 pub use config_line::ConfigLine;
 pub use fault::{LineFault, TextFault};
 pub use field::Count;
 pub use line::Lines;
 pub use number::parse_number;
-pub use parse::{parse_access, parse_command};
+pub use parse::parse_command;
 pub use row::{MOST_WORDS, first_words};
 pub use settings::{MissKind, Settings};
 pub use statement::{Statement, Statements};
 pub use word::Words;
 
+mod access;
+mod channel;
 mod command;
 mod config_line;
 mod fault;
@@ -34,10 +37,11 @@ mod field;
 mod line;
 mod number;
 mod parse;
+mod policy;
 mod range;
 mod row;
 mod settings;
 mod statement;
-#[cfg(test)]
-mod tests;
+mod table;
+mod verb;
 mod word;

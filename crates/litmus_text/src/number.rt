@@ -64,10 +64,9 @@ pub(super) fn no_numbers(words: &[&[u8]]) -> Result<(), LineFault>
     ensures refused { IfErr result (λ fault. Writes (map (λ w. w.now) words.now) [] → ⊥) }
     ensures form { IfErr result (λ fault. HasForm (map (λ w. w.now) words.now) [] → ⊥) }
 {
-    if words.is_empty() {
-        Ok(())
-    } else {
-        Err(LineFault::NotACommand)
+    match words {
+        [] => Ok(()),
+        _ => Err(LineFault::NotACommand),
     }
 }
 

@@ -1,0 +1,71 @@
+ghost use Rattle.std.specs.Prelude.{◌≡◌, ◌≢◌, ◌∷◌, IfOk, IfErr, IfSome, IfNone, map};
+ghost use Rattle.litmus_text.specs.Form.{Writes, HasForm};
+ghost use Rattle.litmus_text.specs.ConfigLine.{name_of_policy, parts_of_policy};
+ghost use Rattle.litmus_text.specs.declared.policy.PolicyName.{PolicyName};
+ghost use Rattle.address_map.specs.declared.config.PolicyKind.{PolicyKind};
+
+use super::fault::LineFault;
+use super::number::{no_numbers, one_number};
+use super::table::value_named;
+use address_map::PolicyKind;
+
+/// How a replacement policy is called.
+#[derive(Clone, Copy)]
+enum PolicyName {
+    Lru,
+    Fifo,
+    Random,
+}
+
+/// Each policy, by its name.
+static POLICIES: [(&[u8], PolicyName); 3] = [
+    (b"lru", PolicyName::Lru),
+    (b"fifo", PolicyName::Fifo),
+    (b"random", PolicyName::Random),
+];
+
+/// A replacement policy, by its name and its seed where it has one.
+pub(super) fn parse_policy(words: &[&[u8]]) -> Result<PolicyKind, LineFault>
+    ensures written { IfOk result (λ kind. Writes (map (λ w. w.now) words.now) (parts_of_policy kind)) }
+    ensures refused { IfErr result (λ fault. (kind : PolicyKind) → Writes (map (λ w. w.now) words.now) (parts_of_policy kind) → ⊥) }
+    ensures form { IfErr result (λ fault. (kind : PolicyKind) → HasForm (map (λ w. w.now) words.now) (parts_of_policy kind)
+        → fault ≡ LineFault.BadNumber) }
+{
+    let Some((name, rest)) = words.split_first() else {
+        return Err(LineFault::NotACommand);
+    };
+    match policy_named(name) {
+        Some(policy) => parse_policy_called(policy, rest),
+        None => Err(LineFault::NotACommand),
+    }
+}
+
+fn policy_named(name: &[u8]) -> Option<PolicyName>
+    ensures found { IfSome result (λ policy. name.now ≡ name_of_policy policy) }
+    ensures none { IfNone result ((policy : PolicyName) → name.now ≢ name_of_policy policy) }
+{
+    value_named(&POLICIES, name)
+}
+
+// The policy of this name whose other words these are.
+fn parse_policy_called(policy: PolicyName, words: &[&[u8]]) -> Result<PolicyKind, LineFault>
+    ensures written { IfOk result
+        (λ kind. Writes (name_of_policy policy ∷ map (λ w. w.now) words.now) (parts_of_policy kind)) }
+    ensures refused { IfErr result (λ fault. (kind : PolicyKind)
+        → Writes (name_of_policy policy ∷ map (λ w. w.now) words.now) (parts_of_policy kind) → ⊥) }
+    ensures form { IfErr result (λ fault. (kind : PolicyKind)
+        → HasForm (name_of_policy policy ∷ map (λ w. w.now) words.now) (parts_of_policy kind)
+        → fault ≡ LineFault.BadNumber) }
+{
+    match policy {
+        PolicyName::Lru => {
+            no_numbers(words)?;
+            Ok(PolicyKind::Lru)
+        }
+        PolicyName::Fifo => {
+            no_numbers(words)?;
+            Ok(PolicyKind::Fifo)
+        }
+        PolicyName::Random => Ok(PolicyKind::Random(one_number(words)?)),
+    }
+}

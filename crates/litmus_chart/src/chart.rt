@@ -1,5 +1,5 @@
 ghost use Rattle.std.specs.Prelude.{◌≡◌, ◌<◌, IfOk};
-ghost use Rattle.litmus_text.specs.Command.{HasCore};
+ghost use Rattle.litmus_text.specs.Command.{HasCore, IsInRange};
 
 use super::arrow::{Fate, Participant};
 use super::note::{begin_cross, begin_note, write_participants};
@@ -14,6 +14,7 @@ use litmus_text::{Command, MissKind, Settings, Statement, TextFault};
 use mshr_file::{ExplicitFile, InvertedFile, MissFile};
 use slice_core::{Delivered, Pick};
 use std::alloc::Global;
+use std::fmt;
 use std::io::Write;
 
 /// Draws the run of a script: a sequence diagram in Mermaid's words. Answers the exit status. A fault ends the chart;
@@ -23,10 +24,7 @@ pub fn run_chart<W: Write>(alloc: Global, input: &[u8], out: &mut W) -> Result<u
 {
     let mut answers = Answers { out };
     match Script::read(alloc, input)? {
-        Some(script) => match script.misses {
-            MissKind::Explicit => chart_on::<ExplicitFile, W>(alloc, script, &mut answers)?,
-            MissKind::Inverted => chart_on::<InvertedFile, W>(alloc, script, &mut answers)?,
-        },
+        Some(script) => chart_of(alloc, script, &mut answers)?,
         None => chart_of_nothing(alloc, &mut answers)?,
     }
     Ok(0)
@@ -37,6 +35,17 @@ fn chart_of_nothing<W: Write>(alloc: Global, out: &mut Answers<'_, W>) -> Result
     let Settings { config, .. } = Settings::new(alloc);
     let config = config.check().map_err(TextFault::Config)?;
     written(write_participants(&config, out))
+}
+
+fn chart_of<W: Write>(
+    alloc: Global,
+    script: Script<'_>,
+    out: &mut Answers<'_, W>,
+) -> Result<(), TextFault> {
+    match script.misses {
+        MissKind::Explicit => chart_on::<ExplicitFile, W>(alloc, script, out),
+        MissKind::Inverted => chart_on::<InvertedFile, W>(alloc, script, out),
+    }
 }
 
 /// Draws a script on machines with miss registers of type `F`.
@@ -50,14 +59,24 @@ fn chart_on<F: MissFile, W: Write>(
         commands,
         ..
     } = script;
-    let twin = twin_of(alloc, &config)?;
-    let mut chart: Chart<F> = Chart {
-        ahead: Machine::build(alloc, config)?,
-        picture: Picture::new(alloc, twin)?,
-        alloc,
-    };
+    let mut chart: Chart<F> = Chart::new(alloc, config)?;
     written(write_participants(chart.config(), out))?;
     commands.play(&mut chart, out)
+}
+
+/// An access that isn't accepted is drawn as an arrow of the core to itself, which ends in a cross.
+fn note_issued<W: Write>(
+    core: CoreId,
+    statement: &Statement<'_>,
+    issued: Issued,
+    out: &mut Answers<'_, W>,
+) -> fmt::Result {
+    let who = Participant::Core(core);
+    match issued {
+        Issued::Done { .. } | Issued::Pending(_) => begin_note(who, statement, out)?,
+        Issued::Stall(_) | Issued::Refused(_) => begin_cross(who, statement, out)?,
+    }
+    write_issued(issued, out)
 }
 
 /// A player that draws what each command does.
@@ -89,16 +108,8 @@ impl<F: MissFile> Player for Chart<F> {
             Command::Evict { core, line } => self.evict(statement, core, line, out),
             Command::Deliver(pick) => self.deliver(statement, pick, out),
             Command::Hand { core, slice } => self.hand(statement, core, slice, out),
-            Command::Word(word) => {
-                let directory = self.directory(word.line());
-                written(begin_note(directory, statement, out))?;
-                self.ahead.run(command, out)
-            }
-            Command::State(line) => {
-                let directory = self.directory(line);
-                written(begin_note(directory, statement, out))?;
-                self.ahead.run(command, out)
-            }
+            Command::Word(word) => self.show(statement, command, word.line(), out),
+            Command::State(line) => self.show(statement, command, line, out),
             Command::Log(_) | Command::Stats => Ok(()),
             Command::Pump(calls) => self.pump(statement, calls, out),
         }
@@ -106,7 +117,31 @@ impl<F: MissFile> Player for Chart<F> {
 }
 
 impl<F: MissFile> Chart<F> {
-    /// An access that isn't accepted is drawn as an arrow of the core to itself, which ends in a cross.
+    fn new(alloc: Global, config: Checked) -> Result<Self, TextFault> {
+        let twin = twin_of(alloc, &config)?;
+        Ok(Chart {
+            ahead: Machine::build(alloc, config)?,
+            picture: Picture::new(alloc, twin)?,
+            alloc,
+        })
+    }
+
+    /// What a command shows of a line is said over its directory.
+    fn show<W: Write>(
+        &mut self,
+        statement: &Statement<'_>,
+        command: Command,
+        line: LineAddr,
+        out: &mut Answers<'_, W>,
+    ) -> Result<(), TextFault>
+        requires { IsInRange self.old.ahead.config command }
+        ensures { self.new.ahead.config ≡ self.old.ahead.config }
+    {
+        let directory = Participant::Directory(self.ahead.slice_of(line));
+        written(begin_note(directory, statement, out))?;
+        self.ahead.run(command, out)
+    }
+
     fn issue<W: Write>(
         &mut self,
         statement: &Statement<'_>,
@@ -118,12 +153,7 @@ impl<F: MissFile> Chart<F> {
         ensures { self.new.ahead.config ≡ self.old.ahead.config }
     {
         let issued = self.ahead.issue(core, request)?;
-        let who = Participant::Core(core);
-        written(match issued {
-            Issued::Done { .. } | Issued::Pending(_) => begin_note(who, statement, out),
-            Issued::Stall(_) | Issued::Refused(_) => begin_cross(who, statement, out),
-        })?;
-        written(write_issued(issued, out))?;
+        written(note_issued(core, statement, issued, out))?;
         if let Issued::Pending(_) = issued {
             self.picture.name(request.word.line())?;
         }
@@ -213,9 +243,5 @@ impl<F: MissFile> Chart<F> {
         let last = self.ahead.config.cores() - 1;
         written(begin_note(format_args!("dir0,core{last}"), statement, out))?;
         written(write_pumped(pumped, out))
-    }
-
-    fn directory(&self, line: LineAddr) -> Participant {
-        Participant::Directory(self.ahead.slice_of(line))
     }
 }

@@ -68,17 +68,27 @@ pub fn write_changes<W: Write>(
     if is_other_entry(before, after) {
         write_entry_change(directory, line, before, after, out)?;
     }
-    let number = line.0;
     let copies = before.copies.iter().zip(after.copies.iter());
     for (core, (before, after)) in copies.enumerate() {
         if before != after {
-            writeln!(
-                out,
-                "    Note over core{core}: line {number}: {before} to {after}"
-            )?;
+            write_copy_change(core, line, before, after, out)?;
         }
     }
     Ok(())
+}
+
+fn write_copy_change<C: Display, W: Write>(
+    core: usize,
+    line: LineAddr,
+    before: &C,
+    after: &C,
+    out: &mut W,
+) -> fmt::Result {
+    let number = line.0;
+    writeln!(
+        out,
+        "    Note over core{core}: line {number}: {before} to {after}"
+    )
 }
 
 fn is_other_entry(before: &LineView, after: &LineView) -> bool {
@@ -102,7 +112,10 @@ fn write_entry_change<W: Write>(
     if let Some(CoreId(owner)) = after.owner {
         write!(out, ", owner {owner}")?;
     }
-    let sharers = CoreSet::from_bits(after.sharers);
+    end_with_sharers(CoreSet::from_bits(after.sharers), out)
+}
+
+fn end_with_sharers<W: Write>(sharers: CoreSet, out: &mut W) -> fmt::Result {
     if !sharers.is_empty() {
         write!(out, ", sharers ")?;
         write_sharers(sharers, out)?;

@@ -19,6 +19,7 @@ pub use script::{Commands, Script, run_script};
 pub use watcher::Watcher;
 
 mod answers;
+mod calls;
 mod echo;
 mod line;
 mod machine;

@@ -12,17 +12,19 @@ use std::fmt::Write;
 
 /// Writes what a slice has of a line, as one line of text.
 pub fn write_line<W: Write>(line: LineAddr, view: &LineView, out: &mut W) -> fmt::Result {
+    write_directory(line, view, out)?;
+    write_home(&view.home, out)?;
+    write_copies(&view.copies, out)?;
+    writeln!(out)
+}
+
+fn write_directory<W: Write>(line: LineAddr, view: &LineView, out: &mut W) -> fmt::Result {
     let number = line.0;
     let dir = view.dir;
     write!(out, "line {number} dir {dir} owner ")?;
     write_owner(view.owner, out)?;
     write!(out, " sharers ")?;
-    write_sharers(CoreSet::from_bits(view.sharers), out)?;
-    write!(out, " home")?;
-    write_home(&view.home, out)?;
-    write!(out, " cores")?;
-    write_copies(&view.copies, out)?;
-    writeln!(out)
+    write_sharers(CoreSet::from_bits(view.sharers), out)
 }
 
 fn write_owner<W: Write>(owner: Option<CoreId>, out: &mut W) -> fmt::Result {
@@ -48,6 +50,7 @@ pub fn write_sharers<W: Write>(sharers: CoreSet, out: &mut W) -> fmt::Result
 }
 
 fn write_home<W: Write>(home: &[u64; 8], out: &mut W) -> fmt::Result {
+    write!(out, " home")?;
     for word in home {
         write!(out, " {word}")?;
     }
@@ -55,6 +58,7 @@ fn write_home<W: Write>(home: &[u64; 8], out: &mut W) -> fmt::Result {
 }
 
 fn write_copies<W: Write>(copies: &ArrayVec<CopyState, 64>, out: &mut W) -> fmt::Result {
+    write!(out, " cores")?;
     for state in copies {
         write!(out, " {state}")?;
     }

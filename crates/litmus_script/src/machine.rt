@@ -6,8 +6,9 @@ ghost use Rattle.litmus_script.specs.Machine.{IsMachine};
 
 use super::answers::{
     Answers, Issued, Pumped, write_delivered, write_evicted, write_handed, write_issued,
-    write_pumped,
+    write_pumped, written,
 };
+use super::calls;
 use super::line::write_line;
 use super::player::Player;
 use super::trace::write_trace;
@@ -16,8 +17,7 @@ use address_map::{Checked, CoreId, LineAddr, Request, SliceId, WordAddr};
 use litmus_text::{Command, Statement, TextFault};
 use mshr_file::MissFile;
 use slice_core::{
-    Class, Delivered, DeliveredNext, Evicted, Issue, LineView, Message, Numbered, Pick, Refused,
-    SliceState, Stats,
+    Delivered, DeliveredNext, Evicted, LineView, Message, Numbered, Pick, SliceState, Stats,
 };
 use stats_report::{ReportError, write_report};
 use std::alloc::{AllocError, Global};
@@ -34,7 +34,7 @@ pub struct Machine<F: MissFile> {
 }
 
 /// What a round of deliveries over the slices came to.
-#[derive(Clone, Copy, Debug, PartialEq, Eq)]
+#[derive(Clone, Copy)]
 enum Round {
     /// No message waited in any slice.
     Empty,
@@ -42,6 +42,16 @@ enum Round {
     Moved,
     /// Messages waited, and none could be delivered.
     Stuck,
+}
+
+impl Round {
+    /// The same round, where the messages of one more slice wait and none of them can be delivered.
+    fn held_up(self) -> Self {
+        match self {
+            Round::Empty => Round::Stuck,
+            other => other,
+        }
+    }
 }
 
 impl<F: MissFile> Player for Machine<F> {
@@ -67,9 +77,7 @@ impl<F: MissFile> Machine<F> {
     {
         let mut slices = Vec::new(alloc);
         for slice in 0..config.slices() {
-            let Ok(state) = SliceState::build(alloc, &config, SliceId(slice as u8)) else {
-                return Err(TextFault::NoMemory);
-            };
+            let state = calls::build(alloc, &config, SliceId(slice as u8))?;
             let Ok(()) = slices.push(state) else {
                 return Err(TextFault::NoMemory);
             };
@@ -90,21 +98,22 @@ impl<F: MissFile> Machine<F> {
         requires { IsInRange self.old.config command }
         ensures { self.new.config ≡ self.old.config }
     {
-        let written = match command {
-            Command::Issue { core, request } => write_issued(self.issue(core, request)?, out),
-            Command::Evict { core, line } => write_evicted(self.evict(core, line), out),
-            Command::Deliver(pick) => write_delivered(self.deliver(pick), out),
-            Command::Hand { core, slice } => write_handed(self.hand(core, slice), out),
-            Command::Word(word) => self.word(word, out),
-            Command::State(line) => self.state(line, out),
-            Command::Log(slice) => self.log(slice, out),
-            Command::Stats => return self.report(out),
+        match command {
+            Command::Issue { core, request } => {
+                written(write_issued(self.issue(core, request)?, out))
+            }
+            Command::Evict { core, line } => written(write_evicted(self.evict(core, line), out)),
+            Command::Deliver(pick) => written(write_delivered(self.deliver(pick), out)),
+            Command::Hand { core, slice } => written(write_handed(self.hand(core, slice), out)),
+            Command::Word(word) => written(self.word(word, out)),
+            Command::State(line) => written(self.state(line, out)),
+            Command::Log(slice) => written(self.log(slice, out)),
+            Command::Stats => self.report(out),
             Command::Pump(calls) => match self.pump(calls, &mut Nobody) {
-                Ok(pumped) => write_pumped(pumped, out),
-                Err(AllocError) => return Err(TextFault::NoMemory),
+                Ok(pumped) => written(write_pumped(pumped, out)),
+                Err(AllocError) => Err(TextFault::NoMemory),
             },
-        };
-        written.map_err(|_| TextFault::CannotWrite)
+        }
     }
 
     /// A word past the memory goes to slice 0, which refuses it.
@@ -115,17 +124,7 @@ impl<F: MissFile> Machine<F> {
         ensures { self.new.config ≡ self.old.config }
     {
         let slice = self.slice_of(request.word.line());
-        let state = &mut self.slices[slice];
-        match state.issue(core, request) {
-            Ok(Issue::Done(number)) => {
-                let reply = state.log()[number as usize].reply;
-                Ok(Issued::Done { number, reply })
-            }
-            Ok(Issue::Pending(seq)) => Ok(Issued::Pending(seq)),
-            Ok(Issue::Stall(stall)) => Ok(Issued::Stall(stall)),
-            Err(Refused::Memory) => Err(TextFault::NoMemory),
-            Err(refused) => Ok(Issued::Refused(refused)),
-        }
+        calls::issue(&mut self.slices[slice], core, request)
     }
 
     pub fn evict(&mut self, core: CoreId, line: LineAddr) -> Evicted
@@ -133,14 +132,14 @@ impl<F: MissFile> Machine<F> {
         ensures { self.new.config ≡ self.old.config }
     {
         let slice = self.slice_of(line);
-        self.slices[slice].evict(core, line)
+        calls::evict(&mut self.slices[slice], core, line)
     }
 
     pub fn deliver(&mut self, pick: Pick) -> Delivered
         ensures { self.new.config ≡ self.old.config }
     {
         let slice = self.slice_of(pick.line());
-        self.slices[slice].deliver(pick)
+        calls::deliver(&mut self.slices[slice], pick)
     }
 
     pub fn hand(&mut self, core: CoreId, slice: SliceId) -> Option<Numbered>
@@ -148,7 +147,7 @@ impl<F: MissFile> Machine<F> {
         requires slice { slice.0 < self.old.config.slices }
         ensures { self.new.config ≡ self.old.config }
     {
-        self.slices[slice.0 as usize].hand(core)
+        calls::hand(&mut self.slices[slice.0 as usize], core)
     }
 
     /// The message that a delivery at the pick would take.
@@ -164,12 +163,10 @@ impl<F: MissFile> Machine<F> {
     fn word<W: Write>(&self, word: WordAddr, out: &mut W) -> fmt::Result
         requires { word.0 / 8 < self.now.config.lines }
     {
-        let state = &self.slices[self.slice_of(word.line())];
-        if !state.is_quiet() {
-            return writeln!(out, "not quiet");
+        match calls::word(&self.slices[self.slice_of(word.line())], word) {
+            Some(value) => writeln!(out, "{value}"),
+            None => writeln!(out, "not quiet"),
         }
-        let value = state.word_now(word);
-        writeln!(out, "{value}")
     }
 
     fn state<W: Write>(&self, line: LineAddr, out: &mut W) -> fmt::Result
@@ -217,12 +214,13 @@ impl<F: MissFile> Machine<F> {
     {
         let slices = self.config.slices();
         let round = self.rounds(calls / slices as u64, watcher)?;
-        if round == Round::Empty {
-            return Ok(Pumped::Empty);
-        }
-        if round == Round::Moved {
+        match round {
+            Round::Empty => return Ok(Pumped::Empty),
+            Round::Stuck => {}
             // the calls that are left make no whole round
-            self.round((calls % slices as u64) as usize, watcher)?;
+            Round::Moved => {
+                self.round((calls % slices as u64) as usize, watcher)?;
+            }
         }
         Ok(Pumped::Left)
     }
@@ -233,9 +231,9 @@ impl<F: MissFile> Machine<F> {
     {
         let slices = self.config.slices();
         for _ in 0..count {
-            let round = self.round(slices, watcher)?;
-            if round != Round::Moved {
-                return Ok(round);
+            match self.round(slices, watcher)? {
+                Round::Moved => {}
+                last => return Ok(last),
             }
         }
         Ok(Round::Moved)
@@ -248,14 +246,13 @@ impl<F: MissFile> Machine<F> {
     {
         let mut round = Round::Empty;
         for slice in 0..count {
-            match self.slices[slice].deliver_next(Class::Any) {
+            match calls::deliver_next(&mut self.slices[slice]) {
                 DeliveredNext::Moved(pick) => {
                     watcher.moved(pick)?;
                     round = Round::Moved;
                 }
                 DeliveredNext::Nothing => {}
-                _ if round == Round::Empty => round = Round::Stuck,
-                _ => {}
+                _ => round = round.held_up(),
             }
         }
         Ok(round)

@@ -1,0 +1,92 @@
+//! The calls that a machine makes of one of its slices. What a slice promises of a call is long, and a machine needs
+//! little of it: that the slice stays the one that it was.
+ghost use Rattle.std.specs.Prelude.{◌<◌, length, IfOk, IsSome};
+ghost use Rattle.address_map.specs.Locator.{local_at};
+ghost use Rattle.address_map.specs.Place.{line_of};
+ghost use Rattle.slice_core.specs.Facts.{IsSameSlice};
+ghost use Rattle.litmus_script.specs.Machine.{IsSliceOf};
+
+use super::answers::Issued;
+use address_map::{Checked, CoreId, LineAddr, Request, SliceId, WordAddr};
+use litmus_text::TextFault;
+use mshr_file::MissFile;
+use slice_core::{
+    Class, Delivered, DeliveredNext, Evicted, Issue, Numbered, Pick, Refused, SliceState,
+};
+use std::alloc::Global;
+
+pub(crate) fn build<F: MissFile>(
+    alloc: Global,
+    config: &Checked,
+    slice: SliceId,
+) -> Result<SliceState<F>, TextFault>
+    requires { slice.0 < config.now.slices }
+    ensures { IfOk result (IsSliceOf config.now slice.0) }
+{
+    let Ok(state) = SliceState::build(alloc, config, slice) else {
+        return Err(TextFault::NoMemory);
+    };
+    Ok(state)
+}
+
+// What became of an access isn't put together where it is written at once.
+#[inline(always)]
+pub(crate) fn issue<F: MissFile>(
+    state: &mut SliceState<F>,
+    core: CoreId,
+    request: Request,
+) -> Result<Issued, TextFault>
+    requires { core.0 < length state.old.view.sides }
+    ensures { IsSameSlice state.old state.new }
+{
+    match state.issue(core, request) {
+        Ok(Issue::Done(number)) => {
+            let reply = state.log()[number as usize].reply;
+            Ok(Issued::Done { number, reply })
+        }
+        Ok(Issue::Pending(seq)) => Ok(Issued::Pending(seq)),
+        Ok(Issue::Stall(stall)) => Ok(Issued::Stall(stall)),
+        Err(Refused::Memory) => Err(TextFault::NoMemory),
+        Err(refused) => Ok(Issued::Refused(refused)),
+    }
+}
+
+#[inline(always)]
+pub(crate) fn evict<F: MissFile>(state: &mut SliceState<F>, core: CoreId, line: LineAddr) -> Evicted
+    requires { core.0 < length state.old.view.sides }
+    ensures { IsSameSlice state.old state.new }
+{
+    state.evict(core, line)
+}
+
+#[inline(always)]
+pub(crate) fn deliver<F: MissFile>(state: &mut SliceState<F>, pick: Pick) -> Delivered
+    ensures { IsSameSlice state.old state.new }
+{
+    state.deliver(pick)
+}
+
+#[inline(always)]
+pub(crate) fn deliver_next<F: MissFile>(state: &mut SliceState<F>) -> DeliveredNext
+    ensures { IsSameSlice state.old state.new }
+{
+    state.deliver_next(Class::Any)
+}
+
+#[inline(always)]
+pub(crate) fn hand<F: MissFile>(state: &mut SliceState<F>, core: CoreId) -> Option<Numbered>
+    requires { core.0 < length state.old.view.sides }
+    ensures { IsSameSlice state.old state.new }
+{
+    state.hand(core)
+}
+
+/// The value of a word, where the slice is quiet.
+pub(crate) fn word<F: MissFile>(state: &SliceState<F>, word: WordAddr) -> Option<u64>
+    requires { IsSome (local_at state.now.view.lines (line_of word).0) }
+{
+    if !state.is_quiet() {
+        return None;
+    }
+    Some(state.word_now(word))
+}

@@ -1,9 +1,10 @@
-ghost use Rattle.std.specs.Prelude.{◌≡◌, ◌+◌, ◌<◌, ◌≤◌, ◌%◌, nat_lt, is_some, IfOk, IfErr, OnOk};
+ghost use Rattle.std.specs.Prelude.{◌≡◌, ◌+◌, ◌<◌, ◌≤◌, ◌%◌, is_some, IfOk, IfErr, OnOk};
 ghost use Rattle.address_map.specs.Config.{IsAllowed, word_count};
 ghost use Rattle.address_map.specs.Place.{slice_of};
 ghost use Rattle.core_thread_system.specs.Core.{AreFreshSets};
 ghost use Rattle.core_thread_system.specs.Error.{IsAccepted, IsFaultOf};
-ghost use Rattle.receipt_ledger.specs.Port.{AreFreshPorts};
+ghost use Rattle.core_thread_system.specs.declared.error.BuildError.TheVariants.{Memory};
+ghost use Rattle.core_thread_system.specs.System.{IsPlaced};
 ghost use Rattle.receipt_shares.specs.Names.{AreLedgersOf};
 ghost use Rattle.slice_core.specs.Facts.{IsNotBrokenNext};
 
@@ -87,8 +88,14 @@ impl<F: MissFile, M: SystemNames> System<F, M> {
         ensures accepted { OnOk result (IsAccepted config) }
         ensures sets { IfOk result (λ r. AreFreshSets config.cores r.1.items) }
     {
-        let config = checked(config)?;
-        Ok(System::assemble(alloc, config, blanks)?)
+        match checked(config) {
+            Ok(config) => System::assemble(alloc, config, blanks),
+            Err(error) => {
+                // In one call: dropped where they are they would be forty ledgers, each with a proof of its own.
+                drop(blanks);
+                Err(error)
+            }
+        }
     }
 
     // Builds each slice of a configuration that was checked.
@@ -96,30 +103,43 @@ impl<F: MissFile, M: SystemNames> System<F, M> {
         alloc: Global,
         config: Checked,
         blanks: SystemBlanks,
-    ) -> Result<(System<F, M>, Vec<PortSet<M>>), AllocError>
+    ) -> Result<(System<F, M>, Vec<PortSet<M>>), BuildError>
         requires setup { config ≡ M.setup }
         requires ledgers0 { AreLedgersOf M.S0.setup M.S0.names blanks.slice0 }
         requires ledgers1 { AreLedgersOf M.S1.setup M.S1.names blanks.slice1 }
         requires ledgers2 { AreLedgersOf M.S2.setup M.S2.names blanks.slice2 }
         requires ledgers3 { AreLedgersOf M.S3.setup M.S3.names blanks.slice3 }
-        ensures { IfOk result (λ r. AreFreshSets M.setup.cores r.1.items) }
+        ensures memory { IfErr result (λ error. error ≡ Memory) }
+        ensures sets { IfOk result (λ r. AreFreshSets M.setup.cores r.1.items) }
     {
-        let cores = config.cores();
-        let (slice0, ports0) = Slice::build(alloc, &config, SliceId(0), blanks.slice0)?;
-        let (slice1, ports1) = configured(alloc, &config, SliceId(1), blanks.slice1)?;
-        let (slice2, ports2) = configured(alloc, &config, SliceId(2), blanks.slice2)?;
-        let (slice3, ports3) = configured(alloc, &config, SliceId(3), blanks.slice3)?;
-        let sets = deal(alloc, cores, ports0, ports1, ports2, ports3)?;
-        Ok((
-            System {
-                config,
-                slice0,
-                slice1,
-                slice2,
-                slice3,
-            },
-            sets,
-        ))
+        // The ledgers that no slice takes are dropped in one call, as above.
+        let Ok((slice0, ports0)) = Slice::build(alloc, &config, SliceId(0), blanks.slice0) else {
+            drop((blanks.slice1, blanks.slice2, blanks.slice3));
+            return Err(BuildError::Memory);
+        };
+        let later = LaterSlices::<F, M>::build(
+            alloc,
+            &config,
+            blanks.slice1,
+            blanks.slice2,
+            blanks.slice3,
+        )?;
+        let sets = deal(
+            alloc,
+            config.cores(),
+            ports0,
+            later.ports1,
+            later.ports2,
+            later.ports3,
+        )?;
+        let system = System {
+            config,
+            slice0,
+            slice1: later.slice1,
+            slice2: later.slice2,
+            slice3: later.slice3,
+        };
+        Ok((system, sets))
     }
 
     /// The configuration that it was built from.
@@ -227,6 +247,54 @@ fn checked(config: Config) -> Result<Checked, BuildError>
     }
 }
 
+// The slices 1 to 3, each where the machine has it, and in any case the ports of each.
+#[derive(Drop)]
+struct LaterSlices<F: MissFile, M: SystemNames> {
+    slice1: Option<Slice<F, M::S1>>,
+    slice2: Option<Slice<F, M::S2>>,
+    slice3: Option<Slice<F, M::S3>>,
+    ports1: Vec<Port<M::S1>>,
+    ports2: Vec<Port<M::S2>>,
+    ports3: Vec<Port<M::S3>>,
+}
+
+impl<F: MissFile, M: SystemNames> LaterSlices<F, M> {
+    fn build(
+        alloc: Global,
+        config: &Checked,
+        blanks1: Blanks,
+        blanks2: Blanks,
+        blanks3: Blanks,
+    ) -> Result<LaterSlices<F, M>, AllocError>
+        requires setup { config.now ≡ M.setup }
+        requires ledgers1 { AreLedgersOf M.S1.setup M.S1.names blanks1 }
+        requires ledgers2 { AreLedgersOf M.S2.setup M.S2.names blanks2 }
+        requires ledgers3 { AreLedgersOf M.S3.setup M.S3.names blanks3 }
+        ensures slice1 { IfOk result (λ r. IsPlaced config.now (record { 0 = 1 }) (is_some r.slice1) r.ports1.items) }
+        ensures slice2 { IfOk result (λ r. IsPlaced config.now (record { 0 = 2 }) (is_some r.slice2) r.ports2.items) }
+        ensures slice3 { IfOk result (λ r. IsPlaced config.now (record { 0 = 3 }) (is_some r.slice3) r.ports3.items) }
+    {
+        // Here too the ledgers that no slice takes are dropped in one call.
+        let Ok((slice1, ports1)) = configured(alloc, config, SliceId(1), blanks1) else {
+            drop((blanks2, blanks3));
+            return Err(AllocError);
+        };
+        let Ok((slice2, ports2)) = configured(alloc, config, SliceId(2), blanks2) else {
+            drop(blanks3);
+            return Err(AllocError);
+        };
+        let (slice3, ports3) = configured(alloc, config, SliceId(3), blanks3)?;
+        Ok(LaterSlices {
+            slice1,
+            slice2,
+            slice3,
+            ports1,
+            ports2,
+            ports3,
+        })
+    }
+}
+
 // The slice of this number, where the machine has one, and in any case a port of it for each core.
 fn configured<F: MissFile, N: SliceNames>(
     alloc: Global,
@@ -237,8 +305,7 @@ fn configured<F: MissFile, N: SliceNames>(
     requires setup { config.now ≡ N.setup }
     requires number { slice.0 ≡ N.number }
     requires ledgers { AreLedgersOf N.setup N.names blanks }
-    ensures there { IfOk result (λ r. is_some r.0 ≡ nat_lt slice.0 config.now.slices) }
-    ensures ports { IfOk result (λ r. AreFreshPorts slice N.setup.cores r.1.items) }
+    ensures { IfOk result (λ r. IsPlaced config.now slice (is_some r.0) r.1.items) }
 {
     if usize::from(slice.0) < config.slices() {
         let (built, ports) = Slice::build(alloc, config, slice, blanks)?;

@@ -7,7 +7,7 @@ use slice_core_answer::{Evicted, Issue, Stall};
 use slice_core_steps::LineView;
 
 /// How much of a core's cache is taken.
-#[derive(Clone, Copy, Debug, Default, PartialEq, Eq)]
+#[derive(Clone, Copy, Default)]
 pub struct Usage {
     /// Lines that are waited for.
     awaited: u64,
@@ -53,7 +53,7 @@ impl Usage {
 }
 
 /// What an access or an eviction finds.
-#[derive(Clone, Copy, Debug, PartialEq, Eq)]
+#[derive(Clone, Copy)]
 pub struct Found {
     pub copy: CopyState,
     /// Accesses of the core that wait for the line.

@@ -6,7 +6,7 @@ use cache_table::CopyState;
 use slice_core_steps::LineView;
 
 /// What a core has of a line, as far as its own accesses are concerned.
-#[derive(Clone, Copy, Debug, PartialEq, Eq)]
+#[derive(Clone, Copy, PartialEq, Eq)]
 pub enum Holding {
     Nothing,
     Shared,

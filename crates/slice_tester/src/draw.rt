@@ -14,7 +14,7 @@ pub const CALLS: u64 = 5000;
 const TAGS: u64 = 6;
 
 /// A call on one slice of the machine.
-#[derive(Clone, Copy, Debug, PartialEq, Eq)]
+#[derive(Clone, Copy, Debug)]
 pub enum Call {
     Issue(CoreId, Request),
     Evict(CoreId, LineAddr),

@@ -8,7 +8,7 @@ use std::alloc::{AllocError, AllocFailed};
 use std::fmt;
 
 /// What is wrong.
-#[derive(Clone, Copy, Debug, PartialEq, Eq)]
+#[derive(Clone, Copy, Debug)]
 pub enum Fault {
     /// The tester itself has no memory left.
     Memory,
@@ -71,6 +71,12 @@ pub enum Fault {
     Sum(WordAddr),
 }
 
+impl From<ConfigError> for Fault {
+    fn from(error: ConfigError) -> Self {
+        Fault::Config(error)
+    }
+}
+
 impl From<AllocError> for Fault {
     fn from(_error: AllocError) -> Self {
         Fault::Memory
@@ -84,7 +90,7 @@ impl<T: Drop> From<AllocFailed<T>> for Fault {
 }
 
 /// Where a run went wrong.
-#[derive(Clone, Copy, Debug, PartialEq, Eq)]
+#[derive(Clone, Copy)]
 pub struct Failure {
     pub seed: u64,
     /// How many calls were made before.

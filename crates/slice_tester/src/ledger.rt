@@ -5,7 +5,7 @@ use slice_core_log::Entry;
 use std::alloc::Global;
 
 /// A request that was accepted and isn't performed.
-#[derive(Clone, Copy, Debug, PartialEq, Eq)]
+#[derive(Clone, Copy, PartialEq, Eq)]
 struct Asked {
     core: CoreId,
     request: Request,
@@ -14,7 +14,7 @@ struct Asked {
 }
 
 /// An entry of the log that isn't handed out.
-#[derive(Clone, Copy, Debug, PartialEq, Eq)]
+#[derive(Clone, Copy)]
 struct Reply {
     core: CoreId,
     tag: u8,
@@ -29,16 +29,16 @@ pub struct Ledger {
     /// In the order of the log.
     replies: Vec<Reply>,
     /// How many requests were accepted, by core.
-    accepted: Vec<u64>,
+    accepted: [u64; CORES as usize],
 }
 
 impl Ledger {
-    pub fn build(alloc: Global) -> Result<Self, Fault> {
-        Ok(Ledger {
+    pub fn new(alloc: Global) -> Self {
+        Ledger {
             asked: Vec::new(alloc),
             replies: Vec::new(alloc),
-            accepted: vec![in alloc; 0; CORES as usize]?,
-        })
+            accepted: [0; CORES as usize],
+        }
     }
 
     /// Whether nothing waits and each reply is handed out.
@@ -48,21 +48,28 @@ impl Ledger {
 
     /// Whether the core has a request with this tag that isn't handed out.
     pub fn is_busy(&self, core: CoreId, tag: u8) -> bool {
-        self.asked
-            .iter()
-            .any(|asked| asked.core == core && asked.request.tag == tag)
-            || self
-                .replies
-                .iter()
-                .any(|reply| reply.core == core && reply.tag == tag)
+        for asked in &self.asked {
+            if asked.core == core && asked.request.tag == tag {
+                return true;
+            }
+        }
+        for reply in &self.replies {
+            if reply.core == core && reply.tag == tag {
+                return true;
+            }
+        }
+        false
     }
 
     /// How many accesses of the core wait for the line.
     pub fn waiting(&self, core: CoreId, line: LineAddr) -> u64 {
-        self.asked
-            .iter()
-            .filter(|asked| asked.core == core && asked.request.word.line() == line)
-            .count() as u64
+        let mut count: u64 = 0;
+        for asked in &self.asked {
+            if asked.core == core && asked.request.word.line() == line {
+                count = count.saturating_add(1);
+            }
+        }
+        count
     }
 
     /// The cores that wait for the line: bit c is core c.
@@ -104,10 +111,7 @@ impl Ledger {
             seq: entry.seq,
             since: entry.since,
         };
-        let line = entry.word.line();
-        let oldest = self.asked.iter().position(|asked| asked.core == entry.core
-            && asked.request.word.line() == line);
-        let Some(place) = oldest else {
+        let Some(place) = self.oldest(entry.core, entry.word.line()) else {
             return Err(Fault::Unasked(number));
         };
         if self.asked.get(place) != Some(&performed) {
@@ -122,20 +126,22 @@ impl Ledger {
         Ok(())
     }
 
+    /// Where the core's oldest request stands that waits for the line.
+    fn oldest(&self, core: CoreId, line: LineAddr) -> Option<usize> {
+        self.asked.iter().position(|asked| asked.core == core && asked.request.word.line() == line)
+    }
+
     /// Takes note that the core's oldest reply is handed out. Answers its number.
     pub fn hand(&mut self, core: CoreId) -> Option<u64> {
         let place = self.replies.iter().position(|reply| reply.core == core)?;
         Some(self.replies.remove(place).number)
     }
 
-    /// Takes note that the reply of this number is handed out, as that of a hit is at once.
+    /// Takes note that the newest reply is handed out, as that of a hit is at once. Its number is to be this.
     pub fn hand_hit(&mut self, number: u64) -> Result<(), Fault> {
-        match self.replies.iter().position(|reply| reply.number == number) {
-            Some(place) => {
-                self.replies.remove(place);
-                Ok(())
-            }
-            None => Err(Fault::Number(number)),
+        match self.replies.pop() {
+            Some(reply) if reply.number == number => Ok(()),
+            _ => Err(Fault::Number(number)),
         }
     }
 }

@@ -12,7 +12,7 @@ use slice_core_steps::LineView;
 use std::alloc::Global;
 
 /// What a call may change of the lines.
-#[derive(Clone, Copy, Debug, PartialEq, Eq)]
+#[derive(Clone, Copy)]
 pub enum Touch {
     Nothing,
     /// The core's copy of a line, and of one more, which is evicted for it.
@@ -55,17 +55,7 @@ pub fn check_line(
     memory: &Memory,
     shape: &Shape,
 ) -> Result<(), Fault> {
-    let writers = view
-        .copies
-        .iter()
-        .filter(|copy| may_be_written(**copy))
-        .count();
-    let readers = view
-        .copies
-        .iter()
-        .filter(|copy| may_be_read(**copy))
-        .count();
-    if writers > 0 && readers > 1 {
+    if !has_no_reader_beside_writer(view) {
         return Err(Fault::Writers(line));
     }
     let is_current = matches!(view.dir, DirState::I | DirState::S);
@@ -75,10 +65,21 @@ pub fn check_line(
     if view.owner.is_some() != (view.dir == DirState::M) {
         return Err(Fault::Owner(line));
     }
-    if !shape.exclusive && view.copies.iter().any(|copy| *copy == CopyState::E) {
+    if !shape.exclusive && view.copies.contains(&CopyState::E) {
         return Err(Fault::Exclusive(line));
     }
     Ok(())
+}
+
+/// Whether no core may read the line, where another may write it.
+fn has_no_reader_beside_writer(view: &LineView) -> bool {
+    let mut has_writer = false;
+    let mut readers: u64 = 0;
+    for copy in view.copies.iter() {
+        has_writer |= may_be_written(*copy);
+        readers = readers.saturating_add(u64::from(may_be_read(*copy)));
+    }
+    !has_writer || readers <= 1
 }
 
 /// Whether exactly the cores whose copies wait have accesses that wait for the line.

@@ -13,7 +13,7 @@ use setting::{FileKind, SEEDS, SETTINGS, Setting};
 use std::alloc::Global;
 use std::io;
 use std::process::ExitCode;
-use worked::WORKED;
+use worked::{WORKED, Worked};
 
 mod access;
 mod copies;
@@ -45,30 +45,48 @@ fn test_all<R: AllocGlobal + Print>(rt: &R) -> io::Result<bool> {
 
 /// Tests each run whose answers are known, up to the first fault. Answers whether there was none.
 fn test_worked<R: AllocGlobal + Print>(rt: &R) -> io::Result<bool> {
-    for run in WORKED {
-        match run.test(rt.alloc()) {
-            Ok(calls) => println!(rt; "{run}: one run of {calls} calls: nothing found")?,
-            Err(fault) => {
-                println!(rt; "{run}: {fault:?}")?;
-                return Ok(false);
-            }
+    for run in &WORKED {
+        if !print_worked(rt, *run)? {
+            return Ok(false);
         }
     }
     Ok(true)
 }
 
+fn print_worked<R: AllocGlobal + Print>(rt: &R, run: Worked) -> io::Result<bool> {
+    match run.test(rt.alloc()) {
+        Ok(calls) => {
+            println!(rt; "{run}: one run of {calls} calls: nothing found")?;
+            Ok(true)
+        }
+        Err(fault) => {
+            println!(rt; "{run}: {fault:?}")?;
+            Ok(false)
+        }
+    }
+}
+
 /// Tests each setting, up to the first fault. Answers whether there was none.
 fn test_settings<R: AllocGlobal + Print>(rt: &R) -> io::Result<bool> {
-    for setting in SETTINGS {
-        match test_setting(rt.alloc(), setting) {
-            Ok(calls) => println!(rt; "{setting}: {SEEDS} seeds, {calls} calls: nothing found")?,
-            Err(failure) => {
-                println!(rt; "{setting}: {failure}")?;
-                return Ok(false);
-            }
+    for setting in &SETTINGS {
+        if !print_setting(rt, *setting)? {
+            return Ok(false);
         }
     }
     Ok(true)
+}
+
+fn print_setting<R: AllocGlobal + Print>(rt: &R, setting: Setting) -> io::Result<bool> {
+    match test_setting(rt.alloc(), setting) {
+        Ok(calls) => {
+            println!(rt; "{setting}: {SEEDS} seeds, {calls} calls: nothing found")?;
+            Ok(true)
+        }
+        Err(failure) => {
+            println!(rt; "{setting}: {failure}")?;
+            Ok(false)
+        }
+    }
 }
 
 /// Answers how many calls were made.

@@ -4,7 +4,7 @@ use super::memory::Memory;
 use super::setting::Setting;
 use super::shape::{SLICES, Shape};
 use super::tester::Tester;
-use address_map::SliceId;
+use address_map::{Checked, SliceId};
 use mshr_file::MissFile;
 use std::alloc::Global;
 
@@ -18,12 +18,41 @@ struct Machine<F: MissFile> {
 impl<F: MissFile> Machine<F> {
     fn build(alloc: Global, shape: Shape) -> Result<Self, Fault> {
         let config = shape.configure(alloc)?;
-        let mut slices = Vec::new(alloc);
+        let mut machine = Machine {
+            slices: Vec::new(alloc),
+            memory: Memory::build(alloc, &shape)?,
+        };
         for slice in 0..SLICES {
-            slices.push(Tester::build(alloc, &config, shape, SliceId(slice))?)?;
+            machine.add_slice(alloc, &config, shape, SliceId(slice))?;
         }
-        let memory = Memory::build(alloc, &shape)?;
-        Ok(Machine { slices, memory })
+        Ok(machine)
+    }
+
+    fn add_slice(
+        &mut self,
+        alloc: Global,
+        config: &Checked,
+        shape: Shape,
+        slice: SliceId,
+    ) -> Result<(), Fault> {
+        let tester = Tester::build(alloc, config, shape, slice)?;
+        self.slices.push(tester)?;
+        Ok(())
+    }
+
+    /// Makes all calls of the seed.
+    fn test(&mut self, seed: u64, shape: Shape) -> Result<(), Failure> {
+        let mut draw = Draw::new(seed, shape);
+        for number in 0..CALLS {
+            let call = draw.call(&self.memory);
+            if let Err(fault) = self.make(call) {
+                return Err(failure(seed, number, Some(call), fault));
+            }
+        }
+        match self.finish() {
+            Ok(()) => Ok(()),
+            Err(fault) => Err(failure(seed, CALLS, None, fault)),
+        }
     }
 
     fn make(&mut self, call: Call) -> Result<(), Fault> {
@@ -44,20 +73,10 @@ impl<F: MissFile> Machine<F> {
 /// Makes all calls of one run.
 pub fn test_seed<F: MissFile>(alloc: Global, setting: Setting, seed: u64) -> Result<(), Failure> {
     let shape = Shape::of_run(setting, seed);
-    let mut machine = match Machine::<F>::build(alloc, shape) {
-        Ok(machine) => machine,
-        Err(fault) => return Err(failure(seed, 0, None, fault)),
-    };
-    let mut draw = Draw::new(seed, shape);
-    for number in 0..CALLS {
-        let call = draw.call(&machine.memory);
-        if let Err(fault) = machine.make(call) {
-            return Err(failure(seed, number, Some(call), fault));
-        }
+    match Machine::<F>::build(alloc, shape) {
+        Ok(mut machine) => machine.test(seed, shape),
+        Err(fault) => Err(failure(seed, 0, None, fault)),
     }
-    machine
-        .finish()
-        .map_err(|fault| failure(seed, CALLS, None, fault))
 }
 
 fn failure(seed: u64, number: u64, call: Option<Call>, fault: Fault) -> Failure {

@@ -4,14 +4,14 @@ use std::fmt;
 pub const SEEDS: u64 = 40;
 
 /// Which organisation of miss registers the caches have.
-#[derive(Clone, Copy, Debug, PartialEq, Eq)]
+#[derive(Clone, Copy, PartialEq, Eq)]
 pub enum FileKind {
     Explicit,
     Inverted,
 }
 
 /// What differs between the lines that are printed.
-#[derive(Clone, Copy, Debug, PartialEq, Eq)]
+#[derive(Clone, Copy)]
 pub struct Setting {
     pub file: FileKind,
     pub exclusive: bool,

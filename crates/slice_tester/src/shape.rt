@@ -9,7 +9,7 @@ pub const CORES: u8 = 8;
 pub const SLICES: u8 = 2;
 
 /// The machine of one run. It is so small that everything collides.
-#[derive(Clone, Copy, Debug, PartialEq, Eq)]
+#[derive(Clone, Copy)]
 pub struct Shape {
     pub file: FileKind,
     pub exclusive: bool,
@@ -58,6 +58,11 @@ impl Shape {
         config.writebacks = self.writebacks;
         config.policy = self.policy;
         config.exclusive = self.exclusive;
+        self.configure_words(&mut config)?;
+        Ok(config.check()?)
+    }
+
+    fn configure_words(&self, config: &mut Config) -> Result<(), Fault> {
         for line in 0..self.lines {
             let first = word_at(line, 0);
             config.init.push(first, initial_value(first))?;
@@ -65,6 +70,6 @@ impl Shape {
             config.init.push(counter, initial_value(counter))?;
             config.counters.push(counter)?;
         }
-        config.check().map_err(Fault::Config)
+        Ok(())
     }
 }

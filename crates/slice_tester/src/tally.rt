@@ -3,17 +3,16 @@ use super::shape::CORES;
 use address_map::CoreId;
 use slice_core_answer::{CoreStats, MessageCounts, Stall, Stats};
 use slice_queues_message::Channel;
-use std::alloc::Global;
 
 /// What the answers come to, counted one by one.
 #[derive(Drop)]
 pub struct Tally {
-    cores: Vec<CoreStats>,
+    cores: [CoreStats; CORES as usize],
     messages: MessageCounts,
 }
 
 /// What one more call is counted as.
-#[derive(Clone, Copy, Debug, PartialEq, Eq)]
+#[derive(Clone, Copy)]
 pub enum Event {
     /// `silent` where an exclusive copy was written.
     Hit { silent: bool },
@@ -25,11 +24,11 @@ pub enum Event {
 }
 
 impl Tally {
-    pub fn build(alloc: Global) -> Result<Self, Fault> {
-        Ok(Tally {
-            cores: vec![in alloc; CoreStats::default(); CORES as usize]?,
+    pub fn new() -> Self {
+        Tally {
+            cores: [CoreStats::default(); CORES as usize],
             messages: MessageCounts::default(),
-        })
+        }
     }
 
     pub fn count(&mut self, core: CoreId, event: Event) {

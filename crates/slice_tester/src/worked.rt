@@ -13,7 +13,7 @@ use std::fmt;
 
 /// Calls whose answers were worked out by hand from the two tables, named by what they show. A slice whose words are
 /// all 0 makes them as one run.
-#[derive(Clone, Copy, Debug, PartialEq, Eq)]
+#[derive(Clone, Copy)]
 pub enum Worked {
     EarlyInvalidation,
     LoadsThenWrites,
@@ -34,14 +34,8 @@ impl Worked {
     /// Makes the run, and compares all answers, and the first word at the end. Answers how many calls were made.
     pub fn test(self, alloc: Global) -> Result<usize, Fault> {
         match self {
-            Worked::EarlyInvalidation => {
-                let state = build(alloc, 2, 4)?;
-                test_run(alloc, state, &early_invalidation(), 6)
-            }
-            Worked::LoadsThenWrites => {
-                let state = build(alloc, 1, 1)?;
-                test_run(alloc, state, &loads_then_writes(), 8)
-            }
+            Worked::EarlyInvalidation => test_run(alloc, 2, 4, &early_invalidation(), 6),
+            Worked::LoadsThenWrites => test_run(alloc, 1, 1, &loads_then_writes(), 8),
         }
     }
 }
@@ -155,36 +149,70 @@ const fn entry(core: u8, tag: u8, word: u64, op: Op, reply: u64) -> Entry {
     }
 }
 
+/// Makes the calls on a slice of a machine of its own, and compares the answers, and the first word at the end.
+fn test_run(
+    alloc: Global,
+    cores: u64,
+    mshrs: u64,
+    steps: &[(Call, CallAnswer)],
+    value: u64,
+) -> Result<usize, Fault> {
+    let mut state = build(alloc, cores, mshrs)?;
+    test_steps(alloc, &mut state, steps, value)
+}
+
 fn build(alloc: Global, cores: u64, mshrs: u64) -> Result<SliceState<ExplicitFile>, Fault> {
     let mut config = Config::new(alloc);
     config.cores = cores;
     config.mshrs = mshrs;
-    let config = config.check().map_err(Fault::Config)?;
+    let config = config.check()?;
     Ok(SliceState::build(alloc, &config, SliceId(0))?)
 }
 
-fn test_run(
+fn test_steps(
     alloc: Global,
-    mut state: SliceState<ExplicitFile>,
+    state: &mut SliceState<ExplicitFile>,
     steps: &[(Call, CallAnswer)],
     value: u64,
 ) -> Result<usize, Fault> {
+    let calls = calls_of(alloc, steps)?;
+    let answers = run(alloc, state, calls.as_slice())?;
+    check_answers(steps, answers.as_slice())?;
+    check_first_word(state, value)?;
+    Ok(steps.len())
+}
+
+fn calls_of(alloc: Global, steps: &[(Call, CallAnswer)]) -> Result<Vec<Call>, Fault> {
     let mut calls = Vec::new(alloc);
     for (call, _) in steps {
         calls.push(*call)?;
     }
-    let mut answers = vec![in alloc; UNANSWERED; calls.len()]?;
-    if !have_cores(calls.as_slice(), state.cores()) {
+    Ok(calls)
+}
+
+/// Makes the calls as one run.
+fn run(
+    alloc: Global,
+    state: &mut SliceState<ExplicitFile>,
+    calls: &[Call],
+) -> Result<Vec<CallAnswer>, Fault> {
+    if !have_cores(calls, state.cores()) {
         return Err(Fault::NoCore);
     }
-    state.run(calls.as_slice(), answers.as_mut_slice());
-    for (place, ((_, expected), answer)) in steps.iter().zip(answers.iter()).enumerate() {
-        if expected != answer {
-            return Err(Fault::RunAnswer(place, *answer));
+    let mut answers = vec![in alloc; UNANSWERED; calls.len()]?;
+    state.run(calls, answers.as_mut_slice());
+    Ok(answers)
+}
+
+fn check_answers(steps: &[(Call, CallAnswer)], answers: &[CallAnswer]) -> Result<(), Fault> {
+    for (place, (_, expected)) in steps.iter().enumerate() {
+        match answers.get(place) {
+            Some(answer) if answer == expected => {}
+            Some(answer) => return Err(Fault::RunAnswer(place, *answer)),
+            None => return Err(Fault::RunAnswer(place, UNANSWERED)),
         }
     }
-    check_first_word(&state, value)?;
-    Ok(steps.len())
+    Ok(())
 }
 
 fn check_first_word(state: &SliceState<ExplicitFile>, value: u64) -> Result<(), Fault> {

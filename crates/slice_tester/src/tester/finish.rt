@@ -27,6 +27,7 @@ impl<F: MissFile> Tester<F> {
         if !self.state.is_quiet() {
             return Err(Fault::NotQuiet);
         }
+        self.check_quiet(memory)?;
         if self.state.log() != self.history.as_slice() {
             return Err(Fault::Log);
         }

@@ -39,6 +39,11 @@ AfterIssue c old request answer new =
     (AfterAsking (slice_of c (line_of request.word)).0 old request answer new)
     (λ refused. (answer ≡ Err refused) × (new ≡ old))
 
+-- The request wasn't taken to a slice that doesn't have its word.
+abbrev pub IsAtItsSlice : Result Answer Refused → Type 0
+IsAtItsSlice (Err refusals.WrongSlice) = ⊥
+IsAtItsSlice answer = Unit {0}
+
 -- A reply was handed out: it is the receipt's slice whose port has one more receipt, the receipt's tag is no longer in
 -- flight, and the slice after it is asked first the next time.
 pub record HasReceived (c : Config) (old : CoreView) (r : Receipt) (new : CoreView) : Type 0 where

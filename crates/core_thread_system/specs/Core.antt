@@ -2,6 +2,7 @@
 use Rattle.std.specs.Prelude.{◌≡◌, ℕ, ◌<◌, ◌==◌, if◌then◌else◌, nat_lt, List, [], length, slice_get, Some}
 use Rattle.address_map.specs.declared.address.CoreId.{CoreId}
 use Rattle.receipt_ledger.specs.Port.{PortView, fresh_port}
+use Rattle.receipt_ledger.specs.declared.receipt.Ask.{Ask}
 use Rattle.receipt_ledger.specs.declared.receipt.Receipt.{Receipt}
 
 -- a core's number, and its port of each of the slices 0 to 3
@@ -58,6 +59,10 @@ with_port v slice port =
 abbrev pub receipts_of : CoreView → ℕ → List Receipt
 receipts_of v slice = if nat_lt slice 4 then (port_at v slice).receipts else []
 
--- how many requests of the core that slice accepted
+-- the requests of the core that that slice accepted
+abbrev pub asked_of : CoreView → ℕ → List Ask
+asked_of v slice = if nat_lt slice 4 then (port_at v slice).asked else []
+
+-- how many these are
 abbrev pub accepted_of : CoreView → ℕ → ℕ
-accepted_of v slice = if nat_lt slice 4 then (port_at v slice).accepted else 0
+accepted_of v slice = length (asked_of v slice)

@@ -1,7 +1,8 @@
-ghost use Rattle.std.specs.Prelude.{◌≡◌, ◌+◌, ◌<◌, ◌≤◌, ◌%◌, None, IfSome};
-ghost use Rattle.core_thread_system.specs.Answers.{AfterCollect, AfterIssue, refusal_of, tags_after};
-ghost use Rattle.core_thread_system.specs.Core.{accepted_of, core_of, port_at, receipts_of, with_port};
-ghost use Rattle.receipt_ledger.specs.Answers.{AfterReply, AfterRequest};
+ghost use Rattle.std.specs.Prelude.{◌≡◌, ◌+◌, ◌<◌, ◌≤◌, ◌%◌, None, IfSome, OnErr, OnOk};
+ghost use Rattle.core_thread_system.specs.Answers.{AfterCollect, AfterIssue, IsAtItsSlice, refusal_of, tags_after};
+ghost use Rattle.core_thread_system.specs.Core.{accepted_of, asked_of, core_of, port_at, receipts_of, with_port};
+ghost use Rattle.receipt_ledger.specs.Answers.{AfterReply, AfterRequest, PlacesWord};
+ghost use Rattle.receipt_ledger.specs.Port.{with_seen};
 ghost use Rattle.slice_core.specs.Facts.{IsNotBrokenNext};
 ghost use Rattle.slice_core_answer.specs.declared.answer.Evicted.TheVariants.{NotHeld};
 
@@ -12,10 +13,10 @@ use super::system::System;
 use super::tags::{has_tag, with_tag, without_tag};
 use address_map::{CoreId, LineAddr, Request, SliceId};
 use mshr_file::MissFile;
-use receipt_ledger::{Answer, Port, Receipt};
+use receipt_ledger::{Answer, Ask, LearnError, Port, Receipt};
 use receipt_shares::SliceNames;
 use slice_core_answer::{DeliveredNext, Evicted, Refused};
-use slice_lock::Slice;
+use slice_lock::{Question, Slice};
 use slice_queues_message::Class;
 use std::marker::Model;
 use std::sync::Wait;
@@ -48,6 +49,10 @@ impl<'a, F: MissFile, M: SystemNames> Model for Core<'a, F, M> {
       tags = c.tags;
       next = c.next;
     } };
+
+    ghost use Rattle.std.specs.Prelude.{◌<◌};
+
+    ghost invariant = { λ c. c.core.0 < M.setup.cores };
 }
 
 // Does something with the slice of a number and the core's port of it.
@@ -107,7 +112,8 @@ impl<'a, F: MissFile, M: SystemNames> Core<'a, F, M> {
 
     /// Its number.
     pub fn core(&self) -> CoreId
-        ensures { result ≡ self.now.core }
+        ensures core { result ≡ self.now.core }
+        ensures known { result.0 < M.setup.cores }
     {
         self.core
     }
@@ -132,23 +138,31 @@ impl<'a, F: MissFile, M: SystemNames> Core<'a, F, M> {
         }
     }
 
-    /// How many of its requests a slice accepted.
+    /// Its requests that a slice accepted, in this order, each with what the core had seen of the slice's log by then.
+    pub fn asked(&self, slice: SliceId) -> &[Ask]
+        ensures { result.now ≡ asked_of self.now slice.0 }
+    {
+        match slice.0 {
+            0 => self.port0.asked(),
+            1 => self.port1.asked(),
+            2 => self.port2.asked(),
+            3 => self.port3.asked(),
+            _ => &[],
+        }
+    }
+
+    /// How many these are.
     pub fn accepted(&self, slice: SliceId) -> u64
         ensures { result ≡ accepted_of self.now slice.0 }
     {
-        match slice.0 {
-            0 => self.port0.accepted(),
-            1 => self.port1.accepted(),
-            2 => self.port2.accepted(),
-            3 => self.port3.accepted(),
-            _ => 0,
-        }
+        self.asked(slice).len() as u64
     }
 
     /// Asks the slice of the request's word for it. A word past the memory, a tag above 63 and a tag in flight in any
     /// slice are refused, in this order, and no slice is asked.
     pub fn issue<R: Wait>(&mut self, rt: &R, request: Request) -> Result<Answer, Refused>
-        ensures { AfterIssue M.setup self.old request result self.new }
+        ensures core { AfterIssue M.setup self.old request result self.new }
+        ensures slice { IsAtItsSlice result }
     {
         if let Some(refused) = self.refusal(request) {
             return Err(refused);
@@ -181,6 +195,7 @@ impl<'a, F: MissFile, M: SystemNames> Core<'a, F, M> {
     fn ask<R: Wait>(&mut self, rt: &R, slice: SliceId, request: Request) -> Result<Answer, Refused>
         requires { slice.0 < M.setup.slices }
         ensures port { AfterRequest (port_at self.old slice.0) request result (port_at self.new slice.0) }
+        ensures word { PlacesWord M.setup slice.0 request.word result }
         ensures others { self.new ≡ with_port self.old slice.0 (port_at self.new slice.0) }
     {
         at_slice!(self, slice, |at, port| at.issue(rt, port, request))
@@ -227,6 +242,20 @@ impl<'a, F: MissFile, M: SystemNames> Core<'a, F, M> {
         at_slice!(self, slice, |at, port| receive_from(rt, at, port))
     }
 
+    /// Tells the core of a receipt that another core got: its port of the receipt's slice learns from it. One that the
+    /// slice's log doesn't have, or of a slice that isn't there, is `Unknown`.
+    pub fn learn<R: Wait>(&mut self, rt: &R, receipt: &Receipt) -> Result<(), LearnError>
+        ensures slice { OnOk result (receipt.now.slice.0 < M.setup.slices) }
+        ensures learnt { OnOk result (self.new ≡ with_port self.old receipt.now.slice.0 (with_seen (port_at self.old receipt.now.slice.0) receipt.now.number)) }
+        ensures unknown { OnErr result (self.new ≡ self.old) }
+    {
+        let slice = receipt.slice;
+        if usize::from(slice.0) >= self.system.slices() {
+            return Err(LearnError::Unknown);
+        }
+        at_slice!(self, slice, |at, port| at.learn(rt, port, receipt))
+    }
+
     /// Gives up its copy of a line, or says why not. Nobody holds a line past the memory.
     pub fn evict<R: Wait>(&mut self, rt: &R, line: LineAddr) -> Evicted
         ensures past { M.setup.lines ≤ line.0 → result ≡ NotHeld }
@@ -245,6 +274,13 @@ impl<'a, F: MissFile, M: SystemNames> Core<'a, F, M> {
         ensures { IsNotBrokenNext result }
     {
         self.system.deliver_next(rt, slice, class)
+    }
+
+    /// Asks a question about a slice's state while its lock is held, and answers it.
+    pub fn inspect<R: Wait, Q: Question<F>>(&self, rt: &R, slice: SliceId, question: Q) -> Q::Answer
+        requires { slice.0 < M.setup.slices }
+    {
+        question.ask(self.look(rt, slice).state())
     }
 
     /// Takes a slice's lock for a look at its state, and keeps it until the look is dropped.

@@ -1,4 +1,4 @@
-ghost use Rattle.std.specs.Prelude.{◌≡◌, ◌≤◌, IfOk};
+ghost use Rattle.std.specs.Prelude.{◌≡◌, ◌<◌, ◌≤◌, IfOk};
 ghost use Rattle.core_thread_system.specs.Core.{AreFreshSets};
 ghost use Rattle.receipt_ledger.specs.Port.{AreFreshPorts};
 
@@ -24,12 +24,17 @@ impl<M: SystemNames> Model for PortSet<M> {
     ghost Value = { SetView };
 
     ghost view = { λ s. record { core = s.core; p0 = s.port0; p1 = s.port1; p2 = s.port2; p3 = s.port3 } };
+
+    ghost use Rattle.std.specs.Prelude.{◌<◌};
+
+    ghost invariant = { λ s. s.core.0 < M.setup.cores };
 }
 
 impl<M: SystemNames> PortSet<M> {
     /// Whose ports they are.
     pub fn core(&self) -> CoreId
-        ensures { result ≡ self.now.core }
+        ensures core { result ≡ self.now.core }
+        ensures known { result.0 < M.setup.cores }
     {
         self.core
     }
@@ -45,6 +50,7 @@ pub(crate) fn deal<M: SystemNames>(
     ports3: Vec<Port<M::S3>>,
 ) -> Result<Vec<PortSet<M>>, AllocFailed<PortSet<M>>>
     requires few { cores ≤ 64 }
+    requires known { cores ≤ M.setup.cores }
     requires ports0 { AreFreshPorts (record { 0 = 0 }) cores ports0.items }
     requires ports1 { AreFreshPorts (record { 0 = 1 }) cores ports1.items }
     requires ports2 { AreFreshPorts (record { 0 = 2 }) cores ports2.items }

@@ -3,11 +3,13 @@ use Rattle.std.proofs.Common.{◌≡◌, ℕ, ◌+◌, false, List, [], ◌∷�
 use Rattle.std.specs.Prelude.{slice_get}
 use Rattle.std.proofs.lemmas.List.{length-append}
 use Rattle.address_map.specs.declared.address.WordAddr.{WordAddr}
+use Rattle.address_map.specs.declared.config.Config.{Config}
 use Rattle.receipt_ledger.proofs.Counts.{accept-counted, hand-counted, new-counted, perform-counted, same-counted}
 use Rattle.receipt_ledger.proofs.Marks.{OneMore, handed_out-marked, handed_out-waiting}
-use Rattle.receipt_ledger.specs.Booked.{IsBooked, stores_to}
+use Rattle.receipt_ledger.specs.Booked.{IsBooked, IsServed}
 use Rattle.receipt_ledger.specs.Counted.{handed_out}
 use Rattle.receipt_shares.proofs.Totals.{together_assoc, totals_accepted, totals_append, totals_cons, totals_nil}
+use Rattle.receipt_shares.specs.Names.{counters_of}
 use Rattle.receipt_shares.specs.Totals.{Totals, nothing, only_accepted, only_handed, together, totals}
 use Rattle.slice_core_log.proofs.Pushes.{slice_get-push}
 use Rattle.slice_core_log.specs.declared.entry.Entry.{Entry}
@@ -27,18 +29,21 @@ totals-one_more words n e old new one =
     ∙ ap (λ k. totals words k old) (zero-add n))
 
 -- Where nothing was asked for, the totals are nothing.
-pub new-booked : (counters : List WordAddr) → IsBooked counters nothing new_machine
-new-booked counters = record {
+pub new-booked : (c : Config) (slice : ℕ) → IsBooked c slice nothing new_machine
+new-booked c slice = record {
   waiting = [];
   marks = [];
   counted = new-counted;
-  totals_are = sym (totals_nil counters);
+  totals_are = sym (totals_nil (counters_of c slice));
   asked = λ r none. absurd none;
   logged = λ number e there. absurd (cc);
 }
 
-module _ (counters : List WordAddr) (t : Totals) (m : Machine) (booked : IsBooked counters t m) where
-  pub same-booked : (n : Machine) → IsSame m n → IsBooked counters t n
+module _ (c : Config) (slice : ℕ) (t : Totals) (m : Machine) (booked : IsBooked c slice t m) where
+  abbrev counters : List WordAddr
+  counters = counters_of c slice
+
+  pub same-booked : (n : Machine) → IsSame m n → IsBooked c slice t n
   same-booked n same = record {
     waiting = booked.waiting;
     marks = booked.marks;
@@ -51,9 +56,9 @@ module _ (counters : List WordAddr) (t : Totals) (m : Machine) (booked : IsBooke
     logged = λ number e there. booked.logged number e (ap (λ log. slice_get log number) same.log ∙ there);
   }
 
-  pub accept-booked : (initial : ℕ → ℕ) (r : Asked) → Can m (accept r) → stores_to counters r.op r.word ≡ false
-      → IsBooked counters (together t (only_accepted 1)) (after initial m (accept r))
-  accept-booked initial r can spares = record {
+  pub accept-booked : (initial : ℕ → ℕ) (r : Asked) → Can m (accept r) → IsServed c slice r.op r.word
+      → IsBooked c slice (together t (only_accepted 1)) (after initial m (accept r))
+  accept-booked initial r can served = record {
     waiting = booked.waiting ++ r ∷ [];
     marks = booked.marks;
     counted = accept-counted m booked.waiting booked.marks booked.counted initial r can;
@@ -64,12 +69,12 @@ module _ (counters : List WordAddr) (t : Totals) (m : Machine) (booked : IsBooke
         (let long = length-append booked.waiting (r ∷ []) in omega (arith, long));
     asked = λ other waits.
         ⊎_elim (λ before. booked.asked other before)
-        (λ is. subst (λ (o : Asked). stores_to counters o.op o.word ≡ false) (sym is) spares) waits;
+        (λ is. subst (λ (o : Asked). IsServed c slice o.op o.word) (sym is) served) waits;
     logged = booked.logged;
   }
 
   pub perform-booked : (initial : ℕ → ℕ) (r : Asked) → Can m (perform r)
-      → IsBooked counters t (after initial m (perform r))
+      → IsBooked c slice t (after initial m (perform r))
   perform-booked initial r can =
       let done = perform-counted m booked.waiting booked.marks booked.counted initial r can in
       let e = entry_for initial m.log r in record {
@@ -86,12 +91,12 @@ module _ (counters : List WordAddr) (t : Totals) (m : Machine) (booked : IsBooke
         logged = λ number given there.
             ⊎_elim (λ before. booked.logged number given before.1)
             (λ is.
-            subst (λ (d : Entry). stores_to counters d.op d.word ≡ false) (sym is.1) (booked.asked r can.0))
+            subst (λ (d : Entry). IsServed c slice d.op d.word) (sym is.1) (booked.asked r can.0))
             (slice_get-push m.log e number given there);
       }
 
   pub hand-booked : (initial : ℕ → ℕ) (number : ℕ) (e : Entry) → Can m (hand number) → slice_get m.log number ≡ Some e
-      → IsBooked counters (together t (only_handed counters e)) (after initial m (hand number))
+      → IsBooked c slice (together t (only_handed counters e)) (after initial m (hand number))
   hand-booked initial number e can there =
       let accepted = length booked.waiting + length m.log in record {
         waiting = booked.waiting;
@@ -107,10 +112,10 @@ module _ (counters : List WordAddr) (t : Totals) (m : Machine) (booked : IsBooke
       }
 
 -- What is performed changes no totals.
-pub performs-booked : (initial : ℕ → ℕ) (counters : List WordAddr) (t : Totals) (requests : List Asked)
+pub performs-booked : (initial : ℕ → ℕ) (c : Config) (slice : ℕ) (t : Totals) (requests : List Asked)
     (m now : Machine)
-    → IsBooked counters t m → Run initial (map perform requests) m now → IsBooked counters t now
-performs-booked initial counters t [] m now booked run = same-booked counters t m booked now run
-performs-booked initial counters t (r ∷ requests) m now booked run =
-    performs-booked initial counters t requests (after initial m (perform r)) now
-    (perform-booked counters t m booked initial r run.0) run.1
+    → IsBooked c slice t m → Run initial (map perform requests) m now → IsBooked c slice t now
+performs-booked initial c slice t [] m now booked run = same-booked c slice t m booked now run
+performs-booked initial c slice t (r ∷ requests) m now booked run =
+    performs-booked initial c slice t requests (after initial m (perform r)) now
+    (perform-booked c slice t m booked initial r run.0) run.1

@@ -15,6 +15,15 @@ last-pushed receipts r last is =
     sym (get_or_from_slice_get (receipts ++ r ∷ []) (length (receipts ++ r ∷ []) - 1) last r is)
     ∙ get_or_push receipts r r (length (receipts ++ r ∷ []) - 1) (omega (arith, long))
 
+-- It has the number that the slice answered.
+pub done-number : (old new : PortView) (request : Request) (number : ℕ) (last : Receipt)
+    → AfterAsking old request (Ok (issues.Done number)) new → IsLastOf new.receipts last → last.number ≡ number
+done-number old new request number last after is =
+    let receipts = ap (λ (p : PortView). p.receipts) after.3 in
+    ap (λ (r : Receipt). r.number)
+    (last-pushed old.receipts after.0 last (subst (λ given. IsLastOf given last) receipts is))
+    ∙ after.2
+
 -- So a port's last receipt is that of a request that was done at once.
 pub last-done : (old new : PortView) (request : Request) (number : ℕ) (last : Receipt)
     → AfterAsking old request (Ok (issues.Done number)) new → IsLastOf new.receipts last
@@ -23,5 +32,5 @@ last-done old new request number last after is =
     let receipts = ap (λ (p : PortView). p.receipts) after.3 in
     let same = last-pushed old.receipts after.0 last (subst (λ given. IsLastOf given last) receipts is) in (
       subst (IsReceiptFor old request) (sym same) after.1,
-      subst (λ r. IsWithRoom (with_receipt (with_request old) r) new) (sym same) after.3,
+      subst (λ r. IsWithRoom (with_receipt (with_request old request) r) new) (sym same) after.3,
     )

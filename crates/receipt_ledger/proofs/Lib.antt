@@ -1,13 +1,17 @@
 pub mod Booked
+pub mod Compared
 pub mod Counts
 pub mod Gathered
+pub mod History
 pub mod Issued
 pub mod Last
 pub mod Marks
 pub mod New
+pub mod Placed
 pub mod Ports
 pub mod Quiet
 pub mod Removed
 pub mod Settled
 pub mod Tied
+pub mod Times
 pub mod Values

@@ -5,7 +5,6 @@ use Rattle.address_map.specs.declared.config.Config.{Config}
 use Rattle.mshr_file.specs.Miss.{Bound}
 use Rattle.receipt_ledger.proofs.Booked.{new-booked, same-booked}
 use Rattle.receipt_ledger.specs.Booked.{IsTied}
-use Rattle.receipt_shares.specs.Names.{counters_of}
 use Rattle.receipt_shares.specs.Totals.{nothing}
 use Rattle.slice_core_machine.specs.Machine.{IsSame, new_machine}
 use Rattle.slice_core_machine.specs.Shows.{shown}
@@ -23,5 +22,5 @@ new-tied c bound slice p known is same = record {
     cores = is.sides.count_is;
   };
   booked =
-      same-booked (counters_of c slice.0) nothing new_machine (new-booked (counters_of c slice.0)) (shown p.view) same;
+      same-booked c slice.0 nothing new_machine (new-booked c slice.0) (shown p.view) same;
 }

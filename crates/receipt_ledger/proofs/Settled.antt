@@ -14,13 +14,15 @@ use Rattle.std.proofs.lemmas.List.Elements.{All-filter, Contains-get_or, filter_
 use Rattle.address_map.specs.Words.{initial_value}
 use Rattle.address_map.specs.declared.address.WordAddr.{WordAddr}
 use Rattle.address_map.specs.declared.config.Config.{Config}
+use Rattle.receipt_ledger.proofs.History.{history}
 use Rattle.receipt_ledger.proofs.Marks.{handed_out-all}
 use Rattle.receipt_ledger.proofs.Quiet.{quiet-replies, quiet-waits}
 use Rattle.receipt_ledger.proofs.Values.{initial-here, spared, value-added, word-here}
 use Rattle.receipt_ledger.specs.Booked.{IsTied}
 use Rattle.receipt_ledger.specs.Counted.{handed_out}
 use Rattle.receipt_ledger.specs.Port.{PortView, entries_of}
-use Rattle.receipt_ledger.specs.Settled.{IsSettled, accepted_in, held_in, receipts_in}
+use Rattle.receipt_ledger.specs.History.{AreHeld, receipts_in}
+use Rattle.receipt_ledger.specs.Settled.{IsSettled, accepted_in, held_in}
 use Rattle.receipt_ledger.specs.declared.receipt.Receipt.{Receipt}
 use Rattle.receipt_shares.proofs.CounterWords.{counters_allowed}
 use Rattle.receipt_shares.proofs.Totals.{totals_append, totals_nil}
@@ -28,7 +30,7 @@ use Rattle.receipt_shares.proofs.Sums.{at_sums}
 use Rattle.receipt_shares.specs.Names.{counters_of}
 use Rattle.receipt_shares.specs.Sums.{at, sums}
 use Rattle.receipt_shares.specs.Totals.{Totals, together, totals}
-use Rattle.slice_core_log.specs.Log.{initially, named, value}
+use Rattle.slice_core_log.specs.Log.{IsLegal, IsOrdered, initially, named, value}
 use Rattle.slice_core_log.specs.declared.entry.Entry.{Entry}
 use Rattle.slice_core_machine.specs.Machine.{Asked}
 use Rattle.slice_core_plan.specs.Initial.{is_of_slice}
@@ -40,10 +42,10 @@ held-totals : (c : Config) (number : ℕ) (ports : List PortView)
     → held_in c number ports ≡ totals (counters_of c number) (accepted_in ports) (entries_of (receipts_in ports))
 held-totals c number [] = sym (totals_nil (counters_of c number))
 held-totals c number (p ∷ ports) =
-    ap (together (totals (counters_of c number) p.accepted (entries_of p.receipts))) (held-totals c number ports)
-    ∙ sym (totals_append (counters_of c number) p.accepted (accepted_in ports) (entries_of p.receipts)
+    ap (together (totals (counters_of c number) (length p.asked) (entries_of p.receipts))) (held-totals c number ports)
+    ∙ sym (totals_append (counters_of c number) (length p.asked) (accepted_in ports) (entries_of p.receipts)
     (entries_of (receipts_in ports)))
-    ∙ ap (totals (counters_of c number) (p.accepted + accepted_in ports))
+    ∙ ap (totals (counters_of c number) ((length p.asked) + accepted_in ports))
     (sym (map-append (λ (r : Receipt). r.entry) p.receipts (receipts_in ports)))
 
 -- Where nothing waits, a book has counted just the log.
@@ -80,15 +82,18 @@ counter-here c number place word there =
     (passes place word within)
 
 pub settled : (c : Config) (number : ℕ) (t : Totals) (p : PartsView) (ports : List PortView) (values : List ℕ)
-    → IsTied c number t p → IsQuiet p.view → held_in c number ports ≡ t
+    → IsTied c number t p → IsQuiet p.view → AreHeld ports p.view.log → IsLegal (initially p.view.init) p.view.log
+    → IsOrdered p.view.log → held_in c number ports ≡ t
     → values ≡ map (λ word. value (initially p.view.init word.0) p.view.log word.0) (counters_of c number)
     → IsSettled c number p.view ports values
-settled c number t p ports values tied quiet held state =
+settled c number t p ports values tied quiet all legal ordered held state =
     let few = (counters_allowed c number (counters_of c number) tied.slice.allowed refl).few in
     let counters = counters_of c number in
     let receipts = entries_of (receipts_in ports) in
     let same : totals counters (accepted_in ports) receipts ≡ totals counters (length p.view.log) p.view.log =
     sym (held-totals c number ports) ∙ held ∙ quiet-totals c number t p tied quiet in
+    let handed : length (receipts_in ports) ≡ length p.view.log =
+    sym (length-map (receipts_in ports) (λ (r : Receipt). r.entry)) ∙ ap (λ (u : Totals). u.handed) same in
     let each : (place : ℕ) (word : WordAddr) → slice_get counters place ≡ Some word
     → named receipts word.0 ≡ named p.view.log word.0 =
     λ place word there.
@@ -97,8 +102,10 @@ settled c number t p ports values tied quiet held state =
     λ es. at_sums counters es place here ∙ ap (λ o. option_map_or (λ w. named es w.0) o 0) there in
     sym (sum receipts) ∙ ap (λ (u : Totals). at u.counters place) same ∙ sum p.view.log in record {
       accepted = ap (λ (u : Totals). u.accepted) same;
-      handed =
-          sym (length-map (receipts_in ports) (λ (r : Receipt). r.entry)) ∙ ap (λ (u : Totals). u.handed) same;
+      handed = handed;
+      history = history ports p.view.log all handed;
+      legal = legal;
+      ordered = ordered;
       sums = each;
       state = state;
       named_are =
@@ -106,7 +113,7 @@ settled c number t p ports values tied quiet held state =
           ∙ map-agree _ _ counters
           (λ place word there.
           value-added (initially p.view.init word.0) word.0 p.view.log
-          (λ k e logged. spared counters place word e there (tied.booked.logged k e logged))
+          (λ k e logged. spared counters place word e there (tied.booked.logged k e logged).spares)
           ∙ ap (λ n. (n + named p.view.log word.0) % 2 ^ 64)
           (ap (λ init. initial_value init word) tied.slice.init
           ∙ initial-here c number word (counter-here c number place word there))

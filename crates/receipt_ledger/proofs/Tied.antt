@@ -1,14 +1,16 @@
 -- State and book go on belonging together: what each call makes of the totals.
-use Rattle.std.proofs.Common.{◌≡◌, ℕ, ◌<◌, false, List, [], ◌∷◌, ◌++◌, length, Some, Ok, sym, ap, ◌∙◌, subst, arith}
+use Rattle.std.proofs.Common.{◌≡◌, ℕ, ◌<◌, false, List, [], ◌∷◌, ◌++◌, length, Some, Ok, refl, sym, ap, ◌∙◌, subst, arith}
 use Rattle.std.specs.Prelude.{slice_get}
 use Rattle.std.proofs.lemmas.List.{get_or_push, length-append}
-use Rattle.std.proofs.lemmas.Option.{get_or_from_slice_get}
+use Rattle.std.proofs.lemmas.Option.{get_or_from_slice_get, same_Some}
 use Rattle.address_map.specs.declared.address.CoreId.{CoreId}
 use Rattle.address_map.specs.declared.config.Config.{Config}
 use Rattle.address_map.specs.declared.request.Request.{Request}
 use Rattle.receipt_ledger.proofs.Booked.{accept-booked, hand-booked, perform-booked, performs-booked, same-booked}
 use Rattle.receipt_ledger.proofs.Issued.{issued-last, issued-spares}
-use Rattle.receipt_ledger.specs.Booked.{IsTied, stores_to}
+use Rattle.receipt_ledger.proofs.Placed.{issued-places}
+use Rattle.receipt_ledger.specs.Booked.{IsServed, IsTied, stores_to}
+use Rattle.receipt_ledger.specs.Port.{IsEntryOf}
 use Rattle.receipt_ledger.specs.Slice.{IsSliceOf}
 use Rattle.receipt_shares.specs.Names.{counters_of}
 use Rattle.receipt_shares.specs.Totals.{Totals, only_accepted, only_handed, together}
@@ -19,7 +21,10 @@ use Rattle.slice_core_log.specs.Log.{initially}
 use Rattle.slice_core_log.specs.declared.entry.Entry.{Entry}
 use Rattle.slice_core_machine.specs.Machine.{Asked, accept, after, entry_for, hand, perform}
 use Rattle.slice_core_machine.specs.Shows.{Leads, Performs, issue_steps, next_of, shown}
-use Rattle.slice_core_plan.specs.Parts.{AfterIssue, PartsView}
+use Rattle.slice_core_log.specs.declared.entry.Numbered.{Numbered}
+use Rattle.slice_core_plan.specs.Initial.{is_of_slice}
+use Rattle.slice_core_plan.specs.Parts.{AfterHand, AfterIssue, PartsView}
+use Rattle.slice_core_plan.specs.View.{View}
 
 -- A later state of a slice is one of it.
 pub slice-kept : (c : Config) (number : ℕ) (old new : PartsView) → IsSliceOf c number old.view → IsSameSlice old new
@@ -38,7 +43,7 @@ module _ (c : Config) (number : ℕ) (t : Totals) (old new : PartsView) (tied : 
   pub same-tied : IsSameSlice old new → Leads [] old.view new.view → IsTied c number t new
   same-tied same leads = record {
     slice = slice-kept c number old new tied.slice same;
-    booked = same-booked (counters_of c number) t (shown old.view) tied.booked (shown new.view) leads.run;
+    booked = same-booked c number t (shown old.view) tied.booked (shown new.view) leads.run;
   }
 
   -- What a delivery performs changes no totals.
@@ -46,7 +51,7 @@ module _ (c : Config) (number : ℕ) (t : Totals) (old new : PartsView) (tied : 
   performs-tied same performs = record {
     slice = slice-kept c number old new tied.slice same;
     booked =
-        performs-booked (initially old.view.init) (counters_of c number) t performs.requests (shown old.view)
+        performs-booked (initially old.view.init) c number t performs.requests (shown old.view)
         (shown new.view) tied.booked performs.leads.run;
   }
 
@@ -59,8 +64,8 @@ module _ (c : Config) (number : ℕ) (t : Totals) (old new : PartsView) (tied : 
       let m = shown old.view in record {
         slice = slice-kept c number old new tied.slice same;
         booked =
-            same-booked counters (together t (only_handed counters e)) (after initial m (hand given))
-            (hand-booked counters t m tied.booked initial given e leads.run.0
+            same-booked c number (together t (only_handed counters e)) (after initial m (hand given))
+            (hand-booked c number t m tied.booked initial given e leads.run.0
             (ap (λ log. slice_get log given) leads.run.1.log ∙ there))
             (shown new.view) leads.run.1;
       }
@@ -69,12 +74,15 @@ module _ (c : Config) (number : ℕ) (t : Totals) (old new : PartsView) (tied : 
     abbrev asked : Asked
     asked = next_of old.view core request
 
-    -- It stores to none of the configured counters.
-    spared : (issue : Issue) → AfterIssue old core request (Ok issue) new
-        → stores_to (counters_of c number) request.op request.word ≡ false
-    spared issue step =
-        subst (λ words. stores_to words request.op request.word ≡ false) tied.slice.counters
-        (issued-spares old core request issue new step)
+    -- It is to a word of the slice, and stores to none of the configured counters.
+    pub served-by : (issue : Issue) → AfterIssue old core request (Ok issue) new
+        → IsServed c number request.op request.word
+    served-by issue step = record {
+      own = (issued-places c number old core request (Ok issue) new tied.slice.allowed tied.slice.lines step).1;
+      spares =
+          subst (λ words. stores_to words request.op request.word ≡ false) tied.slice.counters
+          (issued-spares old core request issue new step);
+    }
 
     -- A request that is pending is one more that was accepted.
     pub pending-tied : (seq : ℕ) → AfterIssue old core request (Ok (issues.Pending seq)) new → IsSameSlice old new
@@ -83,12 +91,12 @@ module _ (c : Config) (number : ℕ) (t : Totals) (old new : PartsView) (tied : 
         let initial = initially old.view.init in
         let counters = counters_of c number in
         let m = shown old.view in
-        let spares = spared (issues.Pending seq) step in
+        let served = served-by (issues.Pending seq) step in
         record {
           slice = slice-kept c number old new tied.slice same;
           booked =
-              same-booked counters (together t (only_accepted 1)) (after initial m (accept asked))
-              (accept-booked counters t m tied.booked initial asked leads.run.0 spares) (shown new.view) leads.run.1;
+              same-booked c number (together t (only_accepted 1)) (after initial m (accept asked))
+              (accept-booked c number t m tied.booked initial asked leads.run.0 served) (shown new.view) leads.run.1;
         }
 
     -- What is done at once is one more that was accepted, and one more entry.
@@ -99,7 +107,7 @@ module _ (c : Config) (number : ℕ) (t : Totals) (old new : PartsView) (tied : 
     done-tied given e step same leads there =
         let initial = initially old.view.init in
         let counters = counters_of c number in
-        let spares = spared (issues.Done given) step in
+        let served = served-by (issues.Done given) step in
         let m = shown old.view in
         let more = together t (only_accepted 1) in
         let accepted = after initial m (accept asked) in
@@ -107,9 +115,9 @@ module _ (c : Config) (number : ℕ) (t : Totals) (old new : PartsView) (tied : 
         record {
           slice = slice-kept c number old new tied.slice same;
           booked =
-              same-booked counters (together more (only_handed counters e)) (after initial performed (hand given))
-              (hand-booked counters more performed
-              (perform-booked counters more accepted (accept-booked counters t m tied.booked initial asked leads.run.0 spares)
+              same-booked c number (together more (only_handed counters e)) (after initial performed (hand given))
+              (hand-booked c number more performed
+              (perform-booked c number more accepted (accept-booked c number t m tied.booked initial asked leads.run.0 served)
               initial asked leads.run.1.0)
               initial given e leads.run.1.1.0 (ap (λ log. slice_get log given) leads.run.1.1.1.log ∙ there))
               (shown new.view) leads.run.1.1.1;
@@ -136,3 +144,36 @@ done-last old new core request number step leads =
           sym (get_or_from_slice_get (old.view.log ++ e ∷ []) number given e (ap (λ l. slice_get l number) log ∙ there))
           ∙ get_or_push old.view.log e e number (sym last);
     }
+
+-- Where nothing was asked, no step was made.
+pub no-steps : (v : View) → Leads [] v v
+no-steps v = record {
+  init = refl;
+  run = record {
+    log = refl;
+    waiting = λ r. (λ waits. waits, λ waits. waits);
+    replies = λ number. (λ waits. waits, λ waits. waits);
+  };
+}
+
+-- What is handed out is an entry for the core that asked, on a word of the slice.
+module _ (c : Config) (number : ℕ) (t : Totals) (old new : PartsView) (tied : IsTied c number t old) (core : CoreId) where
+  pub done-own : (request : Request) (given : ℕ) → AfterIssue old core request (Ok (issues.Done given)) new
+      → Leads (issue_steps (next_of old.view core request) (Ok (issues.Done given))) old.view new.view
+      → (e : Entry) → slice_get new.view.log given ≡ Some e → IsEntryOf c number core e
+  done-own request given step leads e there =
+      let is = (done-last old new core request given step leads).is e there in record {
+        core_is = ap (λ (x : Entry). x.core) is;
+        word =
+            ap (λ (x : Entry). is_of_slice c number x.word) is
+            ∙ (served-by c number t old new tied core request (issues.Done given) step).own;
+      }
+
+  pub hand-own : (given : Numbered) → AfterHand old core (Some given) new → given.entry.core ≡ core
+      → Leads (hand given.number ∷ []) old.view new.view
+      → (e : Entry) → slice_get new.view.log given.number ≡ Some e → IsEntryOf c number core e
+  hand-own given step asked leads e there =
+      let before = ap (λ log. slice_get log given.number) leads.run.1.log ∙ there in record {
+        core_is = ap (λ (x : Entry). x.core) (same_Some e given.entry (sym before ∙ step.2)) ∙ asked;
+        word = (tied.booked.logged given.number e before).own;
+      }

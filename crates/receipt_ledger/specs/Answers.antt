@@ -1,8 +1,10 @@
 -- What a port's calls answer, and what they leave.
-use Rattle.std.specs.Prelude.{◌≡◌, ◌⊎◌, ◌<◌, ◌≤◌, ◌-◌, ℕ, List, length, slice_get, Option, Some, None, Result, Ok, Err}
+use Rattle.std.specs.Prelude.{◌≡◌, ◌⊎◌, ◌<◌, ◌≤◌, ◌-◌, ℕ, true, false, List, [], ◌∷◌, length, slice_get, Option, Some, None, Result, Ok, Err}
 use Rattle.std.specs.Option.{option_map}
+use Rattle.address_map.specs.Config.{word_count}
 use Rattle.address_map.specs.declared.address.SliceId.{SliceId}
 use Rattle.address_map.specs.declared.address.WordAddr.{WordAddr}
+use Rattle.address_map.specs.declared.config.Config.{Config}
 use Rattle.address_map.specs.declared.request.Request.{Request}
 use Rattle.receipt_ledger.specs.Port.{PortView, IsWithRoom, with_receipt, with_request}
 use Rattle.receipt_ledger.specs.declared.receipt.Answer.{Answer}
@@ -15,6 +17,8 @@ use Rattle.slice_core_answer.specs.declared.answer.Refused.{Refused}
 use Rattle.slice_core_answer.specs.declared.answer.Refused.TheVariants as refusals
 use Rattle.slice_core_log.specs.declared.entry.Entry.{Entry}
 use Rattle.slice_core_log.specs.declared.entry.Numbered.{Numbered}
+use Rattle.slice_core_machine.specs.Machine.{Asked, Step, accept, hand, perform}
+use Rattle.slice_core_plan.specs.Initial.{is_of_slice}
 use Rattle.slice_core_plan.specs.Parts.{PartsView, AfterHand, AfterIssue}
 
 -- The receipt is of the port's slice, and of a request that the port's core made.
@@ -50,30 +54,53 @@ Tells (Ok (issues.Stall stall)) (Ok (answers.Stall told)) = told ≡ stall
 Tells (Err refused) (Err told) = told ≡ refused
 Tells issue answer = ⊥
 
--- The slice was asked, and its answer is told; or there was no room for a receipt, and nothing has changed.
-abbrev pub AsksSlice : PartsView → PortView → Request → Result Answer Refused → PartsView → Type 0
-AsksSlice old port request answer new =
-    ((issue : Result Issue Refused) × AfterIssue old port.core request issue new × Tells issue answer)
-    ⊎ ((answer ≡ Err refusals.Memory) × (new ≡ old))
+-- Nobody asks the slice, and nothing has changed: the port's lists got no room, or the log is shorter than what the
+-- port has seen of it.
+abbrev pub IsUnasked : {X : Type 0} → PartsView → PortView → Result X Refused → PartsView → Type 0
+IsUnasked {X} old port answer new =
+    ((answer ≡ Err refusals.Memory)
+    ⊎ ((length old.view.log < port.seen) × (answer ≡ Err (refusals.Ahead (length old.view.log)))))
+    × (new ≡ old)
 
--- The slice was asked; or there was no room for a receipt, and nothing has changed.
+-- The slice was asked, whose log is at least as long as what the port has seen of it; or nobody asked it.
 abbrev pub AsksFor : PartsView → PortView → Request → Result Issue Refused → PartsView → Type 0
 AsksFor old port request issue new =
-    AfterIssue old port.core request issue new ⊎ ((issue ≡ Err refusals.Memory) × (new ≡ old))
+    ((port.seen ≤ length old.view.log) × AfterIssue old port.core request issue new) ⊎ IsUnasked old port issue new
+
+-- The same, where the port's answer tells what the slice's does.
+abbrev pub AsksSlice : PartsView → PortView → Request → Result Answer Refused → PartsView → Type 0
+AsksSlice old port request answer new =
+    (issue : Result Issue Refused) × AsksFor old port request issue new × Tells issue answer
+
+-- A log that is said to be shorter than what was seen is.
+abbrev pub IsShortOf : ℕ → Refused → Type 0
+IsShortOf seen (refusals.Ahead length) = length < seen
+IsShortOf seen refused = Unit {0}
+
+-- What the answer says of where the word lies: past the memory, in another slice, or, where the slice judged it, in the
+-- slice of this number.
+abbrev pub PlacesWord : {X : Type 0} → Config → ℕ → WordAddr → Result X Refused → Type 0
+PlacesWord {X} c number word (Err refusals.OutOfRange) = word_count c ≤ word.0
+PlacesWord {X} c number word (Err refusals.WrongSlice) = (word.0 < word_count c) × (is_of_slice c number word ≡ false)
+PlacesWord {X} c number word (Err refusals.Memory) = Unit {0}
+PlacesWord {X} c number word (Err (refusals.Ahead length)) = Unit {0}
+PlacesWord {X} c number word answer = (word.0 < word_count c) × (is_of_slice c number word ≡ true)
 
 -- What a port has after a request that was answered so: what is accepted is counted, and what is done at once is
 -- handed out.
 abbrev pub AfterRequest : PortView → Request → Result Answer Refused → PortView → Type 0
-AfterRequest old request (Ok (answers.Done r)) new = IsReceiptFor old request r × IsWithRoom (with_receipt (with_request old) r) new
-AfterRequest old request (Ok answers.Pending) new = IsWithRoom (with_request old) new
+AfterRequest old request (Ok (answers.Done r)) new =
+    IsReceiptFor old request r × IsWithRoom (with_receipt (with_request old request) r) new
+AfterRequest old request (Ok answers.Pending) new = IsWithRoom (with_request old request) new
 AfterRequest old request (Ok (answers.Stall stall)) new = IsWithRoom old new
 AfterRequest old request (Err refused) new = IsWithRoom old new
 
 -- The same by the slice's own answer.
 abbrev pub AfterAsking : PortView → Request → Result Issue Refused → PortView → Type 0
 AfterAsking old request (Ok (issues.Done number)) new =
-    (r : Receipt) × IsReceiptFor old request r × (r.number ≡ number) × IsWithRoom (with_receipt (with_request old) r) new
-AfterAsking old request (Ok (issues.Pending seq)) new = IsWithRoom (with_request old) new
+    (r : Receipt) × IsReceiptFor old request r × (r.number ≡ number)
+    × IsWithRoom (with_receipt (with_request old request) r) new
+AfterAsking old request (Ok (issues.Pending seq)) new = IsWithRoom (with_request old request) new
 AfterAsking old request (Ok (issues.Stall stall)) new = IsWithRoom old new
 AfterAsking old request (Err refused) new = IsWithRoom old new
 
@@ -84,9 +111,9 @@ receipt_of slice given = record { slice = slice; number = given.number; entry = 
 -- The slice is asked for a reply where the port has a request in flight, and what it hands out is told; where the port
 -- has none, nothing is asked.
 pub record AsksReply (old : PartsView) (port : PortView) (answer : Option Receipt) (new : PartsView) : Type 0 where
-  pub flying : length port.receipts < port.accepted
+  pub flying : length port.receipts < length port.asked
       → (given : Option Numbered) × AfterHand old port.core given new × (answer ≡ option_map (receipt_of port.slice) given)
-  pub landed : port.accepted ≤ length port.receipts → (answer ≡ None) × (new ≡ old)
+  pub landed : length port.asked ≤ length port.receipts → (answer ≡ None) × (new ≡ old)
 
 -- What a port has after that: one more receipt, of a request of its core, or what it had.
 abbrev pub AfterReply : PortView → Option Receipt → PortView → Type 0
@@ -109,3 +136,22 @@ pub record IsGiven (counters : List WordAddr) (log : List Entry) (number : ℕ) 
   pub there : slice_get log number ≡ Some entry
   pub port : new ≡ with_receipt old (receipt_of old.slice (record { number = number; entry = entry }))
   pub totals : after ≡ together before (only_handed counters entry)
+
+-- ---- the steps of the small machine that a call is
+
+-- of a request that is answered so
+abbrev pub answer_steps : Asked → Result Answer Refused → List Step
+answer_steps asked (Ok (answers.Done r)) = accept asked ∷ perform asked ∷ hand r.number ∷ []
+answer_steps asked (Ok answers.Pending) = accept asked ∷ []
+answer_steps asked answer = []
+
+-- of a reply that is handed out, or of none
+abbrev pub reply_steps : Option Receipt → List Step
+reply_steps None = []
+reply_steps (Some r) = hand r.number ∷ []
+
+-- ---- receipts that others got
+
+-- The receipt is one of this slice's log.
+abbrev pub IsKnown : SliceId → List Entry → Receipt → Type 0
+IsKnown slice log r = (r.slice ≡ slice) × IsGenuine log r

@@ -1,24 +1,46 @@
 -- What a port has: the receipts of one core of a slice, and what it holds of the slice's ledgers.
-use Rattle.std.specs.Prelude.{◌≡◌, ◌≤◌, ◌<◌, ℕ, ◌+◌, List, [], ◌∷◌, ◌++◌, length, map, max, slice_get, Some}
+use Rattle.std.specs.Prelude.{◌≡◌, ◌≤◌, ◌<◌, ℕ, ◌+◌, true, List, [], ◌∷◌, ◌++◌, length, map, max, slice_get, slice_set, Some}
 use Rattle.address_map.specs.declared.address.CoreId.{CoreId}
 use Rattle.address_map.specs.declared.address.SliceId.{SliceId}
 use Rattle.address_map.specs.declared.config.Config.{Config}
+use Rattle.address_map.specs.declared.request.Request.{Request}
+use Rattle.receipt_ledger.specs.declared.receipt.Ask.{Ask}
 use Rattle.receipt_ledger.specs.declared.receipt.Receipt.{Receipt}
 use Rattle.receipt_shares.specs.Names.{counters_of}
 use Rattle.receipt_shares.specs.Totals.{Amounts, Totals, totals}
 use Rattle.slice_core_log.specs.declared.entry.Entry.{Entry}
+use Rattle.slice_core_plan.specs.Initial.{is_of_slice}
+
+-- how much each of a port's lists can hold before it has to grow
+pub record Room : Type 0 where
+  pub asked : ℕ
+  pub places : ℕ
+  pub receipts : ℕ
 
 pub record PortView : Type 0 where
   pub core : CoreId
   pub slice : SliceId
-  -- how many requests were accepted through it
-  pub accepted : ℕ
-  -- those of them that were handed out, in the order in which they were
+  -- the requests that were accepted through it, in this order
+  pub asked : List Ask
+  -- by a request's place in that order, where its receipt stands, once it was handed out
+  pub places : List ℕ
+  -- those that were handed out, in the order in which they were
   pub receipts : List Receipt
-  -- one more than the greatest number among its receipts, and 0 where it has none
+  -- one more than the greatest number of a receipt that it got or was told of, and 0 before the first
   pub seen : ℕ
-  -- how many receipts it can hold before its list has to grow
-  pub room : ℕ
+  pub room : Room
+
+-- the port with these lists
+abbrev pub port_with : CoreId → SliceId → List Ask → List ℕ → List Receipt → ℕ → Room → PortView
+port_with core slice asked places receipts seen room = record {
+  core = core;
+  slice = slice;
+  asked = asked;
+  places = places;
+  receipts = receipts;
+  seen = seen;
+  room = room;
+}
 
 abbrev pub entries_of : List Receipt → List Entry
 entries_of receipts = map (λ r. r.entry) receipts
@@ -30,31 +52,58 @@ seen_of (r ∷ receipts) = max (r.number + 1) (seen_of receipts)
 
 -- what a port with these requests and receipts holds of the totals
 abbrev pub held_by : Config → ℕ → PortView → Totals
-held_by c number p = totals (counters_of c number) p.accepted (entries_of p.receipts)
+held_by c number p = totals (counters_of c number) (length p.asked) (entries_of p.receipts)
+
+-- The slice of this number performed the entry for this core, on a word of its own.
+pub record IsEntryOf (c : Config) (number : ℕ) (core : CoreId) (e : Entry) : Type 0 where
+  pub core_is : e.core ≡ core
+  pub word : is_of_slice c number e.word ≡ true
+
+-- The receipt is one of the slice of this number, for this core.
+pub record IsOwn (c : Config) (number : ℕ) (core : CoreId) (r : Receipt) : Type 0 where
+  pub slice : r.slice.0 ≡ number
+  pub entry : IsEntryOf c number core r.entry
 
 -- The port is one of the slice of this number: it holds one part of each ledger, and in it just what was accepted and
--- handed out through it. Its list has room for a receipt of each request that was accepted.
+-- handed out through it. Its receipts are its own, and its list has room for one of each request that was accepted.
 pub record IsPort (c : Config) (number : ℕ) (p : PortView) (shares : Amounts) : Type 0 where
   pub known : p.core.0 < c.cores
   pub named : p.slice.0 ≡ number
   pub held : shares ≡ record { parts = 1; held = held_by c number p }
-  pub fewer : length p.receipts ≤ p.accepted
-  pub reserved : p.accepted ≤ p.room
-  pub greatest : p.seen ≡ seen_of p.receipts
+  pub fewer : length p.receipts ≤ length p.asked
+  pub reserved : length p.asked ≤ p.room.receipts
+  pub greatest : seen_of p.receipts ≤ p.seen
+  pub own : (place : ℕ) (r : Receipt) → slice_get p.receipts place ≡ Some r → IsOwn c number p.core r
 
 -- a port through which nothing was asked for yet
 abbrev pub fresh_port : CoreId → SliceId → PortView
-fresh_port core slice = record { core = core; slice = slice; accepted = 0; receipts = []; seen = 0; room = 0 }
+fresh_port core slice = port_with core slice [] [] [] 0 (record { asked = 0; places = 0; receipts = 0 })
 
--- the port with one more accepted request
-abbrev pub with_request : PortView → PortView
-with_request p = record p { accepted = p.accepted + 1 }
+-- There is room for one more request and for its receipt.
+pub record HasRoom (p : PortView) : Type 0 where
+  pub asked : length p.asked < p.room.asked
+  pub places : length p.places < p.room.places
+  pub receipts : length p.asked < p.room.receipts
 
--- the port with one more receipt, the last
+-- the port with one more accepted request, the last, asked when it had seen so much
+abbrev pub with_request : PortView → Request → PortView
+with_request p request = record p {
+  asked = p.asked ++ record { request = request; seen = p.seen } ∷ [];
+  places = p.places ++ 0 ∷ [];
+}
+
+-- the port that has seen the log's entry of this number
+abbrev pub with_seen : PortView → ℕ → PortView
+with_seen p number = record p { seen = max p.seen (number + 1) }
+
+-- the port with one more receipt, the last, which it finds again by the request's place
 abbrev pub with_receipt : PortView → Receipt → PortView
-with_receipt p r = record p { receipts = p.receipts ++ r ∷ []; seen = max p.seen (r.number + 1) }
+with_receipt p r = record (with_seen p r.number) {
+  receipts = p.receipts ++ r ∷ [];
+  places = slice_set p.places r.entry.seq (length p.receipts);
+}
 
--- The port is that one, but that its list may have got more room.
+-- The port is that one, but that its lists may have got more room.
 abbrev pub IsWithRoom : PortView → PortView → Type 0
 IsWithRoom p new = new ≡ record p { room = new.room }
 

@@ -1,18 +1,22 @@
-ghost use Rattle.std.specs.Prelude.{◌≡◌, ◌<◌, length, IfSome};
+ghost use Rattle.std.specs.Prelude.{◌≡◌, ◌<◌, ◌↔◌, length, slice_get, IfErr, IfSome, IsOk, IsTrue, OnErr, OnOk, Some};
 ghost use Rattle.receipt_ledger.specs.Answers.{AfterAsking, AfterReply, AfterRequest, AsksFor, AsksReply, AsksSlice};
-ghost use Rattle.receipt_ledger.specs.Answers.{IsGenuine, IsGenuineAnswer, IsGenuineLast, IsGiven};
+ghost use Rattle.receipt_ledger.specs.Answers.{IsGenuine, IsGenuineAnswer, IsGenuineLast, IsGiven, IsKnown, IsShortOf};
+ghost use Rattle.receipt_ledger.specs.Answers.{PlacesWord, answer_steps, reply_steps};
 ghost use Rattle.receipt_ledger.specs.Booked.{IsTied};
-ghost use Rattle.receipt_ledger.specs.Port.{with_request};
+ghost use Rattle.receipt_ledger.specs.Port.{HasRoom, IsEntryOf, with_request, with_seen};
 ghost use Rattle.receipt_shares.specs.Names.{counters_of};
 ghost use Rattle.receipt_shares.specs.Totals.{only_accepted, together};
+ghost use Rattle.slice_core_log.specs.declared.entry.Entry.{Entry};
+ghost use Rattle.slice_core_machine.specs.Shows.{Leads, issue_steps, next_of};
 
-use super::port::Port;
-use super::receipt::{Answer, Receipt};
-use address_map::{Request, WordAddr};
+use super::port::{Port, entry_at};
+use super::receipt::{Answer, LearnError, Receipt};
+use address_map::{Request, SliceId, WordAddr};
 use mshr_file::MissFile;
 use receipt_shares::{Books, SliceNames};
 use slice_core::SliceState;
 use slice_core_answer::{Issue, Refused};
+use slice_core_log::Entry;
 use std::marker::Model;
 
 /// What the ports of a slice hold together: its book lies beside the slice's state, and a port's share moves only with
@@ -37,8 +41,9 @@ impl<N: SliceNames> Model for Book<N> {
 }
 
 impl<N: SliceNames> Book<N> {
-    /// Asks the slice for a word, as the port's core. The port's list first gets room for the receipts of all requests
-    /// in flight and of this one.
+    /// Asks the slice for a word, as the port's core. The port's lists first get room for this request and for the
+    /// receipts of all requests in flight and of this one. A log that is shorter than what the port has seen of it isn't
+    /// the one that it saw, and is `Ahead`.
     pub fn accept<F: MissFile>(
         &mut self,
         state: &mut SliceState<F>,
@@ -48,7 +53,10 @@ impl<N: SliceNames> Book<N> {
         requires { IsTied N.setup N.number self.old state.old }
         ensures slice { AsksSlice state.old port.old request result state.new }
         ensures port { AfterRequest port.old request result port.new }
+        ensures ahead { IfErr result (IsShortOf port.old.seen) }
+        ensures word { PlacesWord N.setup N.number request.word result }
         ensures genuine { IsGenuineAnswer state.new.view.log result }
+        ensures machine { Leads (answer_steps (next_of state.old.view port.old.core request) result) state.old.view state.new.view }
         ensures tied { IsTied N.setup N.number self.new state.new }
     {
         match self.ask(state, port, request) {
@@ -68,20 +76,27 @@ impl<N: SliceNames> Book<N> {
         requires { IsTied N.setup N.number self.old state.old }
         ensures slice { AsksFor state.old port.old request result state.new }
         ensures port { AfterAsking port.old request result port.new }
+        ensures ahead { IfErr result (IsShortOf port.old.seen) }
+        ensures word { PlacesWord N.setup N.number request.word result }
         ensures genuine { IsGenuineLast state.new.view.log result port.new }
+        ensures machine { Leads (issue_steps (next_of state.old.view port.old.core request) result) state.old.view state.new.view }
         ensures tied { IsTied N.setup N.number self.new state.new }
     {
         let Ok(()) = port.make_room() else {
             return Err(Refused::Memory);
         };
+        let logged = state.log().len() as u64;
+        if logged < port.seen() {
+            return Err(Refused::Ahead(logged));
+        }
         match state.issue(port.core(), request) {
             Ok(Issue::Done(number)) => {
-                self.count(port);
+                self.count(port, request);
                 self.give(state, port, number);
                 Ok(Issue::Done(number))
             }
             Ok(Issue::Pending(seq)) => {
-                self.count(port);
+                self.count(port, request);
                 Ok(Issue::Pending(seq))
             }
             Ok(Issue::Stall(stall)) => Ok(Issue::Stall(stall)),
@@ -99,6 +114,7 @@ impl<N: SliceNames> Book<N> {
         ensures slice { AsksReply state.old port.old result state.new }
         ensures port { AfterReply port.old result port.new }
         ensures genuine { IfSome result (IsGenuine state.new.view.log) }
+        ensures machine { Leads (reply_steps result) state.old.view state.new.view }
         ensures tied { IsTied N.setup N.number self.new state.new }
     {
         if !port.is_waiting() {
@@ -113,21 +129,55 @@ impl<N: SliceNames> Book<N> {
         }
     }
 
+    /// Tells the port of a receipt, which another core of the slice may have got.
+    pub fn learn<F: MissFile>(
+        &self,
+        state: &SliceState<F>,
+        port: &mut Port<N>,
+        receipt: &Receipt,
+    ) -> Result<(), LearnError>
+        ensures known { IsOk result ↔ IsKnown port.old.slice state.now.view.log receipt.now }
+        ensures learnt { OnOk result (port.new ≡ with_seen port.old receipt.now.number) }
+        ensures unknown { OnErr result (port.new ≡ port.old) }
+    {
+        let log = state.log();
+        if !is_known(port.slice(), log, receipt) {
+            return Err(LearnError::Unknown);
+        }
+        port.learn(log, receipt.number);
+        Ok(())
+    }
+
     // Counts a request that was accepted.
-    fn count(&mut self, port: &mut Port<N>)
-        requires { port.old.accepted < port.old.room }
-        ensures port { port.new ≡ with_request port.old }
+    fn count(&mut self, port: &mut Port<N>, request: Request)
+        requires { HasRoom port.old }
+        ensures port { port.new ≡ with_request port.old request }
         ensures book { self.new ≡ together self.old (only_accepted 1) }
     {
-        port.count(&mut self.books);
+        port.count(&mut self.books, request);
     }
 
     // Gives the port the receipt of an entry of the log, and counts it.
     fn give<F: MissFile>(&mut self, state: &SliceState<F>, port: &mut Port<N>, number: u64)
-        requires waiting { length port.old.receipts < port.old.accepted }
+        requires waiting { length port.old.receipts < length port.old.asked }
         requires within { number < length state.now.view.log }
+        requires own { (e : Entry) → slice_get state.now.view.log number ≡ Some e → IsEntryOf N.setup N.number port.old.core e }
         ensures { IsGiven (counters_of N.setup N.number) state.now.view.log number port.old port.new self.old self.new }
     {
         port.receive(&mut self.books, &self.counters, state.log(), number);
     }
+}
+
+// Whether the receipt is one of the slice with this log.
+fn is_known(slice: SliceId, log: &[Entry], receipt: &Receipt) -> bool
+    ensures { IsTrue result ↔ IsKnown slice log.now receipt.now }
+{
+    receipt.slice == slice && is_entry(log, receipt.number, &receipt.entry)
+}
+
+// Whether the log's entry of this number is this one.
+fn is_entry(log: &[Entry], number: u64, wanted: &Entry) -> bool
+    ensures { IsTrue result ↔ (slice_get log.now number ≡ Some wanted.now) }
+{
+    number < log.len() as u64 && *entry_at(log, number) == *wanted
 }

@@ -11,9 +11,10 @@
 //! - [`Book::accept`] asks the slice for a port. Its contract says that state and answer are those of the slice's own
 //!   call, and what the port has then. [`Book::ask`] leaves the receipt to be copied later, from the port ([`Port::last`]).
 //! - [`Book::hand_out`] hands out a reply, as the slice does.
+//! - [`Book::learn`] tells a port of a receipt that another port got.
 //! - [`Book::settle`] looks at a quiet slice with all its ports, each lent by whoever holds it ([`Lends`]): the ports
-//!   hold a receipt of each entry of the log, and the value of each counter is its initial value and the sum of what
-//!   their receipts add to it, modulo 2^64.
+//!   hold a receipt of each entry of the log, as they asked for it, and the value of each counter is its initial value
+//!   and the sum of what their receipts add to it, modulo 2^64.
 //!
 //! That a state and a book belong together (`IsTied` of `specs/Booked.antt`) is asked of whoever calls, and kept. The
 //! slice is seen there as the small machine of `slice_core_machine`: how many requests wait and were performed, and
@@ -23,10 +24,11 @@
 pub use book::Book;
 pub use lends::{Alone, Lends};
 pub use port::Port;
-pub use receipt::{Answer, Receipt};
+pub use receipt::{Answer, Ask, LearnError, Receipt};
 
 mod book;
 mod gather;
+mod held;
 mod idle;
 mod lends;
 mod open;

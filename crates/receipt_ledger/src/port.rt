@@ -1,23 +1,26 @@
-ghost use Rattle.std.specs.Prelude.{◌≡◌, ◌+◌, ◌<◌, ◌≤◌, true, false, length, slice_get, vec_capacity, vec_len, OnOk, Some};
+ghost use Rattle.std.specs.Prelude.{◌≡◌, ◌+◌, ◌<◌, ◌≤◌, true, false, length, slice_get, slice_set, vec_capacity, vec_len, OnOk, Some};
 ghost use Rattle.receipt_ledger.specs.Answers.{IsGiven, IsLastOf};
-ghost use Rattle.receipt_ledger.specs.Port.{IsWithRoom, fresh_port, with_request};
+ghost use Rattle.receipt_ledger.specs.Port.{HasRoom, IsEntryOf, IsWithRoom, fresh_port, with_request, with_seen};
 ghost use Rattle.receipt_shares.specs.Names.{AreCounters};
 ghost use Rattle.receipt_shares.specs.Totals.{nothing, only_accepted, together};
 
-use super::receipt::Receipt;
-use address_map::{CoreId, SliceId, WordAddr};
+use super::receipt::{Ask, Receipt};
+use address_map::{CoreId, Request, SliceId, WordAddr};
 use receipt_shares::{Books, Shares, SliceNames};
 use slice_core_log::Entry;
 use std::alloc::{AllocError, Global};
 use std::marker::Model;
 
-/// Through which one core asks one slice: its receipts, and its shares of what the slice's book counts. Contracts see
-/// a `PortView`.
+/// Through which one core asks one slice: what it asked for, its receipts, and its shares of what the slice's book
+/// counts. Contracts see a `PortView`.
 #[derive(Drop)]
 pub struct Port<N: SliceNames> {
     core: CoreId,
     slice: SliceId,
-    pub(crate) accepted: u64,
+    /// The accepted requests, in this order, which numbers them.
+    pub(crate) asked: Vec<Ask>,
+    /// By that number, where among the receipts the request's own is, once it is there.
+    places: Vec<usize>,
     pub(crate) receipts: Vec<Receipt>,
     seen: u64,
     pub(crate) shares: Shares<N>,
@@ -25,13 +28,13 @@ pub struct Port<N: SliceNames> {
 
 impl<N: SliceNames> Model for Port<N> {
     ghost use Rattle.std.specs.Prelude.{vec_capacity};
-    ghost use Rattle.receipt_ledger.specs.Port.{PortView, IsPort};
+    ghost use Rattle.receipt_ledger.specs.Port.{PortView, IsPort, port_with};
 
     ghost Value = { PortView };
 
-    ghost view = { λ p. record { core = p.core; slice = p.slice; accepted = p.accepted; receipts = p.receipts.items; seen = p.seen; room = vec_capacity p.receipts } };
+    ghost view = { λ p. port_with p.core p.slice p.asked.items p.places.items p.receipts.items p.seen (record { asked = vec_capacity p.asked; places = vec_capacity p.places; receipts = vec_capacity p.receipts }) };
 
-    ghost invariant = { λ p. IsPort N.setup N.number (record { core = p.core; slice = p.slice; accepted = p.accepted; receipts = p.receipts.items; seen = p.seen; room = vec_capacity p.receipts }) p.shares };
+    ghost invariant = { λ p. IsPort N.setup N.number (port_with p.core p.slice p.asked.items p.places.items p.receipts.items p.seen (record { asked = vec_capacity p.asked; places = vec_capacity p.places; receipts = vec_capacity p.receipts })) p.shares };
 }
 
 impl<N: SliceNames> Port<N> {
@@ -53,21 +56,35 @@ impl<N: SliceNames> Port<N> {
 
     /// How many requests were accepted through it.
     pub fn accepted(&self) -> u64
-        ensures accepted { result ≡ self.now.accepted }
+        ensures accepted { result ≡ length self.now.asked }
         ensures fewer { length self.now.receipts ≤ result }
     {
-        self.accepted
+        self.asked.len() as u64
+    }
+
+    /// Which ones, in this order, each with what the port had seen of the log by then.
+    pub fn asked(&self) -> &[Ask]
+        ensures { result.now ≡ self.now.asked }
+    {
+        &self.asked
+    }
+
+    /// By a request's place in that order, where its receipt stands, once it is there.
+    pub(crate) fn places(&self) -> &[usize]
+        ensures { result.now ≡ self.now.places }
+    {
+        &self.places
     }
 
     /// Those of them that were handed out, in the order in which they were.
     pub fn receipts(&self) -> &[Receipt]
         ensures receipts { result.now ≡ self.now.receipts }
-        ensures fewer { length result.now ≤ self.now.accepted }
+        ensures fewer { length result.now ≤ length self.now.asked }
     {
         &self.receipts
     }
 
-    /// One more than the greatest number of a receipt that it got, and 0 before it got one.
+    /// One more than the greatest number of a receipt that it got or was told of, and 0 before the first.
     pub fn seen(&self) -> u64
         ensures { result ≡ self.now.seen }
     {
@@ -76,10 +93,10 @@ impl<N: SliceNames> Port<N> {
 
     /// Whether a request that was accepted isn't handed out yet.
     pub(crate) fn is_waiting(&self) -> bool
-        ensures waiting { result ≡ true → length self.now.receipts < self.now.accepted }
-        ensures idle { result ≡ false → self.now.accepted ≤ length self.now.receipts }
+        ensures waiting { result ≡ true → length self.now.receipts < length self.now.asked }
+        ensures idle { result ≡ false → length self.now.asked ≤ length self.now.receipts }
     {
-        (self.receipts.len() as u64) < self.accepted
+        self.receipts.len() < self.asked.len()
     }
 
     /// A port through which nothing was asked for yet.
@@ -93,30 +110,33 @@ impl<N: SliceNames> Port<N> {
         Port {
             core,
             slice,
-            accepted: 0,
+            asked: Vec::new(alloc),
+            places: Vec::new(alloc),
             receipts: Vec::new(alloc),
             seen: 0,
             shares,
         }
     }
 
-    /// Gives the list room for the receipts of all requests in flight and one more.
+    /// Gives the lists room for one more request, and for the receipts of all requests in flight and of that one.
     pub(crate) fn make_room(&mut self) -> Result<(), AllocError>
         ensures same { IsWithRoom self.old self.new }
-        ensures fewer { length self.old.receipts ≤ self.old.accepted }
-        ensures room { OnOk result (self.new.accepted < self.new.room) }
+        ensures fewer { length self.old.receipts ≤ length self.old.asked }
+        ensures room { OnOk result (HasRoom self.new) }
     {
-        reserve(&mut self.receipts, self.accepted)
+        reserve(&mut self.asked, &mut self.places, &mut self.receipts)
     }
 
-    /// Counts one more accepted request, in the book too.
-    pub(crate) fn count(&mut self, books: &mut Books<N>)
-        requires { self.old.accepted < self.old.room }
-        ensures port { self.new ≡ with_request self.old }
+    /// Keeps one more accepted request, and counts it in the book too.
+    pub(crate) fn count(&mut self, books: &mut Books<N>, request: Request)
+        requires { HasRoom self.old }
+        ensures port { self.new ≡ with_request self.old request }
         ensures books { books.new ≡ together books.old (only_accepted 1) }
     {
         books.accept(&mut self.shares);
-        self.accepted += 1;
+        let seen = self.seen;
+        self.asked.push_reserved(Ask { request, seen });
+        self.places.push_reserved(0);
     }
 
     /// Takes the receipt of the entry of the log with this number, and counts it in the book too.
@@ -127,19 +147,29 @@ impl<N: SliceNames> Port<N> {
         log: &[Entry],
         number: u64,
     )
-        requires waiting { length self.old.receipts < self.old.accepted }
+        requires waiting { length self.old.receipts < length self.old.asked }
         requires words { AreCounters N.setup N.number words.now }
         requires within { number < length log.now }
+        requires own { (e : Entry) → slice_get log.now number ≡ Some e → IsEntryOf N.setup N.number self.old.core e }
         ensures { IsGiven words.now log.now number self.old self.new books.old books.new }
     {
         let entry = entry_at(log, number);
         books.hand(&mut self.shares, words, entry);
+        set_place(&mut self.places, entry.seq, self.receipts.len());
         self.seen = self.seen.max(after(log, number));
         self.receipts.push_reserved(Receipt {
             entry: *entry,
             number,
             slice: self.slice,
         });
+    }
+
+    /// Takes notice of the entry of the log with this number.
+    pub(crate) fn learn(&mut self, log: &[Entry], number: u64)
+        requires { number < length log.now }
+        ensures { self.new ≡ with_seen self.old number }
+    {
+        self.seen = self.seen.max(after(log, number));
     }
 
     /// The last of its receipts.
@@ -151,20 +181,40 @@ impl<N: SliceNames> Port<N> {
     }
 }
 
-// Makes room for so many receipts in all, and one more.
-fn reserve(receipts: &mut Vec<Receipt>, accepted: u64) -> Result<(), AllocError>
-    requires fewer { vec_len receipts.old ≤ accepted }
-    requires reserved { accepted ≤ vec_capacity receipts.old }
-    ensures items { receipts.new.items ≡ receipts.old.items }
-    ensures room { OnOk result (accepted < vec_capacity receipts.new) }
-    ensures kept { accepted ≤ vec_capacity receipts.new }
+// Makes room for one more request, and for the receipts of all requests and of that one.
+fn reserve(
+    asked: &mut Vec<Ask>,
+    places: &mut Vec<usize>,
+    receipts: &mut Vec<Receipt>,
+) -> Result<(), AllocError>
+    requires fewer { vec_len receipts.old ≤ vec_len asked.old }
+    requires reserved { vec_len asked.old ≤ vec_capacity receipts.old }
+    ensures asked { asked.new.items ≡ asked.old.items }
+    ensures places { places.new.items ≡ places.old.items }
+    ensures receipts { receipts.new.items ≡ receipts.old.items }
+    ensures asked_room { OnOk result (vec_len asked.new < vec_capacity asked.new) }
+    ensures places_room { OnOk result (vec_len places.new < vec_capacity places.new) }
+    ensures receipts_room { OnOk result (vec_len asked.new < vec_capacity receipts.new) }
+    ensures reserved { length asked.new.items ≤ vec_capacity receipts.new }
 {
-    let in_flight = accepted as usize - receipts.len();
+    asked.reserve(1)?;
+    places.reserve(1)?;
+    let in_flight = asked.len() - receipts.len();
     receipts.reserve(in_flight + 1)
 }
 
+// Notes where the receipt of the request with this number stands.
+fn set_place(places: &mut Vec<usize>, seq: u64, place: usize)
+    ensures items { places.new.items ≡ slice_set places.old.items seq place }
+    ensures room { vec_capacity places.new ≡ vec_capacity places.old }
+{
+    if seq < places.len() as u64 {
+        places[seq as usize] = place;
+    }
+}
+
 // The entry of the log with this number.
-fn entry_at(log: &[Entry], number: u64) -> &Entry
+pub(crate) fn entry_at(log: &[Entry], number: u64) -> &Entry
     requires { number < length log.now }
     ensures { slice_get log.now number ≡ Some result.now }
 {

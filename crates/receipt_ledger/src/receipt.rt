@@ -1,8 +1,16 @@
 ghost use Rattle.receipt_ledger.specs.Answers.{IsUndone, Tells};
 
-use address_map::SliceId;
+use address_map::{Request, SliceId};
 use slice_core_answer::{Issue, Refused, Stall};
 use slice_core_log::Entry;
+
+/// A request that was accepted through a port.
+#[derive(Clone, Copy, Debug, PartialEq, Eq)]
+pub struct Ask {
+    pub request: Request,
+    /// How much of the slice's log the port had seen by then.
+    pub seen: u64,
+}
 
 /// A performed request in the hands of the core that made it.
 #[derive(Clone, Copy, Debug, PartialEq, Eq)]
@@ -39,4 +47,11 @@ impl Answer {
             Err(refused) => Err(refused),
         }
     }
+}
+
+/// Why a port doesn't learn from a receipt.
+#[derive(Clone, Copy, Debug, PartialEq, Eq)]
+pub enum LearnError {
+    /// The slice's log has no such entry at that number, or the receipt is of another slice.
+    Unknown,
 }

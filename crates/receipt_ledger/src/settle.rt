@@ -1,5 +1,6 @@
 ghost use Rattle.std.specs.Prelude.{◌≡◌, ◌+◌, ◌<◌, ◌↔◌, ◌∷◌, length, map, IfSome, IsSome};
 ghost use Rattle.receipt_ledger.specs.Booked.{IsTied};
+ghost use Rattle.receipt_ledger.specs.History.{AreHeld};
 ghost use Rattle.receipt_ledger.specs.Port.{held_by};
 ghost use Rattle.receipt_ledger.specs.Settled.{held_in, IsSettled};
 ghost use Rattle.receipt_shares.specs.Names.{counters_of};
@@ -9,6 +10,7 @@ ghost use Rattle.slice_core_plan.specs.View.{IsQuiet};
 
 use super::book::Book;
 use super::gather::gather;
+use super::held::are_held;
 use super::lends::Lends;
 use super::port::Port;
 use arrayvec::ArrayVec;
@@ -17,8 +19,9 @@ use receipt_shares::SliceNames;
 use slice_core::SliceState;
 
 impl<N: SliceNames> Book<N> {
-    /// Settles a quiet slice with all its ports: the value of each of its counters, ascending by word. It takes no
-    /// memory, and leaves the ports as they were.
+    /// Settles a quiet slice with all its ports: the value of each of its counters, ascending by word. There is none
+    /// where the ports' requests and receipts aren't the slice's log. It takes no memory, and leaves the ports as they
+    /// were.
     pub fn settle<F: MissFile, T: Lends<Port<N>, K>, const K: usize>(
         &mut self,
         state: &SliceState<F>,
@@ -26,12 +29,15 @@ impl<N: SliceNames> Book<N> {
     ) -> Option<ArrayVec<u64, 8>>
         requires tied { IsTied N.setup N.number self.old state.now }
         requires whole { length ports.old ≡ N.setup.cores }
-        ensures quiet { IsSome result ↔ IsQuiet state.now.view }
+        ensures history { IsSome result ↔ IsQuiet state.now.view × AreHeld (map T.part ports.old) state.now.view.log }
         ensures settled { IfSome result (λ values. IsSettled N.setup N.number state.now.view (map T.part ports.old) values.items) }
         ensures book { self.new ≡ self.old }
         ensures ports { ports.new ≡ ports.old }
     {
         if !state.is_quiet() {
+            return None;
+        }
+        if !are_held(state.log(), ports) {
             return None;
         }
         self.compare(ports);

@@ -17,6 +17,7 @@ text_of_refused refusals.TagBusy = codes "3 TagBusy"
 text_of_refused refusals.CounterStore = codes "4 CounterStore"
 text_of_refused refusals.Memory = codes "5 Memory"
 text_of_refused refusals.WrongSlice = codes "6 WrongSlice"
+text_of_refused (refusals.Ahead length) = codes "8 Ahead"
 
 -- the number and the name of a stall
 abbrev pub text_of_stall : Stall → List ℕ

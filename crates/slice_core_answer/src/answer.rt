@@ -18,6 +18,8 @@ pub enum Refused {
     Memory,
     /// The word is of another slice.
     WrongSlice,
+    /// The log has so many entries, fewer than the core has seen of it: it isn't the log that the core saw.
+    Ahead(u64),
 }
 
 impl fmt::Display for Refused {
@@ -33,6 +35,7 @@ impl fmt::Display for Refused {
             Refused::CounterStore => "4 CounterStore",
             Refused::Memory => "5 Memory",
             Refused::WrongSlice => "6 WrongSlice",
+            Refused::Ahead(_) => "8 Ahead",
         })
     }
 }

@@ -1,17 +1,38 @@
 -- What all ports of a slice have together once it is settled.
-use Rattle.std.specs.Prelude.{◌≡◌, ℕ, ◌+◌, ◌%◌, ◌^◌, List, length, map}
+use Rattle.std.specs.Prelude.{◌≡◌, ℕ, ◌+◌, ◌%◌, ◌^◌, List, filter, length, map}
 use Rattle.address_map.specs.Words.{initial_value}
+use Rattle.address_map.specs.declared.address.WordAddr.{WordAddr}
 use Rattle.address_map.specs.declared.config.Config.{Config}
+use Rattle.receipt_ledger.specs.History.{AreHeld, AreHistory, receipts_in}
 use Rattle.receipt_ledger.specs.Port.{PortView, entries_of}
-use Rattle.receipt_ledger.specs.Settled.{accepted_in, receipts_in}
+use Rattle.receipt_ledger.specs.Settled.{accepted_in}
 use Rattle.receipt_shares.specs.Names.{counters_of}
-use Rattle.slice_core_log.specs.Log.{named}
+use Rattle.slice_core_log.specs.Log.{IsLegal, IsOrdered, initially, named}
+use Rattle.slice_core_log.specs.declared.entry.Entry.{Entry}
+use Rattle.slice_core_plan.specs.Initial.{is_of_slice}
+use Rattle.slice_core_plan.specs.View.{View, IsQuiet}
+use Rattle.slice_lock.specs.declared.slice.Unsettled.{Unsettled}
+use Rattle.slice_lock.specs.declared.slice.Unsettled.TheVariants as faults
 
--- As many receipts as requests were accepted; and these are the values of the slice's counters, ascending by word: each
--- is its initial value and what the receipts add to it, modulo 2^64.
+-- the configured initial values of the slice's words
+abbrev pub init_of : Config → ℕ → List (WordAddr × ℕ)
+init_of c number = filter (λ pair. is_of_slice c number pair.0) c.init
+
+-- As many receipts as requests were accepted. By number they are exactly a log, which is legal and in each core's order.
+-- And these are the values of the slice's counters, ascending by word: each is its initial value and what the receipts
+-- add to it, modulo 2^64.
 pub record AreSettled (c : Config) (number : ℕ) (ports : List PortView) (values : List ℕ) : Type 0 where
   pub handed : length (receipts_in ports) ≡ accepted_in ports
+  pub log : List Entry
+  pub history : AreHistory ports log
+  pub legal : IsLegal (initially (init_of c number)) log
+  pub ordered : IsOrdered log
   pub values_are :
       values
       ≡ map (λ word. (initial_value c.init word + named (entries_of (receipts_in ports)) word.0) % 2 ^ 64)
       (counters_of c number)
+
+-- Why the slice isn't settled with these ports.
+abbrev pub IsUnsettledBy : View → List PortView → Unsettled → Type 0
+IsUnsettledBy v ports faults.NotQuiet = IsQuiet v → ⊥
+IsUnsettledBy v ports faults.Differs = IsQuiet v × (AreHeld ports v.log → ⊥)

@@ -1,15 +1,17 @@
-ghost use Rattle.std.specs.Prelude.{◌≡◌, ◌<◌, ◌↔◌, length, map, IfSome, IsSome, IsTrue};
-ghost use Rattle.receipt_ledger.specs.Answers.{AfterAsking, AfterReply, AsksFor, AsksReply};
+ghost use Rattle.std.specs.Prelude.{◌≡◌, ◌<◌, ◌↔◌, length, map, IfErr, IfOk, IsOk, IsTrue, OnErr, OnOk};
+ghost use Rattle.receipt_ledger.specs.Answers.{AfterAsking, AfterReply, AsksFor, AsksReply, IsKnown, IsShortOf, PlacesWord};
+ghost use Rattle.receipt_ledger.specs.Port.{with_seen};
 ghost use Rattle.slice_core.specs.Facts.{IsNotBroken, IsNotBrokenNext};
 ghost use Rattle.slice_core_plan.specs.Parts.{AfterDeliverNext, AfterDelivery, AfterEvict};
 ghost use Rattle.slice_core_plan.specs.View.{IsQuiet};
 ghost use Rattle.slice_lock.specs.Booked.{IsShown};
-ghost use Rattle.slice_lock.specs.Settled.{AreSettled};
+ghost use Rattle.slice_lock.specs.Settled.{AreSettled, IsUnsettledBy};
 
+use super::slice::Unsettled;
 use address_map::{CoreId, LineAddr, Request};
 use arrayvec::ArrayVec;
 use mshr_file::MissFile;
-use receipt_ledger::{Book, Lends, Port, Receipt};
+use receipt_ledger::{Book, LearnError, Lends, Port, Receipt};
 use receipt_shares::SliceNames;
 use slice_core::SliceState;
 use slice_core_answer::{Delivered, DeliveredNext, Evicted, Issue, Refused};
@@ -39,6 +41,8 @@ impl<F: MissFile, N: SliceNames> Booked<F, N> {
     pub fn ask(&mut self, port: &mut Port<N>, request: Request) -> Result<Issue, Refused>
         ensures slice { AsksFor self.old.state port.old request result self.new.state }
         ensures port { AfterAsking port.old request result port.new }
+        ensures ahead { IfErr result (IsShortOf port.old.seen) }
+        ensures word { PlacesWord N.setup N.number request.word result }
     {
         self.book.ask(&mut self.state, port, request)
     }
@@ -49,6 +53,15 @@ impl<F: MissFile, N: SliceNames> Booked<F, N> {
         ensures port { AfterReply port.old result port.new }
     {
         self.book.hand_out(&mut self.state, port)
+    }
+
+    /// Tells the port of a receipt.
+    pub fn learn(&self, port: &mut Port<N>, receipt: &Receipt) -> Result<(), LearnError>
+        ensures known { IsOk result ↔ IsKnown port.old.slice self.now.state.view.log receipt.now }
+        ensures learnt { OnOk result (port.new ≡ with_seen port.old receipt.now.number) }
+        ensures unknown { OnErr result (port.new ≡ port.old) }
+    {
+        self.book.learn(&self.state, port, receipt)
     }
 
     /// Gives up a core's copy of a line.
@@ -85,18 +98,24 @@ impl<F: MissFile, N: SliceNames> Booked<F, N> {
         self.state.is_quiet()
     }
 
-    /// Settles the slice with all its ports, where it is quiet.
+    /// Settles the slice with all its ports, where it is quiet and they hold its log.
     pub fn settle<T: Lends<Port<N>, K>, const K: usize>(
         &mut self,
         ports: &mut [T],
-    ) -> Option<ArrayVec<u64, 8>>
+    ) -> Result<ArrayVec<u64, 8>, Unsettled>
         requires whole { length ports.old ≡ N.setup.cores }
-        ensures quiet { IsSome result ↔ IsQuiet self.old.state.view }
-        ensures settled { IfSome result (λ values. AreSettled N.setup N.number (map T.part ports.old) values.items) }
+        ensures settled { IfOk result (λ values. AreSettled N.setup N.number (map T.part ports.old) values.items) }
+        ensures unsettled { IfErr result (IsUnsettledBy self.old.state.view (map T.part ports.old)) }
         ensures same { self.new ≡ self.old }
         ensures ports { ports.new ≡ ports.old }
     {
-        self.book.settle(&self.state, ports)
+        if !self.state.is_quiet() {
+            return Err(Unsettled::NotQuiet);
+        }
+        match self.book.settle(&self.state, ports) {
+            Some(values) => Ok(values),
+            None => Err(Unsettled::Differs),
+        }
     }
 
     /// The state, of which all that holds after every call holds.

@@ -8,7 +8,7 @@
 //! [`Slice::settle`] says of a quiet slice and all its ports that the receipts are all, and what they make of each counter.
 #![tactic(auto)]
 
-pub use slice::{Look, Slice, Unsettled};
+pub use slice::{Look, Question, Slice, Unsettled};
 
 mod booked;
 mod slice;

@@ -1,8 +1,8 @@
-ghost use Rattle.std.specs.Prelude.{◌≡◌, ◌<◌, ◌≤◌, length, map, IfOk, None};
-ghost use Rattle.receipt_ledger.specs.Answers.{AfterReply, AfterRequest};
-ghost use Rattle.receipt_ledger.specs.Port.{AreFreshPorts};
+ghost use Rattle.std.specs.Prelude.{◌≡◌, ◌<◌, ◌≤◌, length, map, IfErr, IfOk, None, OnErr, OnOk};
+ghost use Rattle.receipt_ledger.specs.Answers.{AfterReply, AfterRequest, IsShortOf, PlacesWord};
+ghost use Rattle.receipt_ledger.specs.Port.{AreFreshPorts, with_seen};
 ghost use Rattle.receipt_shares.specs.Names.{AreLedgersOf};
-ghost use Rattle.slice_core.specs.Facts.{IsNotBroken, IsNotBrokenNext};
+ghost use Rattle.slice_core.specs.Facts.{Holds, IsNotBroken, IsNotBrokenNext};
 ghost use Rattle.slice_lock.specs.Booked.{IsShown};
 ghost use Rattle.slice_lock.specs.Settled.{AreSettled};
 
@@ -10,7 +10,7 @@ use super::booked::Booked;
 use address_map::{Checked, LineAddr, Request, SliceId};
 use arrayvec::ArrayVec;
 use mshr_file::MissFile;
-use receipt_ledger::{Answer, Book, Lends, Port, Receipt};
+use receipt_ledger::{Answer, Book, LearnError, Lends, Port, Receipt};
 use receipt_shares::{Blanks, SliceNames};
 use slice_core::SliceState;
 use slice_core_answer::{Delivered, DeliveredNext, Evicted, Issue, Refused};
@@ -23,6 +23,17 @@ use std::sync::{Mutex, MutexGuard, Wait};
 pub enum Unsettled {
     /// A message is in flight, a miss register is held, a line leaves, or a reply isn't handed out.
     NotQuiet,
+    /// The slice is quiet, and the ports' requests and receipts aren't its log.
+    Differs,
+}
+
+/// A question about a slice's state. Whoever answers it may rely on all that holds of the state after every call.
+pub trait Question<F: MissFile> {
+    type Answer;
+
+    /// Looks at the state, and answers.
+    fn ask(self, state: &SliceState<F>) -> Self::Answer
+        requires { Holds state.now };
 }
 
 /// One slice of a machine that threads share.
@@ -50,15 +61,18 @@ impl<F: MissFile, N: SliceNames> Slice<F, N> {
         Ok((Slice { booked }, ports))
     }
 
-    /// Asks the slice for a word, as the port's core. The port's list first gets room for the receipts of all requests
-    /// in flight and of this one; where it gets none the answer is `Memory`, and nothing has changed.
+    /// Asks the slice for a word, as the port's core. The port's lists first get room for this request and for the
+    /// receipts of all requests in flight and of this one; where they get none the answer is `Memory`, and nothing has
+    /// changed. A log that is shorter than what the port has seen of it isn't the one that it saw, and is `Ahead`.
     pub fn issue<R: Wait>(
         &self,
         rt: &R,
         port: &mut Port<N>,
         request: Request,
     ) -> Result<Answer, Refused>
-        ensures { AfterRequest port.old request result port.new }
+        ensures port { AfterRequest port.old request result port.new }
+        ensures ahead { IfErr result (IsShortOf port.old.seen) }
+        ensures word { PlacesWord N.setup N.number request.word result }
     {
         let issue = self.booked.lock(rt).ask(port, request)?;
         // The lock is free here: the receipt is copied from the port alone.
@@ -71,9 +85,24 @@ impl<F: MissFile, N: SliceNames> Slice<F, N> {
     /// Hands out the reply of the least number that waits for the port's core, if any does.
     pub fn collect<R: Wait>(&self, rt: &R, port: &mut Port<N>) -> Option<Receipt>
         ensures port { AfterReply port.old result port.new }
-        ensures idle { port.old.accepted ≤ length port.old.receipts → result ≡ None }
+        ensures idle { length port.old.asked ≤ length port.old.receipts → result ≡ None }
     {
         self.booked.lock(rt).collect(port)
+    }
+
+    /// Tells the port of a receipt, which another core of the slice may have got: one of another slice, or whose entry
+    /// the log doesn't have at its number, is `Unknown`. It takes no memory.
+    pub fn learn<R: Wait>(
+        &self,
+        rt: &R,
+        port: &mut Port<N>,
+        receipt: &Receipt,
+    ) -> Result<(), LearnError>
+        ensures slice { OnOk result (receipt.now.slice ≡ port.old.slice) }
+        ensures learnt { OnOk result (port.new ≡ with_seen port.old receipt.now.number) }
+        ensures unknown { OnErr result (port.new ≡ port.old) }
+    {
+        self.booked.lock(rt).learn(port, receipt)
     }
 
     /// Gives up the copy of a line that the port's core has, or says why not.
@@ -103,7 +132,8 @@ impl<F: MissFile, N: SliceNames> Slice<F, N> {
     }
 
     /// Settles the slice with all its ports, each lent by whoever holds it: the value of each counter of the slice,
-    /// ascending by word. It takes no memory, and leaves the ports as they were.
+    /// ascending by word. The ports' receipts are then exactly the slice's log, as it was asked for. It takes no memory,
+    /// and leaves the ports as they were.
     pub fn settle<R: Wait, T: Lends<Port<N>, K>, const K: usize>(
         &self,
         rt: &R,
@@ -113,10 +143,12 @@ impl<F: MissFile, N: SliceNames> Slice<F, N> {
         ensures settled { IfOk result (λ values. AreSettled N.setup N.number (map T.part ports.old) values.items) }
         ensures ports { ports.new ≡ ports.old }
     {
-        self.booked
-            .lock(rt)
-            .settle(ports)
-            .ok_or(Unsettled::NotQuiet)
+        self.booked.lock(rt).settle(ports)
+    }
+
+    /// Asks a question about the state while the lock is held, and answers it.
+    pub fn inspect<R: Wait, Q: Question<F>>(&self, rt: &R, question: Q) -> Q::Answer {
+        question.ask(self.look(rt).state())
     }
 
     /// Takes the lock for a look at the state, and keeps it until the look is dropped. No other call on this slice gets

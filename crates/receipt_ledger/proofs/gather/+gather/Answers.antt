@@ -1,4 +1,4 @@
-use Rattle.std.proofs.Common.{◌≡◌, List, map, sym, ap, ◌∙◌, arith}
+use Rattle.std.proofs.Common.{◌≡◌, List, map, sym, ap, ◌∙◌, arith, length}
 use Rattle.std.proofs.lemmas.List.{nil_from_length}
 use Rattle.receipt_ledger.proofs.Ports.{amounts-same}
 use Rattle.receipt_ledger.specs.Port.{entries_of, held_by}
@@ -29,9 +29,10 @@ gather_port-returns-clause-share g t c =
     let number = g.N.SliceNames.number in
     let had = c.port.inside.shares in
     let held = ap (λ (s : Amounts). s.held) c.port.invariant.held in
-    let given : totals c.args.words.now c.port.inside.accepted (entries_of c.deref.result.now) ≡ had.held =
-    ap (λ words. totals words c.port.inside.accepted (entries_of c.deref.result.now)) c.requires.words.are
-    ∙ ap (λ (rs : List Receipt). totals (counters_of setup number) c.port.inside.accepted (entries_of rs))
+    let given : totals c.args.words.now c.len-accepted.result (entries_of c.deref.result.now) ≡ had.held =
+    ap (λ n. totals c.args.words.now n (entries_of c.deref.result.now)) (c.len-accepted.ensures ∙ c.port.inside.asked.ok.0)
+    ∙ ap (λ words. totals words (length c.port.inside.asked.items) (entries_of c.deref.result.now)) c.requires.words.are
+    ∙ ap (λ (rs : List Receipt). totals (counters_of setup number) (length c.port.inside.asked.items) (entries_of rs))
     c.deref.ensures.value
     ∙ sym held in
     let one = ap (λ (s : Amounts). s.parts) c.port.invariant.held in

@@ -1,9 +1,10 @@
 use Rattle.std.proofs.Common.{ap, refl, subst, sym, ◌∙◌}
+use Rattle.receipt_ledger.proofs.Placed.{issued-places}
 use Rattle.receipt_ledger.proofs.Ports.{with-room}
-use Rattle.receipt_ledger.proofs.Tied.{done-last, done-tied, pending-tied, same-tied}
+use Rattle.receipt_ledger.proofs.Tied.{done-last, done-own, done-tied, pending-tied, same-tied}
 use Rattle.receipt_ledger.specs.Answers.{receipt_of}
 use Rattle.receipt_ledger.specs.Booked.{IsTied}
-use Rattle.receipt_ledger.specs.Port.{PortView, with_receipt, with_request}
+use Rattle.receipt_ledger.specs.Port.{IsEntryOf, PortView, with_receipt, with_request}
 use Rattle.receipt_ledger.specs.declared.receipt.Receipt.{Receipt}
 use Rattle.receipt_shares.specs.Names.{counters_of}
 use Rattle.receipt_shares.specs.Totals.{only_handed, together}
@@ -15,6 +16,21 @@ use Rattle.receipt_ledger.proofs.book.Book.ask.Goals as goal
 abbrev given : (g : Over) (c : goal.After-give g) → Receipt
 given g c =
     receipt_of c.args.port.now.slice (record { number = c.in-Ok-Done.number; entry = c.give.ensures.entry })
+
+pub give-requires-clause-own : goal.give-requires-clause-own
+give-requires-clause-own g c e there =
+    let setup = g.N.SliceNames.setup in
+    let number = g.N.SliceNames.number in
+    let told = rw c.in-Ok-Done.field-0-is at c.in-Ok-Done.ensures in
+    subst (λ core. IsEntryOf setup number core e)
+    (c.core.ensures.core ∙ sym (ap (λ (p : PortView). p.core) c.count.ensures.port))
+    (done-own setup number c.args.self.now c.args.state.now c.issue.new.self c.requires c.core.result c.args.request
+    c.in-Ok-Done.number told.step told.machine e there)
+
+pub returns-in-Err-clause-word : goal.returns-in-Err-clause-word
+returns-in-Err-clause-word g c =
+    issued-places g.N.SliceNames.setup g.N.SliceNames.number c.args.state.now c.core.result c.args.request _
+    c.issue.new.self c.requires.slice.allowed c.requires.slice.lines c.in-Err.ensures.step
 
 pub returns-in-Ok-Done-clause-port : goal.returns-in-Ok-Done-clause-port
 returns-in-Ok-Done-clause-port g c =
@@ -34,10 +50,10 @@ returns-in-Ok-Done-clause-port g c =
         op = ap (λ (e : Entry). e.op) is;
       },
       refl,
-      with-room (with_receipt (with_request c.args.port.now) (given g c)) c.give.new.port c.make_room.new.self.room
+      with-room (with_receipt (with_request c.args.port.now c.args.request) (given g c)) c.give.new.port c.make_room.new.self.room
           (c.give.ensures.port
           ∙ ap (λ p. with_receipt p (receipt_of p.slice (record { number = c.in-Ok-Done.number; entry = c.give.ensures.entry })))
-          (c.count.ensures.port ∙ ap with_request same)),
+          (c.count.ensures.port ∙ ap (λ p. with_request p c.args.request) same)),
     )
 
 pub returns-in-Ok-Done-clause-tied : goal.returns-in-Ok-Done-clause-tied

@@ -112,10 +112,10 @@ impl<F: MissFile, N: SliceNames> Booked<F, N> {
         if !self.state.is_quiet() {
             return Err(Unsettled::NotQuiet);
         }
-        match self.book.settle(&self.state, ports) {
-            Some(values) => Ok(values),
-            None => Err(Unsettled::Differs),
-        }
+        let Some(values) = self.book.settle(&self.state, ports) else {
+            return Err(Unsettled::Differs);
+        };
+        Ok(values)
     }
 
     /// The state, of which all that holds after every call holds.

@@ -1,2 +1,3 @@
 mod Checked
 mod Dealt
+mod Placed

@@ -1,12 +1,13 @@
 ghost use Rattle.std.specs.Prelude.{◌≡◌};
 ghost use Rattle.receipt_shares.specs.Names.{AreLedgersOf};
 
+use super::books::made_up;
 use address_map::{Config, LineAddr, Op, Request, SliceId, WordAddr};
 use core_thread_system::{
     All, BuildError, Core, PortSet, System, SystemBlanks, SystemKeys, SystemNames,
 };
 use mshr_file::ExplicitFile;
-use receipt_ledger::Answer;
+use receipt_ledger::{Answer, LearnError, Receipt};
 use slice_core_answer::{Evicted, Refused};
 use std::alloc::{AllocFailed, Global};
 use std::marker::Brand;
@@ -22,17 +23,28 @@ const DELTA: u64 = 5;
 /// The most turns that a core takes until all is handed out and nothing is under way.
 const MOST_TURNS: u32 = 100;
 
-/// Builds a system, makes both cores add to both counters, and settles both slices. Answers whether each answer is the
-/// one wanted.
-pub fn two_cores_share_two_slices<R: AllocGlobal + Wait>(rt: &R) -> Result<bool, BuildError> {
-    let config = configure(rt.alloc())?;
-    named_round::<Brand, R>(rt, config, SystemBlanks::new(2))
+/// What two cores do with a system of two slices.
+#[derive(Clone, Copy, Debug, PartialEq, Eq)]
+pub enum Shared {
+    /// Both add to both counters, and both slices are settled.
+    Adds,
+    /// One adds, and the other is told of the receipt and reads.
+    Receipts,
+}
+
+impl Shared {
+    /// Builds a system, and makes the calls. Answers whether each answer is the one wanted.
+    pub fn test<R: AllocGlobal + Wait>(self, rt: &R) -> Result<bool, BuildError> {
+        let config = configure(rt.alloc())?;
+        named_round::<Brand, R>(rt, config, SystemBlanks::new(2), self)
+    }
 }
 
 fn named_round<M: SystemKeys, R: AllocGlobal + Wait>(
     rt: &R,
     config: Config,
     blanks: SystemBlanks,
+    shared: Shared,
 ) -> Result<bool, BuildError>
     requires setup { config ≡ M.setup }
     requires cores { M.setup.cores ≡ 2 }
@@ -44,7 +56,13 @@ fn named_round<M: SystemKeys, R: AllocGlobal + Wait>(
 {
     let (system, sets) = System::<ExplicitFile, All<M>>::build(rt.alloc(), config, blanks)?;
     let mut cores = cores_of(rt.alloc(), &system, sets)?;
-    Ok(play(rt, &mut cores) && is_settled(rt, &system, &mut cores))
+    Ok(match shared {
+        Shared::Adds => play(rt, &mut cores) && is_settled(rt, &system, &mut cores),
+        Shared::Receipts => match cores.split_first_mut() {
+            Some((adder, rest)) => tells(rt, adder, rest),
+            None => false,
+        },
+    })
 }
 
 /// A core for each set of ports.
@@ -125,6 +143,63 @@ fn is_settled<'a, M: SystemNames, R: Wait>(
         }
     }
     true
+}
+
+/// Whether a core that is told of another's receipt learns from it, and then reads what that core added.
+fn tells<M: SystemNames, R: Wait>(
+    rt: &R,
+    adder: &mut Core<'_, ExplicitFile, M>,
+    rest: &mut [Core<'_, ExplicitFile, M>],
+) -> bool {
+    let Some(reader) = rest.first_mut() else {
+        return false;
+    };
+    let asked = adder.issue(rt, request(COUNTERS[0], 0, Op::Add(DELTA)));
+    match next_receipt(rt, adder) {
+        Some(added) => asked == Ok(Answer::Pending) && learns(rt, reader, &added),
+        None => false,
+    }
+}
+
+fn learns<M: SystemNames, R: Wait>(
+    rt: &R,
+    reader: &mut Core<'_, ExplicitFile, M>,
+    added: &Receipt,
+) -> bool {
+    let told = added.number == 0 && reader.learn(rt, added) == Ok(());
+    let asked = reader.issue(rt, request(COUNTERS[0], 0, Op::Load));
+    let read = next_receipt(rt, reader);
+    let right = matches!(read, Some(receipt) if receipt.number == 1 && receipt.entry.reply == DELTA);
+    for receipt in &made_up(added) {
+        if reader.learn(rt, receipt) != Err(LearnError::Unknown) {
+            return false;
+        }
+    }
+    let again = reader.issue(rt, request(COUNTERS[0], 0, Op::Load));
+    let hit = matches!(again, Ok(Answer::Done(receipt)) if receipt.number == 2);
+    told && asked == Ok(Answer::Pending) && right && hit && has_seen(reader, 0, 1) && has_seen(reader, 1, 2)
+}
+
+/// Whether the core had seen so many entries of slice 0 when it asked for the request with this number.
+fn has_seen<M: SystemNames>(core: &Core<'_, ExplicitFile, M>, number: usize, seen: u64) -> bool {
+    match core.asked(SliceId(0)).get(number) {
+        Some(ask) => ask.seen == seen,
+        None => false,
+    }
+}
+
+/// The next receipt of a core that takes turns, if there is one within so many.
+fn next_receipt<M: SystemNames, R: Wait>(
+    rt: &R,
+    core: &mut Core<'_, ExplicitFile, M>,
+) -> Option<Receipt> {
+    for _ in 0..MOST_TURNS {
+        let received = core.turn(rt);
+        if received.is_some() {
+            return received;
+        }
+    }
+    None
 }
 
 const fn request(word: WordAddr, tag: u8, op: Op) -> Request {

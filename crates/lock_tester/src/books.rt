@@ -1,0 +1,224 @@
+ghost use Rattle.std.specs.Prelude.{◌≡◌, ◌<◌};
+ghost use Rattle.receipt_ledger.specs.Booked.{IsTied};
+ghost use Rattle.receipt_shares.specs.Names.{AreLedgersOf};
+
+use super::setting::{COUNTERS, configure, one_core};
+use address_map::{Checked, CoreId, LineAddr, Op, Request, SliceId};
+use mshr_file::ExplicitFile;
+use receipt_ledger::{Alone, Answer, Book, LearnError, Port, Receipt};
+use receipt_shares::{Blanks, SliceNames};
+use slice_core::SliceState;
+use slice_core_answer::Delivered;
+use slice_core_log::Entry;
+use slice_queues_message::Pick;
+use std::alloc::{AllocError, Global};
+use std::marker::Brand;
+
+const LINE: LineAddr = LineAddr(0);
+
+const ADDER: CoreId = CoreId(0);
+
+const READER: CoreId = CoreId(1);
+
+type State = SliceState<ExplicitFile>;
+
+/// Makes the calls of a slice's book whose answers were worked out by hand, with nobody else about and no lock. Answers
+/// whether each was answered so.
+pub fn books_answer(alloc: Global) -> Result<bool, AllocError> {
+    let (Some(one), Some(two)) = (one_core(alloc)?, configure(alloc, false)?) else {
+        return Ok(false);
+    };
+    if one.cores() != 1 || two.cores() != 2 {
+        return Ok(false);
+    }
+    let sums = named_sums::<Brand>(alloc, &one, Blanks::new(1))?;
+    let learns = named_learns::<Brand>(alloc, &two, Blanks::new(2))?;
+    Ok(sums && learns)
+}
+
+fn named_sums<N: SliceNames>(
+    alloc: Global,
+    config: &Checked,
+    blanks: Blanks,
+) -> Result<bool, AllocError>
+    requires slices { 0 < config.now.slices }
+    requires setup { config.now ≡ N.setup }
+    requires cores { N.setup.cores ≡ 1 }
+    requires number { N.number ≡ 0 }
+    requires ledgers { AreLedgersOf N.setup N.names blanks }
+{
+    let (mut state, mut book, mut ports) =
+        Book::<N>::open::<ExplicitFile>(alloc, config, SliceId(0), blanks)?;
+    Ok(match ports.pop() {
+        Some(port) => sums_past_the_word(&mut state, &mut book, port),
+        None => false,
+    })
+}
+
+/// Two adds to the counter, one that misses and one that hits. Their receipts add up to 2^64 + 1, and the counter is 1.
+/// While the first is under way or its reply isn't handed out, the book isn't settled.
+fn sums_past_the_word<N: SliceNames>(
+    state: &mut State,
+    book: &mut Book<N>,
+    port: Port<N>,
+) -> bool
+    requires tied { IsTied N.setup N.number book.old state.old }
+    requires cores { N.setup.cores ≡ 1 }
+{
+    let mut ports = [Alone { port }];
+    let pending = book.accept(state, &mut ports[0].port, add(0, u64::MAX)) == Ok(Answer::Pending)
+        && settled(state, book, &mut ports).is_none();
+    let filled = moves(state, book, Pick::Req(LINE, ADDER))
+        && moves(state, book, Pick::Data(LINE, ADDER))
+        && settled(state, book, &mut ports).is_none();
+    let first = book.hand_out(state, &mut ports[0].port);
+    let second = book.accept(state, &mut ports[0].port, add(1, 2));
+    let missed = matches!(first, Some(receipt) if receipt.entry.reply == 0);
+    let hit = matches!(second, Ok(Answer::Done(receipt)) if receipt.entry.reply == u64::MAX);
+    let none = book.hand_out(state, &mut ports[0].port).is_none();
+    pending && filled && missed && hit && none && settled(state, book, &mut ports) == Some(1)
+}
+
+/// The value of the slice's one counter, where the book is settled with these ports.
+fn settled<N: SliceNames>(
+    state: &State,
+    book: &mut Book<N>,
+    ports: &mut [Alone<Port<N>>; 1],
+) -> Option<u64>
+    requires tied { IsTied N.setup N.number book.old state.now }
+    requires cores { N.setup.cores ≡ 1 }
+    ensures book { book.new ≡ book.old }
+    ensures ports { ports.new ≡ ports.old }
+{
+    let values = book.settle::<ExplicitFile, Alone<Port<N>>, 0>(state, ports)?;
+    values.first().copied()
+}
+
+fn named_learns<N: SliceNames>(
+    alloc: Global,
+    config: &Checked,
+    blanks: Blanks,
+) -> Result<bool, AllocError>
+    requires slices { 0 < config.now.slices }
+    requires setup { config.now ≡ N.setup }
+    requires cores { N.setup.cores ≡ 2 }
+    requires number { N.number ≡ 0 }
+    requires ledgers { AreLedgersOf N.setup N.names blanks }
+{
+    let (mut state, mut book, mut ports) =
+        Book::<N>::open::<ExplicitFile>(alloc, config, SliceId(0), blanks)?;
+    let (Some(mut reader), Some(mut adder)) = (ports.pop(), ports.pop()) else {
+        return Ok(false);
+    };
+    Ok(match adds(&mut state, &mut book, &mut adder) {
+        Some(added) => learns(&book, &state, &mut reader, &added)
+            && reads(&mut state, &mut book, &mut reader)
+            && learns_nothing_made_up(&book, &state, &mut reader, &added),
+        None => false,
+    })
+}
+
+/// The receipt of an add of 5, the first in the log.
+fn adds<N: SliceNames>(
+    state: &mut State,
+    book: &mut Book<N>,
+    port: &mut Port<N>,
+) -> Option<Receipt>
+    requires { IsTied N.setup N.number book.old state.old }
+    ensures { IsTied N.setup N.number book.new state.new }
+{
+    let _ = book.accept(state, port, add(0, 5));
+    let _ = moves(state, book, Pick::Req(LINE, ADDER));
+    let _ = moves(state, book, Pick::Data(LINE, ADDER));
+    book.hand_out(state, port)
+}
+
+/// Whether a port that saw nothing learns of the first entry.
+fn learns<N: SliceNames>(
+    book: &Book<N>,
+    state: &State,
+    port: &mut Port<N>,
+    added: &Receipt,
+) -> bool {
+    added.number == 0
+        && port.seen() == 0
+        && book.learn(state, port, added) == Ok(())
+        && port.seen() == 1
+}
+
+/// Whether a load, asked when one entry was seen, gets the second entry, with what was added.
+fn reads<N: SliceNames>(state: &mut State, book: &mut Book<N>, port: &mut Port<N>) -> bool
+    requires { IsTied N.setup N.number book.old state.old }
+    ensures { IsTied N.setup N.number book.new state.new }
+{
+    let pending = book.accept(state, port, load(0)) == Ok(Answer::Pending);
+    let asked = moves(state, book, Pick::Req(LINE, READER));
+    let forwarded = moves(state, book, Pick::Fwd(LINE, ADDER));
+    let filled = moves(state, book, Pick::Data(LINE, READER));
+    let read = book.hand_out(state, port);
+    let right = matches!(read, Some(receipt) if receipt.number == 1 && receipt.entry.reply == 5);
+    let seen = matches!(port.asked().first(), Some(ask) if ask.seen == 1);
+    pending && asked && forwarded && filled && right && seen && port.seen() == 2
+}
+
+/// Whether a receipt of another reply, number or slice is unknown, and the port has then seen no more.
+fn learns_nothing_made_up<N: SliceNames>(
+    book: &Book<N>,
+    state: &State,
+    port: &mut Port<N>,
+    added: &Receipt,
+) -> bool {
+    for receipt in &made_up(added) {
+        if book.learn(state, port, receipt) != Err(LearnError::Unknown) {
+            return false;
+        }
+    }
+    port.seen() == 2
+}
+
+/// The receipt with another reply, with another number and of another slice.
+pub fn made_up(receipt: &Receipt) -> [Receipt; 3] {
+    let replied = Entry {
+        reply: 6,
+        ..receipt.entry
+    };
+    [
+        Receipt {
+            entry: replied,
+            ..*receipt
+        },
+        Receipt {
+            number: 9,
+            ..*receipt
+        },
+        Receipt {
+            slice: SliceId(1),
+            ..*receipt
+        },
+    ]
+}
+
+/// Whether a delivery moves a message.
+fn moves<N: SliceNames>(state: &mut State, book: &Book<N>, pick: Pick) -> bool
+    requires { IsTied N.setup N.number book.now state.old }
+    ensures { IsTied N.setup N.number book.now state.new }
+{
+    let _ = book;
+    state.deliver(pick) == Delivered::Moved
+}
+
+const fn add(tag: u8, delta: u64) -> Request {
+    Request {
+        op: Op::Add(delta),
+        word: COUNTERS[0],
+        tag,
+    }
+}
+
+const fn load(tag: u8) -> Request {
+    Request {
+        op: Op::Load,
+        word: COUNTERS[0],
+        tag,
+    }
+}

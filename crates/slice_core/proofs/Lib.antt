@@ -26,6 +26,7 @@ pub mod SoundIssue
 pub mod SoundEvict
 pub mod SoundDelivery
 pub mod SoundBegin
+pub mod Shapes
 pub mod SameSlice
 pub mod Runs
 pub mod Machine

@@ -1,14 +1,18 @@
 -- Each call leaves a slice the one that it was.
-use Rattle.std.proofs.Common.{◌≡◌, List, Option, Some, None, Result, Err, refl, sym, ◌∙◌, subst, ⊎_elim, length-set}
+use Rattle.std.proofs.Common.{◌≡◌, ℕ, List, Option, Some, None, Result, Err, length, refl, sym, ◌∙◌, subst, ⊎_elim, length-set}
 use Rattle.std.specs.Prelude.{◌⊎◌}
 use Rattle.address_map.specs.Locator.{local_at}
+use Rattle.address_map.specs.Place.{offset_of}
 use Rattle.address_map.specs.declared.address.CoreId.{CoreId}
 use Rattle.address_map.specs.declared.address.LineAddr.{LineAddr}
 use Rattle.address_map.specs.declared.address.Local.{Local}
 use Rattle.address_map.specs.declared.request.Request.{Request}
 use Rattle.cache_table.specs.declared.state.CopyState.{CopyState}
 use Rattle.mshr_file.specs.declared.registers.Register.{Register}
+use Rattle.directory_table.specs.declared.state.DirEntry.{DirEntry}
 use Rattle.slice_core.specs.Facts.{IsSameSlice}
+use Rattle.slice_core.specs.Shape.{shape_of}
+use Rattle.slice_core.proofs.Shapes.{shape-advance, shape-evict, shape-hit, shape-open, shape-replace, shape-settle, shapes-kept}
 use Rattle.slice_core_answer.specs.Stats.{StatsView, after_eviction}
 use Rattle.slice_core_answer.specs.declared.answer.Delivered.{Delivered}
 use Rattle.slice_core_answer.specs.declared.answer.DeliveredNext.{DeliveredNext}
@@ -18,8 +22,10 @@ use Rattle.slice_core_answer.specs.declared.answer.Evicted.{Evicted}
 use Rattle.slice_core_answer.specs.declared.answer.Evicted.TheVariants as evictions
 use Rattle.slice_core_answer.specs.declared.answer.Issue.{Issue}
 use Rattle.slice_core_answer.specs.declared.answer.Refused.{Refused}
+use Rattle.slice_core_log.specs.declared.entry.Entry.{Entry}
 use Rattle.slice_core_log.specs.declared.entry.Numbered.{Numbered}
 use Rattle.slice_core_side.specs.Access.{evicted_of}
+use Rattle.slice_core_side.specs.Side.{SideView}
 use Rattle.slice_core_side.specs.declared.access.Access.{Access}
 use Rattle.slice_core_side.specs.declared.access.Access.TheVariants as accesses
 use Rattle.slice_core_side.specs.declared.access.Ask.{Ask}
@@ -27,14 +33,15 @@ use Rattle.slice_core_side.specs.declared.access.Way.{Way}
 use Rattle.slice_core_side.specs.declared.access.Way.TheVariants as ways
 use Rattle.slice_core_side.specs.declared.copy.CacheCopy.{CacheCopy}
 use Rattle.slice_core_plan.specs.Decision.{decision_of}
-use Rattle.slice_core_plan.specs.Parts.{PartsView, AfterAccepting, AfterAccess, AfterDeliverNext, AfterDelivery, AfterEvict, AfterHand, AfterIssue, AfterPlan, IsAccepted, LacksMemory, Settles, opened_stats}
+use Rattle.slice_core_plan.specs.Parts.{PartsView, AfterAccepting, AfterAccess, AfterDeliverNext, AfterDelivery, AfterEvict, AfterHand, AfterIssue, AfterPlan, IsAccepted, LacksMemory, Settles, core_of, opened_stats}
 use Rattle.slice_core_plan.specs.Plan.{plan_of}
-use Rattle.slice_core_plan.specs.Steps.{after_evict, after_open, with_way}
-use Rattle.slice_core_plan.specs.View.{side_at}
+use Rattle.slice_core_plan.specs.Steps.{after_evict, after_open, is_held, with_way}
+use Rattle.slice_core_plan.specs.View.{side_at, with_side}
 use Rattle.slice_core_plan.specs.declared.decide.Decision.{Decision}
 use Rattle.slice_core_plan.specs.declared.decide.Decision.TheVariants as decisions
 use Rattle.slice_core_plan.specs.declared.decide.Plan.{Plan}
 use Rattle.slice_core_plan.specs.declared.decide.Plan.TheVariants as plans
+use Rattle.slice_queues.specs.Line.{LineChannels}
 use Rattle.slice_queues_message.specs.Pick.{channel_of, line_of}
 use Rattle.slice_queues_message.specs.declared.channel.Channel.{Channel}
 use Rattle.slice_queues_message.specs.declared.channel.Class.{Class}
@@ -44,7 +51,15 @@ use Rattle.slice_queues_message.specs.declared.channel.Pick.{Pick}
 pub same-is : (old new : PartsView) → new ≡ old → IsSameSlice old new
 same-is old new is =
     subst (IsSameSlice old) (sym is)
-    (record { lines = refl; init = refl; counters = refl; cores = refl; exclusive = refl; reported = refl })
+    (record {
+      lines = refl;
+      init = refl;
+      counters = refl;
+      cores = refl;
+      shapes = refl;
+      exclusive = refl;
+      reported = refl;
+    })
 
 pub same-then : (old middle new : PartsView) → IsSameSlice old middle → IsSameSlice middle new → IsSameSlice old new
 same-then old middle new one other = record {
@@ -52,8 +67,46 @@ same-then old middle new one other = record {
   init = other.init ∙ one.init;
   counters = other.counters ∙ one.counters;
   cores = other.cores ∙ one.cores;
+  shapes = other.shapes ∙ one.shapes;
   exclusive = other.exclusive ∙ one.exclusive;
   reported = other.reported ∙ one.reported;
+}
+
+-- A slice stays the one that it was where its entries, its channels, its counts and the room of its log change, ..
+lines-changed : (old : PartsView) (entries : List DirEntry) (channels : List LineChannels) (stats : StatsView)
+    (room : ℕ) → stats.exclusive ≡ old.stats.exclusive
+    → IsSameSlice old (record old {
+      view = record old.view { entries = entries; channels = channels };
+      stats = stats;
+      room = room;
+    })
+lines-changed old entries channels stats room reported = record {
+  lines = refl;
+  init = refl;
+  counters = refl;
+  cores = refl;
+  shapes = refl;
+  exclusive = refl;
+  reported = reported;
+}
+
+-- .. and where one core has another part of the shape that it had, whatever was sent, performed and counted.
+part-changed : (old : PartsView) (core : CoreId) (side : SideView) (channels : List LineChannels) (log : List Entry)
+    (stats : StatsView) (pending : ℕ)
+    → shape_of side ≡ shape_of (side_at old.view core) → stats.exclusive ≡ old.stats.exclusive
+    → IsSameSlice old (record old {
+      view = record (with_side old.view core side) { channels = channels; log = log };
+      stats = stats;
+      pending = pending;
+    })
+part-changed old core side channels log stats pending shape reported = record {
+  lines = refl;
+  init = refl;
+  counters = refl;
+  cores = simp length-set;
+  shapes = shapes-kept old.view core side shape;
+  exclusive = refl;
+  reported = reported;
 }
 
 -- ---- issue
@@ -66,14 +119,8 @@ opened-reported stats core ways.Free = refl
 
 with-way : (old : PartsView) (core : CoreId) (local : Local) (way : Way)
     → IsSameSlice old (record old { view = with_way old.view core local way })
-with-way old core local ways.Victim = record {
-  lines = refl;
-  init = refl;
-  counters = refl;
-  cores = simp length-set;
-  exclusive = refl;
-  reported = refl;
-}
+with-way old core local ways.Victim =
+    part-changed old core _ _ _ _ _ (shape-replace (side_at old.view core) local) refl
 with-way old core local ways.Held = same-is old old refl
 with-way old core local ways.Free = same-is old old refl
 
@@ -83,17 +130,19 @@ opened : (old : PartsView) (core : CoreId) (request : Request) (local : Local) (
 opened old core request local way next ask misses =
     let middle = record old { view = with_way old.view core local way } in
     same-then old middle _ (with-way old core local way)
-    (record { lines = refl; init = refl; counters = refl; cores = simp length-set; exclusive = refl; reported = refl })
+    (part-changed middle core _ _ _ _ _
+    (shape-open (side_at middle.view core) local (is_held way) next request misses) refl)
 
 accepted : (access : Access) (old : PartsView) (core : CoreId) (request : Request) (local : Local) (answer : Issue)
     (new : PartsView) → AfterAccepting access old core request local answer new → IsSameSlice old new
 accepted (accesses.Stall stall) old core request local answer new after = same-is old new after.1
 accepted (accesses.Hit place next silent) old core request local answer new after =
     subst (IsSameSlice old) (sym after.1)
-    (record { lines = refl; init = refl; counters = refl; cores = simp length-set; exclusive = refl; reported = refl })
+    (part-changed old core _ _ _ _ _
+    (shape-hit (side_at old.view core) local (offset_of request.word).0 request.op next) refl)
 accepted accesses.Join old core request local answer new after =
     subst (IsSameSlice old) (sym after.3.1)
-    (record { lines = refl; init = refl; counters = refl; cores = simp length-set; exclusive = refl; reported = refl })
+    (part-changed old core _ _ _ _ _ refl refl)
 accepted (accesses.Open next ask way) old core request local answer new after =
     let same = opened old core request local way next ask after.0 in
     subst (IsSameSlice old) (sym after.3.1)
@@ -102,6 +151,7 @@ accepted (accesses.Open next ask way) old core request local answer new after =
       init = same.init;
       counters = same.counters;
       cores = same.cores;
+      shapes = same.shapes;
       exclusive = same.exclusive;
       reported = opened-reported old.stats core way;
     })
@@ -115,7 +165,7 @@ module _ (old : PartsView) (core : CoreId) (request : Request) (answer : Result 
       (λ is.
       let roomy = record old { room = is.0 } in
       same-then old roomy new
-      (record { lines = refl; init = refl; counters = refl; cores = refl; exclusive = refl; reported = refl })
+      (lines-changed old _ _ _ _ refl)
       (accepted access roomy core request local is.1 new is.5))
       after
 
@@ -123,7 +173,7 @@ module _ (old : PartsView) (core : CoreId) (request : Request) (answer : Result 
       → IsSameSlice old new
   accessed local (accesses.Stall stall) after =
       subst (IsSameSlice old) (sym after.1)
-      (record { lines = refl; init = refl; counters = refl; cores = refl; exclusive = refl; reported = refl })
+      (lines-changed old _ _ _ _ refl)
   accessed local (accesses.Hit place next silent) after = let_in local (accesses.Hit place next silent) after
   accessed local accesses.Join after = let_in local accesses.Join after
   accessed local (accesses.Open next ask way) after = let_in local (accesses.Open next ask way) after
@@ -157,14 +207,7 @@ module _ (old : PartsView) (core : CoreId) (line : LineAddr) (answer : Evicted) 
   answered : (local : Local) (given : Evicted) → by_answer local given → IsSameSlice old new
   answered local evictions.Evicting after =
       subst (IsSameSlice old) (sym after)
-      (record {
-        lines = refl;
-        init = refl;
-        counters = refl;
-        cores = simp length-set;
-        exclusive = refl;
-        reported = refl;
-      })
+      (part-changed old core _ _ _ _ _ (shape-evict (side_at old.view core) local) refl)
   answered local evictions.Busy after = same-is old new after
   answered local evictions.NotHeld after = same-is old new after
   answered local evictions.WriteBackFull after = same-is old new after
@@ -182,7 +225,8 @@ settled : (old : PartsView) (local : Local) (core : CoreId) (channel : Channel) 
     → Settles old local core channel copy new → IsSameSlice old new
 settled old local core channel copy new after =
     subst (IsSameSlice old) (sym after.3)
-    (record { lines = refl; init = refl; counters = refl; cores = simp length-set; exclusive = refl; reported = refl })
+    (part-changed old core _ _ _ _ _
+    (shape-settle (side_at old.view core) local copy (length old.view.log) after.0) refl)
 
 planned : (plan : Plan) (old : PartsView) (local : Local) (channel : Channel) (answer : Delivered) (new : PartsView)
     → AfterPlan plan old local channel answer new → IsSameSlice old new
@@ -191,13 +235,13 @@ planned plans.Blocked old local channel answer new after = same-is old new after
 planned (plans.Broken cell) old local channel answer new after = same-is old new after.1
 planned (plans.Directory state owner sharers sent writes) old local channel answer new after =
     subst (IsSameSlice old) (sym after.1)
-    (record { lines = refl; init = refl; counters = refl; cores = refl; exclusive = refl; reported = refl })
+    (lines-changed old _ _ _ _ refl)
 planned (plans.Home state owner sharers) old local channel answer new after =
     subst (IsSameSlice old) (sym after.1)
-    (record { lines = refl; init = refl; counters = refl; cores = refl; exclusive = refl; reported = refl })
+    (lines-changed old _ _ _ _ refl)
 planned (plans.Forwarded next sent requester) old local channel answer new after =
     subst (IsSameSlice old) (sym after.1)
-    (record { lines = refl; init = refl; counters = refl; cores = simp length-set; exclusive = refl; reported = refl })
+    (part-changed old (core_of channel) _ _ _ _ _ (shape-advance (side_at old.view (core_of channel)) local next) refl)
 planned (plans.Fill place next) old local channel answer new after = settled old local _ channel _ new after.1
 planned (plans.Acknowledge place next) old local channel answer new after = settled old local _ channel _ new after.1
 
@@ -229,4 +273,4 @@ pub same-hand : (old : PartsView) (core : CoreId) (answer : Option Numbered) (ne
 same-hand old core None new after = same-is old new after.1
 same-hand old core (Some given) new after =
     subst (IsSameSlice old) (sym after.3)
-    (record { lines = refl; init = refl; counters = refl; cores = simp length-set; exclusive = refl; reported = refl })
+    (part-changed old core _ _ _ _ _ refl refl)

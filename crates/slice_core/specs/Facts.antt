@@ -6,6 +6,7 @@ use Rattle.address_map.specs.declared.address.Local.{Local}
 use Rattle.address_map.specs.declared.address.WordAddr.{WordAddr}
 use Rattle.cache_table.specs.CopyState.{is_waiting}
 use Rattle.mshr_file.specs.Miss.{Bound, count_of, has_miss, has_tag, IsMissFile}
+use Rattle.slice_core.specs.Shape.{shape_of}
 use Rattle.slice_core_answer.specs.Stats.{accepted_of, counts_of}
 use Rattle.slice_core_answer.specs.declared.answer.Delivered.{Delivered}
 use Rattle.slice_core_answer.specs.declared.answer.Delivered.TheVariants as delivered
@@ -75,7 +76,9 @@ pub record IsSameSlice (old new : PartsView) : Type 0 where
   pub lines : new.view.lines ≡ old.view.lines
   pub init : new.view.init ≡ old.view.init
   pub counters : new.view.counters ≡ old.view.counters
+  -- how many cores there are, and of each one the shape of its part: ways, policy, write-back buffer and miss file
   pub cores : length new.view.sides ≡ length old.view.sides
+  pub shapes : map shape_of new.view.sides ≡ map shape_of old.view.sides
   -- whether the machine has the exclusive state, as the slice's steps and its statistics have it
   pub exclusive : new.view.exclusive ≡ old.view.exclusive
   pub reported : new.stats.exclusive ≡ old.stats.exclusive

@@ -1,3 +1,4 @@
 pub mod Facts
 pub mod Run
+pub mod Shape
 pub mod Sound

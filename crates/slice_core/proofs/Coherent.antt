@@ -65,6 +65,7 @@ holds p sound = record {
   legal = sound.faithful.legal;
   one_writer = coherent p sound;
   newest = newest p.view sound.counted.some_core sound.counted.cores sound.faithful.reached;
+  unbroken = unbroken p sound;
   counted = facts.counted p sound;
 }
 

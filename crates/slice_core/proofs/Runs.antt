@@ -1,7 +1,9 @@
 -- Calls made in order go on by one call, as one run of the small machine.
 use Rattle.std.proofs.Common.{◌≡◌, ℕ, ◌+◌, ◌<◌, ◌∙◌, List, [], ◌∷◌, ◌++◌, ap, append_assoc, append-nil, arith, get_or, length, refl, set, subst, sym, take}
 use Rattle.std.proofs.lemmas.List.{take_more, take_more_set}
-use Rattle.slice_core.specs.Run.{AfterCall, AreSteps, AreStepsOfEach, IsOneRun, Runs}
+use Rattle.std.proofs.lemmas.List.Elements.{All-push}
+use Rattle.std.specs.Prelude.{All}
+use Rattle.slice_core.specs.Run.{AfterCall, AreSteps, AreStepsOfEach, IsOneRun, IsUnbroken, Runs}
 use Rattle.slice_core.specs.declared.run.Call.{Call}
 use Rattle.slice_core.specs.declared.run.CallAnswer.{CallAnswer}
 use Rattle.slice_core_machine.proofs.Kept.{leads-same, same-view}
@@ -69,6 +71,15 @@ run_more old calls answers middle place default answer new within alike run afte
     (sym (take_more_set answers place answer inside))
     (run_then old (take place calls) (take place answers) middle (get_or calls place default ∷ []) (answer ∷ []) new
     run after))
+
+-- Where no answer in front of a place is broken, nor the one that is written there, none up to it is.
+pub unbroken_more : (calls : List Call) (answers : List CallAnswer) (place : ℕ) (answer : CallAnswer)
+    → place < length calls → length answers ≡ length calls → All IsUnbroken (take place answers)
+    → IsUnbroken answer → All IsUnbroken (take (place + 1) (set answers place answer))
+unbroken_more calls answers place answer within alike before is =
+    let inside : place < length answers = omega (arith, within, alike) in
+    subst (All IsUnbroken) (sym (take_more_set answers place answer inside))
+    (All-push IsUnbroken (take place answers) answer before is)
 
 -- The calls of a run answer and leave what its steps do, one after another.
 each-runs : (old : PartsView) (calls : List Call) (answers : List CallAnswer) (new : PartsView) (steps : List Step)

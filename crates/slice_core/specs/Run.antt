@@ -1,5 +1,6 @@
 -- What a list of calls answers and leaves, and which run of the small machine it is.
 use Rattle.std.specs.Prelude.{◌≡◌, ℕ, ◌<◌, List, [], ◌∷◌, ◌++◌, map, All}
+use Rattle.slice_core.specs.Facts.{IsNotBroken, IsNotBrokenNext}
 use Rattle.slice_core.specs.declared.run.Call.{Call}
 use Rattle.slice_core.specs.declared.run.Call.TheVariants as calls
 use Rattle.slice_core.specs.declared.run.CallAnswer.{CallAnswer}
@@ -37,6 +38,14 @@ Runs old [] [] new = new ≡ old
 Runs old (call ∷ calls) (answer ∷ answers) new =
     (next : PartsView) × AfterCall old call answer next × Runs next calls answers new
 Runs old calls answers new = ⊥
+
+-- the answer isn't that a message is broken: neither of a delivery nor of a next delivery
+abbrev pub IsUnbroken : CallAnswer → Type 0
+IsUnbroken (answers.Deliver answer) = IsNotBroken answer
+IsUnbroken (answers.DeliverNext answer) = IsNotBrokenNext answer
+IsUnbroken (answers.Issue answer) = Unit {0}
+IsUnbroken (answers.Evict answer) = Unit {0}
+IsUnbroken (answers.Hand answer) = Unit {0}
 
 -- ---- a run of the small machine
 

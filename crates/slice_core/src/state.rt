@@ -1,8 +1,8 @@
-ghost use Rattle.std.specs.Prelude.{◌≡◌, ℕ, ◌<◌, ◌↔◌, [], ◌∷◌, length, IfOk, IfSome, IsTrue, IsSome};
+ghost use Rattle.std.specs.Prelude.{◌≡◌, ℕ, ◌<◌, ◌↔◌, [], ◌∷◌, length, All, IfOk, IfSome, IsTrue, IsSome};
 ghost use Rattle.address_map.specs.Locator.{local_at};
 ghost use Rattle.address_map.specs.Place.{line_of};
 ghost use Rattle.slice_core.specs.Facts.{Holds, IsInverted, IsNotBroken, IsNotBrokenNext, IsSameSlice, NeedsNoRegister, ShowsLast, ShowsLine, ShowsWord, front_at};
-ghost use Rattle.slice_core.specs.Run.{AfterCall, HasCore, HasCores, IsOneRun, Runs};
+ghost use Rattle.slice_core.specs.Run.{AfterCall, HasCore, HasCores, IsOneRun, IsUnbroken, Runs};
 ghost use Rattle.slice_core_machine.specs.Machine.{IsSame, new_machine};
 ghost use Rattle.slice_core_machine.specs.Shows.{Leads, Performs, hand_steps, issue_steps, next_of, shown};
 ghost use Rattle.slice_core_plan.specs.Parts.{PartsView, AfterDeliverNext, AfterDelivery, AfterEvict, AfterHand, AfterIssue, IsNew};
@@ -115,6 +115,7 @@ impl<F: MissFile> SliceState<F> {
         requires known { HasCores (length self.old.view.sides) calls.now }
         ensures run { Runs self.old calls.now answers.new self.new }
         ensures machine { IsOneRun self.old calls.now answers.new self.new }
+        ensures unbroken { All IsUnbroken answers.new }
         ensures same { IsSameSlice self.old self.new }
         ensures holds { Holds self.new }
     {
@@ -130,6 +131,7 @@ impl<F: MissFile> SliceState<F> {
         requires { HasCore (length self.old.view.sides) call.now }
         ensures step { AfterCall self.old call.now result self.new }
         ensures machine { IsOneRun self.old (call.now ∷ []) (result ∷ []) self.new }
+        ensures unbroken { IsUnbroken result }
         ensures same { IsSameSlice self.old self.new }
     {
         match *call {

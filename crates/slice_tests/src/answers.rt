@@ -1,30 +1,45 @@
+ghost use Rattle.std.specs.Prelude.{◌≡◌, ◌<◌, length};
+
 use address_map::{CoreId, LineAddr};
 use slice_core_answer::{
     Cell, CoreStats, Delivered, DeliveredNext, Evicted, MessageCounts, Refused, Stall, Stats,
 };
 use slice_queues_message::{Channel, Pick};
+use std::alloc::{AllocError, Global};
+use std::fmt::Display;
 use std::test::Fail;
 
-#[test]
-fn counts_each_thing_under_its_name(rt: HostRuntime) -> Result<(), Fail> {
-    let mut stats = Stats::new(rt.alloc(), 2, true)?;
+// What the first of two cores counts.
+fn count_one(stats: &mut Stats, core: CoreId)
+    requires { core.0 < length stats.old.cores }
+    ensures { length stats.new.cores ≡ length stats.old.cores }
+{
+    stats.count_hit(core, false);
+    stats.count_hit(core, true);
+    stats.count_primary(core);
+}
+
+// What the second of two cores counts.
+fn count_two(stats: &mut Stats, core: CoreId)
+    requires { core.0 < length stats.old.cores }
+{
+    stats.count_secondary(core);
+    stats.count_eviction(core);
+    stats.count_stall(core, Stall::NoWay);
+}
+
+// Messages of all classes, two of them forwarded.
+fn count_messages(stats: &mut Stats) {
     let (one, two) = (CoreId(0), CoreId(1));
-    stats.count_hit(one, false);
-    stats.count_hit(one, true);
-    stats.count_primary(one);
-    stats.count_secondary(two);
-    stats.count_eviction(two);
-    stats.count_stall(two, Stall::NoWay);
-    for channel in [
-        Channel::Req(one),
-        Channel::Fwd(two),
-        Channel::Fwd(one),
-        Channel::Data(one),
-        Channel::Ack { to: one, from: two },
-        Channel::Home,
-    ] {
-        stats.count_message(channel);
-    }
+    stats.count_message(Channel::Req(one));
+    stats.count_message(Channel::Fwd(two));
+    stats.count_message(Channel::Fwd(one));
+    stats.count_message(Channel::Data(one));
+    stats.count_message(Channel::Ack { to: one, from: two });
+    stats.count_message(Channel::Home);
+}
+
+fn has_each_count(stats: &Stats) -> bool {
     let first = CoreStats {
         hits: 2,
         primary: 1,
@@ -37,7 +52,6 @@ fn counts_each_thing_under_its_name(rt: HostRuntime) -> Result<(), Fail> {
         evictions: 1,
         ..CoreStats::default()
     };
-    assert!(rt; stats.cores() == [first, second].as_slice());
     let messages = MessageCounts {
         requests: 1,
         forwarded: 2,
@@ -45,28 +59,48 @@ fn counts_each_thing_under_its_name(rt: HostRuntime) -> Result<(), Fail> {
         acknowledgements: 1,
         home: 1,
     };
-    assert_eq!(rt; *stats.messages(), messages);
-    assert!(rt; stats.exclusive());
+    stats.cores() == [first, second].as_slice()
+        && *stats.messages() == messages
+        && stats.exclusive()
+}
+
+#[test]
+fn counts_each_thing_under_its_name(rt: HostRuntime) -> Result<(), Fail> {
+    let mut stats = Stats::new(rt.alloc(), 2, true)?;
+    count_one(&mut stats, CoreId(0));
+    count_two(&mut stats, CoreId(1));
+    count_messages(&mut stats);
+    let is_right = has_each_count(&stats);
+    drop(stats);
+    assert!(rt; is_right);
     Ok(())
+}
+
+/// Whether it prints as this text.
+fn prints<T: Display>(alloc: Global, answer: &T, text: &str) -> Result<bool, AllocError> {
+    let shown = answer.to_string(alloc)?;
+    let is_text = shown.as_str() == text;
+    drop(shown);
+    Ok(is_text)
+}
+
+fn each_prints(alloc: Global) -> Result<bool, AllocError> {
+    Ok(
+        prints(alloc, &Refused::WrongSlice, "6 WrongSlice")?
+            && prints(alloc, &Stall::WriteBackBusy, "5 WriteBackBusy")?
+            && prints(alloc, &Evicted::WriteBackFull, "buffer full")?
+            && prints(alloc, &Cell::Early, "early")?,
+    )
+}
+
+fn are_told_apart() -> bool {
+    let moved = DeliveredNext::Moved(Pick::Home(LineAddr(3)));
+    moved != DeliveredNext::Nothing && Delivered::Moved != Delivered::Blocked
 }
 
 #[test]
 fn answers_print_what_they_say(rt: HostRuntime) -> Result<(), Fail> {
-    let alloc = rt.alloc();
-    assert_eq!(rt;
-        Refused::WrongSlice.to_string(alloc)?.as_str(),
-        "6 WrongSlice"
-    );
-    assert_eq!(rt;
-        Stall::WriteBackBusy.to_string(alloc)?.as_str(),
-        "5 WriteBackBusy"
-    );
-    assert_eq!(rt;
-        Evicted::WriteBackFull.to_string(alloc)?.as_str(),
-        "buffer full"
-    );
-    assert_eq!(rt; Cell::Early.to_string(alloc)?.as_str(), "early");
-    let moved = DeliveredNext::Moved(Pick::Home(LineAddr(3)));
-    assert!(rt; moved != DeliveredNext::Nothing && Delivered::Moved != Delivered::Blocked);
+    let is_printed = each_prints(rt.alloc())?;
+    assert!(rt; is_printed && are_told_apart());
     Ok(())
 }

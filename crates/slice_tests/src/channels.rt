@@ -1,89 +1,144 @@
+ghost use Rattle.slice_queues.specs.Line.{Carries};
+ghost use Rattle.slice_queues_message.specs.Pick.{channel_of};
+
 use super::settings::checked;
 use address_map::{Block, Config, CoreId, CoreSet, LineAddr, Local, Locator, SliceId};
 use slice_queues::{
-    Channel, Class, DataMessage, ForwardedMessage, Message, Pick, Queues, RequestMessage,
+    Channel, Class, DataMessage, ForwardedMessage, LineQueues, Message, Pick, Queues,
+    RequestMessage,
 };
 use std::alloc::Global;
-use std::process::Abort;
 use std::test::Fail;
 
-// Slice 1 of 2, with two cores: the lines 1, 3 and 5.
-fn three_lines(rt: &impl Abort, alloc: Global) -> Result<Queues, Fail> {
+const HOME: Pick = Pick::Home(LineAddr(1));
+
+const INVALIDATION: Pick = Pick::Fwd(LineAddr(3), CoreId(1));
+
+const REQUEST: Pick = Pick::Req(LineAddr(3), CoreId(0));
+
+const GRANT: Pick = Pick::Data(LineAddr(5), CoreId(0));
+
+const ACK: Pick = Pick::Ack {
+    line: LineAddr(5),
+    to: CoreId(0),
+    from: CoreId(1),
+};
+
+// Where slice 1 of 2 has the lines 1, 3 and 5.
+fn three_lines(alloc: Global) -> Result<Option<Locator>, Fail> {
     let mut config = Config::new(alloc);
     config.slices = 2;
     config.lines = 6;
     let config = checked(config)?;
-    assert_eq!(rt; config.slices(), 2);
-    let locator = Locator::of(&config, SliceId(1));
+    Ok((config.slices() == 2).then(|| Locator::of(&config, SliceId(1))))
+}
+
+// Their channels, for two cores.
+fn queues(alloc: Global) -> Result<Queues, Fail> {
+    let locator = three_lines(alloc)?.ok_or("two slices")?;
     Ok(Queues::build(alloc, 2, locator)?)
+}
+
+/// Sends the message where its channel has room, and answers whether it had.
+fn send(queues: &mut Queues, pick: Pick, message: Message) -> bool
+    requires { Carries (channel_of pick) message }
+{
+    let room = queues.has_room(pick);
+    if room {
+        queues.send(pick, message);
+    }
+    room
+}
+
+/// A message in a channel of each class.
+fn fills(queues: &mut Queues) -> bool {
+    let invalidation = Message::Forwarded(ForwardedMessage::Inv(CoreId(0)));
+    send(queues, HOME, Message::Home(Block::zero()))
+        && send(queues, INVALIDATION, invalidation)
+        && send(queues, REQUEST, Message::Request(RequestMessage::GetM))
+        && send(queues, ACK, Message::InvAck)
+        && send(
+            queues,
+            GRANT,
+            Message::Data(DataMessage::DataE(Block::zero())),
+        )
+}
+
+fn go_round(queues: &Queues) -> bool {
+    if !queues.has_line(LineAddr(3)) {
+        return false;
+    }
+    let mut picks = queues.picks_from(LineAddr(3));
+    for expected in [REQUEST, INVALIDATION, GRANT, ACK, HOME] {
+        if picks.next() != Some(expected) {
+            return false;
+        }
+    }
+    picks.next().is_none()
+}
+
+fn takes_the_only_one(queues: &mut Queues) -> bool {
+    queues.take(ACK) == Some(Message::InvAck) && queues.front(ACK).is_none()
 }
 
 #[test]
 fn picks_go_round_from_the_start_line(rt: HostRuntime) -> Result<(), Fail> {
-    let home = Pick::Home(LineAddr(1));
-    let invalidation = Pick::Fwd(LineAddr(3), CoreId(1));
-    let request = Pick::Req(LineAddr(3), CoreId(0));
-    let ack = Pick::Ack {
-        line: LineAddr(5),
-        to: CoreId(0),
-        from: CoreId(1),
-    };
-    let grant = Pick::Data(LineAddr(5), CoreId(0));
-
-    let mut queues = three_lines(&rt, rt.alloc())?;
-    assert!(rt; queues.is_empty());
-    assert!(rt; queues.has_room(home));
-    queues.send(home, Message::Home(Block::zero()));
-    assert!(rt; queues.has_room(invalidation));
-    queues.send(
-        invalidation,
-        Message::Forwarded(ForwardedMessage::Inv(CoreId(0))),
-    );
-    assert!(rt; queues.has_room(request));
-    queues.send(request, Message::Request(RequestMessage::GetM));
-    assert!(rt; queues.has_room(ack));
-    queues.send(ack, Message::InvAck);
-    assert!(rt; queues.has_room(grant));
-    queues.send(grant, Message::Data(DataMessage::DataE(Block::zero())));
-
-    assert!(rt; queues.has_line(LineAddr(3)));
-    let mut picks = queues.picks_from(LineAddr(3));
-    for expected in [request, invalidation, grant, ack, home] {
-        assert_eq!(rt; picks.next(), Some(expected));
-    }
-    assert_eq!(rt; picks.next(), None);
-    assert_eq!(rt; queues.take(ack), Some(Message::InvAck));
-    assert_eq!(rt; queues.front(ack), None);
+    let mut queues = queues(rt.alloc())?;
+    let was_empty = queues.is_empty();
+    let is_right = fills(&mut queues) && go_round(&queues) && takes_the_only_one(&mut queues);
+    drop(queues);
+    assert!(rt; was_empty && is_right);
     Ok(())
+}
+
+/// Two invalidations and a request come in, and the request goes.
+fn has_invalidations(line: &mut LineQueues) -> bool {
+    let core = CoreId(1);
+    let both = CoreSet::only(CoreId(0)).with(core);
+    if !line.takes_invalidations(both) {
+        return false;
+    }
+    line.invalidate(both, CoreId(2));
+    if !line.has_room(Channel::Req(core)) {
+        return false;
+    }
+    line.send(Channel::Req(core), Message::Request(RequestMessage::GetS));
+    let mut waiting = line.waiting_in(Class::Fwd);
+    if waiting.next() != Some(Channel::Fwd(CoreId(0)))
+        || waiting.next() != Some(Channel::Fwd(core))
+        || waiting.next().is_some()
+        || !line.has_channel(Channel::Req(core))
+    {
+        return false;
+    }
+    line.drop_request(core);
+    line.has_mail()
+}
+
+/// The lines 2 and 0 stand in the ring, and line 0 has no message.
+fn turns(queues: &mut Queues) -> bool {
+    if queues.ring_len() != 2 || queues.ring_at(0) != Local(2) || queues.ring_at(1) != Local(0) {
+        return false;
+    }
+    queues.rotate(2);
+    queues.ring_len() == 1 && queues.ring_at(0) == Local(2)
+}
+
+/// Line 2 has messages, and line 0 is lent without one.
+fn keep_in_the_ring(queues: &mut Queues) -> bool {
+    queues.lines() == 3
+        && has_invalidations(queues.line_mut(Local(2)))
+        && queues.lines() == 3
+        && queues.line_mut(Local(0)).is_empty()
+        && turns(queues)
+        && !queues.is_empty()
 }
 
 #[test]
 fn lines_with_messages_stay_in_the_ring(rt: HostRuntime) -> Result<(), Fail> {
-    let core = CoreId(1);
-    let both = CoreSet::only(CoreId(0)).with(core);
-    let mut queues = three_lines(&rt, rt.alloc())?;
-    assert_eq!(rt; queues.lines(), 3);
-    let line = queues.line_mut(Local(2));
-    assert!(rt; line.takes_invalidations(both));
-    line.invalidate(both, CoreId(2));
-    assert!(rt; line.has_room(Channel::Req(core)));
-    line.send(Channel::Req(core), Message::Request(RequestMessage::GetS));
-    let mut waiting = line.waiting_in(Class::Fwd);
-    assert_eq!(rt; waiting.next(), Some(Channel::Fwd(CoreId(0))));
-    assert_eq!(rt; waiting.next(), Some(Channel::Fwd(core)));
-    assert_eq!(rt; waiting.next(), None);
-    assert!(rt; line.has_channel(Channel::Req(core)));
-    line.drop_request(core);
-    assert!(rt; line.has_mail());
-
-    assert_eq!(rt; queues.lines(), 3);
-    assert!(rt; queues.line_mut(Local(0)).is_empty());
-    assert_eq!(rt; queues.ring_len(), 2);
-    assert_eq!(rt; queues.ring_at(0), Local(2));
-    assert_eq!(rt; queues.ring_at(1), Local(0));
-    queues.rotate(2);
-    assert_eq!(rt; queues.ring_len(), 1);
-    assert_eq!(rt; queues.ring_at(0), Local(2));
-    assert!(rt; !queues.is_empty());
+    let mut queues = queues(rt.alloc())?;
+    let is_right = keep_in_the_ring(&mut queues);
+    drop(queues);
+    assert!(rt; is_right);
     Ok(())
 }

@@ -27,6 +27,15 @@ const fn asked(core: u8, word: u64, seq: u64, since: u64) -> Entry {
     }
 }
 
+/// Whether word 3, which begins with 5, has this value after the log, whose adds sum up so, and word 4 stays.
+fn leaves(log: &[Entry], value: u64, sum: u128) -> bool {
+    value_after(5, log, WordAddr(3)) == value
+        && named_sum(log, WordAddr(3)) == sum
+        && value_after(5, log, WordAddr(4)) == 5
+        && named_sum(log, WordAddr(4)) == 0
+        && is_legal(&[(WordAddr(4), 7), (WordAddr(3), 5)], log)
+}
+
 #[test]
 fn a_word_has_what_its_last_store_and_the_adds_since_leave(rt: HostRuntime) {
     let matched = Op::Cas { expect: 5, new: 20 };
@@ -43,11 +52,7 @@ fn a_word_has_what_its_last_store_and_the_adds_since_leave(rt: HostRuntime) {
             1 << 64,
         ),
     ] {
-        assert_eq!(rt; value_after(5, &log, WordAddr(3)), want);
-        assert_eq!(rt; named_sum(&log, WordAddr(3)), sum);
-        assert_eq!(rt; value_after(5, &log, WordAddr(4)), 5);
-        assert_eq!(rt; named_sum(&log, WordAddr(4)), 0);
-        assert!(rt; is_legal(&[(WordAddr(4), 7), (WordAddr(3), 5)], &log));
+        assert!(rt; leaves(&log, want, sum));
     }
 }
 
@@ -81,7 +86,7 @@ fn a_log_is_legal_where_each_reply_is_its_words_value(rt: HostRuntime) {
             false,
         ),
     ] {
-        assert_eq!(rt; is_legal(init, &log), want);
+        assert!(rt; is_legal(init, &log) == want);
     }
 }
 
@@ -96,6 +101,6 @@ fn a_log_is_ordered_by_core_and_line_and_since(rt: HostRuntime) {
         ([asked(0, 8, 0, 1), asked(0, 15, 1, 1)], false),
         ([asked(0, 8, 0, 0), asked(0, 15, 1, 2)], false),
     ] {
-        assert_eq!(rt; is_ordered(&log), want);
+        assert!(rt; is_ordered(&log) == want);
     }
 }

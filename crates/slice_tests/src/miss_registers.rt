@@ -22,6 +22,14 @@ fn target(seq: u64, tag: u8, op: Op) -> Target {
     }
 }
 
+/// An empty file of so many registers and targets.
+fn made<F: MissFile>(alloc: Global, mshrs: u64, targets: u64) -> Result<F, Fail> {
+    let config = configured(alloc, mshrs, targets)?;
+    let file = F::make(alloc, &config);
+    drop(config);
+    Ok(file?)
+}
+
 /// Puts the access into a register for the line, and answers whether there was room.
 fn wait<F: MissFile>(file: &mut F, line: usize, waiting: Target) -> bool {
     let line = Local(line);
@@ -60,142 +68,157 @@ fn fills<F: MissFile>(file: &mut F) -> bool {
         && file.registers() == 2
 }
 
+/// Takes the loads in front of the line, and answers whether they have these numbers.
+fn takes_loads<F: MissFile>(file: &mut F, line: usize, seqs: &[u64]) -> bool {
+    file.find(Local(line)) && has_seqs(&file.take_loads(Local(line)), seqs)
+}
+
+/// Takes all targets of the line, and answers whether they have these numbers.
+fn closes<F: MissFile>(file: &mut F, line: usize, seqs: &[u64]) -> bool {
+    file.find(Local(line)) && has_seqs(&file.close(Local(line)), seqs)
+}
+
 /// The loads of line 0 come first, then what is left of it, and line 5 keeps its register.
 fn gives_in_order<F: MissFile>(file: &mut F) -> bool {
-    if !fills(file) || !file.find(Local(0)) {
-        return false;
-    }
-    let loads = file.take_loads(Local(0));
-    if !has_seqs(&loads, &[0, 1]) || file.registers() != 2 || !file.find(Local(0)) {
-        return false;
-    }
-    let none = file.take_loads(Local(0));
-    if !has_seqs(&none, &[]) || !file.find(Local(0)) {
-        return false;
-    }
-    let rest = file.close(Local(0));
-    if !has_seqs(&rest, &[3, 4]) || file.find(Local(0)) || file.registers() != 1 {
-        return false;
-    }
-    if !file.find(Local(5)) {
-        return false;
-    }
-    let last = file.take_loads(Local(5));
-    has_seqs(&last, &[2]) && !file.find(Local(5)) && file.registers() == 0
+    fills(file)
+        && takes_loads(file, 0, &[0, 1])
+        && file.registers() == 2
+        && takes_loads(file, 0, &[])
+        && closes(file, 0, &[3, 4])
+        && !file.find(Local(0))
+        && file.registers() == 1
+        && takes_loads(file, 5, &[2])
+        && !file.find(Local(5))
+        && file.registers() == 0
+}
+
+/// Takes the first target of the line, and answers whether it has this number.
+fn takes_first<F: MissFile>(file: &mut F, line: usize, seq: u64) -> bool {
+    file.find(Local(line)) && file.take_first(Local(line)).seq == seq
 }
 
 /// The targets of line 0 one by one, the oldest first, while line 5 waits.
 fn gives_one_by_one<F: MissFile>(file: &mut F) -> bool {
-    if !fills(file) || file.waiting(Local(0)) != 4 || file.front_loads(Local(0)) != 2 {
-        return false;
-    }
-    for seq in [0, 1, 3, 4] {
-        if !file.find(Local(0)) || file.take_first(Local(0)).seq != seq {
-            return false;
-        }
-    }
-    file.waiting(Local(0)) == 0 && file.waiting(Local(5)) == 1 && file.registers() == 1
+    fills(file)
+        && file.waiting(Local(0)) == 4
+        && file.front_loads(Local(0)) == 2
+        && takes_first(file, 0, 0)
+        && takes_first(file, 0, 1)
+        && takes_first(file, 0, 3)
+        && takes_first(file, 0, 4)
+        && file.waiting(Local(0)) == 0
+        && file.waiting(Local(5)) == 1
+        && file.registers() == 1
 }
 
 #[test]
 fn both_files_give_targets_one_by_one(rt: HostRuntime) -> Result<(), Fail> {
-    let config = configured(rt.alloc(), 2, 4)?;
-    assert!(rt; gives_one_by_one(&mut ExplicitFile::make(rt.alloc(), &config)?));
-    assert!(rt; gives_one_by_one(&mut InvertedFile::make(rt.alloc(), &config)?));
+    assert!(rt; gives_one_by_one(&mut made::<ExplicitFile>(rt.alloc(), 2, 4)?));
+    assert!(rt; gives_one_by_one(&mut made::<InvertedFile>(rt.alloc(), 2, 4)?));
     Ok(())
+}
+
+fn explicit_admits(file: &mut ExplicitFile) -> bool {
+    file.admit(Local(0), 9) == Admission::Open
+        && fills(file)
+        && file.admit(Local(0), 4) == Admission::NoTarget
+        && file.admit(Local(5), 4) == Admission::Join
+        && file.admit(Local(7), 4) == Admission::NoRegister
+}
+
+fn inverted_admits(file: &mut InvertedFile) -> bool {
+    fills(file)
+        && file.admit(Local(0), 4) == Admission::Join
+        && file.admit(Local(0), 9) == Admission::NoTarget
+        && file.admit(Local(7), 4) == Admission::Open
+        && file.admit(Local(7), 9) == Admission::NoRegister
 }
 
 #[test]
 fn requests_are_admitted_while_there_is_room(rt: HostRuntime) -> Result<(), Fail> {
-    let config = configured(rt.alloc(), 2, 4)?;
-    let mut explicit = ExplicitFile::make(rt.alloc(), &config)?;
-    assert_eq!(rt; explicit.admit(Local(0), 9), Admission::Open);
-    assert!(rt; fills(&mut explicit));
-    assert_eq!(rt; explicit.admit(Local(0), 4), Admission::NoTarget);
-    assert_eq!(rt; explicit.admit(Local(5), 4), Admission::Join);
-    assert_eq!(rt; explicit.admit(Local(7), 4), Admission::NoRegister);
-    let mut inverted = InvertedFile::make(rt.alloc(), &config)?;
-    assert!(rt; fills(&mut inverted));
-    assert_eq!(rt; inverted.admit(Local(0), 4), Admission::Join);
-    assert_eq!(rt; inverted.admit(Local(0), 9), Admission::NoTarget);
-    assert_eq!(rt; inverted.admit(Local(7), 4), Admission::Open);
-    assert_eq!(rt; inverted.admit(Local(7), 9), Admission::NoRegister);
+    assert!(rt; explicit_admits(&mut made(rt.alloc(), 2, 4)?));
+    assert!(rt; inverted_admits(&mut made(rt.alloc(), 2, 4)?));
     Ok(())
 }
 
 #[test]
 fn both_files_give_targets_in_order(rt: HostRuntime) -> Result<(), Fail> {
-    let config = configured(rt.alloc(), 4, 4)?;
-    assert!(rt; gives_in_order(&mut ExplicitFile::make(rt.alloc(), &config)?));
-    assert!(rt; gives_in_order(&mut InvertedFile::make(rt.alloc(), &config)?));
+    assert!(rt; gives_in_order(&mut made::<ExplicitFile>(rt.alloc(), 4, 4)?));
+    assert!(rt; gives_in_order(&mut made::<InvertedFile>(rt.alloc(), 4, 4)?));
     Ok(())
+}
+
+// There is no second register and no third field, and a tag may come twice. Once it is closed, the register is free.
+fn has_one_register(file: &mut ExplicitFile) -> bool {
+    wait(file, 3, target(0, 0, Op::Load))
+        && !wait(file, 4, target(1, 1, Op::Load))
+        && wait(file, 3, target(1, 0, Op::Load))
+        && !wait(file, 3, target(2, 2, Op::Load))
+        && closes(file, 3, &[0, 1])
+        && wait(file, 4, target(2, 2, Op::Load))
+        && file.registers() == 1
 }
 
 // One register with two targets.
 #[test]
 fn a_register_has_so_many_fields(rt: HostRuntime) -> Result<(), Fail> {
-    let config = configured(rt.alloc(), 1, 2)?;
-    let mut file = ExplicitFile::make(rt.alloc(), &config)?;
-    assert!(rt; wait(&mut file, 3, target(0, 0, Op::Load)));
-    assert!(rt;
-        !wait(&mut file, 4, target(1, 1, Op::Load)),
-        "no second register"
-    );
-    assert!(rt;
-        wait(&mut file, 3, target(1, 0, Op::Load)),
-        "a tag may come twice"
-    );
-    assert!(rt;
-        !wait(&mut file, 3, target(2, 2, Op::Load)),
-        "no third field"
-    );
-    assert!(rt; file.find(Local(3)));
-    assert!(rt; has_seqs(&file.close(Local(3)), &[0, 1]));
-    assert!(rt; wait(&mut file, 4, target(2, 2, Op::Load)), "free again");
-    assert_eq!(rt; file.registers(), 1);
+    assert!(rt; has_one_register(&mut made(rt.alloc(), 1, 2)?));
     Ok(())
+}
+
+fn has_32_registers(file: &mut ExplicitFile) -> bool {
+    for number in 0..32_u8 {
+        let waiting = target(number as u64, number, Op::Load);
+        if !wait(file, number as usize, waiting) {
+            return false;
+        }
+    }
+    file.registers() == 32
+        && !wait(file, 32, target(32, 32, Op::Load))
+        && wait(file, 31, target(32, 32, Op::Load))
 }
 
 // As many lines as there are registers, at their most.
 #[test]
 fn as_many_registers_as_configured(rt: HostRuntime) -> Result<(), Fail> {
-    let config = configured(rt.alloc(), 32, 32)?;
-    let mut file = ExplicitFile::make(rt.alloc(), &config)?;
-    for number in 0..32_u8 {
-        let waiting = target(number as u64, number, Op::Load);
-        assert!(rt;
-            wait(&mut file, number as usize, waiting),
-            "register {number}"
-        );
-    }
-    assert_eq!(rt; file.registers(), 32);
-    assert!(rt; !wait(&mut file, 32, target(32, 32, Op::Load)));
-    assert!(rt; wait(&mut file, 31, target(32, 32, Op::Load)));
+    assert!(rt; has_32_registers(&mut made(rt.alloc(), 32, 32)?));
     Ok(())
 }
 
-// The least tag comes last.
-#[test]
-fn an_inverted_file_has_an_entry_for_each_tag(rt: HostRuntime) -> Result<(), Fail> {
-    let config = configured(rt.alloc(), 1, 1)?;
-    let mut file = InvertedFile::make(rt.alloc(), &config)?;
+// The least tag comes last, and each tag is taken once.
+fn takes_each_tag(file: &mut InvertedFile) -> bool {
     for seq in 0..64_u8 {
         let waiting = target(seq as u64, 63 - seq, Op::Load);
-        assert!(rt; wait(&mut file, 2, waiting), "target {seq}");
-        assert!(rt; !wait(&mut file, 3, waiting), "the tag is taken");
+        if !wait(file, 2, waiting) || wait(file, 3, waiting) {
+            return false;
+        }
     }
-    assert_eq!(rt; file.registers(), 1);
-    assert_eq!(rt;
-        file.entry(60).map(|held| (held.target.seq, held.line)),
-        Some((3, Local(2)))
-    );
-    assert!(rt; file.find(Local(2)));
+    let held = file.entry(60).map(|held| (held.target.seq, held.line));
+    file.registers() == 1 && held == Some((3, Local(2)))
+}
+
+/// All loads of line 2 come in the order of their numbers.
+fn gives_each_tag(file: &mut InvertedFile) -> bool {
+    if !file.find(Local(2)) {
+        return false;
+    }
     let taken = file.take_loads(Local(2));
-    assert_eq!(rt; taken.len(), 64);
-    for (seq, waiting) in taken.iter().enumerate() {
-        assert_eq!(rt; waiting.seq, seq as u64);
-    }
-    assert_eq!(rt; file.registers(), 0);
-    assert!(rt; file.entry(60).is_none());
+    taken.len() == 64
+        && taken
+            .iter()
+            .zip(0..64_u64)
+            .all(|(waiting, seq)| waiting.seq == seq)
+}
+
+fn has_an_entry_for_each_tag(file: &mut InvertedFile) -> bool {
+    takes_each_tag(file)
+        && gives_each_tag(file)
+        && file.registers() == 0
+        && file.entry(60).is_none()
+}
+
+#[test]
+fn an_inverted_file_has_an_entry_for_each_tag(rt: HostRuntime) -> Result<(), Fail> {
+    assert!(rt; has_an_entry_for_each_tag(&mut made(rt.alloc(), 1, 1)?));
     Ok(())
 }

@@ -37,8 +37,21 @@ fn worded(alloc: Global, init: &[u64], counters: &[u64]) -> Result<Config, Alloc
     Ok(config)
 }
 
-fn fault(answer: Result<Checked, ConfigError>) -> Option<ConfigError> {
-    answer.err()
+fn fault_of_shape(alloc: Global, shape: [u64; 8]) -> Option<ConfigError> {
+    checked(shaped(alloc, shape)).err()
+}
+
+fn fault_of_words(
+    alloc: Global,
+    init: &[u64],
+    counters: &[u64],
+) -> Result<Option<ConfigError>, AllocError> {
+    Ok(checked(worded(alloc, init, counters)?).err())
+}
+
+// Two slices of 8 lines, and these words.
+fn checked_words(alloc: Global, init: &[u64], counters: &[u64]) -> Result<Checked, Fail> {
+    Ok(checked(worded(alloc, init, counters)?)?)
 }
 
 #[test]
@@ -76,11 +89,8 @@ fn refuses_the_first_number_at_fault(rt: HostRuntime) {
         ([1, 1, 1, 1, 1, 1, 1, 1], None),
         ([1, 4, 65536, 256, 16, 32, 32, 16], None),
     ] {
-        assert_eq!(rt;
-            fault(checked(shaped(rt.alloc(), shape))),
-            want,
-            "at {shape:?}"
-        );
+        let fault = fault_of_shape(rt.alloc(), shape);
+        assert!(rt; fault == want, "at {shape:?}");
     }
 }
 
@@ -101,24 +111,18 @@ fn refuses_words_out_of_order_or_range(rt: HostRuntime) -> Result<(), Fail> {
         (none, &[128], Some(ConfigError::Counters)),
         (&[128], nine, Some(ConfigError::Init)),
     ] {
-        let config = worded(rt.alloc(), init, counters)?;
-        assert_eq!(rt;
-            fault(checked(config)),
-            want,
-            "at {init:?} and {counters:?}"
-        );
+        let fault = fault_of_words(rt.alloc(), init, counters)?;
+        assert!(rt; fault == want, "at {init:?} and {counters:?}");
     }
     Ok(())
 }
 
-#[test]
-fn begins_as_a_text_that_configures_nothing(rt: HostRuntime) -> Result<(), Fail> {
-    let mut config = Config::new(rt.alloc());
-    assert!(rt; config.init.is_empty() && config.counters.is_empty());
-    config.cores = 1;
-    config.policy = PolicyKind::Random(9);
-    let config = checked(config)?;
-    let counts = [
+fn has_no_words(config: &Config) -> bool {
+    config.init.is_empty() && config.counters.is_empty()
+}
+
+fn counts(config: &Checked) -> [usize; 9] {
+    [
         config.cores(),
         config.slices(),
         config.lines(),
@@ -128,91 +132,144 @@ fn begins_as_a_text_that_configures_nothing(rt: HostRuntime) -> Result<(), Fail>
         config.mshrs(),
         config.targets(),
         config.writebacks(),
-    ];
-    assert_eq!(rt; counts, [1, 1, 16, 16, 4, 2, 4, 4, 2]);
-    assert_eq!(rt; config.policy(), PolicyKind::Random(9));
+    ]
+}
+
+// With one core, and chance for a policy.
+fn begun(alloc: Global) -> Result<Checked, ConfigError> {
+    let mut config = Config::new(alloc);
+    config.cores = 1;
+    config.policy = PolicyKind::Random(9);
+    checked(config)
+}
+
+#[test]
+fn begins_as_a_text_that_configures_nothing(rt: HostRuntime) -> Result<(), Fail> {
+    assert!(rt; has_no_words(&Config::new(rt.alloc())));
+    let config = begun(rt.alloc())?;
+    let is_right = counts(&config) == [1, 1, 16, 16, 4, 2, 4, 4, 2]
+        && config.policy() == PolicyKind::Random(9);
+    drop(config);
+    assert!(rt; is_right);
     Ok(())
+}
+
+/// Whether the word lies at this place, and the place has this word.
+fn lies_at(config: &Checked, word: u64, local: usize, slice: u8, offset: u8) -> bool {
+    let want = Place {
+        local: Local(local),
+        slice: SliceId(slice),
+        offset: Offset(offset),
+    };
+    let Some(place) = split(config, WordAddr(word)) else {
+        return false;
+    };
+    place == want && join(config, place) == WordAddr(word)
+}
+
+fn deals_out(config: &Checked) -> bool {
+    lies_at(config, 0, 0, 0, 0)
+        && lies_at(config, 8, 0, 1, 0)
+        && lies_at(config, 27, 1, 1, 3)
+        && lies_at(config, 127, 7, 1, 7)
+        && split(config, WordAddr(128)).is_none()
+        && split(config, WordAddr(u64::MAX)).is_none()
 }
 
 #[test]
 fn deals_lines_out_to_slices(rt: HostRuntime) -> Result<(), Fail> {
-    let config = checked(worded(rt.alloc(), &[], &[])?)?;
-    for (word, local, slice, offset) in [
-        (0, 0, 0, 0),
-        (8, 0, 1, 0),
-        (27, 1, 1, 3),
-        (127, 7, 1, 7),
-    ] {
-        let place = split(&config, WordAddr(word)).ok_or("past the end")?;
-        let want = Place {
-            local: Local(local),
-            slice: SliceId(slice),
-            offset: Offset(offset),
-        };
-        assert_eq!(rt; place, want, "at {word}");
-        assert_eq!(rt; join(&config, place), WordAddr(word));
-    }
-    assert_eq!(rt; split(&config, WordAddr(128)), None);
-    assert_eq!(rt; split(&config, WordAddr(u64::MAX)), None);
+    let config = checked_words(rt.alloc(), &[], &[])?;
+    let is_right = deals_out(&config);
+    drop(config);
+    assert!(rt; is_right);
     Ok(())
+}
+
+/// Whether the word begins with the value, and is a counter or not.
+fn is_known(config: &Checked, word: u64, value: u64, counter: bool) -> bool {
+    config.initial_word(WordAddr(word)) == value && is_counter(config, WordAddr(word)) == counter
+}
+
+fn knows_words(config: &Checked) -> bool {
+    (config.init().len(), config.counters().len()) == (3, 2)
+        && is_known(config, 0, 7, false)
+        && is_known(config, 9, 7, false)
+        && is_known(config, 20, 7, false)
+        && is_known(config, 3, 0, true)
+        && is_known(config, 21, 0, false)
+        && is_known(config, 127, 0, true)
 }
 
 #[test]
 fn knows_its_words(rt: HostRuntime) -> Result<(), Fail> {
     let config = worded(rt.alloc(), &[0, 9, 20], &[3, 127])?;
-    assert_eq!(rt; (config.init.len(), config.counters.len()), (3, 2));
+    let lengths = (config.init.len(), config.counters.len());
     let config = checked(config)?;
-    assert_eq!(rt; (config.init().len(), config.counters().len()), (3, 2));
-    for (word, value, counter) in [
-        (0, 7, false),
-        (9, 7, false),
-        (20, 7, false),
-        (3, 0, true),
-        (21, 0, false),
-        (127, 0, true),
-    ] {
-        assert_eq!(rt; config.initial_word(WordAddr(word)), value, "at {word}");
-        assert_eq!(rt; is_counter(&config, WordAddr(word)), counter, "at {word}");
-    }
+    let is_right = lengths == (3, 2) && knows_words(&config);
+    drop(config);
+    assert!(rt; is_right);
     Ok(())
+}
+
+fn odd_lines(config: &Checked) -> Option<Locator> {
+    if config.slices() == 2 && config.slice_lines() == 8 {
+        Some(Locator::of(config, SliceId(1)))
+    } else {
+        None
+    }
+}
+
+/// Whether the slice has the odd lines up to 15.
+fn is_odd(odd: Locator) -> bool {
+    (odd.lines(), odd.slices(), odd.slice()) == (8, 2, SliceId(1))
+        && odd.local_of(LineAddr(1)) == Some(Local(0))
+        && odd.local_of(LineAddr(15)) == Some(Local(7))
+        && odd.local_of(LineAddr(2)).is_none()
+        && odd.local_of(LineAddr(17)).is_none()
+        && !odd.is_past(WordAddr(127))
+        && odd.is_past(WordAddr(128))
+}
+
+/// Whether the slice's last line is 15, and has these words.
+fn ends_with_line_15(odd: Locator) -> bool {
+    if odd.lines() != 8 {
+        return false;
+    }
+    let word = odd.word_at(Local(7), Offset(3));
+    odd.line_at(Local(7)) == LineAddr(15)
+        && (word, word.line(), word.offset()) == (WordAddr(123), LineAddr(15), Offset(3))
 }
 
 #[test]
 fn locates_the_lines_of_a_slice(rt: HostRuntime) -> Result<(), Fail> {
-    let config = checked(worded(rt.alloc(), &[], &[])?)?;
-    assert!(rt; config.slices() == 2 && config.slice_lines() == 8);
-    let odd = Locator::of(&config, SliceId(1));
-    assert_eq!(rt;
-        (odd.lines(), odd.slices(), odd.slice()),
-        (8, 2, SliceId(1))
-    );
-    for (line, want) in [(1, Some(0)), (15, Some(7)), (2, None), (17, None)] {
-        assert_eq!(rt; odd.local_of(LineAddr(line)), want.map(Local), "at {line}");
-    }
-    assert_eq!(rt; odd.line_at(Local(7)), LineAddr(15));
-    let word = odd.word_at(Local(7), Offset(3));
-    assert_eq!(rt;
-        (word, word.line(), word.offset()),
-        (WordAddr(123), LineAddr(15), Offset(3))
-    );
-    assert!(rt; !odd.is_past(WordAddr(127)) && odd.is_past(WordAddr(128)));
+    let config = checked_words(rt.alloc(), &[], &[])?;
+    let odd = odd_lines(&config);
+    drop(config);
+    let odd = odd.ok_or("two slices of 8 lines")?;
+    assert!(rt; is_odd(odd) && ends_with_line_15(odd));
     Ok(())
+}
+
+fn takes_cores_in_and_out(cores: &mut CoreSet) -> bool {
+    if !cores.is_empty() || cores.pop_first().is_some() {
+        return false;
+    }
+    cores.insert(CoreId(63));
+    cores.insert(CoreId(5));
+    cores.insert(CoreId(64));
+    cores.insert(CoreId(0));
+    let has_each = cores.has(CoreId(63)) && !cores.has(CoreId(64)) && !cores.has(CoreId(1));
+    if (cores.count(), cores.bits()) != (3, 1 << 63 | 33) || !has_each {
+        return false;
+    }
+    let first = cores.pop_first();
+    cores.remove(CoreId(63));
+    first == Some(CoreId(0)) && *cores == CoreSet::only(CoreId(5))
 }
 
 #[test]
 fn sets_of_cores(rt: HostRuntime) {
-    let mut cores = CoreSet::none();
-    assert!(rt; cores.is_empty() && cores.pop_first().is_none());
-    for core in [63, 5, 64, 0] {
-        cores.insert(CoreId(core));
-    }
-    assert_eq!(rt; (cores.count(), cores.bits()), (3, 1 << 63 | 33));
-    assert!(rt; cores.has(CoreId(63)) && !cores.has(CoreId(64)) && !cores.has(CoreId(1)));
-    assert_eq!(rt; cores.pop_first(), Some(CoreId(0)));
-    cores.remove(CoreId(63));
-    assert_eq!(rt; cores, CoreSet::only(CoreId(5)));
-    assert_eq!(rt;
-        cores.with(CoreId(2)).without(CoreId(5)),
-        CoreSet::from_bits(4)
-    );
+    assert!(rt; takes_cores_in_and_out(&mut CoreSet::none()));
+    let two = CoreSet::only(CoreId(5)).with(CoreId(2)).without(CoreId(5));
+    assert!(rt; two == CoreSet::from_bits(4));
 }

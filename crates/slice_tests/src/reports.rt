@@ -1,3 +1,6 @@
+ghost use Rattle.std.specs.Prelude.{◌≡◌, length};
+ghost use Rattle.stats_report.specs.Report.{AreAlike, views_of};
+
 use address_map::{CoreId, LineAddr};
 use slice_core_answer::{Stall, Stats};
 use slice_queues_message::{Channel, Pick};
@@ -58,58 +61,95 @@ impl Write for Narrow {
     }
 }
 
+fn is_cut(room: usize, fails: bool) -> bool {
+    let mut narrow = Narrow { room, fails };
+    let cut = Cut { taken: room };
+    write_text(&mut narrow, b"lines") == Err(cut) && write_text(&mut narrow, b"").is_ok()
+}
+
+fn is_whole(fails: bool) -> bool {
+    let mut narrow = Narrow { room: 5, fails };
+    write_text(&mut narrow, b"lines").is_ok()
+}
+
 #[test]
-fn writes_texts_whole_or_says_how_much(rt: HostRuntime) -> Result<(), Fail> {
+fn writes_texts_whole_or_says_how_much(rt: HostRuntime) {
     for fails in [false, true] {
         for room in 0..5 {
-            let mut narrow = Narrow { room, fails };
-            assert_eq!(rt; write_text(&mut narrow, b"lines"), Err(Cut { taken: room }));
-            assert_eq!(rt; write_text(&mut narrow, b""), Ok(()));
+            assert!(rt; is_cut(room, fails), "room for {room}");
         }
-        let mut narrow = Narrow { room: 5, fails };
-        assert_eq!(rt; write_text(&mut narrow, b"lines"), Ok(()));
+        assert!(rt; is_whole(fails));
     }
     let mut out = Vec::new(rt.alloc());
-    assert_eq!(rt; write_text(&mut out, b"lines"), Ok(()));
-    assert_eq!(rt; out.as_slice(), b"lines".as_slice());
-    Ok(())
+    let is_written = write_text(&mut out, b"lines").is_ok()
+        && out.as_slice() == b"lines".as_slice();
+    drop(out);
+    assert!(rt; is_written);
+}
+
+/// Whether the slices' report is this text.
+fn reads(alloc: Global, slices: &[&Stats], text: &[u8]) -> bool
+    requires { AreAlike (views_of slices.now) }
+{
+    let mut out = Vec::new(alloc);
+    let reads = write_report(alloc, slices, &mut out).is_ok() && out.as_slice() == text;
+    drop(out);
+    reads
+}
+
+fn is_cut_at_7(alloc: Global, slices: &[&Stats]) -> bool
+    requires { AreAlike (views_of slices.now) }
+{
+    let mut narrow = Narrow {
+        room: 7,
+        fails: true,
+    };
+    write_report(alloc, slices, &mut narrow) == Err(ReportError::Cut(Cut { taken: 7 }))
 }
 
 #[test]
 fn reports_one_core(rt: HostRuntime) -> Result<(), Fail> {
     let stats = one_core(rt.alloc())?;
-    let mut out = Vec::new(rt.alloc());
-    assert_eq!(rt; write_report(rt.alloc(), &[&stats], &mut out), Ok(()));
-    assert_eq!(rt; out.as_slice(), ONE_CORE);
-    let mut narrow = Narrow {
-        room: 7,
-        fails: true,
-    };
-    let cut = write_report(rt.alloc(), &[&stats], &mut narrow);
-    assert_eq!(rt; cut, Err(ReportError::Cut(Cut { taken: 7 })));
+    let reads = reads(rt.alloc(), &[&stats], ONE_CORE);
+    let is_cut = is_cut_at_7(rt.alloc(), &[&stats]);
+    drop(stats);
+    assert!(rt; reads && is_cut);
     Ok(())
+}
+
+fn count_in_first(stats: &mut Stats)
+    requires { length stats.old.cores ≡ 2 }
+    ensures cores { length stats.new.cores ≡ 2 }
+    ensures exclusive { stats.new.exclusive ≡ stats.old.exclusive }
+{
+    stats.count_hit(CoreId(0), true);
+    stats.count_secondary(CoreId(1));
+    stats.count_message(Channel::Fwd(CoreId(1)));
+}
+
+fn count_in_second(stats: &mut Stats)
+    requires { length stats.old.cores ≡ 2 }
+    ensures cores { length stats.new.cores ≡ 2 }
+    ensures exclusive { stats.new.exclusive ≡ stats.old.exclusive }
+{
+    stats.count_hit(CoreId(0), false);
+    stats.count_stall(CoreId(1), Stall::NoWay);
+    stats.count_eviction(CoreId(1));
+    stats.count_message(Pick::Home(LineAddr(1)).channel());
+    stats.count_message(Channel::Ack {
+        to: CoreId(0),
+        from: CoreId(1),
+    });
 }
 
 #[test]
 fn reports_the_sums_over_slices(rt: HostRuntime) -> Result<(), Fail> {
     let mut first = Stats::new(rt.alloc(), 2, true)?;
     let mut second = Stats::new(rt.alloc(), 2, true)?;
-    first.count_hit(CoreId(0), true);
-    second.count_hit(CoreId(0), false);
-    first.count_secondary(CoreId(1));
-    second.count_stall(CoreId(1), Stall::NoWay);
-    second.count_eviction(CoreId(1));
-    first.count_message(Channel::Fwd(CoreId(1)));
-    second.count_message(Pick::Home(LineAddr(1)).channel());
-    second.count_message(Channel::Ack {
-        to: CoreId(0),
-        from: CoreId(1),
-    });
-    let mut out = Vec::new(rt.alloc());
-    assert_eq!(rt;
-        write_report(rt.alloc(), &[&first, &second], &mut out),
-        Ok(())
-    );
-    assert_eq!(rt; out.as_slice(), TWO_CORES);
+    count_in_first(&mut first);
+    count_in_second(&mut second);
+    let reads = reads(rt.alloc(), &[&first, &second], TWO_CORES);
+    drop((first, second));
+    assert!(rt; reads);
     Ok(())
 }

@@ -1,33 +1,55 @@
 use address_map::{
-    Config, ConfigError, CoreId, LineAddr, Op, PolicyKind, Request, SliceId, WordAddr,
+    Checked, Config, ConfigError, CoreId, LineAddr, Op, PolicyKind, Request, SliceId, WordAddr,
 };
 use litmus_text::{
     Command, ConfigLine, Count, LineFault, MissKind, Settings, Statements, TextFault, first_words,
     parse_command,
 };
 use slice_queues_message::Pick;
+use std::alloc::{AllocError, Global};
 use std::test::Fail;
 
-#[test]
-fn reads_what_configures_a_machine(rt: HostRuntime) -> Result<(), Fail> {
-    let text =
-        b"cores 3\nwritebacks 5\npolicy random 7\nmisses inverted\nexclusive on\ninit 3 4\ncounter 9\n";
-    let mut settings = Settings::new(rt.alloc());
-    assert!(rt; settings.misses == MissKind::Explicit && !settings.config.exclusive);
+/// Sets what the text's lines configure, and answers whether each was such a line and there was memory for it.
+fn configures(settings: &mut Settings, text: &[u8]) -> bool {
     for statement in Statements::of(text) {
         let words = statement.words.as_slice();
-        ConfigLine::parse(words)?.set(&mut settings)?;
+        let Ok(line) = ConfigLine::parse(words) else {
+            return false;
+        };
+        if line.set(settings).is_err() {
+            return false;
+        }
     }
-    let Settings { config, misses } = settings;
-    assert_eq!(rt; (config.cores, config.slices, config.writebacks), (3, 1, 5));
-    assert!(rt; config.policy == PolicyKind::Random(7) && misses == MissKind::Inverted);
-    assert!(rt; config.exclusive);
-    assert_eq!(rt; (config.init.len(), config.counters.len()), (1, 1));
-    Ok(())
+    true
+}
+
+fn has_what_was_set(settings: &Settings) -> bool {
+    let config = &settings.config;
+    (config.cores, config.slices, config.writebacks) == (3, 1, 5)
+        && config.policy == PolicyKind::Random(7)
+        && settings.misses == MissKind::Inverted
+        && config.exclusive
+        && (config.init.len(), config.counters.len()) == (1, 1)
 }
 
 #[test]
-fn configuration_lines_have_one_form(rt: HostRuntime) -> Result<(), Fail> {
+fn reads_what_configures_a_machine(rt: HostRuntime) {
+    let text =
+        b"cores 3\nwritebacks 5\npolicy random 7\nmisses inverted\nexclusive on\ninit 3 4\ncounter 9\n";
+    let mut settings = Settings::new(rt.alloc());
+    let began = settings.misses == MissKind::Explicit && !settings.config.exclusive;
+    let is_right = configures(&mut settings, text) && has_what_was_set(&settings);
+    drop(settings);
+    assert!(rt; began && is_right);
+}
+
+fn is_config_line(line: &[u8], want: Result<ConfigLine, LineFault>) -> bool {
+    let words = first_words(line);
+    ConfigLine::parse(words.as_slice()) == want
+}
+
+#[test]
+fn configuration_lines_have_one_form(rt: HostRuntime) {
     for (line, want) in [
         (
             b"misses explicit".as_slice(),
@@ -41,17 +63,25 @@ fn configuration_lines_have_one_form(rt: HostRuntime) -> Result<(), Fail> {
         (b"misses both", Err(LineFault::NotACommand)),
         (b"exclusive 1", Err(LineFault::NotACommand)),
     ] {
-        let words = first_words(line);
-        assert_eq!(rt; ConfigLine::parse(words.as_slice()), want);
+        assert!(rt; is_config_line(line, want));
     }
     assert!(rt; ConfigLine::is_named(b"exclusive") && !ConfigLine::is_named(b"exclusives"));
-    Ok(())
+}
+
+// The machine that a text has where it says nothing else.
+fn checked(alloc: Global) -> Result<Checked, ConfigError> {
+    Config::new(alloc).check()
+}
+
+fn is_command(config: &Checked, text: &[u8], want: Result<Command, LineFault>) -> bool {
+    let words = first_words(text);
+    parse_command(config, words.as_slice()) == want
 }
 
 // Commands at a machine of two cores, one slice and sixteen lines.
 #[test]
 fn reads_commands(rt: HostRuntime) -> Result<(), Fail> {
-    let config = Config::new(rt.alloc()).check()?;
+    let config = checked(rt.alloc())?;
     let line = LineAddr(15);
     let (one, two) = (CoreId(0), CoreId(1));
     let add = Request {
@@ -102,15 +132,14 @@ fn reads_commands(rt: HostRuntime) -> Result<(), Fail> {
         (b"stats", Ok(Command::Stats)),
         (b"pump 18446744073709551615", Ok(Command::Pump(u64::MAX))),
     ] {
-        let words = first_words(text);
-        assert_eq!(rt; parse_command(&config, words.as_slice()), want);
+        assert!(rt; is_command(&config, text, want));
     }
     Ok(())
 }
 
 #[test]
 fn judges_words_then_numbers_then_ranges(rt: HostRuntime) -> Result<(), Fail> {
-    let config = Config::new(rt.alloc()).check()?;
+    let config = checked(rt.alloc())?;
     for (text, want) in [
         (b"evict 2".as_slice(), LineFault::NotACommand),
         (b"deliver ack 16 0", LineFault::NotACommand),
@@ -127,10 +156,17 @@ fn judges_words_then_numbers_then_ranges(rt: HostRuntime) -> Result<(), Fail> {
         (b"deliver home 16", LineFault::OutOfRange),
         (b"state 16", LineFault::OutOfRange),
     ] {
-        let words = first_words(text);
-        assert_eq!(rt; parse_command(&config, words.as_slice()), Err(want));
+        assert!(rt; is_command(&config, text, Err(want)));
     }
     Ok(())
+}
+
+/// Whether it prints as this text.
+fn prints(alloc: Global, fault: TextFault, text: &str) -> Result<bool, AllocError> {
+    let shown = fault.to_string(alloc)?;
+    let is_text = shown.as_str() == text;
+    drop(shown);
+    Ok(is_text)
 }
 
 #[test]
@@ -149,8 +185,7 @@ fn displays_the_fault(rt: HostRuntime) -> Result<(), Fail> {
         (TextFault::NoMemory, "no memory"),
     ];
     for (fault, text) in cases {
-        let shown = fault.to_string(rt.alloc())?;
-        assert_eq!(rt; shown.as_str(), text);
+        assert!(rt; prints(rt.alloc(), fault, text)?);
     }
     Ok(())
 }

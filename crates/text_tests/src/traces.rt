@@ -1,9 +1,14 @@
 use litmus_text::{LineFault, TextFault};
-use std::test::Fail;
+use std::alloc::Global;
 use trace_check::{Reason, Verdict, check_trace};
 
+/// Whether the trace's verdict, or its fault, is this.
+fn is_judged(alloc: Global, text: &[u8], want: Result<Verdict, TextFault>) -> bool {
+    check_trace(alloc, text) == want
+}
+
 #[test]
-fn judges_each_reason(rt: HostRuntime) -> Result<(), Fail> {
+fn judges_each_reason(rt: HostRuntime) {
     for (text, want) in [
         (b"lockup-trace 1".as_slice(), Verdict::Legal(0)),
         (
@@ -35,13 +40,12 @@ fn judges_each_reason(rt: HostRuntime) -> Result<(), Fail> {
             Verdict::Legal(3),
         ),
     ] {
-        assert!(rt; check_trace(rt.alloc(), text) == Ok(want));
+        assert!(rt; is_judged(rt.alloc(), text, Ok(want)));
     }
-    Ok(())
 }
 
 #[test]
-fn a_faulty_line_counts_before_an_entry_at_fault(rt: HostRuntime) -> Result<(), Fail> {
+fn a_faulty_line_counts_before_an_entry_at_fault(rt: HostRuntime) {
     for (text, line, fault) in [
         (b"".as_slice(), 1, LineFault::NotATrace),
         (b"lockup-trac", 1, LineFault::NotATrace),
@@ -84,8 +88,6 @@ fn a_faulty_line_counts_before_an_entry_at_fault(rt: HostRuntime) -> Result<(), 
             LineFault::OutOfRange,
         ),
     ] {
-        let want: Result<Verdict, TextFault> = Err(fault.at(line));
-        assert!(rt; check_trace(rt.alloc(), text) == want);
+        assert!(rt; is_judged(rt.alloc(), text, Err(fault.at(line))));
     }
-    Ok(())
 }

@@ -1,4 +1,4 @@
-ghost use Rattle.std.specs.Prelude.{◌≡◌, ◌+◌, ◌<◌, ◌≤◌, ◌%◌, None, IfSome, OnErr, OnOk};
+ghost use Rattle.std.specs.Prelude.{◌≡◌, ◌+◌, ◌<◌, ◌≤◌, ◌%◌, Err, None, IfSome, OnErr, OnOk};
 ghost use Rattle.core_thread_system.specs.Answers.{AfterCollect, AfterIssue, IsAtItsSlice, refusal_of, tags_after};
 ghost use Rattle.core_thread_system.specs.Core.{accepted_of, asked_of, core_of, port_at, receipts_of, with_port};
 ghost use Rattle.receipt_ledger.specs.Answers.{AfterReply, AfterRequest, PlacesWord};
@@ -178,7 +178,8 @@ impl<'a, F: MissFile, M: SystemNames> Core<'a, F, M> {
     // Why the core itself refuses a request, if it does.
     #[tactic(auto, unfolding(crate::specs::Answers::refusal_of))]
     fn refusal(&self, request: Request) -> Option<Refused>
-        ensures { result ≡ refusal_of M.setup self.now.tags request }
+        ensures first { result ≡ refusal_of M.setup self.now.tags request }
+        ensures slice { IfSome result (λ refused. IsAtItsSlice (Err refused)) }
     {
         if request.word.0 >= self.system.words() {
             Some(Refused::OutOfRange)

@@ -1,6 +1,7 @@
 -- State and book go on belonging together: what each call makes of the totals.
-use Rattle.std.proofs.Common.{◌≡◌, ℕ, ◌<◌, false, List, [], ◌∷◌, ◌++◌, length, Some, Ok, refl, sym, ap, ◌∙◌, subst, arith}
-use Rattle.std.specs.Prelude.{slice_get}
+use Rattle.std.proofs.Common.{◌≡◌, ℕ, ◌<◌, false, List, [], ◌∷◌, ◌++◌, get_or, length, map, Some, Ok, refl, sym, ap, ◌∙◌, subst, arith}
+use Rattle.std.specs.Prelude.{slice_get, slice_index_or}
+use Rattle.std.proofs.Math.ListN.{get_or-map}
 use Rattle.std.proofs.lemmas.List.{get_or_push, length-append}
 use Rattle.std.proofs.lemmas.Option.{get_or_from_slice_get, same_Some}
 use Rattle.address_map.specs.declared.address.CoreId.{CoreId}
@@ -11,7 +12,7 @@ use Rattle.receipt_ledger.proofs.Issued.{issued-last, issued-spares}
 use Rattle.receipt_ledger.proofs.Placed.{issued-places}
 use Rattle.receipt_ledger.specs.Booked.{IsServed, IsTied, stores_to}
 use Rattle.receipt_ledger.specs.Port.{IsEntryOf}
-use Rattle.receipt_ledger.specs.Slice.{IsSliceOf}
+use Rattle.receipt_ledger.specs.Slice.{IsBuiltAs, IsSliceOf}
 use Rattle.receipt_shares.specs.Names.{counters_of}
 use Rattle.receipt_shares.specs.Totals.{Totals, only_accepted, only_handed, together}
 use Rattle.slice_core.specs.Facts.{IsSameSlice}
@@ -24,7 +25,17 @@ use Rattle.slice_core_machine.specs.Shows.{Leads, Performs, issue_steps, next_of
 use Rattle.slice_core_log.specs.declared.entry.Numbered.{Numbered}
 use Rattle.slice_core_plan.specs.Initial.{is_of_slice}
 use Rattle.slice_core_plan.specs.Parts.{AfterHand, AfterIssue, PartsView}
-use Rattle.slice_core_plan.specs.View.{View}
+use Rattle.slice_core.specs.Shape.{shape_of}
+use Rattle.slice_core_plan.specs.View.{View, no_side}
+use Rattle.slice_core_side.specs.Side.{SideView}
+
+-- Where all parts have the same shapes, each has.
+same-part : (old new : List SideView) (core : ℕ) → map shape_of new ≡ map shape_of old
+    → shape_of (slice_index_or old core no_side) ≡ shape_of (slice_index_or new core no_side)
+same-part old new core same =
+    sym (get_or-map shape_of old core no_side)
+    ∙ ap (λ shapes. get_or shapes core (shape_of no_side)) (sym same)
+    ∙ get_or-map shape_of new core no_side
 
 -- A later state of a slice is one of it.
 pub slice-kept : (c : Config) (number : ℕ) (old new : PartsView) → IsSliceOf c number old.view → IsSameSlice old new
@@ -36,6 +47,9 @@ slice-kept c number old new slice same = record {
   init = same.init ∙ slice.init;
   counters = same.counters ∙ slice.counters;
   cores = same.cores ∙ slice.cores;
+  parts = λ core known.
+      subst (IsBuiltAs c) (same-part old.view.sides new.view.sides core.0 same.shapes) (slice.parts core known);
+  exclusive = same.exclusive ∙ slice.exclusive;
 }
 
 module _ (c : Config) (number : ℕ) (t : Totals) (old new : PartsView) (tied : IsTied c number t old) where

@@ -1,11 +1,20 @@
 -- Which slice a state is of.
-use Rattle.std.specs.Prelude.{◌≡◌, ℕ, ◌<◌, length, filter}
+use Rattle.std.specs.Prelude.{◌≡◌, ℕ, ◌<◌, length, filter, replicate}
 use Rattle.address_map.specs.Config.{IsAllowed}
 use Rattle.address_map.specs.Locator.{lines_of}
+use Rattle.address_map.specs.declared.address.CoreId.{CoreId}
 use Rattle.address_map.specs.declared.config.Config.{Config}
 use Rattle.receipt_shares.specs.Names.{counters_of}
 use Rattle.slice_core_plan.specs.Initial.{is_of_slice}
-use Rattle.slice_core_plan.specs.View.{View}
+use Rattle.slice_core.specs.Shape.{Shape, shape_of}
+use Rattle.slice_core_plan.specs.View.{View, side_at}
+
+-- A core's part is built as the machine is configured: so many sets of so many ways, replaced by this policy, and room
+-- for so many lines that leave.
+pub record IsBuiltAs (c : Config) (shape : Shape) : Type 0 where
+  pub ways : shape.ways ≡ replicate c.sets c.ways
+  pub policy : shape.policy ≡ c.policy
+  pub writebacks : shape.writebacks ≡ c.writebacks
 
 -- It is a state of the slice of this number, of a machine that is configured so.
 pub record IsSliceOf (c : Config) (number : ℕ) (v : View) : Type 0 where
@@ -15,3 +24,5 @@ pub record IsSliceOf (c : Config) (number : ℕ) (v : View) : Type 0 where
   pub init : v.init ≡ filter (λ pair. is_of_slice c number pair.0) c.init
   pub counters : v.counters ≡ counters_of c number
   pub cores : length v.sides ≡ c.cores
+  pub parts : (core : CoreId) → core.0 < c.cores → IsBuiltAs c (shape_of (side_at v core))
+  pub exclusive : v.exclusive ≡ c.exclusive

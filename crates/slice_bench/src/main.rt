@@ -41,12 +41,21 @@ fn run<R: Env + Files + Clock + AllocGlobal + Print + Eprint + Threads + Wait + 
     rt: &R,
 ) -> io::Result<u8> {
     let words: Vec<String> = env::args(rt)?.collect(rt.alloc())?;
+    let status = answer(rt, &words);
+    drop(words);
+    status
+}
+
+fn answer<R: Files + Clock + AllocGlobal + Print + Eprint + Threads + Wait + Sync>(
+    rt: &R,
+    words: &[String],
+) -> io::Result<u8> {
     match words.get(1) {
         None => {
             print_usage(rt)?;
             Ok(0)
         }
-        Some(name) if name.as_str() == "lock" => measure_lock(rt, &words),
+        Some(name) if name.as_str() == "lock" => measure_lock(rt, words),
         Some(name) => measure_load(rt, name, words.get(2)),
     }
 }

@@ -37,11 +37,27 @@ impl From<Refused> for Fault {
 
 /// Makes so many requests that hit on a slice's state.
 pub fn hit_state(alloc: Global, hits: Hits, requests: u64) -> Result<(), Fault> {
+    let mut state = build_state(alloc)?;
+    let done = fetch_and_hit(&mut state, hits, requests);
+    drop(state);
+    done
+}
+
+fn build_state(alloc: Global) -> Result<SliceState<ExplicitFile>, Fault> {
     let config = configure(alloc, 1).ok_or(Fault)?;
     let _slices = config.slices();
-    let mut state = SliceState::<ExplicitFile>::build(alloc, &config, SliceId(0))?;
+    let built = SliceState::build(alloc, &config, SliceId(0));
+    drop(config);
+    Ok(built?)
+}
+
+fn fetch_and_hit(
+    state: &mut SliceState<ExplicitFile>,
+    hits: Hits,
+    requests: u64,
+) -> Result<(), Fault> {
     for line in 0..hits.lines() {
-        fetch_state(&mut state, hits, line)?;
+        fetch_state(state, hits, line)?;
     }
     for number in 0..requests {
         if state.cores() == 0 {
@@ -73,12 +89,23 @@ fn fetch_state(state: &mut SliceState<ExplicitFile>, hits: Hits, line: u64) -> R
 /// Makes so many requests that hit on a slice behind its lock.
 pub fn hit_locked<R: AllocGlobal + Wait>(rt: &R, hits: Hits, requests: u64) -> Result<(), Fault> {
     let config = configure(rt.alloc(), 1).ok_or(Fault)?;
+    let done = configured_locked(rt, &config, hits, requests);
+    drop(config);
+    done
+}
+
+fn configured_locked<R: AllocGlobal + Wait>(
+    rt: &R,
+    config: &Checked,
+    hits: Hits,
+    requests: u64,
+) -> Result<(), Fault> {
     let _slices = config.slices();
     if config.cores() != 1 {
         return Err(Fault);
     }
     let blanks = Blanks::new(1);
-    named_locked::<Brand, R>(rt, &config, blanks, hits, requests)
+    named_locked::<Brand, R>(rt, config, blanks, hits, requests)
 }
 
 fn named_locked<N: SliceNames, R: AllocGlobal + Wait>(
@@ -95,20 +122,49 @@ fn named_locked<N: SliceNames, R: AllocGlobal + Wait>(
 {
     let (slice, ports) = Slice::<ExplicitFile, N>::build(rt.alloc(), config, SliceId(0), blanks)?;
     let mut ports = ports;
-    let mut port = ports.pop().ok_or(Fault)?;
-    fetch(rt, &slice, &mut port, hits)?;
-    hit(rt, &slice, &mut port, hits, requests)
+    let done = match ports.pop() {
+        Some(mut port) => {
+            let done = fetch_and_hit_locked(rt, &slice, &mut port, hits, requests);
+            drop(port);
+            done
+        }
+        None => Err(Fault),
+    };
+    // In one call: dropped where they are they would be taken apart, each part with a proof of its own.
+    drop((ports, slice));
+    done
+}
+
+fn fetch_and_hit_locked<N: SliceNames, R: Wait>(
+    rt: &R,
+    slice: &Slice<ExplicitFile, N>,
+    port: &mut Port<N>,
+    hits: Hits,
+    requests: u64,
+) -> Result<(), Fault> {
+    fetch(rt, slice, port, hits)?;
+    hit(rt, slice, port, hits, requests)
 }
 
 /// Makes so many loads of one word that hit by each of two threads on one slice.
 pub fn hit_shared<R: AllocGlobal + Threads + Wait + Sync>(rt: &R, loads: u64) -> Result<(), Fault> {
     let config = configure(rt.alloc(), 2).ok_or(Fault)?;
+    let done = configured_shared(rt, &config, loads);
+    drop(config);
+    done
+}
+
+fn configured_shared<R: AllocGlobal + Threads + Wait + Sync>(
+    rt: &R,
+    config: &Checked,
+    loads: u64,
+) -> Result<(), Fault> {
     let _slices = config.slices();
     if config.cores() != 2 {
         return Err(Fault);
     }
     let blanks = Blanks::new(2);
-    named_shared::<Brand, R>(rt, &config, blanks, loads)
+    named_shared::<Brand, R>(rt, config, blanks, loads)
 }
 
 fn named_shared<N: SliceNames + Send + Sync, R: AllocGlobal + Threads + Wait + Sync>(
@@ -124,14 +180,49 @@ fn named_shared<N: SliceNames + Send + Sync, R: AllocGlobal + Threads + Wait + S
 {
     let (slice, ports) = Slice::<ExplicitFile, N>::build(rt.alloc(), config, SliceId(0), blanks)?;
     let mut ports = ports;
-    let mut second = ports.pop().ok_or(Fault)?;
-    let mut first = ports.pop().ok_or(Fault)?;
-    fetch(rt, &slice, &mut first, Hits::Word)?;
-    fetch(rt, &slice, &mut second, Hits::Word)?;
+    let done = match ports.pop() {
+        Some(second) => pop_and_hit_shared(rt, &slice, &mut ports, second, loads),
+        None => Err(Fault),
+    };
+    // In one call, as above.
+    drop((ports, slice));
+    done
+}
+
+/// Takes the other port, and makes so many loads by each of two threads.
+fn pop_and_hit_shared<N: SliceNames + Send + Sync, R: Threads + Wait + Sync>(
+    rt: &R,
+    slice: &Slice<ExplicitFile, N>,
+    ports: &mut Vec<Port<N>>,
+    second: Port<N>,
+    loads: u64,
+) -> Result<(), Fault> {
+    let mut second = second;
+    let done = match ports.pop() {
+        Some(mut first) => {
+            let done = fetch_and_hit_shared(rt, slice, &mut first, &mut second, loads);
+            drop(first);
+            done
+        }
+        None => Err(Fault),
+    };
+    drop(second);
+    done
+}
+
+fn fetch_and_hit_shared<N: SliceNames + Send + Sync, R: Threads + Wait + Sync>(
+    rt: &R,
+    slice: &Slice<ExplicitFile, N>,
+    first: &mut Port<N>,
+    second: &mut Port<N>,
+    loads: u64,
+) -> Result<(), Fault> {
+    fetch(rt, slice, first, Hits::Word)?;
+    fetch(rt, slice, second, Hits::Word)?;
     let (one, other) = thread::join(
         rt,
-        || hit(rt, &slice, &mut first, Hits::Word, loads),
-        || hit(rt, &slice, &mut second, Hits::Word, loads),
+        || hit(rt, slice, first, Hits::Word, loads),
+        || hit(rt, slice, second, Hits::Word, loads),
     );
     one?;
     other

@@ -169,7 +169,8 @@ impl<N: SliceNames> Port<N> {
         requires { number < length log.now }
         ensures { self.new ≡ with_seen self.old number }
     {
-        self.seen = self.seen.max(after(log, number));
+        let seen = after(log, number);
+        self.seen = self.seen.max(seen);
     }
 
     /// The last of its receipts.

@@ -31,8 +31,10 @@ pub fn books_answer(alloc: Global) -> Result<bool, AllocError> {
     if one.cores() != 1 || two.cores() != 2 {
         return Ok(false);
     }
-    let sums = named_sums::<Brand>(alloc, &one, Blanks::new(1))?;
-    let learns = named_learns::<Brand>(alloc, &two, Blanks::new(2))?;
+    let sole = Blanks::new(1);
+    let sums = named_sums::<Brand>(alloc, &one, sole)?;
+    let both = Blanks::new(2);
+    let learns = named_learns::<Brand>(alloc, &two, both)?;
     Ok(sums && learns)
 }
 
@@ -66,17 +68,18 @@ fn sums_past_the_word<N: SliceNames>(
     requires cores { N.setup.cores ≡ 1 }
 {
     let mut ports = [Alone { port }];
-    let pending = book.accept(state, &mut ports[0].port, add(0, u64::MAX)) == Ok(Answer::Pending)
-        && settled(state, book, &mut ports).is_none();
-    let filled = moves(state, book, Pick::Req(LINE, ADDER))
-        && moves(state, book, Pick::Data(LINE, ADDER))
-        && settled(state, book, &mut ports).is_none();
+    let pending = book.accept(state, &mut ports[0].port, add(0, u64::MAX)) == Ok(Answer::Pending);
+    let early = settled(state, book, &mut ports).is_none();
+    let asked = moves(state, book, Pick::Req(LINE, ADDER));
+    let filled = moves(state, book, Pick::Data(LINE, ADDER));
+    let waiting = settled(state, book, &mut ports).is_none();
     let first = book.hand_out(state, &mut ports[0].port);
     let second = book.accept(state, &mut ports[0].port, add(1, 2));
     let missed = matches!(first, Some(receipt) if receipt.entry.reply == 0);
     let hit = matches!(second, Ok(Answer::Done(receipt)) if receipt.entry.reply == u64::MAX);
     let none = book.hand_out(state, &mut ports[0].port).is_none();
-    pending && filled && missed && hit && none && settled(state, book, &mut ports) == Some(1)
+    let value = settled(state, book, &mut ports) == Some(1);
+    pending && early && asked && filled && waiting && missed && hit && none && value
 }
 
 /// The value of the slice's one counter, where the book is settled with these ports.

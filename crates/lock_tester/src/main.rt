@@ -1,9 +1,11 @@
 //! Lets two threads share one slice, many times over. Each asks for words through its core's port, collects replies and
 //! delivers messages until all that it asked for is handed out. Then the slice is settled with both ports: there is a
-//! receipt of each request, and each counter is what was added to it.
+//! receipt of each request, and each counter is what was added to it. Before that come calls whose answers were worked
+//! out by hand, behind the lock and on a slice's book alone.
 //!
 //! At last two cores share a machine of two slices, in one thread: both add to a counter of each slice and take turns
-//! until all replies are handed out, and then each slice is settled with both cores.
+//! until all replies are handed out, and then each slice is settled with both cores. On another such machine one adds, and
+//! the other is told of the receipt.
 //!
 //! It prints a line for each of these, or the first difference, and then it ends with status 1.
 //!
@@ -20,6 +22,7 @@ use std::sync::Wait;
 use std::thread::Threads;
 use std::{env, io};
 
+mod books;
 mod memory;
 mod round;
 mod setting;
@@ -27,10 +30,11 @@ mod system;
 mod work;
 mod worked;
 
+use books::books_answer;
 use memory::ask_again;
 use round::one_round;
 use setting::configure;
-use system::two_cores_share_two_slices;
+use system::SHARED;
 use worked::WORKED;
 
 /// How many times the slice of a setting is built, shared and settled.
@@ -48,7 +52,7 @@ fn run<R: AllocGlobal + Env + Print + Threads + Wait + Sync>(rt: &R) -> io::Resu
     let words: Vec<String> = env::args(rt)?.collect(rt.alloc())?;
     match words.get(1) {
         Some(word) if word.as_str() == "memory" => test_memory(rt),
-        _ => Ok(test_worked(rt)? && test_settings(rt)? && test_system(rt)?),
+        _ => Ok(test_worked(rt)? && test_books(rt)? && test_settings(rt)? && test_systems(rt)?),
     }
 }
 
@@ -83,6 +87,18 @@ fn test_worked<R: AllocGlobal + Print + Wait>(rt: &R) -> io::Result<bool> {
     Ok(true)
 }
 
+/// Answers whether the book of a slice answered as wanted.
+fn test_books<R: AllocGlobal + Print>(rt: &R) -> io::Result<bool> {
+    let is_right = books_answer(rt.alloc())?;
+    let said = if is_right {
+        "as wanted"
+    } else {
+        "not as wanted"
+    };
+    println!(rt; "a slice's book alone: {said}")?;
+    Ok(is_right)
+}
+
 /// Answers whether all rounds of all settings were settled.
 fn test_settings<R: AllocGlobal + Print + Threads + Wait + Sync>(rt: &R) -> io::Result<bool> {
     for exclusive in [false, true] {
@@ -115,13 +131,18 @@ fn test_rounds<F: MissFile + Send, R: AllocGlobal + Threads + Wait + Sync>(
 }
 
 /// Answers whether two cores got what was wanted of a machine of two slices.
-fn test_system<R: AllocGlobal + Print + Wait>(rt: &R) -> io::Result<bool> {
-    let told = match two_cores_share_two_slices(rt) {
-        Ok(true) => "as wanted",
-        Ok(false) => "not as wanted",
-        Err(BuildError::Config(_)) => "no such machine",
-        Err(BuildError::Memory) => "no memory",
-    };
-    println!(rt; "two cores share two slices: {told}")?;
-    Ok(told == "as wanted")
+fn test_systems<R: AllocGlobal + Print + Wait>(rt: &R) -> io::Result<bool> {
+    for shared in SHARED {
+        let told = match shared.test(rt) {
+            Ok(true) => "as wanted",
+            Ok(false) => "not as wanted",
+            Err(BuildError::Config(_)) => "no such machine",
+            Err(BuildError::Memory) => "no memory",
+        };
+        println!(rt; "{shared}: {told}")?;
+        if told != "as wanted" {
+            return Ok(false);
+        }
+    }
+    Ok(true)
 }

@@ -10,6 +10,7 @@ use mshr_file::ExplicitFile;
 use receipt_ledger::{Answer, LearnError, Receipt};
 use slice_core_answer::{Evicted, Refused};
 use std::alloc::{AllocFailed, Global};
+use std::fmt;
 use std::marker::Brand;
 use std::sync::Wait;
 
@@ -30,6 +31,17 @@ pub enum Shared {
     Adds,
     /// One adds, and the other is told of the receipt and reads.
     Receipts,
+}
+
+pub const SHARED: [Shared; 2] = [Shared::Adds, Shared::Receipts];
+
+impl fmt::Display for Shared {
+    fn fmt<W: fmt::Write>(&self, f: &mut fmt::Formatter<W>) -> fmt::Result {
+        f.write_str(match self {
+            Shared::Adds => "two cores share two slices",
+            Shared::Receipts => "a core is told of another's receipt",
+        })
+    }
 }
 
 impl Shared {
@@ -177,7 +189,9 @@ fn learns<M: SystemNames, R: Wait>(
     }
     let again = reader.issue(rt, request(COUNTERS[0], 0, Op::Load));
     let hit = matches!(again, Ok(Answer::Done(receipt)) if receipt.number == 2);
-    told && asked == Ok(Answer::Pending) && right && hit && has_seen(reader, 0, 1) && has_seen(reader, 1, 2)
+    let seen = has_seen(reader, 0, 1) && has_seen(reader, 1, 2);
+    let leaves = reader.evict(rt, COUNTERS[0].line()) == Evicted::Evicting;
+    told && asked == Ok(Answer::Pending) && right && hit && seen && leaves
 }
 
 /// Whether the core had seen so many entries of slice 0 when it asked for the request with this number.

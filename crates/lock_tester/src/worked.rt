@@ -6,8 +6,9 @@ use address_map::{Checked, CoreId, LineAddr, Op, Request, SliceId, WordAddr};
 use mshr_file::ExplicitFile;
 use receipt_ledger::{Alone, Answer, Port, Receipt};
 use receipt_shares::{Blanks, SliceNames};
+use slice_core::SliceState;
 use slice_core_answer::{Delivered, DeliveredNext, Evicted};
-use slice_lock::{Slice, Unsettled};
+use slice_lock::{Question, Slice, Unsettled};
 use slice_queues_message::{Class, Pick};
 use std::alloc::AllocError;
 use std::fmt;
@@ -114,7 +115,19 @@ fn settled<N: SliceNames, R: Wait>(
 {
     match slice.settle::<R, Alone<Port<N>>, 0>(rt, ports) {
         Ok(values) => values.first().copied(),
-        Err(Unsettled::NotQuiet) => None,
+        Err(Unsettled::NotQuiet | Unsettled::Differs) => None,
+    }
+}
+
+/// How many entries the slice's log has.
+#[derive(Drop)]
+struct LogLength;
+
+impl Question<ExplicitFile> for LogLength {
+    type Answer = usize;
+
+    fn ask(self, state: &SliceState<ExplicitFile>) -> usize {
+        state.log().len()
     }
 }
 
@@ -136,7 +149,7 @@ fn misses_hits_and_evicts<N: SliceNames, R: Wait>(
     let put = moved(slice.deliver_next(rt, Class::Any));
     let acknowledged = moved(slice.deliver_next(rt, Class::Any));
     let gone = slice.evict(rt, &mut port, LINE) == Evicted::NotHeld && slice.quiet(rt);
-    let both = slice.look(rt).state().log().len() == 2;
+    let both = slice.inspect(rt, LogLength) == 2;
     let served = pending && asked && filled && missed && logged && hit;
     served && leaving && put && acknowledged && gone && both
 }

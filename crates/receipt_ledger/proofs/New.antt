@@ -8,6 +8,7 @@ use Rattle.cache_array.specs.Set.{SetView, empty_set}
 use Rattle.receipt_ledger.specs.Booked.{IsTied}
 use Rattle.receipt_ledger.specs.Slice.{IsBuiltAs}
 use Rattle.slice_core.specs.Shape.{shape_of}
+use Rattle.slice_core_answer.specs.Stats.{StatsView}
 use Rattle.slice_core_side.specs.Side.{new_side}
 use Rattle.slice_core_side.specs.declared.copy.CacheCopy.{CacheCopy}
 use Rattle.receipt_shares.specs.Totals.{nothing}
@@ -40,6 +41,7 @@ new-tied c bound slice p known is same = record {
     parts = λ core known. subst (λ side. IsBuiltAs c (shape_of side)) (sym (is.sides.each core.0 known)) (new-part c bound slice.0 core.0);
     exclusive = is.exclusive;
   };
+  reported = ap (λ (s : StatsView). s.exclusive) is.stats;
   booked =
       same-booked c slice.0 nothing new_machine (new-booked c slice.0) (shown p.view) same;
 }

@@ -118,7 +118,7 @@ module _ (c : Config) (number : ℕ) where
 
     tested : (range busy counter : Bool) (local : Local) (access : Access)
         → by_decision (if range then decisions.Refuse refusals.TagRange else if busy then decisions.Refuse refusals.TagBusy
-          else if counter then decisions.Refuse refusals.CounterStore else decisions.Access local access)
+        else if counter then decisions.Refuse refusals.CounterStore else decisions.Access local access)
         → PlacesWord c number request.word answer
     tested true busy counter local access after =
         refused refusals.TagRange after.0 (λ is. absurd (cc)) (λ is. absurd (cc))

@@ -57,6 +57,7 @@ module _ (c : Config) (number : ℕ) (t : Totals) (old new : PartsView) (tied : 
   pub same-tied : IsSameSlice old new → Leads [] old.view new.view → IsTied c number t new
   same-tied same leads = record {
     slice = slice-kept c number old new tied.slice same;
+    reported = same.reported ∙ tied.reported;
     booked = same-booked c number t (shown old.view) tied.booked (shown new.view) leads.run;
   }
 
@@ -64,6 +65,7 @@ module _ (c : Config) (number : ℕ) (t : Totals) (old new : PartsView) (tied : 
   pub performs-tied : IsSameSlice old new → Performs old.view new.view → IsTied c number t new
   performs-tied same performs = record {
     slice = slice-kept c number old new tied.slice same;
+    reported = same.reported ∙ tied.reported;
     booked =
         performs-booked (initially old.view.init) c number t performs.requests (shown old.view)
         (shown new.view) tied.booked performs.leads.run;
@@ -77,6 +79,7 @@ module _ (c : Config) (number : ℕ) (t : Totals) (old new : PartsView) (tied : 
       let counters = counters_of c number in
       let m = shown old.view in record {
         slice = slice-kept c number old new tied.slice same;
+        reported = same.reported ∙ tied.reported;
         booked =
             same-booked c number (together t (only_handed counters e)) (after initial m (hand given))
             (hand-booked c number t m tied.booked initial given e leads.run.0
@@ -108,6 +111,7 @@ module _ (c : Config) (number : ℕ) (t : Totals) (old new : PartsView) (tied : 
         let served = served-by (issues.Pending seq) step in
         record {
           slice = slice-kept c number old new tied.slice same;
+          reported = same.reported ∙ tied.reported;
           booked =
               same-booked c number (together t (only_accepted 1)) (after initial m (accept asked))
               (accept-booked c number t m tied.booked initial asked leads.run.0 served) (shown new.view) leads.run.1;
@@ -128,6 +132,7 @@ module _ (c : Config) (number : ℕ) (t : Totals) (old new : PartsView) (tied : 
         let performed = after initial accepted (perform asked) in
         record {
           slice = slice-kept c number old new tied.slice same;
+          reported = same.reported ∙ tied.reported;
           booked =
               same-booked c number (together more (only_handed counters e)) (after initial performed (hand given))
               (hand-booked c number more performed

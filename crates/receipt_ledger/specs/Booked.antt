@@ -34,7 +34,9 @@ pub record IsBooked (c : Config) (number : ℕ) (t : Totals) (m : Machine) : Typ
   pub asked : (r : Asked) → m.waiting r → IsServed c number r.op r.word
   pub logged : (place : ℕ) (e : Entry) → slice_get m.log place ≡ Some e → IsServed c number e.op e.word
 
--- The state is one of the slice of this number, and the totals are its own.
+-- The state is one of the slice of this number, its statistics have the configured setting of the exclusive state, and
+-- the totals are its own.
 pub record IsTied (c : Config) (number : ℕ) (t : Totals) (p : PartsView) : Type 0 where
   pub slice : IsSliceOf c number p.view
+  pub reported : p.stats.exclusive ≡ c.exclusive
   pub booked : IsBooked c number t (shown p.view)

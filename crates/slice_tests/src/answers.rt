@@ -87,6 +87,7 @@ fn prints<T: Display>(alloc: Global, answer: &T, text: &str) -> Result<bool, All
 fn each_prints(alloc: Global) -> Result<bool, AllocError> {
     Ok(
         prints(alloc, &Refused::WrongSlice, "6 WrongSlice")?
+            && prints(alloc, &Refused::Ahead(3), "8 Ahead")?
             && prints(alloc, &Stall::WriteBackBusy, "5 WriteBackBusy")?
             && prints(alloc, &Evicted::WriteBackFull, "buffer full")?
             && prints(alloc, &Cell::Early, "early")?,

@@ -8,15 +8,22 @@ use Rattle.receipt_ledger.proofs.port.Port.receive.Goals as goal
 pub invariant_of-self : goal.invariant_of-self
 invariant_of-self g c =
     let r : Receipt = record { number = c.args.number; entry = c.entry_at-entry.result.now; slice = c.self.inside.slice } in
-    rw (c.push_reserved.ensures.items, c.push_reserved.ensures.capacity, c.set_place.ensures.items,
-    c.set_place.ensures.room, c.len.ensures ∙ c.self.inside.receipts.ok.0, c.max-self-inside.ensures, c.after.ensures)
+    rw (
+      c.push_reserved.ensures.items,
+      c.push_reserved.ensures.capacity,
+      c.set_place.ensures.items,
+      c.set_place.ensures.room,
+      c.len.ensures ∙ c.self.inside.receipts.ok.0,
+      c.max-self-inside.ensures,
+      c.after.ensures,
+    )
     (receipt-port g.N.SliceNames.setup g.N.SliceNames.number _ c.self.inside.shares c.hand.new.shares c.self.invariant
     c.hand.ensures.parts r
     (subst (λ (p : PortView). length p.receipts < length p.asked) (sym c.self.view_is) c.requires.waiting)
     (record {
       slice = c.self.invariant.named;
       entry = subst (λ (p : PortView). IsEntryOf g.N.SliceNames.setup g.N.SliceNames.number p.core r.entry)
-      (sym c.self.view_is) (c.requires.own r.entry c.entry_at-entry.ensures);
+          (sym c.self.view_is) (c.requires.own r.entry c.entry_at-entry.ensures);
     })
     (c.hand.ensures.held
     ∙ ap (λ words. together c.self.inside.shares.held (only_handed words r.entry)) c.requires.words.are))

@@ -1,5 +1,5 @@
 use Rattle.std.specs.Prelude.{◌==◌, if◌then◌else◌, slice_index_or}
-use Rattle.lock_tester.proofs.system.two_cores_share_two_slices.Given as goal
+use Rattle.lock_tester.proofs.system.Shared.test.Given as goal
 
 abbrev pub ghosts-named_round : goal.ghosts-named_round
 ghosts-named_round g a = record {

@@ -1,0 +1,16 @@
+use Rattle.std.specs.Prelude.{slice_index_or}
+use Rattle.lock_tester.proofs.books.books_answer.Given as goal
+
+abbrev pub ghosts-named_sums : goal.ghosts-named_sums
+ghosts-named_sums a = record {
+  setup = a.config.now;
+  number = 0;
+  names = λ place. slice_index_or a.blanks.names place 0;
+}
+
+abbrev pub ghosts-named_learns : goal.ghosts-named_learns
+ghosts-named_learns a = record {
+  setup = a.config.now;
+  number = 0;
+  names = λ place. slice_index_or a.blanks.names place 0;
+}

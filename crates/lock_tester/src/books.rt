@@ -49,8 +49,12 @@ fn named_sums<N: SliceNames>(
     requires number { N.number ≡ 0 }
     requires ledgers { AreLedgersOf N.setup N.names blanks }
 {
-    let (mut state, mut book, mut ports) =
-        Book::<N>::open::<ExplicitFile>(alloc, config, SliceId(0), blanks)?;
+    let (mut state, mut book, mut ports) = Book::<N>::open::<ExplicitFile>(
+        alloc,
+        config,
+        SliceId(0),
+        blanks,
+    )?;
     Ok(match ports.pop() {
         Some(port) => sums_past_the_word(&mut state, &mut book, port),
         None => false,
@@ -59,11 +63,7 @@ fn named_sums<N: SliceNames>(
 
 /// Two adds to the counter, one that misses and one that hits. Their receipts add up to 2^64 + 1, and the counter is 1.
 /// While the first is under way or its reply isn't handed out, the book isn't settled.
-fn sums_past_the_word<N: SliceNames>(
-    state: &mut State,
-    book: &mut Book<N>,
-    port: Port<N>,
-) -> bool
+fn sums_past_the_word<N: SliceNames>(state: &mut State, book: &mut Book<N>, port: Port<N>) -> bool
     requires tied { IsTied N.setup N.number book.old state.old }
     requires cores { N.setup.cores ≡ 1 }
 {
@@ -108,8 +108,12 @@ fn named_learns<N: SliceNames>(
     requires number { N.number ≡ 0 }
     requires ledgers { AreLedgersOf N.setup N.names blanks }
 {
-    let (mut state, mut book, mut ports) =
-        Book::<N>::open::<ExplicitFile>(alloc, config, SliceId(0), blanks)?;
+    let (mut state, mut book, mut ports) = Book::<N>::open::<ExplicitFile>(
+        alloc,
+        config,
+        SliceId(0),
+        blanks,
+    )?;
     let (Some(mut reader), Some(mut adder)) = (ports.pop(), ports.pop()) else {
         return Ok(false);
     };
@@ -122,11 +126,7 @@ fn named_learns<N: SliceNames>(
 }
 
 /// The receipt of an add of 5, the first in the log.
-fn adds<N: SliceNames>(
-    state: &mut State,
-    book: &mut Book<N>,
-    port: &mut Port<N>,
-) -> Option<Receipt>
+fn adds<N: SliceNames>(state: &mut State, book: &mut Book<N>, port: &mut Port<N>) -> Option<Receipt>
     requires { IsTied N.setup N.number book.old state.old }
     ensures { IsTied N.setup N.number book.new state.new }
 {

@@ -181,7 +181,8 @@ fn learns<M: SystemNames, R: Wait>(
     let told = added.number == 0 && reader.learn(rt, added) == Ok(());
     let asked = reader.issue(rt, request(COUNTERS[0], 0, Op::Load));
     let read = next_receipt(rt, reader);
-    let right = matches!(read, Some(receipt) if receipt.number == 1 && receipt.entry.reply == DELTA);
+    let right =
+        matches!(read, Some(receipt) if receipt.number == 1 && receipt.entry.reply == DELTA);
     for receipt in &made_up(added) {
         if reader.learn(rt, receipt) != Err(LearnError::Unknown) {
             return false;

@@ -30,7 +30,7 @@ use Rattle.slice_core_plan.specs.View.{View, no_side}
 use Rattle.slice_core_side.specs.Side.{SideView}
 
 -- Where all parts have the same shapes, each has.
-same-part : (old new : List SideView) (core : ℕ) → map shape_of new ≡ map shape_of old
+pub same-part : (old new : List SideView) (core : ℕ) → map shape_of new ≡ map shape_of old
     → shape_of (slice_index_or old core no_side) ≡ shape_of (slice_index_or new core no_side)
 same-part old new core same =
     sym (get_or-map shape_of old core no_side)

@@ -6,6 +6,7 @@ ghost use Rattle.receipt_ledger.specs.Booked.{IsTied};
 ghost use Rattle.receipt_ledger.specs.Port.{HasRoom, IsEntryOf, with_request, with_seen};
 ghost use Rattle.receipt_shares.specs.Names.{counters_of};
 ghost use Rattle.receipt_shares.specs.Totals.{only_accepted, together};
+ghost use Rattle.slice_core.specs.Facts.{IsSameSlice};
 ghost use Rattle.slice_core_log.specs.declared.entry.Entry.{Entry};
 ghost use Rattle.slice_core_machine.specs.Shows.{Leads, issue_steps, next_of};
 
@@ -57,6 +58,7 @@ impl<N: SliceNames> Book<N> {
         ensures word { PlacesWord N.setup N.number request.word result }
         ensures genuine { IsGenuineAnswer state.new.view.log result }
         ensures machine { Leads (answer_steps (next_of state.old.view port.old.core request) result) state.old.view state.new.view }
+        ensures same { IsSameSlice state.old state.new }
         ensures tied { IsTied N.setup N.number self.new state.new }
     {
         match self.ask(state, port, request) {
@@ -80,6 +82,7 @@ impl<N: SliceNames> Book<N> {
         ensures word { PlacesWord N.setup N.number request.word result }
         ensures genuine { IsGenuineLast state.new.view.log result port.new }
         ensures machine { Leads (issue_steps (next_of state.old.view port.old.core request) result) state.old.view state.new.view }
+        ensures same { IsSameSlice state.old state.new }
         ensures tied { IsTied N.setup N.number self.new state.new }
     {
         let Ok(()) = port.make_room() else {
@@ -115,6 +118,7 @@ impl<N: SliceNames> Book<N> {
         ensures port { AfterReply port.old result port.new }
         ensures genuine { IfSome result (IsGenuine state.new.view.log) }
         ensures machine { Leads (reply_steps result) state.old.view state.new.view }
+        ensures same { IsSameSlice state.old state.new }
         ensures tied { IsTied N.setup N.number self.new state.new }
     {
         if !port.is_waiting() {

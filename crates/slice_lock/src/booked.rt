@@ -26,14 +26,13 @@ pub(crate) struct Booked<F: MissFile, N: SliceNames> {
 }
 
 impl<F: MissFile, N: SliceNames> Model for Booked<F, N> {
-    ghost use Rattle.receipt_ledger.specs.Booked.{IsTied};
-    ghost use Rattle.slice_lock.specs.Booked.{BookedView};
+    ghost use Rattle.slice_lock.specs.Booked.{BookedView, IsBookedSlice};
 
     ghost Value = { BookedView };
 
     ghost view = { λ b. record { state = b.state; totals = b.book } };
 
-    ghost invariant = { λ b. IsTied N.setup N.number b.book b.state };
+    ghost invariant = { λ b. IsBookedSlice N.setup (F.bound_by N.setup) N.number (record { state = b.state; totals = b.book }) };
 }
 
 impl<F: MissFile, N: SliceNames> Booked<F, N> {
@@ -121,7 +120,7 @@ impl<F: MissFile, N: SliceNames> Booked<F, N> {
     /// The state, of which all that holds after every call holds.
     pub fn state(&self) -> &SliceState<F>
         ensures same { result.now ≡ self.now.state }
-        ensures shown { IsShown N.setup N.number result.now }
+        ensures shown { IsShown N.setup (F.bound_by N.setup) N.number result.now }
     {
         let _log = self.state.log();
         &self.state

@@ -169,7 +169,7 @@ pub struct Look<'a, F: MissFile, N: SliceNames> {
 impl<F: MissFile, N: SliceNames> Look<'_, F, N> {
     /// The state. Whoever looks may rely on all that holds of it after every call.
     pub fn state(&self) -> &SliceState<F>
-        ensures { IsShown N.setup N.number result.now }
+        ensures { IsShown N.setup (F.bound_by N.setup) N.number result.now }
     {
         self.booked.state()
     }

@@ -1,3 +1,4 @@
+use Rattle.slice_lock.proofs.Bounded.{kept-bounded}
 use Rattle.receipt_ledger.proofs.Tied.{performs-tied}
 use Rattle.slice_lock.proofs.booked.Booked.deliver.Goals as goal
 
@@ -5,5 +6,9 @@ pub invariant_of-self : goal.invariant_of-self
 invariant_of-self g c =
     let old = c.self.inside.state in
     let new = c.deliver.new.self in
-    performs-tied g.N.SliceNames.setup g.N.SliceNames.number c.self.inside.book old new c.self.invariant
-    c.deliver.ensures.same c.deliver.ensures.machine
+    record {
+      tied =
+          performs-tied g.N.SliceNames.setup g.N.SliceNames.number c.self.inside.book old new c.self.invariant.tied
+          c.deliver.ensures.same c.deliver.ensures.machine;
+      bounded = kept-bounded g.N.SliceNames.setup _ old new c.deliver.ensures.same c.self.invariant.bounded;
+    }

@@ -78,7 +78,7 @@ impl<F: MissFile, M: SystemNames> System<F, M> {
 impl<'a, F: MissFile, M: SystemNames> SystemLook<'a, F, M> {
     /// The state. Whoever looks may rely on all that holds of it after every call.
     pub fn state(&self) -> &SliceState<F>
-        ensures { IsShown M.setup self.now.0 result.now }
+        ensures { IsShown M.setup (F.bound_by M.setup) self.now.0 result.now }
     {
         match self.slice.0 {
             0 => shown(&self.look0),
@@ -93,7 +93,7 @@ impl<'a, F: MissFile, M: SystemNames> SystemLook<'a, F, M> {
 // The state that a look shows which is there.
 fn shown<'l, F: MissFile, N: SliceNames>(look: &'l Option<Look<'_, F, N>>) -> &'l SliceState<F>
     requires { IsSome look.now }
-    ensures { IsShown N.setup N.number result.now }
+    ensures { IsShown N.setup (F.bound_by N.setup) N.number result.now }
 {
     match look {
         Some(look) => look.state(),

@@ -2,6 +2,7 @@ ghost use Rattle.std.specs.Prelude.{◌≡◌};
 ghost use Rattle.receipt_shares.specs.Names.{AreLedgersOf};
 
 use super::books::made_up;
+use super::worked::LogLength;
 use address_map::{Config, LineAddr, Op, Request, SliceId, WordAddr};
 use core_thread_system::{
     All, BuildError, Core, PortSet, System, SystemBlanks, SystemKeys, SystemNames,
@@ -157,20 +158,26 @@ fn is_settled<'a, M: SystemNames, R: Wait>(
     true
 }
 
-/// Whether a core that is told of another's receipt learns from it, and then reads what that core added.
+/// Whether a core that is told of another's receipt learns from it, and then reads what that core added. Their three
+/// requests are in the log of the counter's slice, and that of the other slice is empty.
 fn tells<M: SystemNames, R: Wait>(
     rt: &R,
     adder: &mut Core<'_, ExplicitFile, M>,
     rest: &mut [Core<'_, ExplicitFile, M>],
-) -> bool {
+) -> bool
+    requires slices { M.setup.slices ≡ 2 }
+{
     let Some(reader) = rest.first_mut() else {
         return false;
     };
     let asked = adder.issue(rt, request(COUNTERS[0], 0, Op::Add(DELTA)));
-    match next_receipt(rt, adder) {
+    let learnt = match next_receipt(rt, adder) {
         Some(added) => asked == Ok(Answer::Pending) && learns(rt, reader, &added),
         None => false,
-    }
+    };
+    let logged = adder.inspect(rt, SliceId(0), LogLength) == 3;
+    let empty = adder.inspect(rt, SliceId(1), LogLength) == 0;
+    learnt && logged && empty
 }
 
 fn learns<M: SystemNames, R: Wait>(

@@ -121,7 +121,7 @@ fn settled<N: SliceNames, R: Wait>(
 
 /// How many entries the slice's log has.
 #[derive(Drop)]
-struct LogLength;
+pub struct LogLength;
 
 impl Question<ExplicitFile> for LogLength {
     type Answer = usize;

@@ -1,3 +1,4 @@
+pub mod Accepted
 pub mod Booked
 pub mod Compared
 pub mod Counts
@@ -7,11 +8,14 @@ pub mod Issued
 pub mod Last
 pub mod Marks
 pub mod New
+pub mod Numbered
+pub mod Picked
 pub mod Placed
 pub mod Ports
 pub mod Quiet
 pub mod Removed
 pub mod Settled
+pub mod Targets
 pub mod Tied
 pub mod Times
 pub mod Values

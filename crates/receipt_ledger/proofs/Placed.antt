@@ -1,5 +1,5 @@
 -- Where the word of a request lies, by what a slice answers.
-use Rattle.std.proofs.Common.{◌≡◌, ◌≢◌, ℕ, ◌*◌, ◌/◌, ◌%◌, ◌<◌, ◌≤◌, ◌⊎◌, Bool, true, false, not, if◌then◌else◌, Ok, Err, Result, Option, Some, None, inl, inr, refl, sym, subst, ⊎_elim, arith}
+use Rattle.std.proofs.Common.{◌≡◌, ◌≢◌, ℕ, ◌*◌, ◌/◌, ◌%◌, ◌<◌, ◌≤◌, Bool, true, false, not, if◌then◌else◌, Ok, Err, Result, Option, Some, None, inl, inr, refl, sym, subst, arith}
 use Rattle.std.specs.Prelude.{◌==◌, ◌&&◌, nat_lt, IsSome}
 use Rattle.std.proofs.lemmas.Bool.{false_from_ne_true, leb-false, leb-true}
 use Rattle.std.proofs.lemmas.Nat.{div-add-mod'}

@@ -64,6 +64,10 @@ pub record IsOwn (c : Config) (number : ℕ) (core : CoreId) (r : Receipt) : Typ
   pub slice : r.slice.0 ≡ number
   pub entry : IsEntryOf c number core r.entry
 
+-- Each of the receipts is such a one.
+abbrev pub AreOwn : Config → ℕ → CoreId → List Receipt → Type 0
+AreOwn c number core receipts = (place : ℕ) (r : Receipt) → slice_get receipts place ≡ Some r → IsOwn c number core r
+
 -- The port is one of the slice of this number: it holds one part of each ledger, and in it just what was accepted and
 -- handed out through it. Its receipts are its own, and its list has room for one of each request that was accepted.
 pub record IsPort (c : Config) (number : ℕ) (p : PortView) (shares : Amounts) : Type 0 where
@@ -73,7 +77,7 @@ pub record IsPort (c : Config) (number : ℕ) (p : PortView) (shares : Amounts) 
   pub fewer : length p.receipts ≤ length p.asked
   pub reserved : length p.asked ≤ p.room.receipts
   pub greatest : seen_of p.receipts ≤ p.seen
-  pub own : (place : ℕ) (r : Receipt) → slice_get p.receipts place ≡ Some r → IsOwn c number p.core r
+  pub own : AreOwn c number p.core p.receipts
 
 -- a port through which nothing was asked for yet
 abbrev pub fresh_port : CoreId → SliceId → PortView

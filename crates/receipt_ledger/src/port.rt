@@ -1,6 +1,6 @@
 ghost use Rattle.std.specs.Prelude.{◌≡◌, ◌+◌, ◌<◌, ◌≤◌, true, false, length, slice_get, slice_set, vec_capacity, vec_len, OnOk, Some};
 ghost use Rattle.receipt_ledger.specs.Answers.{IsGiven, IsLastOf};
-ghost use Rattle.receipt_ledger.specs.Port.{HasRoom, IsEntryOf, IsWithRoom, fresh_port, with_request, with_seen};
+ghost use Rattle.receipt_ledger.specs.Port.{AreOwn, HasRoom, IsEntryOf, IsWithRoom, fresh_port, with_request, with_seen};
 ghost use Rattle.receipt_shares.specs.Names.{AreCounters};
 ghost use Rattle.receipt_shares.specs.Totals.{nothing, only_accepted, together};
 
@@ -80,6 +80,7 @@ impl<N: SliceNames> Port<N> {
     pub fn receipts(&self) -> &[Receipt]
         ensures receipts { result.now ≡ self.now.receipts }
         ensures fewer { length result.now ≤ length self.now.asked }
+        ensures own { AreOwn N.setup N.number self.now.core result.now }
     {
         &self.receipts
     }

@@ -1,4 +1,4 @@
-use Rattle.std.proofs.Common.{◌≡◌, ◌∙◌, Some, ap, eq-eqb, false, get_or, map, rules, sym}
+use Rattle.std.proofs.Common.{◌≡◌, ◌∙◌, Some, ap, eq-eqb, get_or, map, rules, sym}
 use Rattle.std.specs.Prelude.{◌==◌, find}
 use Rattle.std.proofs.lemmas.Bool.{false≢true, ne_eqb}
 use Rattle.receipt_ledger.proofs.Compared.{find-here, find-none, find-past, finds-none, finds-some}

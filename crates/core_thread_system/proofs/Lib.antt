@@ -1,3 +1,5 @@
 mod Checked
 mod Dealt
+mod Made
+mod Owned
 mod Placed

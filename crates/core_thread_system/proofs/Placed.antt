@@ -1,5 +1,5 @@
 -- A request that is taken to the slice of its word is at its slice.
-use Rattle.std.proofs.Common.{◌≡◌, ◌%◌, ◌/◌, Ok, Err, Result, eq-eqb, refl, sym, ◌∙◌}
+use Rattle.std.proofs.Common.{◌%◌, ◌/◌, Ok, Err, Result, eq-eqb, refl, sym, ◌∙◌}
 use Rattle.std.proofs.lemmas.Bool.{false≢true}
 use Rattle.address_map.specs.Place.{line_of, slice_of}
 use Rattle.address_map.specs.declared.address.WordAddr.{WordAddr}

@@ -1,4 +1,6 @@
 pub mod Answers
 pub mod Core
 pub mod Error
+pub mod Program
+pub mod Running
 pub mod System

@@ -2,7 +2,7 @@ ghost use Rattle.std.specs.Prelude.{◌≡◌, ◌+◌, ◌<◌, ◌≤◌, ◌%
 ghost use Rattle.core_thread_system.specs.Answers.{AfterCollect, AfterIssue, IsAtItsSlice, refusal_of, tags_after};
 ghost use Rattle.core_thread_system.specs.Core.{accepted_of, asked_of, core_of, port_at, receipts_of, with_port};
 ghost use Rattle.receipt_ledger.specs.Answers.{AfterReply, AfterRequest, PlacesWord};
-ghost use Rattle.receipt_ledger.specs.Port.{with_seen};
+ghost use Rattle.receipt_ledger.specs.Port.{AreOwn, with_seen};
 ghost use Rattle.slice_core.specs.Facts.{IsNotBrokenNext};
 ghost use Rattle.slice_core_answer.specs.declared.answer.Evicted.TheVariants.{NotHeld};
 
@@ -127,7 +127,8 @@ impl<'a, F: MissFile, M: SystemNames> Core<'a, F, M> {
 
     /// Its receipts of a slice, in the order in which they were handed out.
     pub fn receipts(&self, slice: SliceId) -> &[Receipt]
-        ensures { result.now ≡ receipts_of self.now slice.0 }
+        ensures receipts { result.now ≡ receipts_of self.now slice.0 }
+        ensures own { AreOwn M.setup slice.0 (port_at self.now slice.0).core result.now }
     {
         match slice.0 {
             0 => self.port0.receipts(),
@@ -200,6 +201,15 @@ impl<'a, F: MissFile, M: SystemNames> Core<'a, F, M> {
         ensures others { self.new ≡ with_port self.old slice.0 (port_at self.new slice.0) }
     {
         at_slice!(self, slice, |at, port| at.issue(rt, port, request))
+    }
+
+    /// How many slices the system has.
+    pub(crate) fn slices(&self) -> usize
+        ensures slices { result ≡ M.setup.slices }
+        ensures some { 1 ≤ result }
+        ensures few { result ≤ 4 }
+    {
+        self.system.slices()
     }
 
     /// Takes the next reply: each slice is asked once, beginning after the one that gave last, until one gives.

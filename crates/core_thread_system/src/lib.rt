@@ -8,13 +8,14 @@
 //! - [`Core::issue`] asks the word's slice. A word past the memory, a tag above 63 and a tag in flight are refused by
 //!   the core itself.
 //! - [`Core::collect`] takes the next reply, from whichever slice has one; [`Core::turn`] moves messages on besides.
+//! - [`Core::run`] runs a program of such calls, and tells a [`Gate`] of each request.
 //! - [`Core::settle`] settles a slice with the ports that all cores lend.
 //! - [`System::look`] keeps a slice's lock for a look at its state.
 //!
 //! A contract sees a core as a `CoreView` (`specs/Core.antt`): its four ports, its tags and the slice that it asks
-//! first. `specs/Answers.antt` says what each call leaves of it. Of which machine all this is, the type says: a
-//! [`SystemNames`], which whoever builds a system gets from [`SystemKeys`] by picking the configuration and the names of
-//! the ledgers.
+//! first. `specs/Answers.antt` says what each call leaves of it, and `specs/Program.antt` what a program has made. Of
+//! which machine all this is, the type says: a [`SystemNames`], which whoever builds a system gets from [`SystemKeys`]
+//! by picking the configuration and the names of the ledgers.
 #![tactic(auto)]
 
 pub use blanks::SystemBlanks;
@@ -23,6 +24,7 @@ pub use error::BuildError;
 pub use look::SystemLook;
 pub use names::{All, Nth, SystemKeys, SystemNames};
 pub use port_set::PortSet;
+pub use program::{Gate, Open, Outcome, Step};
 pub use system::System;
 
 mod blanks;
@@ -32,6 +34,8 @@ mod lends;
 mod look;
 mod names;
 mod port_set;
+mod program;
+mod run;
 mod settle;
 mod system;
 mod tags;

@@ -1,4 +1,4 @@
-ghost use Rattle.std.specs.Prelude.{◌≡◌};
+ghost use Rattle.std.specs.Prelude.{◌≡◌, ◌<◌, false, IfSome};
 ghost use Rattle.address_map.specs.CoreSet.{has, with, without};
 
 use address_map::{CoreId, CoreSet};
@@ -24,4 +24,11 @@ pub(crate) const fn without_tag(tags: u64, tag: u8) -> u64
     ensures { result ≡ without tags tag }
 {
     CoreSet::from_bits(tags).without(CoreId(tag)).bits()
+}
+
+/// The lowest tag that isn't among these.
+pub(crate) fn free_tag(tags: u64) -> Option<u8>
+    ensures { IfSome result (λ tag. (tag < 64) × (has tags tag ≡ false)) }
+{
+    (0..64).find(|tag| !has_tag(tags, *tag))
 }

@@ -1,0 +1,22 @@
+-- What the parts of a run answer.
+use Rattle.std.specs.Prelude.{List, [], ◌∷◌, Result, Ok}
+use Rattle.address_map.specs.declared.request.Request.{Request}
+use Rattle.core_thread_system.specs.Program.{IsAccess}
+use Rattle.core_thread_system.specs.declared.program.Step.{Step}
+use Rattle.core_thread_system.specs.declared.program.Step.TheVariants as steps
+use Rattle.core_thread_system.specs.declared.run.Halt.{Halt}
+use Rattle.core_thread_system.specs.declared.run.Halt.TheVariants as halts
+use Rattle.receipt_ledger.specs.declared.receipt.Answer.{Answer}
+use Rattle.receipt_ledger.specs.declared.receipt.Answer.TheVariants as answers
+use Rattle.slice_core_answer.specs.declared.answer.Refused.{Refused}
+
+-- what a request that was answered so has made: its access, where it was accepted
+abbrev pub accepted_steps : Request → Result Answer Refused → List Step
+accepted_steps request (Ok (answers.Done r)) = steps.Access request.word request.op ∷ []
+accepted_steps request (Ok answers.Pending) = steps.Access request.word request.op ∷ []
+accepted_steps request answer = []
+
+-- A step may end a run for want of turns, and an access because it is refused.
+abbrev pub IsHaltOf : Step → Halt → Type 0
+IsHaltOf step halts.Limit = Unit {0}
+IsHaltOf step (halts.Refused refused) = IsAccess step

@@ -1,0 +1,24 @@
+-- Why an audit fails.
+use Rattle.std.specs.Prelude.{◌≡◌, ◌<◌, ◌≤◌, List}
+use Rattle.address_map.specs.declared.address.CoreId.{CoreId}
+use Rattle.address_map.specs.declared.config.Config.{Config}
+use Rattle.core_thread_system.specs.Core.{CoreView}
+use Rattle.drain.specs.Audited.{AreSettledBelow}
+use Rattle.drain.specs.Whole.{AreOnceBelow, AreWhole, numbers_of}
+use Rattle.drain.specs.declared.fault.AuditError.{AuditError}
+use Rattle.drain.specs.declared.fault.AuditError.TheVariants as errors
+use Rattle.receipt_ledger.specs.History.{times}
+
+-- The core is one of the machine's, and each core below it stands once.
+pub record IsLeast (c : Config) (cores : List CoreView) (core : CoreId) : Type 0 where
+  pub configured : core.0 < c.cores
+  pub lower : AreOnceBelow core.0 cores
+
+-- The error names the least core that doesn't stand once. Where each does, it names a slice that isn't quiet; or one
+-- that differs, below which each slice is settled; or memory was wanting once all slices were settled.
+abbrev pub IsFaultOf : Config → List CoreView → AuditError → Type 0
+IsFaultOf c cores (errors.Missing core) = IsLeast c cores core × (times core.0 (numbers_of cores) ≡ 0)
+IsFaultOf c cores (errors.Repeated core) = IsLeast c cores core × (2 ≤ times core.0 (numbers_of cores))
+IsFaultOf c cores (errors.NotQuiet slice) = AreWhole c cores × (slice.0 < c.slices)
+IsFaultOf c cores (errors.Differs slice) = AreWhole c cores × (slice.0 < c.slices) × AreSettledBelow c cores slice.0
+IsFaultOf c cores errors.Memory = AreWhole c cores × AreSettledBelow c cores c.slices

@@ -2,6 +2,10 @@ mod Accepted
 mod Appended
 mod AuditedInTurn
 mod Counting
+mod InPlace
+mod Owned
 mod Received
 mod SettledInTurn
+mod SettledSlice
 mod Sums
+mod Valued

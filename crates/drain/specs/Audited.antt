@@ -1,5 +1,5 @@
 -- What an audit says of a machine's cores.
-use Rattle.std.specs.Prelude.{◌≡◌, ℕ, ◌+◌, ◌<◌, ◌%◌, ◌^◌, List, length, map}
+use Rattle.std.specs.Prelude.{◌≡◌, ℕ, ◌+◌, ◌<◌, ◌%◌, ◌^◌, List, filter, length, map}
 use Rattle.address_map.specs.Words.{initial_value}
 use Rattle.address_map.specs.declared.address.WordAddr.{WordAddr}
 use Rattle.address_map.specs.declared.config.Config.{Config}
@@ -10,6 +10,7 @@ use Rattle.drain.specs.declared.report.CounterValue.{CounterValue}
 use Rattle.receipt_ledger.specs.Port.{entries_of}
 use Rattle.receipt_ledger.specs.declared.receipt.Receipt.{Receipt}
 use Rattle.slice_core_log.specs.Log.{named}
+use Rattle.slice_core_plan.specs.Initial.{is_of_slice}
 use Rattle.slice_lock.specs.Settled.{AreSettled}
 
 -- The slice of this number is settled with the cores' ports: the receipts that they have of it are exactly a log, each
@@ -29,13 +30,24 @@ value_after c receipts word = (initial_value c.init word + named (entries_of rec
 abbrev pub counter_after : Config → List Receipt → WordAddr → CounterValue
 counter_after c receipts word = record { word = word; value = value_after c receipts word }
 
+-- the values, of these, of the slice's counters
+abbrev pub values_in : Config → ℕ → List CounterValue → List ℕ
+values_in c slice counters =
+    map (λ counter. counter.value) (filter (λ counter. is_of_slice c slice counter.word) counters)
+
+-- Each slice is settled with the cores' ports, and left these values in its counters.
+abbrev pub AreSettledWith : Config → List CoreView → List CounterValue → Type 0
+AreSettledWith c cores counters =
+    (slice : ℕ) → slice < c.slices → AreSettled c slice (ports_of cores slice) (values_in c slice counters)
+
 -- The cores are those of the machine, each once. The receipts are all of theirs, by core, then slice, then in the order
--- in which they were handed out, and as many as requests were accepted. Each counter, in the configured order, has its
--- initial value and what all receipts add to it, modulo 2^64. And each slice has a history.
+-- in which they were handed out, and as many as requests were accepted. Each counter, in the configured order, has the
+-- value that its slice's log leaves there, and that is its initial value and what all receipts add to it, modulo 2^64. And
+-- each slice has a history.
 pub record IsAudited (c : Config) (cores : List CoreView) (receipts : List Receipt) (counters : List CounterValue)
     : Type 0 where
   pub whole : AreWhole c cores
   pub receipts_are : receipts ≡ receipts_by_core c cores
   pub accepted : length receipts ≡ accepted_by c cores
   pub counters_are : counters ≡ map (counter_after c receipts) c.counters
-  pub history : AreSettledBelow c cores c.slices
+  pub history : AreSettledWith c cores counters

@@ -2,7 +2,7 @@ ghost use Rattle.std.specs.Prelude.{◌≡◌, IfErr, IfOk};
 ghost use Rattle.drain.specs.Audited.{IsAudited};
 ghost use Rattle.drain.specs.Fault.{IsFaultOf};
 
-use super::counted::count;
+use super::counted::{listed, unsettled};
 use super::fault::{AuditError, AuditFault};
 use super::gathered::gather;
 use super::report::Audit;
@@ -46,11 +46,12 @@ fn audit_cores<'a, F: MissFile, M: SystemNames, R: Wait>(
 {
     let config = system.config();
     check_whole(config.cores(), cores)?;
-    settle_all(rt, system, cores)?;
+    let mut counters = unsettled(config);
+    settle_all(rt, system, cores, &mut counters)?;
     let Ok(receipts) = gather(alloc, config.cores(), config.slices(), cores) else {
         return Err(AuditError::Memory);
     };
-    let Ok(counters) = count(alloc, config, &receipts) else {
+    let Ok(counters) = listed(alloc, &counters) else {
         return Err(AuditError::Memory);
     };
     Ok(Audit { receipts, counters })

@@ -1,40 +1,34 @@
-ghost use Rattle.std.specs.Prelude.{◌≡◌, map, IfOk};
-ghost use Rattle.drain.specs.Audited.{counter_after, value_after};
+ghost use Rattle.std.specs.Prelude.{◌≡◌, IfOk, map};
+ghost use Rattle.drain.specs.Valued.{unset_counter};
 
 use super::report::CounterValue;
-use address_map::{Checked, Op, WordAddr};
-use receipt_ledger::Receipt;
-use std::alloc::{AllocFailed, Global};
+use address_map::Checked;
+use arrayvec::ArrayVec;
+use std::alloc::{AllocError, Global};
 
-/// The value of each counter, in the configured order, by what the receipts add to it.
-pub(crate) fn count(
-    alloc: Global,
-    config: &Checked,
-    receipts: &[Receipt],
-) -> Result<Vec<CounterValue>, AllocFailed<CounterValue>>
-    ensures { IfOk result (λ counters. counters.items ≡ map (counter_after config.now receipts.now) config.now.counters) }
+/// The counters, in the configured order, before any slice is settled.
+pub(crate) fn unsettled(config: &Checked) -> ArrayVec<CounterValue, 8>
+    ensures { result.items ≡ map unset_counter config.now.counters }
 {
-    let mut counters = Vec::new(alloc);
+    let _few = config.slices();
+    let mut counters = ArrayVec::new();
     for word in config.counters() {
         counters.push(CounterValue {
             word: *word,
-            value: value_of(config, receipts, *word),
-        })?;
+            value: 0,
+        });
     }
-    Ok(counters)
+    counters
 }
 
-// A counter's initial value and all that the receipts add to it.
-fn value_of(config: &Checked, receipts: &[Receipt], word: WordAddr) -> u64
-    ensures { result ≡ value_after config.now receipts.now word }
+/// The same counters in a list of their own.
+pub(crate) fn listed(
+    alloc: Global,
+    counters: &[CounterValue],
+) -> Result<Vec<CounterValue>, AllocError>
+    ensures { IfOk result (λ list. list.items ≡ counters.now) }
 {
-    let mut value = config.initial_word(word);
-    for receipt in receipts {
-        if receipt.entry.word == word {
-            if let Op::Add(delta) = receipt.entry.op {
-                value = value.wrapping_add(delta);
-            }
-        }
-    }
-    value
+    let mut list = Vec::new(alloc);
+    list.extend_from_slice(counters)?;
+    Ok(list)
 }

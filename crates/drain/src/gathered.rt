@@ -1,4 +1,5 @@
 ghost use Rattle.std.specs.Prelude.{◌≡◌, ◌≤◌, ◌++◌, IfOk, OnOk};
+ghost use Rattle.drain.specs.Owned.{AreOwnAt, AreOwnBelow, HasItsOwn};
 ghost use Rattle.drain.specs.Receipts.{receipts_at, receipts_by_core, receipts_of_core};
 
 use super::whole::number_of;
@@ -18,7 +19,8 @@ pub(crate) fn gather<F: MissFile, M: SystemNames>(
     requires configured { configured ≡ M.setup.cores }
     requires slices { slices ≡ M.setup.slices }
     requires few { slices ≤ 4 }
-    ensures { IfOk result (λ receipts. receipts.items ≡ receipts_by_core M.setup cores.now) }
+    ensures receipts { IfOk result (λ receipts. receipts.items ≡ receipts_by_core M.setup cores.now) }
+    ensures own { OnOk result (AreOwnBelow M.setup cores.now M.setup.cores) }
 {
     let mut receipts = Vec::new(alloc);
     for number in 0..configured {
@@ -36,7 +38,8 @@ fn append_at<F: MissFile, M: SystemNames>(
 ) -> Result<(), AllocError>
     requires slices { slices ≡ M.setup.slices }
     requires few { slices ≤ 4 }
-    ensures { OnOk result (receipts.new.items ≡ receipts.old.items ++ receipts_at M.setup cores.now number) }
+    ensures receipts { OnOk result (receipts.new.items ≡ receipts.old.items ++ receipts_at M.setup cores.now number) }
+    ensures own { OnOk result (AreOwnAt M.setup cores.now number) }
 {
     for core in cores {
         if number_of(core) == number {
@@ -54,7 +57,8 @@ fn append_core<F: MissFile, M: SystemNames>(
 ) -> Result<(), AllocError>
     requires slices { slices ≡ M.setup.slices }
     requires few { slices ≤ 4 }
-    ensures { OnOk result (receipts.new.items ≡ receipts.old.items ++ receipts_of_core M.setup core.now) }
+    ensures receipts { OnOk result (receipts.new.items ≡ receipts.old.items ++ receipts_of_core M.setup core.now) }
+    ensures own { OnOk result (HasItsOwn M.setup M.setup.slices core.now) }
 {
     for slice in 0..slices {
         receipts.extend_from_slice(core.receipts(SliceId(slice as u8)))?;

@@ -17,6 +17,16 @@ pub struct CounterValue {
     pub value: u64,
 }
 
+/// Word 0 with the value 0, which stands in the free places of a fixed table.
+impl Default for CounterValue {
+    fn default() -> CounterValue {
+        CounterValue {
+            word: WordAddr(0),
+            value: 0,
+        }
+    }
+}
+
 /// What an audit found: the receipts of all cores, by core, then slice, then in the order in which they were handed
 /// out; and the value of each counter, in the configured order.
 #[derive(Drop)]

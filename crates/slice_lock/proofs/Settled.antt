@@ -1,9 +1,11 @@
 -- What can be said of settled ports where nobody sees the state.
-use Rattle.std.proofs.Common.{◌≡◌, ℕ, ◌∙◌, List, subst, sym}
+use Rattle.std.proofs.Common.{◌≡◌, ℕ, ◌∙◌, List, map, subst, sym}
+use Rattle.address_map.specs.declared.address.WordAddr.{WordAddr}
 use Rattle.address_map.specs.declared.config.Config.{Config}
 use Rattle.receipt_ledger.specs.Port.{PortView}
 use Rattle.receipt_ledger.specs.Settled.{IsSettled}
-use Rattle.slice_core_log.specs.Log.{IsLegal, initially}
+use Rattle.receipt_shares.specs.Names.{counters_of}
+use Rattle.slice_core_log.specs.Log.{IsLegal, initially, value}
 use Rattle.slice_core_plan.specs.View.{View}
 use Rattle.slice_lock.specs.Settled.{AreSettled, init_of}
 
@@ -15,5 +17,8 @@ settled c number v ports values init is = record {
   history = is.history;
   legal = subst (λ pairs. IsLegal (initially pairs) v.log) init is.legal;
   ordered = is.ordered;
+  performed =
+      subst (λ pairs. values ≡ map (λ (word : WordAddr). value (initially pairs word.0) v.log word.0) (counters_of c number))
+      init is.state;
   values_are = is.named_are;
 }

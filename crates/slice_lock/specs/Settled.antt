@@ -7,7 +7,7 @@ use Rattle.receipt_ledger.specs.History.{AreHeld, AreHistory, receipts_in}
 use Rattle.receipt_ledger.specs.Port.{PortView, entries_of}
 use Rattle.receipt_ledger.specs.Settled.{accepted_in}
 use Rattle.receipt_shares.specs.Names.{counters_of}
-use Rattle.slice_core_log.specs.Log.{IsLegal, IsOrdered, initially, named}
+use Rattle.slice_core_log.specs.Log.{IsLegal, IsOrdered, initially, named, value}
 use Rattle.slice_core_log.specs.declared.entry.Entry.{Entry}
 use Rattle.slice_core_plan.specs.Initial.{is_of_slice}
 use Rattle.slice_core_plan.specs.View.{View, IsQuiet}
@@ -19,14 +19,15 @@ abbrev pub init_of : Config → ℕ → List (WordAddr × ℕ)
 init_of c number = filter (λ pair. is_of_slice c number pair.0) c.init
 
 -- As many receipts as requests were accepted. By number they are exactly a log, which is legal and in each core's order.
--- And these are the values of the slice's counters, ascending by word: each is its initial value and what the receipts
--- add to it, modulo 2^64.
+-- And these are the values of the slice's counters, ascending by word: each is what the log leaves there, and that is its
+-- initial value and what the receipts add to it, modulo 2^64.
 pub record AreSettled (c : Config) (number : ℕ) (ports : List PortView) (values : List ℕ) : Type 0 where
   pub handed : length (receipts_in ports) ≡ accepted_in ports
   pub log : List Entry
   pub history : AreHistory ports log
   pub legal : IsLegal (initially (init_of c number)) log
   pub ordered : IsOrdered log
+  pub performed : values ≡ map (λ word. value (initially (init_of c number) word.0) log word.0) (counters_of c number)
   pub values_are :
       values
       ≡ map (λ word. (initial_value c.init word + named (entries_of (receipts_in ports)) word.0) % 2 ^ 64)

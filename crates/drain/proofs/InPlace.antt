@@ -1,6 +1,6 @@
 -- A list of which one element after the other is changed in its place, and what stands at an element's rank among those
 -- that pass a test.
-use Rattle.std.proofs.Common.{◌≡◌, ℕ, zero, suc, ◌+◌, ◌<◌, ◌≤◌, ◌∙◌, Bool, true, false, List, [], ◌∷◌, length, refl, sym, ap, cond, arith, filter, take, get_or, set, map}
+use Rattle.std.proofs.Common.{◌≡◌, ℕ, zero, suc, ◌+◌, ◌<◌, ◌≤◌, ◌∙◌, Bool, true, false, List, [], ◌∷◌, length, refl, sym, ap, cond, arith, filter, get_or, set, map}
 
 -- the list with its first elements changed
 abbrev pub changed : {X : Type 0} → (X → X) → ℕ → List X → List X

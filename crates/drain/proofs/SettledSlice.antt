@@ -1,6 +1,5 @@
 -- One counter after the other, while a slice is settled: its own get the values that it has for them, in turn.
 use Rattle.std.proofs.Common.{◌≡◌, ℕ, ◌+◌, ◌<◌, ◌≤◌, ◌∙◌, ◌/◌, ◌%◌, Bool, true, false, List, length, if◌then◌else◌, refl, sym, ap, cond, arith, filter, get_or, map, set, eq-eqb}
-use Rattle.std.specs.Prelude.{◌==◌}
 use Rattle.std.proofs.lemmas.Bool.{ne_eqb}
 use Rattle.std.proofs.lemmas.List.{length-map}
 use Rattle.address_map.specs.declared.address.WordAddr.{WordAddr}

@@ -10,14 +10,13 @@ use Rattle.core_thread_system.specs.Core.{CoreView}
 use Rattle.drain.specs.Audited.{AreSettledBelow, AreSettledWith, counter_after, values_in}
 use Rattle.drain.specs.Owned.{AreOwnBelow}
 use Rattle.drain.specs.Receipts.{ports_of, receipts_by_core}
-use Rattle.drain.specs.Valued.{home_of, settled_counter, settled_value, unset_counter, with_slice, with_slices}
+use Rattle.drain.specs.Valued.{home_of, settled_counter, unset_counter, with_slice, with_slices}
 use Rattle.drain.specs.Whole.{AreConfigured}
 use Rattle.drain.specs.declared.report.CounterValue.{CounterValue}
 use Rattle.drain.proofs.Owned.{adds-at-home, adds_to}
 use Rattle.receipt_ledger.specs.History.{receipts_in}
 use Rattle.receipt_ledger.specs.Port.{entries_of}
 use Rattle.receipt_ledger.specs.declared.receipt.Receipt.{Receipt}
-use Rattle.receipt_shares.specs.Names.{counters_of}
 use Rattle.slice_core_log.specs.Log.{named}
 use Rattle.slice_core_plan.specs.Initial.{is_of_slice}
 use Rattle.slice_lock.specs.Settled.{AreSettled}

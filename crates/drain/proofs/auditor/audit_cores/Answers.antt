@@ -1,11 +1,8 @@
-use Rattle.std.proofs.Common.{◌≡◌, ◌≤◌, ◌∙◌, List, length, map, ap, subst, sym}
-use Rattle.std.proofs.lemmas.List.{length-map}
-use Rattle.address_map.specs.declared.address.WordAddr.{WordAddr}
+use Rattle.std.proofs.Common.{◌≤◌, ◌∙◌, List, ap, subst}
 use Rattle.address_map.specs.declared.config.Config.{Config}
 use Rattle.core_thread_system.specs.Core.{CoreView}
 use Rattle.drain.specs.Owned.{AreOwnBelow}
 use Rattle.drain.specs.Receipts.{receipts_by_core}
-use Rattle.drain.specs.Valued.{settled_counter, unset_counter}
 use Rattle.drain.proofs.AuditedInTurn.{audited, written-back}
 use Rattle.drain.proofs.auditor.audit_cores.Goals as goal
 

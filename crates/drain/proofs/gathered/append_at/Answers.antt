@@ -1,4 +1,4 @@
-use Rattle.std.proofs.Common.{◌≡◌, ◌∙◌, List, ap, arith, eq-eqb, sym}
+use Rattle.std.proofs.Common.{◌≡◌, ◌∙◌, ap, arith, eq-eqb, sym}
 use Rattle.std.specs.Prelude.{◌==◌}
 use Rattle.std.proofs.lemmas.Bool.{ne_eqb}
 use Rattle.core_thread_system.specs.Core.{CoreView}

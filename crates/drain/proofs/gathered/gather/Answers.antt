@@ -1,4 +1,4 @@
-use Rattle.std.proofs.Common.{◌≡◌, []}
+use Rattle.std.proofs.Common.{[]}
 use Rattle.drain.proofs.Appended.{range-appended}
 use Rattle.drain.proofs.Owned.{own-at-more}
 use Rattle.drain.specs.Receipts.{receipts_at}

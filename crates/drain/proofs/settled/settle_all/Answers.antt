@@ -5,7 +5,6 @@ use Rattle.core_thread_system.specs.Core.{CoreView}
 use Rattle.drain.proofs.SettledInTurn.{AreTried, all-tried, all-valued, none-settled, tried-again, tried-first, tried-settled}
 use Rattle.drain.proofs.Valued.{none-set, unset-words}
 use Rattle.drain.specs.Audited.{IsSettledSlice}
-use Rattle.drain.specs.declared.report.CounterValue.{CounterValue}
 use Rattle.drain.specs.Valued.{with_slice}
 use Rattle.drain.proofs.settled.settle_all.Goals as goal
 use Rattle.drain.proofs.settled.settle_all.Goals.{in-Ok, in-Err-Differs+then-is_none, in-Err-Differs+else-is_none}

@@ -1,4 +1,4 @@
-use Rattle.std.proofs.Common.{◌≡◌, ◌+◌, ◌<◌, ◌∙◌, List, ap, arith, length, map, refl, subst, sym}
+use Rattle.std.proofs.Common.{◌≡◌, ◌∙◌, List, ap, arith, length, map, refl}
 use Rattle.address_map.specs.declared.config.Config.{Config}
 use Rattle.core_thread_system.specs.Core.{CoreView}
 use Rattle.drain.specs.Valued.{with_slice}

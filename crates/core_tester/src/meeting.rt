@@ -1,14 +1,15 @@
-use super::adding::LIMIT;
+use super::adding::all_finish;
 use super::flags::wait_for;
 use super::row::COUNTERS;
 use address_map::{CoreId, Op, Request, SliceId};
-use core_thread::{Job, Movers, run_all};
-use core_thread_system::{All, BuildError, Core, Gate, Outcome, Step, System, SystemKeys};
+use core_thread::Job;
+use core_thread_system::{All, Core, Gate, Step, System, SystemKeys};
 use mshr_file::MissFile;
 use receipt_ledger::Answer;
 use slice_core::SliceState;
 use slice_core_answer::Refused;
 use slice_lock::Question;
+use std::alloc::AllocError;
 use std::sync::Wait;
 use std::sync::atomic::AtomicBool;
 use std::sync::atomic::Ordering::SeqCst;
@@ -50,19 +51,30 @@ impl<F: MissFile> Question<F> for UntilAnswered<'_> {
 pub fn other_slice_answers<
     F: MissFile + Send,
     M: SystemKeys + Send + Sync,
-    R: AllocGlobal + Threads + Wait + Sync,
->(rt: &R, system: &System<F, All<M>>, cores: Vec<Core<'_, F, All<M>>>) -> Result<bool, BuildError> {
-    let mut cores = cores;
-    let (Some(mut asking), Some(looking)) = (cores.pop(), cores.pop()) else {
-        return Ok(false);
-    };
+    R: Threads + Wait + Sync,
+>(rt: &R, system: &System<F, All<M>>, jobs: &mut [Job<'_, F, All<M>>]) -> bool {
+    match jobs.split_first_mut() {
+        Some((looking, rest)) => match rest.first_mut() {
+            Some(asking) => asks_meanwhile(rt, system, &looking.core, &mut asking.core),
+            None => false,
+        },
+        None => false,
+    }
+}
+
+fn asks_meanwhile<F: MissFile + Send, M: SystemKeys + Send + Sync, R: Threads + Wait + Sync>(
+    rt: &R,
+    system: &System<F, All<M>>,
+    looking: &Core<'_, F, All<M>>,
+    asking: &mut Core<'_, F, All<M>>,
+) -> bool {
     let flags = Flags::new();
     let (seen, asked) = thread::join(
         rt,
-        || looks(rt, system, &looking, &flags),
-        || asks(rt, &mut asking, &flags),
+        || looks(rt, system, looking, &flags),
+        || asks(rt, asking, &flags),
     );
-    Ok(seen && asked == Some(Ok(Answer::Pending)))
+    seen && asked == Some(Ok(Answer::Pending))
 }
 
 /// Looks at slice 0, which each machine has.
@@ -120,29 +132,19 @@ impl Gate for Meeting {
 }
 
 /// Two cores each make a request. Answers whether each was in its gate while the other was.
-pub fn both_meet<
-    F: MissFile + Send,
-    M: SystemKeys + Send + Sync,
-    R: AllocGlobal + Threads + Wait + Sync,
->(rt: &R, system: &System<F, All<M>>, cores: Vec<Core<'_, F, All<M>>>) -> Result<bool, BuildError> {
-    let mut jobs = Vec::new(rt.alloc());
-    for core in cores {
-        let program = vec![in rt.alloc(); Step::Access(COUNTERS[0], Op::Load), Step::Settle]?;
-        jobs.push(Job {
-            core,
-            program,
-            outcome: Outcome::NotRun,
-        })?;
+pub fn both_meet<F: MissFile + Send, M: SystemKeys + Send + Sync, R: Threads + Wait + Sync>(
+    rt: &R,
+    system: &System<F, All<M>>,
+    jobs: &mut [Job<'_, F, All<M>>],
+) -> Result<bool, AllocError> {
+    for job in jobs.iter_mut() {
+        job.program.push(Step::Access(COUNTERS[0], Op::Load))?;
+        job.program.push(Step::Settle)?;
     }
-    let Some(movers) = Movers::new(0) else {
-        return Ok(false);
-    };
     let meeting = Meeting {
         came: Flags::new(),
         met: Flags::new(),
     };
-    let started = run_all(rt, system, &mut jobs, movers, &meeting, LIMIT).is_ok();
-    let finished = jobs.iter().all(|job| job.outcome == Outcome::Finished);
-    let met = meeting.met.first.load(SeqCst) && meeting.met.second.load(SeqCst);
-    Ok(started && finished && met)
+    let finished = all_finish(rt, system, jobs, 0, &meeting);
+    Ok(finished && meeting.met.first.load(SeqCst) && meeting.met.second.load(SeqCst))
 }

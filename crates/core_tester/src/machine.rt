@@ -153,7 +153,7 @@ fn finds<F: MissFile, M: SystemKeys, R: AllocGlobal + Wait>(
             found
         }
         Err(fault) => {
-            drop(fault);
+            drop(fault.cores);
             Ok(false)
         }
     }

@@ -55,7 +55,7 @@ pub fn other_slice_answers<
 >(rt: &R, system: &System<F, All<M>>, jobs: &mut [Job<'_, F, All<M>>]) -> bool {
     match jobs.split_first_mut() {
         Some((looking, rest)) => match rest.first_mut() {
-            Some(asking) => asks_meanwhile(rt, system, &looking.core, &mut asking.core),
+            Some(asking) => asks_meanwhile(rt, system, &mut looking.core, &mut asking.core),
             None => false,
         },
         None => false,
@@ -65,7 +65,7 @@ pub fn other_slice_answers<
 fn asks_meanwhile<F: MissFile + Send, M: SystemKeys + Send + Sync, R: Threads + Wait + Sync>(
     rt: &R,
     system: &System<F, All<M>>,
-    looking: &Core<'_, F, All<M>>,
+    looking: &mut Core<'_, F, All<M>>,
     asking: &mut Core<'_, F, All<M>>,
 ) -> bool {
     let flags = Flags::new();
@@ -81,7 +81,7 @@ fn asks_meanwhile<F: MissFile + Send, M: SystemKeys + Send + Sync, R: Threads + 
 fn looks<F: MissFile, M: SystemKeys, R: Wait>(
     rt: &R,
     system: &System<F, All<M>>,
-    core: &Core<'_, F, All<M>>,
+    core: &mut Core<'_, F, All<M>>,
     flags: &Flags,
 ) -> bool {
     let _some = system.config().slices();

@@ -102,11 +102,7 @@ fn core_of<'a, F: MissFile, M: SystemKeys>(job: Job<'a, F, All<M>>) -> Core<'a, 
 }
 
 /// Lets the cores do what the row is about. Answers whether they did it as wanted.
-fn run<
-    F: MissFile + Send,
-    M: SystemKeys + Send + Sync,
-    R: AllocGlobal + Threads + Wait + Sync,
->(
+fn run<F: MissFile + Send, M: SystemKeys + Send + Sync, R: AllocGlobal + Threads + Wait + Sync>(
     rt: &R,
     system: &System<F, All<M>>,
     jobs: &mut [Job<'_, F, All<M>>],

@@ -77,7 +77,8 @@ fn asks_meanwhile<F: MissFile + Send, M: SystemKeys + Send + Sync, R: Threads + 
     seen && asked == Some(Ok(Answer::Pending))
 }
 
-/// Looks at slice 0, which each machine has.
+/// Looks at slice 0, which each machine has. The core is lent as `&mut`, since a thread may take what is lent to it
+/// alone wherever it may take the core.
 fn looks<F: MissFile, M: SystemKeys, R: Wait>(
     rt: &R,
     system: &System<F, All<M>>,

@@ -1,5 +1,5 @@
-/* Preloaded into the program by tests/memory and tests/lock_memory: refuses one allocation, the one that REFUSED counts
-   to, from 1. With REFUSED=0 it refuses none. It says on descriptor 3 that it refused one, and at the end how many there
+/* Preloaded into the program by tests/memory, tests/lock_memory and tests/machine_memory: refuses one allocation, the one
+   that REFUSED counts to, from 1, whichever thread makes it. With REFUSED=0 it refuses none. It says on descriptor 3 that it refused one, and at the end how many there
    were; a program that starts threads may end without that. */
 #define _GNU_SOURCE
 #include <dlfcn.h>
@@ -20,8 +20,8 @@ __attribute__((constructor)) static void start(void) {
 __attribute__((destructor)) static void end(void) { dprintf(3, "%lu\n", made); }
 
 static int is_refused(void) {
-    made++;
-    if (refused != 0 && made == refused) {
+    const unsigned long number = __atomic_add_fetch(&made, 1, __ATOMIC_SEQ_CST);
+    if (refused != 0 && number == refused) {
         static const char said[] = "refused\n";
         if (write(3, said, sizeof said - 1) < 0) abort();
         errno = ENOMEM;

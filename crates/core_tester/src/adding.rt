@@ -18,11 +18,20 @@ pub fn all_add<F: MissFile + Send, M: SystemKeys + Send + Sync, R: Threads + Wai
     jobs: &mut [Job<'_, F, All<M>>],
     times: u64,
 ) -> Result<bool, AllocError> {
+    push_all(jobs, times)?;
+    Ok(all_finish(rt, system, jobs, 2, &Open))
+}
+
+/// Each core is to add one more than its number so many times to each counter.
+pub fn push_all<F: MissFile, M: SystemKeys>(
+    jobs: &mut [Job<'_, F, All<M>>],
+    times: u64,
+) -> Result<(), AllocError> {
     for job in jobs.iter_mut() {
         let delta = u64::from(job.core.core().0) + 1;
         push_adds(&mut job.program, delta, times)?;
     }
-    Ok(all_finish(rt, system, jobs, 2, &Open))
+    Ok(())
 }
 
 /// Adds so much, so many times, to each counter.

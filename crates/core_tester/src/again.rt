@@ -12,7 +12,7 @@ const WIDE_RUNS: usize = 4;
 
 /// Makes all runs, with each setting in turn. Answers which was the first that didn't come out as wanted, counted from
 /// 1.
-pub fn first_difference<R: AllocGlobal + Threads + Wait + Sync>(
+pub fn first_difference<R: AllocGlobal + Print + Threads + Wait + Sync>(
     rt: &R,
 ) -> Result<Option<usize>, BuildError> {
     for run in 0..RUNS + WIDE_RUNS {

@@ -7,6 +7,7 @@ use super::found::is_found;
 use super::meeting::{both_meet, other_slice_answers};
 use super::programs::{large_sum, programs_end};
 use super::row::Row;
+use super::want::{add_in_want, is_found_again};
 use address_map::Config;
 use core_thread::Job;
 use core_thread_system::{
@@ -20,7 +21,7 @@ use std::sync::Wait;
 use std::thread::Threads;
 
 /// Builds the row's machine, and tries the row on it. Answers whether it came out as wanted.
-pub fn on_machine<F: MissFile + Send, R: AllocGlobal + Threads + Wait + Sync>(
+pub fn on_machine<F: MissFile + Send, R: AllocGlobal + Print + Threads + Wait + Sync>(
     rt: &R,
     row: Row,
     exclusive: bool,
@@ -33,7 +34,7 @@ pub fn on_machine<F: MissFile + Send, R: AllocGlobal + Threads + Wait + Sync>(
 fn on_named<
     F: MissFile + Send,
     M: SystemKeys + Send + Sync,
-    R: AllocGlobal + Threads + Wait + Sync,
+    R: AllocGlobal + Print + Threads + Wait + Sync,
 >(rt: &R, config: Config, blanks: SystemBlanks, row: Row) -> Result<bool, BuildError>
     requires setup { config ≡ M.setup }
     requires ledgers0 { AreLedgersOf M.setup (M.names 0) blanks.slice0 }
@@ -52,7 +53,7 @@ fn on_named<
 fn on_system<
     F: MissFile + Send,
     M: SystemKeys + Send + Sync,
-    R: AllocGlobal + Threads + Wait + Sync,
+    R: AllocGlobal + Print + Threads + Wait + Sync,
 >(
     rt: &R,
     system: &System<F, All<M>>,
@@ -102,7 +103,11 @@ fn core_of<'a, F: MissFile, M: SystemKeys>(job: Job<'a, F, All<M>>) -> Core<'a, 
 }
 
 /// Lets the cores do what the row is about. Answers whether they did it as wanted.
-fn run<F: MissFile + Send, M: SystemKeys + Send + Sync, R: AllocGlobal + Threads + Wait + Sync>(
+fn run<
+    F: MissFile + Send,
+    M: SystemKeys + Send + Sync,
+    R: AllocGlobal + Print + Threads + Wait + Sync,
+>(
     rt: &R,
     system: &System<F, All<M>>,
     jobs: &mut [Job<'_, F, All<M>>],
@@ -116,11 +121,12 @@ fn run<F: MissFile + Send, M: SystemKeys + Send + Sync, R: AllocGlobal + Threads
         Row::Faults => Ok(stores_and_leaves(rt, jobs)),
         Row::TwoSlices => Ok(other_slice_answers(rt, system, jobs)),
         Row::TwoCores => both_meet(rt, system, jobs),
+        Row::InWant => add_in_want(rt, system, jobs),
     }
 }
 
 /// Makes the row's audits that have to fail, drains the cores and audits them. Answers whether all came out as wanted.
-fn end<F: MissFile, M: SystemKeys, R: AllocGlobal + Wait>(
+fn end<F: MissFile, M: SystemKeys, R: AllocGlobal + Print + Wait>(
     rt: &R,
     system: &System<F, All<M>>,
     cores: Vec<Core<'_, F, All<M>>>,
@@ -136,7 +142,7 @@ fn end<F: MissFile, M: SystemKeys, R: AllocGlobal + Wait>(
 }
 
 /// Whether an audit finds what the row wants.
-fn finds<F: MissFile, M: SystemKeys, R: AllocGlobal + Wait>(
+fn finds<F: MissFile, M: SystemKeys, R: AllocGlobal + Print + Wait>(
     rt: &R,
     system: &System<F, All<M>>,
     cores: Vec<Core<'_, F, All<M>>>,
@@ -148,9 +154,6 @@ fn finds<F: MissFile, M: SystemKeys, R: AllocGlobal + Wait>(
             drop(audit);
             found
         }
-        Err(fault) => {
-            drop(fault.cores);
-            Ok(false)
-        }
+        Err(fault) => is_found_again(rt, system, fault, row),
     }
 }

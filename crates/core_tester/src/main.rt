@@ -5,6 +5,9 @@
 //!
 //! `core_tester again` lets four threads add to two counters a hundred times instead, and 64 threads four times, and
 //! prints one line: that all came out as wanted, or which run was the first that didn't (tests/runs).
+//!
+//! `core_tester memory` tries one small row in one setting, and says what was made again for want of memory or of a
+//! thread (tests/machine_memory).
 #![tactic(auto)]
 
 use core_thread_system::BuildError;
@@ -24,10 +27,11 @@ mod meeting;
 mod programs;
 mod row;
 mod setting;
+mod want;
 
 use again::{RUNS, first_difference};
 use row::{ROWS, Row};
-use setting::in_all_settings;
+use setting::{SETTINGS, in_all_settings, in_setting};
 
 fn main(rt: HostRuntime) -> ExitCode {
     match run(&rt) {
@@ -50,6 +54,10 @@ fn answer<R: AllocGlobal + Print + Threads + Wait + Sync>(
 ) -> io::Result<bool> {
     match words.get(1) {
         Some(word) if word.as_str() == "again" => run_again(rt),
+        Some(word) if word.as_str() == "memory" => {
+            let tried = in_setting(rt, Row::InWant, SETTINGS[0]);
+            say(rt, Row::InWant, tried)
+        }
         _ => try_rows(rt),
     }
 }

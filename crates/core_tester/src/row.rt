@@ -19,6 +19,8 @@ pub enum Row {
     TwoSlices,
     /// Two cores are both in their first request's gate.
     TwoCores,
+    /// Two threads add to two counters. What memory or a thread was wanting for is made again.
+    InWant,
 }
 
 pub const ROWS: [Row; 7] = [
@@ -41,6 +43,7 @@ impl fmt::Display for Row {
             Row::Faults => "audits that fail",
             Row::TwoSlices => "two slices at once",
             Row::TwoCores => "two cores at once",
+            Row::InWant => "two threads in want of memory",
         })
     }
 }
@@ -53,7 +56,7 @@ impl Row {
     const fn cores(self) -> u64 {
         match self {
             Row::Programs | Row::LargeSum => 1,
-            Row::TwoSlices | Row::TwoCores => 2,
+            Row::TwoSlices | Row::TwoCores | Row::InWant => 2,
             Row::Faults => 3,
             Row::FourThreads => 4,
             Row::ManyThreads => 64,

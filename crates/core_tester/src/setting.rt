@@ -40,7 +40,7 @@ pub const SETTINGS: [Setting; 4] = [
 ];
 
 /// Tries a row in each setting. Answers whether it came out as wanted in all.
-pub fn in_all_settings<R: AllocGlobal + Threads + Wait + Sync>(
+pub fn in_all_settings<R: AllocGlobal + Print + Threads + Wait + Sync>(
     rt: &R,
     row: Row,
 ) -> Result<bool, BuildError> {
@@ -53,7 +53,7 @@ pub fn in_all_settings<R: AllocGlobal + Threads + Wait + Sync>(
 }
 
 /// Tries a row in a setting. Answers whether it came out as wanted.
-pub fn in_setting<R: AllocGlobal + Threads + Wait + Sync>(
+pub fn in_setting<R: AllocGlobal + Print + Threads + Wait + Sync>(
     rt: &R,
     row: Row,
     setting: Setting,

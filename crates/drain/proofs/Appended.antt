@@ -1,8 +1,9 @@
 -- Lists that are appended in turn, one for each number below a limit.
-use Rattle.std.proofs.Common.{◌≡◌, ℕ, ◌+◌, ◌<◌, ◌∙◌, Bool, true, false, List, [], ◌∷◌, ◌++◌, length, refl, sym, ap, cond, append_assoc, filter, get_or, take}
+use Rattle.std.proofs.Common.{◌≡◌, ℕ, ◌+◌, ◌<◌, ◌∙◌, Bool, true, false, List, [], ◌∷◌, ◌++◌, length, sym, ap, cond, append_assoc, filter, get_or, take}
 use Rattle.std.specs.List.{flat_map, range_with_len}
 use Rattle.std.proofs.lemmas.Grind.{flat_map-append}
-use Rattle.std.proofs.lemmas.List.{append-nil, take_more}
+use Rattle.std.proofs.lemmas.List.{append-nil}
+use Rattle.std.proofs.lemmas.List.Elements.{filter_more}
 use Rattle.drain.proofs.Sums.{below-more}
 
 flat_map-push : {X Y : Type 0} (f : X → List Y) (xs : List X) (x : X) → flat_map f (xs ++ x ∷ []) ≡ flat_map f xs ++ f x
@@ -18,21 +19,12 @@ range-appended f before out new n so_far now =
     ∙ ap (λ ys. before ++ ys)
     (sym (flat_map-push f (range_with_len 0 n) n) ∙ ap (flat_map f) (sym (below-more n)))
 
-filter-push : {X : Type 0} (p : X → Bool) (xs : List X) (x : X)
-    → filter p (xs ++ x ∷ []) ≡ filter p xs ++ cond (p x) (x ∷ []) []
-filter-push p [] x = refl
-filter-push p (y ∷ xs) x =
-    elim (p y) as (λ b. cond b (y ∷ filter p (xs ++ x ∷ [])) (filter p (xs ++ x ∷ []))
-    ≡ cond b (y ∷ filter p xs) (filter p xs) ++ cond (p x) (x ∷ []) []) [
-      | true ↦ ap (λ ys. y ∷ ys) (filter-push p xs x)
-      | false ↦ filter-push p xs x
-    ]
-
 filter-more : {X : Type 0} (p : X → Bool) (xs : List X) (i : ℕ) (x : X) (b : Bool) → i < length xs → x ≡ get_or xs i x
     → p x ≡ b → filter p (take (i + 1) xs) ≡ filter p (take i xs) ++ cond b (x ∷ []) []
 filter-more {X} p xs i x b within here test =
-    ap (filter p) (take_more xs i x within ∙ ap (λ (y : X). take i xs ++ y ∷ []) (sym here))
-    ∙ filter-push p (take i xs) x ∙ ap (λ t. filter p (take i xs) ++ cond t (x ∷ []) []) test
+    filter_more p xs i x within
+    ∙ ap (λ (y : X). filter p (take i xs) ++ cond (p y) (y ∷ []) []) (sym here)
+    ∙ ap (λ t. filter p (take i xs) ++ cond t (x ∷ []) []) test
 
 -- one more of those that pass a test
 pub filtered-appended : {X Y : Type 0} (p : X → Bool) (f : X → List Y) (xs : List X) (i : ℕ) (x : X)

@@ -53,13 +53,19 @@ module _ {Y : Type 0} (test : Y → Bool) where
       by_test false is = rest is
 
 module _ {X Y : Type 0} (f : X → Y) (test : Y → Bool) where
-  pub find-here : (xs : List X) (i : ℕ) (d : X) → find test (take i (map f xs)) ≡ None → i < length xs
+  find-here : (xs : List X) (i : ℕ) (d : X) → find test (take i (map f xs)) ≡ None → i < length xs
       → test (f (get_or xs i d)) ≡ true → find test (map f xs) ≡ Some (f (get_or xs i d))
   find-here [] i d none within passes = absurd (omega (arith, within))
   find-here (x ∷ xs) zero d none within passes = rw passes refl
   find-here (x ∷ xs) (suc i) d none within passes =
       past-one test (f x) (take i (map f xs)) (map f xs) (Some (f (get_or xs i d))) none
       (λ rest. find-here xs i d rest (omega (arith, within)) passes)
+
+  -- The same of an element that has a name.
+  pub find-as : (xs : List X) (i : ℕ) (d : X) (y : Y) → find test (take i (map f xs)) ≡ None → i < length xs
+      → y ≡ f (get_or xs i d) → test y ≡ true → find test (map f xs) ≡ Some y
+  find-as xs i d y none within is passes =
+      find-here xs i d none within (ap test (sym is) ∙ passes) ∙ ap (λ z. Some z) (sym is)
 
   find-next : (xs : List X) (i : ℕ) (d : X) → find test (take i (map f xs)) ≡ None → i < length xs
       → test (f (get_or xs i d)) ≡ false → find test (take (suc i) (map f xs)) ≡ None

@@ -1,7 +1,7 @@
-use Rattle.std.proofs.Common.{◌≡◌, ◌∙◌, Some, ap, eq-eqb, get_or, map, rules, sym}
+use Rattle.std.proofs.Common.{◌≡◌, ◌∙◌, ap, eq-eqb, get_or, map, rules, sym}
 use Rattle.std.specs.Prelude.{◌==◌, find}
 use Rattle.std.proofs.lemmas.Bool.{false≢true, ne_eqb}
-use Rattle.receipt_ledger.proofs.Compared.{find-here, find-none, find-past, finds-none, finds-some}
+use Rattle.receipt_ledger.proofs.Compared.{find-as, find-none, find-past, finds-none, finds-some}
 use Rattle.receipt_ledger.specs.History.{HasAsked, HasReceipt}
 use Rattle.receipt_ledger.specs.Port.{PortView}
 use Rattle.receipt_ledger.proofs.held.is_held.Goals as goal
@@ -14,11 +14,9 @@ returns-then-has_asked g c =
     let i = c.loop-lender.lender-index in
     let port = c.part-port.result.now in
     let test = λ (p : PortView). p.core.0 == e.core.0 in
-    let lent : port ≡ part (get_or ports i c.lender-item.result) = search rules in
-    let passes = ap test (sym lent) ∙ eq-eqb port.core.0 e.core.0 (search rules) in
     let found =
-    find-here part test ports i c.lender-item.result c.loop-lender.invariant c.loop-lender-test.true passes
-    ∙ ap (λ p. Some p) (sym lent) in
+    find-as part test ports i c.lender-item.result port c.loop-lender.invariant c.loop-lender-test.true (search rules)
+    (eq-eqb port.core.0 e.core.0 (search rules)) in
     finds-some (find test (map part ports)) port (λ p. HasAsked p c.args.number e × HasReceipt p c.args.number e)
     c.has_receipt.result found
     (λ has. (c.has_asked.ensures.0 c.if-has_asked.true, c.has_receipt.ensures.0 has))
@@ -32,11 +30,9 @@ returns-else-has_asked g c =
     let i = c.loop-lender.lender-index in
     let port = c.part-port.result.now in
     let test = λ (p : PortView). p.core.0 == e.core.0 in
-    let lent : port ≡ part (get_or ports i c.lender-item.result) = search rules in
-    let passes = ap test (sym lent) ∙ eq-eqb port.core.0 e.core.0 (search rules) in
     let found =
-    find-here part test ports i c.lender-item.result c.loop-lender.invariant c.loop-lender-test.true passes
-    ∙ ap (λ p. Some p) (sym lent) in
+    find-as part test ports i c.lender-item.result port c.loop-lender.invariant c.loop-lender-test.true (search rules)
+    (eq-eqb port.core.0 e.core.0 (search rules)) in
     finds-some (find test (map part ports)) port (λ p. HasAsked p c.args.number e × HasReceipt p c.args.number e)
     c.has_asked.result found
     (λ has. absurd (false≢true (sym c.if-has_asked.false ∙ has)))

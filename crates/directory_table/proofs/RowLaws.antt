@@ -5,7 +5,7 @@ use Rattle.std.proofs.lemmas.Bool.Decides.{eqb_tells}
 use Rattle.address_map.specs.declared.address.CoreId.{CoreId}
 use Rattle.address_map.specs.CoreSet.{has, only, with, without}
 use Rattle.address_map.proofs.CoreSets.{has-zero, has-with_same, has-with_below, has-only_below, has-without, has-only, only-some, with-some}
-use Rattle.directory_table.specs.Law.{HasExactly, HasSharersInS, IsOfSet, Replies, AwaitsHome, AwaitsInvalidated, ForgetsNobody, GivesOnlyCopy, GrantsWriting, HasOwnerInM, IfGo, Invalidates, KnowsRequester, SendsOneToEach, Serves, brings_home, has_to_wait, is_blocked, is_sharer_after, messages_to}
+use Rattle.directory_table.specs.Law.{HasExactly, HasSharersInS, IsOfSet, Replies, AwaitsHome, AwaitsInvalidated, ForgetsNobody, GivesOnlyCopy, GrantsWriting, HasOwnerInM, IfGo, Invalidates, KnowsRequester, SendsOneToEach, Serves, brings_home, can_come, has_entry, has_to_wait, is_blocked, is_sharer_after, messages_to}
 use Rattle.directory_table.specs.Row.{cell, row_of}
 use Rattle.directory_table.specs.declared.state.DirEntry.{DirEntry}
 use Rattle.directory_table.specs.declared.state.DirState.{DirState}
@@ -17,6 +17,7 @@ use Rattle.directory_table.specs.declared.row.DirRow.{DirRow}
 
 pub record IsLawful (exclusive : Bool) (state : DirState) (owner : Option CoreId) (sharers : ℕ) (event : DirEvent)
     (row : DirRow) : Type 0 where
+  pub entry : HasOwnerInM state owner → has_entry row ≡ can_come state owner event
   pub owner_in_m : HasOwnerInM state owner → IfGo row (λ next owns shares sent writes. HasOwnerInM next owns)
   pub home : IfGo row (λ next owns shares sent writes. writes ≡ brings_home state owner event)
   pub served : IfGo row (λ next owns shares sent writes. Serves state owner event sent)

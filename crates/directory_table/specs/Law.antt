@@ -19,6 +19,10 @@ IfGo (rows.Go state owner sharers sent writes) P = P state owner sharers sent wr
 IfGo rows.Blocked P = Unit {0}
 IfGo rows.NoEntry P = Unit {0}
 
+abbrev pub has_entry : DirRow → Bool
+has_entry rows.NoEntry = false
+has_entry _ = true
+
 abbrev pub is_blocked : DirRow → Bool
 is_blocked rows.Blocked = true
 is_blocked _ = false
@@ -83,6 +87,15 @@ IsOfSet event = IfSome (requester event) (λ core. core.0 < 64)
 abbrev pub is_data_home : DirEvent → Bool
 is_data_home events.DataHome = true
 is_data_home _ = false
+
+-- The protocol can bring the event: a block comes home while it is awaited, and requests at any time, for a Put may come
+-- late. Only the owner never asks for its own line, nor gives it up as one that it can only read.
+abbrev pub can_come : DirState → Option CoreId → DirEvent → Bool
+can_come state owner (events.GetS core) = not (is_named owner core.0)
+can_come state owner (events.GetM core) = not (is_named owner core.0)
+can_come state owner (events.PutS core) = not (is_named owner core.0)
+can_come state owner (events.PutM core) = true
+can_come state owner events.DataHome = is_awaited state
 
 -- the owner writes the line back
 abbrev pub is_written_back : DirState → Option CoreId → DirEvent → Bool

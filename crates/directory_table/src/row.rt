@@ -1,6 +1,6 @@
 ghost use Rattle.std.specs.Prelude.{◌≡◌};
 ghost use Rattle.address_map.specs.CoreSet.{count_of, without};
-ghost use Rattle.directory_table.specs.Law.{AwaitsHome, AwaitsInvalidated, ForgetsNobody, GivesOnlyCopy, GrantsWriting, HasOwnerInM, IfGo, HasExactly, HasSharersInS, Invalidates, IsOfSet, KnowsRequester, Replies, SendsOneToEach, Serves, brings_home, has_to_wait, is_blocked, is_sharer_after};
+ghost use Rattle.directory_table.specs.Law.{AwaitsHome, AwaitsInvalidated, ForgetsNobody, GivesOnlyCopy, GrantsWriting, HasOwnerInM, IfGo, HasExactly, HasSharersInS, Invalidates, IsOfSet, KnowsRequester, Replies, SendsOneToEach, Serves, brings_home, can_come, has_entry, has_to_wait, is_blocked, is_sharer_after};
 ghost use Rattle.directory_table.specs.Row.{cell, goes, goes_home, row_of, shared_by};
 
 use super::state::{DirEntry, DirState};
@@ -57,6 +57,8 @@ pub fn dir_row(exclusive: bool, entry: &DirEntry, event: DirEvent) -> DirRow
     ensures table { result ≡ row_of exclusive entry.now event }
 
     // What the coherence of a line rests on, whatever the cells are.
+    ensures entry { HasOwnerInM entry.now.state entry.now.owner
+        → has_entry result ≡ can_come entry.now.state entry.now.owner event }
     ensures owner { HasOwnerInM entry.now.state entry.now.owner
         → IfGo result (λ state owner _ _ _. HasOwnerInM state owner) }
     ensures home { IfGo result (λ _ _ _ _ writes. writes ≡ brings_home entry.now.state entry.now.owner event) }

@@ -6,8 +6,8 @@
 //! `core_tester again` lets four threads add to two counters a hundred times instead, and 64 threads four times, and
 //! prints one line: that all came out as wanted, or which run was the first that didn't (tests/runs).
 //!
-//! `core_tester memory` tries one small row in one setting, and says what was made again for want of memory or of a
-//! thread (tests/machine_memory).
+//! `core_tester memory` tries one small row in one setting, and says whether a request, a thread or the audit wanted
+//! memory before it came out as wanted (tests/machine_memory).
 #![tactic(auto)]
 
 use core_thread_system::BuildError;

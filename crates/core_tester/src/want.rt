@@ -1,7 +1,7 @@
-use super::adding::{LIMIT, all_finish, push_all};
+use super::adding::{LIMIT, push_all};
 use super::found::is_found;
 use super::row::Row;
-use core_thread::Job;
+use core_thread::{Job, Movers, RunError, run_all};
 use core_thread_system::{All, Open, Outcome, System, SystemKeys};
 use drain::{AuditError, AuditFault, audit};
 use mshr_file::MissFile;
@@ -11,7 +11,7 @@ use std::sync::Wait;
 use std::thread::Threads;
 
 /// Each core adds one more than its number ten times to each counter, in a thread of its own, beside a mover. Where
-/// memory or a thread is wanting it says so, and lets the cores do what is left, one after the other. Answers whether
+/// memory or a thread is wanting it says which, and lets the cores do what is left, one after the other. Answers whether
 /// all finished.
 pub fn add_in_want<
     F: MissFile + Send,
@@ -19,10 +19,15 @@ pub fn add_in_want<
     R: Print + Threads + Wait + Sync,
 >(rt: &R, system: &System<F, All<M>>, jobs: &mut [Job<'_, F, All<M>>]) -> Result<bool, AllocError> {
     push_all(jobs, 10)?;
-    if all_finish(rt, system, &mut *jobs, 1, &Open) {
-        return Ok(true);
-    }
-    let said = println!(rt; "a run is made again").is_ok();
+    let Some(movers) = Movers::new(1) else {
+        return Ok(false);
+    };
+    let wanting = match run_all(rt, system, &mut *jobs, movers, &Open, LIMIT) {
+        Err(RunError::Start) => "a thread isn't started",
+        Ok(()) if jobs.iter().all(|job| job.outcome == Outcome::Finished) => return Ok(true),
+        Ok(()) => "a request is refused",
+    };
+    let said = println!(rt; "{wanting}").is_ok();
     Ok(said && finish_all(rt, jobs))
 }
 

@@ -1,1 +1,2 @@
+pub mod OnlyRow
 pub mod RowLaws

@@ -1,11 +1,11 @@
--- All laws of a row, and that they hold in each cell of the table.
+-- The laws hold in each cell of the table.
 use Rattle.std.proofs.Common.{◌≡◌, ℕ, ◌+◌, ◌==◌, ◌<◌, ◌≤◌, ◌&&◌, ◌||◌, Bool, true, false, not, if◌then◌else◌, Option, Some, refl, ap, ◌∙◌, rules, arith, inl, inr, IsTrue}
-use Rattle.std.proofs.lemmas.Bool.{eq-eqb}
+use Rattle.std.proofs.lemmas.Bool.{cases_lt, eq-eqb, ne_eqb}
 use Rattle.std.proofs.lemmas.Bool.Decides.{eqb_tells}
 use Rattle.address_map.specs.declared.address.CoreId.{CoreId}
 use Rattle.address_map.specs.CoreSet.{has, only, with, without}
-use Rattle.address_map.proofs.CoreSets.{has-zero, has-with_same, has-with_below, has-only_below, has-without, has-only, only-some, with-some}
-use Rattle.directory_table.specs.Law.{HasExactly, HasSharersInS, IsOfSet, Replies, AwaitsHome, AwaitsInvalidated, ForgetsNobody, GivesOnlyCopy, GrantsWriting, HasOwnerInM, IfGo, Invalidates, KnowsRequester, SendsOneToEach, Serves, brings_home, can_come, has_entry, has_to_wait, is_blocked, is_sharer_after, messages_to}
+use Rattle.address_map.proofs.CoreSets.{has-zero, has-with, has-with_same, has-with_below, has-only_below, has-without, has-only, only-past, only-some, with-past, with-some}
+use Rattle.directory_table.specs.Law.{IsLawful, IsSet, HasSets, messages_to}
 use Rattle.directory_table.specs.Row.{cell, row_of}
 use Rattle.directory_table.specs.declared.state.DirEntry.{DirEntry}
 use Rattle.directory_table.specs.declared.state.DirState.{DirState}
@@ -13,28 +13,6 @@ use Rattle.directory_table.specs.declared.state.DirState.TheVariants as states
 use Rattle.directory_table.specs.declared.row.DirEvent.{DirEvent}
 use Rattle.directory_table.specs.declared.row.DirEvent.TheVariants as events
 use Rattle.directory_table.specs.declared.row.DirSends.TheVariants as sends
-use Rattle.directory_table.specs.declared.row.DirRow.{DirRow}
-
-pub record IsLawful (exclusive : Bool) (state : DirState) (owner : Option CoreId) (sharers : ℕ) (event : DirEvent)
-    (row : DirRow) : Type 0 where
-  pub entry : HasOwnerInM state owner → has_entry row ≡ can_come state owner event
-  pub owner_in_m : HasOwnerInM state owner → IfGo row (λ next owns shares sent writes. HasOwnerInM next owns)
-  pub home : IfGo row (λ next owns shares sent writes. writes ≡ brings_home state owner event)
-  pub served : IfGo row (λ next owns shares sent writes. Serves state owner event sent)
-  pub replied : IfGo row (λ next owns shares sent writes. Replies event sent)
-  pub known : IfGo row (λ next owns shares sent writes. KnowsRequester event owns shares)
-  pub granted : IfGo row (λ next owns shares sent writes. GrantsWriting exclusive state owner event owns)
-  pub invalidated : IfGo row (λ next owns shares sent writes. Invalidates state sharers event sent)
-  pub acknowledgements : IfGo row (λ next owns shares sent writes. AwaitsInvalidated sent)
-  pub shared : IfGo row
-      (λ next owns shares sent writes. HasExactly shares (is_sharer_after exclusive state owner sharers event))
-  pub sharers_in_s : IsOfSet event → HasSharersInS state sharers
-      → IfGo row (λ next owns shares sent writes. HasSharersInS next shares)
-  pub messages : IfGo row (λ next owns shares sent writes. SendsOneToEach event sent)
-  pub idle : IfGo row (λ next owns shares sent writes. ForgetsNobody state next shares)
-  pub awaited : IfGo row (λ next owns shares sent writes. AwaitsHome state event sent next)
-  pub blocked : is_blocked row ≡ has_to_wait state event
-  pub only_copy : IfGo row (λ next owns shares sent writes. GivesOnlyCopy exclusive state event sent)
 
 joined : (cores core : ℕ) → core < 64 → IsTrue (has (with cores core) core)
 joined cores core within = rw (has-with_same cores core within) refl
@@ -108,3 +86,66 @@ cell-lawful _ _ _ _ _ = search rules
 pub lawful : (exclusive : Bool) (entry : DirEntry) (event : DirEvent)
     → IsLawful exclusive entry.state entry.owner entry.sharers event (row_of exclusive entry event)
 lawful exclusive entry event = cell-lawful exclusive entry.state entry.owner entry.sharers event
+
+-- ---- sets
+
+set-only : (core : ℕ) → IsSet (only core)
+set-only core other past =
+    elim (cases_lt core 64) [
+      | inl below ↦ has-only core other below ∙ ne_eqb other core (λ same. omega (arith, same, below, past))
+      | inr beyond ↦ ap (λ set. has set other) (only-past core beyond) ∙ has-zero other
+    ]
+
+set-with : (set core : ℕ) → IsSet set → IsSet (with set core)
+set-with set core small other past =
+    elim (cases_lt core 64) [
+      | inl below ↦
+          has-with set core other below
+          ∙ ap (λ b. b || other == core) (small other past)
+          ∙ ne_eqb other core (λ same. omega (arith, same, below, past))
+      | inr beyond ↦ ap (λ s. has s other) (with-past set core beyond) ∙ small other past
+    ]
+
+set-without : (set core : ℕ) → IsSet set → IsSet (without set core)
+set-without set core small other past =
+    has-without set core other ∙ ap (λ b. b && not (other == core)) (small other past)
+
+set-none : IsSet 0
+set-none other past = has-zero other
+
+-- The sets of each cell have only cores that there can be.
+pub cell-sets : (exclusive : Bool) (state : DirState) (owner : Option CoreId) (sharers : ℕ) (event : DirEvent)
+    → IsSet sharers → HasSets (cell exclusive state owner sharers event)
+cell-sets true states.I owner sharers (events.GetS core) small = (small, set-none)
+cell-sets false states.I owner sharers (events.GetS core) small = (set-only core.0, set-none)
+cell-sets exclusive states.I owner sharers (events.GetM core) small = (small, set-none)
+cell-sets exclusive states.I owner sharers (events.PutS core) small = (small, set-none)
+cell-sets exclusive states.I owner sharers (events.PutM core) small = (small, set-none)
+cell-sets exclusive states.S owner sharers (events.GetS core) small = (set-with sharers core.0 small, set-none)
+cell-sets exclusive states.S owner sharers (events.GetM core) small = (set-none, set-without sharers core.0 small)
+cell-sets exclusive states.S owner sharers (events.PutS core) small = (set-without sharers core.0 small, set-none)
+cell-sets exclusive states.S owner sharers (events.PutM core) small = (set-without sharers core.0 small, set-none)
+cell-sets exclusive states.M (Some from) sharers (events.GetS core) small =
+    elim (eqb_tells from.0 core.0) [
+      | inl own ↦ rw own.0 _
+      | inr other ↦ rw other.0 (set-with (only from.0) core.0 (set-only from.0), set-none)
+    ]
+cell-sets exclusive states.M (Some from) sharers (events.GetM core) small =
+    elim (eqb_tells from.0 core.0) [
+      | inl own ↦ rw own.0 _
+      | inr other ↦ rw other.0 (small, set-none)
+    ]
+cell-sets exclusive states.M (Some from) sharers (events.PutS core) small =
+    elim (eqb_tells from.0 core.0) [
+      | inl own ↦ rw own.0 _
+      | inr other ↦ rw other.0 (small, set-none)
+    ]
+cell-sets exclusive states.M (Some from) sharers (events.PutM core) small =
+    elim (eqb_tells from.0 core.0) [
+      | inl own ↦ rw own.0 (small, set-none)
+      | inr other ↦ rw other.0 (small, set-none)
+    ]
+cell-sets exclusive states.S_D owner sharers (events.PutS core) small = (set-without sharers core.0 small, set-none)
+cell-sets exclusive states.S_D owner sharers (events.PutM core) small = (set-without sharers core.0 small, set-none)
+cell-sets exclusive states.S_D owner sharers events.DataHome small = (small, set-none)
+cell-sets _ _ _ _ _ small = search rules

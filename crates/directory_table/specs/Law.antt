@@ -248,3 +248,51 @@ has_to_wait state event = is_awaited state && is_some (getter event)
 -- The only copy is given exactly where the setting is on and a core asks to read a line that nobody has.
 abbrev pub GivesOnlyCopy : Bool → DirState → DirEvent → DirSends → Type 0
 GivesOnlyCopy exclusive state event sent = sends_only_copy sent ≡ (exclusive && is_idle state && is_some (reader event))
+
+-- ---- all laws
+
+-- a row that obeys all laws
+pub record IsLawful (exclusive : Bool) (state : DirState) (owner : Option CoreId) (sharers : ℕ) (event : DirEvent)
+    (row : DirRow) : Type 0 where
+  pub entry : HasOwnerInM state owner → has_entry row ≡ can_come state owner event
+  pub owner_in_m : HasOwnerInM state owner → IfGo row (λ next owns shares sent writes. HasOwnerInM next owns)
+  pub home : IfGo row (λ next owns shares sent writes. writes ≡ brings_home state owner event)
+  pub served : IfGo row (λ next owns shares sent writes. Serves state owner event sent)
+  pub replied : IfGo row (λ next owns shares sent writes. Replies event sent)
+  pub known : IfGo row (λ next owns shares sent writes. KnowsRequester event owns shares)
+  pub granted : IfGo row (λ next owns shares sent writes. GrantsWriting exclusive state owner event owns)
+  pub invalidated : IfGo row (λ next owns shares sent writes. Invalidates state sharers event sent)
+  pub acknowledgements : IfGo row (λ next owns shares sent writes. AwaitsInvalidated sent)
+  pub shared : IfGo row
+      (λ next owns shares sent writes. HasExactly shares (is_sharer_after exclusive state owner sharers event))
+  pub sharers_in_s : IsOfSet event → HasSharersInS state sharers
+      → IfGo row (λ next owns shares sent writes. HasSharersInS next shares)
+  pub messages : IfGo row (λ next owns shares sent writes. SendsOneToEach event sent)
+  pub idle : IfGo row (λ next owns shares sent writes. ForgetsNobody state next shares)
+  pub awaited : IfGo row (λ next owns shares sent writes. AwaitsHome state event sent next)
+  pub blocked : is_blocked row ≡ has_to_wait state event
+  pub only_copy : IfGo row (λ next owns shares sent writes. GivesOnlyCopy exclusive state event sent)
+
+-- The set has no core that there can't be.
+abbrev pub IsSet : ℕ → Type 0
+IsSet cores = (core : ℕ) → 64 ≤ core → has cores core ≡ false
+
+abbrev pub invalidated_by : DirSends → ℕ
+invalidated_by (sends.DataAndInv acks invalidated) = invalidated
+invalidated_by _ = 0
+
+-- The row's sharers are such a set, and so are those whom it invalidates.
+abbrev pub HasSets : DirRow → Type 0
+HasSets row = IfGo row (λ next owns shares sent writes. IsSet shares × IsSet (invalidated_by sent))
+
+-- an entry as a directory keeps it, and an event of a core that a set can have
+pub record IsKept (state : DirState) (owner : Option CoreId) (sharers : ℕ) (event : DirEvent) : Type 0 where
+  pub owner_in_m : HasOwnerInM state owner
+  pub sharers_in_s : HasSharersInS state sharers
+  pub core : IsOfSet event
+
+-- the one row that obeys them
+abbrev pub IsOnlyLawful : Bool → DirState → Option CoreId → ℕ → DirEvent → DirRow → Type 0
+IsOnlyLawful exclusive state owner sharers event row =
+    IsKept state owner sharers event → (other : DirRow) → HasSets other
+    → IsLawful exclusive state owner sharers event other → other ≡ row

@@ -1,6 +1,6 @@
 ghost use Rattle.std.specs.Prelude.{◌≡◌};
 ghost use Rattle.address_map.specs.CoreSet.{count_of, without};
-ghost use Rattle.directory_table.specs.Law.{AwaitsHome, AwaitsInvalidated, ForgetsNobody, GivesOnlyCopy, GrantsWriting, HasOwnerInM, IfGo, HasExactly, HasSharersInS, Invalidates, IsOfSet, KnowsRequester, Replies, SendsOneToEach, Serves, brings_home, can_come, has_entry, has_to_wait, is_blocked, is_sharer_after};
+ghost use Rattle.directory_table.specs.Law.{AwaitsHome, AwaitsInvalidated, ForgetsNobody, GivesOnlyCopy, GrantsWriting, HasOwnerInM, IfGo, IsOnlyLawful, HasExactly, HasSharersInS, Invalidates, IsOfSet, KnowsRequester, Replies, SendsOneToEach, Serves, brings_home, can_come, has_entry, has_to_wait, is_blocked, is_sharer_after};
 ghost use Rattle.directory_table.specs.Row.{cell, goes, goes_home, row_of, shared_by};
 
 use super::state::{DirEntry, DirState};
@@ -77,7 +77,10 @@ pub fn dir_row(exclusive: bool, entry: &DirEntry, event: DirEvent) -> DirRow
     ensures awaited { IfGo result (λ state _ _ sent _. AwaitsHome entry.now.state event sent state) }
     ensures blocked { is_blocked result ≡ has_to_wait entry.now.state event }
     ensures exclusive { IfGo result (λ _ _ _ sent _. GivesOnlyCopy exclusive entry.now.state event sent) }
+    ensures only { IsOnlyLawful exclusive entry.now.state entry.now.owner entry.now.sharers event result }
 {
+    // That a set fits a word is known where its bits are seen.
+    let _ = entry.sharers.bits();
     cell(exclusive, entry.state, entry.owner, entry.sharers, event)
 }
 

@@ -1,4 +1,9 @@
-use Rattle.directory_table.proofs.RowLaws.{lawful}
+use Rattle.std.proofs.Common.{◌<◌, ◌^◌, rules}
+use Rattle.address_map.proofs.CoreSets.{has-past}
+use Rattle.directory_table.proofs.OnlyRow.{lawful-only}
+use Rattle.directory_table.proofs.RowLaws.{cell-sets, lawful}
+use Rattle.directory_table.specs.Law.{IsSet}
+use Rattle.directory_table.specs.Row.{row_of}
 use Rattle.directory_table.proofs.row.dir_row.Goals as goal
 
 pub returns-clause-owner : goal.returns-clause-owner
@@ -46,3 +51,15 @@ returns-clause-replied c = rw c.cell.ensures (lawful c.args.exclusive c.args.ent
 
 pub returns-clause-sharers_in_s : goal.returns-clause-sharers_in_s
 returns-clause-sharers_in_s c = rw c.cell.ensures (lawful c.args.exclusive c.args.entry.now c.args.event).sharers_in_s
+
+pub returns-clause-only : goal.returns-clause-only
+returns-clause-only c =
+    let exclusive = c.args.exclusive in
+    let entry = c.args.entry.now in
+    let event = c.args.event in
+    let fits : entry.sharers < 2 ^ 64 = search rules in
+    let small : IsSet entry.sharers = λ core past. has-past entry.sharers core fits past in
+    let sets = cell-sets exclusive entry.state entry.owner entry.sharers event small in
+    rw c.cell.ensures (λ kept other sets_too law.
+    lawful-only exclusive entry.state entry.owner entry.sharers event (row_of exclusive entry event) other kept sets sets_too
+    (lawful exclusive entry event) law)

@@ -14,8 +14,8 @@ use Rattle.slice_core_answer.specs.declared.answer.Delivered.{Delivered}
 use Rattle.slice_core_answer.specs.declared.answer.DeliveredNext.{DeliveredNext}
 use Rattle.slice_core_answer.specs.declared.answer.DeliveredNext.TheVariants as delivered_next
 use Rattle.slice_core_answer.specs.declared.answer.Delivered.TheVariants as delivered
-use Rattle.slice_core_plan.specs.Parts.{PartsView, core_of, filled_by, AfterDeliverNext, AfterDelivery, AfterPlan, Settles}
-use Rattle.slice_core_plan.specs.Plan.{plan_of}
+use Rattle.slice_core_plan.specs.Parts.{PartsView, core_of, filled_by, AfterDeliverNext, AfterDelivery, AfterPlan, Settles, local_in}
+use Rattle.slice_core_plan.specs.Plan.{plan_of, planned_in}
 use Rattle.slice_core_plan.specs.Sends.{cache_sent, directory_sent}
 use Rattle.slice_core_plan.specs.Steps.{asked_by, after_directory, after_forwarded, after_home, after_settling}
 use Rattle.slice_core_plan.specs.View.{View, channels_at, entry_at, first_word, side_at, with_entry, with_side, IsShaped}
@@ -187,9 +187,8 @@ module _ (old : PartsView) (sound : IsSound old) (new : PartsView) where
 
   -- what a delivery answers and leaves, by the line's place
   abbrev by_line : Pick → Delivered → Option Local → Type 0
-  by_line pick answer None = (answer ≡ delivered.Nothing) × (new ≡ old)
-  by_line pick answer (Some local) =
-      AfterPlan (plan_of old.view local (channel_of pick)) old local (channel_of pick) answer new
+  by_line pick answer place =
+      AfterPlan (planned_in old.view place (channel_of pick)) old (local_in place) (channel_of pick) answer new
 
   placed : (pick : Pick) (answer : Delivered) (place : Option Local) → by_line pick answer place → Keeps new
   placed pick answer None after = keeps-same after.1

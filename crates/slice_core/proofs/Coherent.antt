@@ -14,8 +14,8 @@ use Rattle.slice_core_coherence.specs.Whole.{IsAddressed, IsWhole}
 use Rattle.slice_core_coherence.proofs.Consequences.{one_writer}
 use Rattle.slice_core_coherence.proofs.Unbroken.{whole_is_unbroken}
 use Rattle.slice_core_coherence.specs.Coherent.{HasOneWriter, NothingIsBroken}
-use Rattle.slice_core_plan.specs.Parts.{PartsView, AfterDeliverNext, AfterDelivery, AfterPlan}
-use Rattle.slice_core_plan.specs.Plan.{plan_of}
+use Rattle.slice_core_plan.specs.Parts.{PartsView, AfterDeliverNext, AfterDelivery, AfterPlan, local_in}
+use Rattle.slice_core_plan.specs.Plan.{plan_of, planned_in}
 use Rattle.slice_core_plan.specs.View.{IsQuiet, first_word}
 use Rattle.slice_core_plan.specs.declared.decide.Plan.{Plan}
 use Rattle.slice_core_plan.specs.declared.decide.Plan.TheVariants as plans
@@ -103,9 +103,8 @@ planned (plans.Acknowledge place next) old local channel answer new fine after =
 module _ (old : PartsView) (sound : IsSound old) (new : PartsView) where
   -- what a delivery answers and leaves, by the line's place
   abbrev by_line : Pick → Delivered → Option Local → Type 0
-  by_line pick answer None = (answer ≡ delivered.Nothing) × (new ≡ old)
-  by_line pick answer (Some local) =
-      AfterPlan (plan_of old.view local (channel_of pick)) old local (channel_of pick) answer new
+  by_line pick answer place =
+      AfterPlan (planned_in old.view place (channel_of pick)) old (local_in place) (channel_of pick) answer new
 
   placed : (pick : Pick) (answer : Delivered) (place : Option Local) → local_at old.view.lines (line_of pick).0 ≡ place
       → by_line pick answer place → IsNotBroken answer

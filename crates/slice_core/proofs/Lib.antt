@@ -30,3 +30,4 @@ pub mod Shapes
 pub mod SameSlice
 pub mod Runs
 pub mod Machine
+pub mod Fronts

@@ -1,6 +1,7 @@
 -- What callers of a slice may rely on after every call.
-use Rattle.std.specs.Prelude.{◌≡◌, ℕ, ◌<◌, if◌then◌else◌, nat_lt, length, map, slice_get, Option, Some, None, Result, Ok}
+use Rattle.std.specs.Prelude.{◌≡◌, ℕ, ◌<◌, ◌&&◌, if◌then◌else◌, count_by, is_some, nat_lt, length, map, slice_get, List, Option, Some, None, Result, Ok}
 use Rattle.address_map.specs.declared.address.CoreId.{CoreId}
+use Rattle.address_map.specs.Locator.{local_at}
 use Rattle.address_map.specs.Place.{offset_of}
 use Rattle.address_map.specs.declared.address.Local.{Local}
 use Rattle.address_map.specs.declared.address.WordAddr.{WordAddr}
@@ -27,7 +28,10 @@ use Rattle.slice_core_plan.specs.Parts.{PartsView}
 use Rattle.slice_core_plan.specs.View.{View, channels_at, entry_at, side_at, word_now}
 use Rattle.slice_core_steps.specs.declared.line_view.LineView.{LineView}
 use Rattle.slice_queues.specs.Line.{messages_at}
+use Rattle.slice_queues.specs.Waiting.{is_from_core, is_same_pick}
+use Rattle.slice_queues_message.specs.Pick.{channel_of, line_of}
 use Rattle.slice_queues_message.specs.declared.channel.Channel.{Channel}
+use Rattle.slice_queues_message.specs.declared.channel.Pick.{Pick}
 use Rattle.slice_queues_message.specs.declared.message.Message.{Message}
 
 -- Each request that a core had accepted stands in exactly one place, and nothing else stands there. It is a target of
@@ -110,6 +114,15 @@ ShowsLine v (Some local) shown =
 abbrev pub front_at : View → Option Local → Channel → Option Message
 front_at v None channel = None
 front_at v (Some local) channel = slice_get (messages_at (channels_at v local) channel) 0
+
+-- Each pick in front of which a message waits stands in the list once, and no other does. (A channel of acknowledgements
+-- names one of 64 cores as its sender.)
+abbrev pub HasEachFrontOnce : View → List Pick → Type 0
+HasEachFrontOnce v picks =
+    (pick : Pick) →
+    count_by (is_same_pick pick) picks
+    ≡ (if is_from_core (channel_of pick) && is_some (front_at v (local_at v.lines (line_of pick).0) (channel_of pick))
+    then 1 else 0)
 
 -- The core's miss file is bounded by tags alone: there is a field for each tag of the core, so for each destination
 -- that an access of its can have (Farkas and Jouppi's inverted organisation).

@@ -8,6 +8,11 @@
 //! `specs/Sound.antt` is the invariant that shows it. To somebody who sees only requests and replies each call is, by
 //! its clause `machine`, some steps of the small machine of `slice_core_machine`. [`SliceState::run`] makes a list of
 //! calls; by `specs/Run.antt` it answers and leaves what its calls do one after another, and is one run of that machine.
+//!
+//! What a call would do can be asked before it is made, and that changes nothing and takes no memory:
+//! [`SliceState::decide`] says what an access would be, [`SliceState::plan`] what a delivery would do,
+//! [`SliceState::next`] which pick of a class can be delivered, and [`SliceState::waiting`] goes through the picks with a
+//! message. A call does what was decided: its contract is by the same definitions (`decision_of`, `planned_at`).
 #![tactic(auto)]
 
 pub use address_map::{Block, CoreId, LineAddr, Op, Request, SliceId, WordAddr};
@@ -16,7 +21,10 @@ pub use slice_core_answer::{
     Cell, Delivered, DeliveredNext, Evicted, Issue, Refused, Stall, Stats,
 };
 pub use slice_core_log::{Entry, Numbered};
+pub use slice_core_plan::{Decision, NextPick, Plan};
+pub use slice_core_side::{Access, Ask, Way};
 pub use slice_core_steps::LineView;
+pub use slice_queues::Picks;
 pub use slice_queues_message::{
     Class, DataMessage, ForwardedMessage, Message, Pick, RequestMessage,
 };

@@ -1,12 +1,15 @@
 ghost use Rattle.std.specs.Prelude.{◌≡◌, ℕ, ◌<◌, ◌↔◌, [], ◌∷◌, length, All, IfOk, IfSome, IsTrue, IsSome};
 ghost use Rattle.address_map.specs.Locator.{local_at};
 ghost use Rattle.address_map.specs.Place.{line_of};
-ghost use Rattle.slice_core.specs.Facts.{Holds, IsInverted, IsNotBroken, IsNotBrokenNext, IsSameSlice, NeedsNoRegister, ShowsLast, ShowsLine, ShowsWord, front_at};
+ghost use Rattle.slice_core.specs.Facts.{HasEachFrontOnce, Holds, IsInverted, IsNotBroken, IsNotBrokenNext, IsSameSlice, NeedsNoRegister, ShowsLast, ShowsLine, ShowsWord, front_at};
 ghost use Rattle.slice_core.specs.Run.{AfterCall, HasCore, HasCores, IsOneRun, IsUnbroken, Runs};
 ghost use Rattle.slice_core_machine.specs.Machine.{IsSame, new_machine};
 ghost use Rattle.slice_core_machine.specs.Shows.{Leads, Performs, hand_steps, issue_steps, next_of, shown};
-ghost use Rattle.slice_core_plan.specs.Parts.{PartsView, AfterDeliverNext, AfterDelivery, AfterEvict, AfterHand, AfterIssue, IsNew};
+ghost use Rattle.slice_core_plan.specs.Decision.{decision_of};
+ghost use Rattle.slice_core_plan.specs.Parts.{PartsView, AfterDeliverNext, AfterDelivery, AfterEvict, AfterHand, AfterIssue, IsNew, IsNextPick};
+ghost use Rattle.slice_core_plan.specs.Plan.{planned_at};
 ghost use Rattle.slice_core_plan.specs.View.{View, IsQuiet};
+ghost use Rattle.slice_queues.specs.Waiting.{lines_waiting};
 ghost use Rattle.slice_queues_message.specs.Pick.{channel_of, line_of as line_of_pick};
 
 use super::run::{Call, CallAnswer};
@@ -14,7 +17,9 @@ use address_map::{Checked, CoreId, LineAddr, Request, SliceId, WordAddr};
 use mshr_file::MissFile;
 use slice_core_answer::{Delivered, DeliveredNext, Evicted, Issue, Refused, Stats};
 use slice_core_log::{Entry, Numbered};
+use slice_core_plan::{Decision, NextPick, Plan};
 use slice_core_steps::{LineView, Parts};
+use slice_queues::Picks;
 use slice_queues_message::{Class, Message, Pick};
 use std::alloc::{AllocError, Global};
 use std::marker::Model;
@@ -199,6 +204,41 @@ impl<F: MissFile> SliceState<F> {
     {
         let local = self.parts.lines().local_of(line)?;
         Some(self.parts.line_view(local))
+    }
+
+    /// What [`SliceState::issue`] would decide of the request: to refuse it, or what its access would be. That is a hit, a
+    /// miss that joins the line's miss register, a miss that opens one, or a stall.
+    pub fn decide(&self, core: CoreId, request: Request) -> Decision
+        requires { core.0 < length self.now.view.sides }
+        ensures { result ≡ decision_of self.now.view core request }
+    {
+        self.parts.decide(core, request)
+    }
+
+    /// What [`SliceState::deliver`] would do at the pick: the row of its front message with the next states and what is
+    /// sent, or why nothing is moved. Nothing for a line that isn't the slice's.
+    pub fn plan(&self, pick: Pick) -> Plan
+        ensures { result ≡ planned_at self.now.view pick }
+    {
+        self.parts.plan_at(pick)
+    }
+
+    /// A pick of the class whose message can be moved, if there is one. [`SliceState::deliver_next`] looks in the same
+    /// order.
+    pub fn next(&self, class: Class) -> NextPick
+        ensures { IsNextPick self.now.view class result }
+    {
+        self.parts.next(class)
+    }
+
+    /// The picks with a message, each once and no other: from the first line to the last, within a line core by core,
+    /// each one's request, forwarded message, data and acknowledgements, and the block that comes home last.
+    /// [`SliceState::front`] gives each one's message.
+    pub fn waiting(&self) -> Picks<'_>
+        ensures order { result ≡ lines_waiting self.now.view.lines.slice self.now.view.lines.slices 0 self.now.view.channels }
+        ensures once { HasEachFrontOnce self.now.view result }
+    {
+        self.parts.waiting()
     }
 
     /// The message that a delivery at the pick would take: none for a line that isn't the slice's, nor for a core that

@@ -15,8 +15,8 @@ use Rattle.slice_core_coherence.proofs.KeptByCalls.{located}
 use Rattle.slice_core_coherence.proofs.Planned.{IsFor, is_for}
 use Rattle.slice_core_coherence.proofs.Steps.{KeepsMessages}
 use Rattle.slice_core_coherence.specs.Whole.{IsWhole}
-use Rattle.slice_core_plan.specs.Parts.{PartsView, AfterDeliverNext, AfterDelivery, AfterPlan}
-use Rattle.slice_core_plan.specs.Plan.{plan_of}
+use Rattle.slice_core_plan.specs.Parts.{PartsView, AfterDeliverNext, AfterDelivery, AfterPlan, local_in}
+use Rattle.slice_core_plan.specs.Plan.{plan_of, planned_in}
 use Rattle.slice_core_plan.specs.View.{View}
 use Rattle.slice_core_plan.specs.declared.decide.Plan.{Plan}
 use Rattle.slice_core_plan.specs.declared.decide.Plan.TheVariants as plans
@@ -122,9 +122,8 @@ module _ (Whole Fact : View → Type 0) (steps : KeepsMessages Whole Fact) (old 
 
   -- what a delivery answers and leaves, by the line's place
   abbrev by_line : Pick → Delivered → Option Local → Type 0
-  by_line pick answer None = (answer ≡ delivered.Nothing) × (new ≡ old)
-  by_line pick answer (Some local) =
-      AfterPlan (plan_of old.view local (channel_of pick)) old local (channel_of pick) answer new
+  by_line pick answer place =
+      AfterPlan (planned_in old.view place (channel_of pick)) old (local_in place) (channel_of pick) answer new
 
   at_place : (pick : Pick) (answer : Delivered) (place : Option Local)
       → local_at old.view.lines (line_of pick).0 ≡ place → by_line pick answer place → Fact new.view

@@ -9,8 +9,8 @@ use Rattle.slice_core_answer.specs.declared.answer.DeliveredNext.{DeliveredNext}
 use Rattle.slice_core_answer.specs.declared.answer.DeliveredNext.TheVariants as delivered_next
 use Rattle.slice_core_coherence.proofs.KeptByCalls.{located}
 use Rattle.slice_core_coherence.specs.Coherent.{NothingIsBroken}
-use Rattle.slice_core_plan.specs.Parts.{AfterDeliverNext, AfterDelivery, AfterPlan, PartsView}
-use Rattle.slice_core_plan.specs.Plan.{plan_of}
+use Rattle.slice_core_plan.specs.Parts.{AfterDeliverNext, AfterDelivery, AfterPlan, PartsView, local_in}
+use Rattle.slice_core_plan.specs.Plan.{plan_of, planned_in}
 use Rattle.slice_core_plan.specs.declared.decide.Plan.{Plan}
 use Rattle.slice_core_plan.specs.declared.decide.Plan.TheVariants as plans
 use Rattle.slice_queues_message.specs.Pick.{channel_of, line_of}
@@ -42,9 +42,8 @@ module _ (old new : PartsView) (unbroken : NothingIsBroken old.view) (cell : Cel
   delivery_unbroken pick answer after = by (local_at old.view.lines (line_of pick).0) refl after
     where
       by_line : Option Local → Type 0
-      by_line None = (answer ≡ delivered.Nothing) × (new ≡ old)
-      by_line (Some local) =
-          AfterPlan (plan_of old.view local (channel_of pick)) old local (channel_of pick) answer new
+      by_line place =
+          AfterPlan (planned_in old.view place (channel_of pick)) old (local_in place) (channel_of pick) answer new
 
       by : (place : Option Local) → local_at old.view.lines (line_of pick).0 ≡ place → by_line place
           → answer ≢ delivered.Broken cell

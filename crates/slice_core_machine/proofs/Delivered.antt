@@ -17,8 +17,8 @@ use Rattle.slice_core_machine.proofs.Kept.{ShowsSame, kept-of, leads-same, same-
 use Rattle.slice_core_machine.proofs.Planned.{held-at_place, is_for_copy, place_in, planned-core, planned-place}
 use Rattle.slice_core_machine.proofs.Settled.{settled_performs}
 use Rattle.slice_core_machine.specs.Shows.{IsAccounted, Performs}
-use Rattle.slice_core_plan.specs.Parts.{PartsView, core_of, AfterDeliverNext, AfterDelivery, AfterPlan, Settles}
-use Rattle.slice_core_plan.specs.Plan.{plan_of}
+use Rattle.slice_core_plan.specs.Parts.{PartsView, core_of, AfterDeliverNext, AfterDelivery, AfterPlan, Settles, local_in}
+use Rattle.slice_core_plan.specs.Plan.{plan_of, planned_in}
 use Rattle.slice_core_plan.specs.Steps.{after_forwarded, after_settling}
 use Rattle.slice_core_plan.specs.View.{View, side_at}
 use Rattle.slice_core_plan.specs.declared.decide.Plan.{Plan}
@@ -168,9 +168,8 @@ module _ (old new : PartsView) (accounted : IsAccounted old.view) (whole : IsWho
 
   -- what a delivery answers and leaves, by the line's place
   abbrev by_line : Pick → Delivered → Option Local → Type 0
-  by_line pick answer None = (answer ≡ delivered.Nothing) × (new ≡ old)
-  by_line pick answer (Some local) =
-      AfterPlan (plan_of old.view local (channel_of pick)) old local (channel_of pick) answer new
+  by_line pick answer place =
+      AfterPlan (planned_in old.view place (channel_of pick)) old (local_in place) (channel_of pick) answer new
 
   at_place : (pick : Pick) (answer : Delivered) (place : Option Local) → by_line pick answer place
       → Performs old.view new.view

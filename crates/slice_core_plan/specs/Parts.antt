@@ -39,11 +39,13 @@ use Rattle.slice_core_side.specs.declared.copy.CacheCopy.{CacheCopy}
 use Rattle.slice_core_side.specs.declared.tags.TagState.TheVariants as tags
 use Rattle.slice_core_plan.specs.Decision.{decision_of}
 use Rattle.slice_core_plan.specs.Initial.{AreInitialEntries, AreNewSides, is_of_slice}
-use Rattle.slice_core_plan.specs.Plan.{plan_of}
+use Rattle.slice_core_plan.specs.Plan.{plan_of, planned_at}
 use Rattle.slice_core_plan.specs.Steps.{after_directory, after_evict, after_forwarded, after_hand, after_hit, after_home, after_join, after_open, after_settling}
 use Rattle.slice_core_plan.specs.View.{View, channels_at, side_at, IsShaped}
 use Rattle.slice_core_plan.specs.declared.decide.Decision.{Decision}
 use Rattle.slice_core_plan.specs.declared.decide.Decision.TheVariants as decisions
+use Rattle.slice_core_plan.specs.declared.decide.NextPick.{NextPick}
+use Rattle.slice_core_plan.specs.declared.decide.NextPick.TheVariants as next_picks
 use Rattle.slice_core_plan.specs.declared.decide.Plan.{Plan}
 use Rattle.slice_core_plan.specs.declared.decide.Plan.TheVariants as plans
 use Rattle.slice_queues.specs.Line.{core_at, empty_line}
@@ -253,13 +255,16 @@ AfterPlan (plans.Acknowledge place next) old local channel answer new =
     (answer ≡ delivered.Moved)
     × Settles old local core channel (acknowledged (array_copy (side_at old.view core) local) next) new
 
--- What a delivery answers and leaves: a pick of a line that isn't the slice's names no message.
+-- the place of a line; where the slice hasn't the line nothing is planned, and nobody looks at the place
+abbrev pub local_in : Option Local → Local
+local_in None = record { 0 = 0 }
+local_in (Some local) = local
+
+-- What a delivery answers and leaves: what is planned for the message in front of the pick is done.
 abbrev pub AfterDelivery : PartsView → Pick → Delivered → PartsView → Type 0
-AfterDelivery old pick answer new = by_line (local_at old.view.lines (line_of pick).0)
-  where
-    by_line : Option Local → Type 0
-    by_line None = (answer ≡ delivered.Nothing) × (new ≡ old)
-    by_line (Some local) = AfterPlan (plan_of old.view local (channel_of pick)) old local (channel_of pick) answer new
+AfterDelivery old pick answer new =
+    AfterPlan (planned_at old.view pick) old (local_in (local_at old.view.lines (line_of pick).0)) (channel_of pick) answer
+    new
 
 -- nothing is moved by this plan
 abbrev pub IsStuck : Plan → Type 0
@@ -267,6 +272,13 @@ IsStuck plans.Nothing = Unit {0}
 IsStuck plans.Blocked = Unit {0}
 IsStuck (plans.Broken cell) = Unit {0}
 IsStuck _ = ⊥
+
+-- a message is moved by this plan
+abbrev pub IsMove : Plan → Type 0
+IsMove plans.Nothing = ⊥
+IsMove plans.Blocked = ⊥
+IsMove (plans.Broken cell) = ⊥
+IsMove _ = Unit {0}
 
 -- at each channel of the class, of each line of the slice, the plan has this property
 abbrev pub AllPlans : View → Class → (Plan → Type 0) → Type 0
@@ -278,6 +290,16 @@ abbrev pub SomePlan : View → Class → Plan → Type 0
 SomePlan v class plan =
     (local : Local) × (channel : Channel) × (local.0 < v.lines.lines) × IsTrue (is_of_class class channel)
     × (plan_of v local channel ≡ plan)
+
+-- What the next delivery of a class is to be: of a pick whose message can be moved; nothing can be moved only where each
+-- message in front of a channel of the class is blocked or broken; and nothing waits only where no channel of the class
+-- has a message.
+abbrev pub IsNextPick : View → Class → NextPick → Type 0
+IsNextPick v class (next_picks.Move pick) = IsTrue (is_of_class class (channel_of pick)) × IsMove (planned_at v pick)
+IsNextPick v class next_picks.Nothing = AllPlans v class (λ plan. plan ≡ plans.Nothing)
+IsNextPick v class next_picks.Blocked =
+    AllPlans v class (λ plan. (plan ≡ plans.Nothing) ⊎ (plan ≡ plans.Blocked)) × SomePlan v class plans.Blocked
+IsNextPick v class (next_picks.Broken cell) = AllPlans v class IsStuck × SomePlan v class (plans.Broken cell)
 
 -- What the next delivery of a class answers and leaves: one that can be made is made; nothing moves only where the row
 -- of each message in front of a channel of the class is blocked or broken; and nothing waits only where no channel of

@@ -2,6 +2,7 @@
 use Rattle.std.specs.Prelude.{ℕ, ◌&&◌, position, Bool, true, false, not, if◌then◌else◌, is_some, slice_get, Option, Some, None}
 use Rattle.std.specs.List.{list_all}
 use Rattle.address_map.specs.CoreSet.{has}
+use Rattle.address_map.specs.Locator.{local_at}
 use Rattle.address_map.specs.declared.address.CoreId.{CoreId}
 use Rattle.address_map.specs.declared.address.Local.{Local}
 use Rattle.cache_array.specs.Array.{slots_at}
@@ -26,8 +27,10 @@ use Rattle.slice_core_plan.specs.View.{View, channels_at, entry_at, side_at}
 use Rattle.slice_core_plan.specs.declared.decide.Plan.{Plan}
 use Rattle.slice_core_plan.specs.declared.decide.Plan.TheVariants as plans
 use Rattle.slice_queues.specs.Line.{LineChannels, core_at}
+use Rattle.slice_queues_message.specs.Pick.{channel_of, line_of}
 use Rattle.slice_queues_message.specs.declared.channel.Channel.{Channel}
 use Rattle.slice_queues_message.specs.declared.channel.Channel.TheVariants as channels
+use Rattle.slice_queues_message.specs.declared.channel.Pick.{Pick}
 use Rattle.slice_queues_message.specs.declared.message.DataMessage.{DataMessage}
 use Rattle.slice_queues_message.specs.declared.message.DataMessage.TheVariants as replies
 use Rattle.slice_queues_message.specs.declared.message.ForwardedMessage.{ForwardedMessage}
@@ -169,3 +172,12 @@ plan_of v local (channels.Fwd core) = forwarded_plan v local core
 plan_of v local (channels.Data core) = data_plan v local core
 plan_of v local (channels.Ack to from) = ack_plan v local to from
 plan_of v local channels.Home = home_plan v local
+
+-- what is to be done at the front of a channel, by the place of its line: nothing of a line that isn't the slice's
+abbrev pub planned_in : View → Option Local → Channel → Plan
+planned_in v None channel = plans.Nothing
+planned_in v (Some local) channel = plan_of v local channel
+
+-- What is to be done with the message in front of a pick, which a delivery there would take.
+abbrev pub planned_at : View → Pick → Plan
+planned_at v pick = planned_in v (local_at v.lines (line_of pick).0) (channel_of pick)

@@ -7,28 +7,36 @@ use cache_table::{CacheEvent, CacheSends, CopyState};
 use directory_table::{DirEvent, DirSends, DirState};
 use slice_core_answer::{Cell, Refused};
 use slice_core_side::Access;
-use slice_queues_message::{Channel, ForwardedMessage, RequestMessage};
+use slice_queues_message::{Channel, ForwardedMessage, Pick, RequestMessage};
 
 /// What is to be done with a request, before memory is asked for.
 #[derive(Clone, Copy, Debug, PartialEq, Eq)]
 pub enum Decision {
+    /// The request is turned away, and nothing changes.
     Refuse(Refused),
-    /// An access to one of the slice's lines.
+    /// An access to the line at this place of the slice: a hit, a miss of its own, a miss that joins another, or a
+    /// stall.
     Access(Local, Access),
 }
 
 /// What is to be done at the front of a channel.
 #[derive(Clone, Copy, Debug, PartialEq, Eq)]
 pub enum Plan {
+    /// No message waits there.
     Nothing,
+    /// The message has to wait: its row says so.
     Blocked,
+    /// The tables have no row for the message, a channel that its row sends to is full, or it came too early.
     Broken(Cell),
     /// The directory takes a request, and does its row.
     Directory {
+        /// The entry's next state, and its next owner and sharers.
         state: DirState,
         owner: Option<CoreId>,
         sharers: CoreSet,
+        /// What is sent, and to whom.
         sends: DirSends,
+        /// Whether the block that comes along is the home copy then.
         writes_home: bool,
     },
     /// The directory takes the block that comes home.
@@ -39,6 +47,7 @@ pub enum Plan {
     },
     /// A core takes a forwarded message, and does its row for the requester.
     Forwarded {
+        /// The copy's next state.
         next: CopyState,
         sends: CacheSends,
         requester: CoreId,
@@ -115,6 +124,19 @@ pub enum Next {
     Broken(Cell),
     /// The front message of this channel can be moved.
     Move(Local, Channel),
+}
+
+/// What the next delivery of a class is to be.
+#[derive(Clone, Copy, Debug, PartialEq, Eq)]
+pub enum NextPick {
+    /// No message of the class waits.
+    Nothing,
+    /// Each front message of the class is blocked.
+    Blocked,
+    /// No front message of the class can be moved, and one is broken.
+    Broken(Cell),
+    /// The front message of this pick can be moved.
+    Move(Pick),
 }
 
 impl Next {

@@ -3,13 +3,14 @@
 //! A slice is seen as one value (`View` of specs/View.antt): the directory's entries and the channels by line, each
 //! core's side, and the log. A request is judged by `decision_of` (specs/Decision.antt), and the message in front of
 //! a channel by `plan_of` (specs/Plan.antt), which ask the two tables; specs/Steps.antt says what each step leaves,
-//! and specs/Parts.antt what each call of a slice answers. [`Decision`], [`Plan`] and [`Next`] are what is decided,
+//! and specs/Parts.antt what each call of a slice answers: a delivery does what is planned for its pick (`planned_at`),
+//! and [`NextPick`] is which pick is next. [`Decision`], [`Plan`] and [`Next`] are what is decided,
 //! [`directory_room`] and [`cache_room`] test the channels that a row sends to, and [`send_from_directory`] and
 //! [`send_from_core`] fill them.
 #![tactic(auto)]
 
 pub use decide::{
-    Decision, Next, Plan, event_of_forwarded, event_of_request, is_put_ack, overwrites,
+    Decision, Next, NextPick, Plan, event_of_forwarded, event_of_request, is_put_ack, overwrites,
     requester_of,
 };
 pub use room::{cache_room, directory_room};

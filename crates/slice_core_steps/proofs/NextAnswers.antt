@@ -9,14 +9,15 @@ use Rattle.slice_core_answer.specs.declared.answer.Delivered.{Delivered}
 use Rattle.slice_core_answer.specs.declared.answer.Delivered.TheVariants as delivered
 use Rattle.slice_core_answer.specs.declared.answer.DeliveredNext.TheVariants as delivered_next
 use Rattle.slice_core_plan.specs.Next.{next_by, IsNextIn, IsNoBetter}
-use Rattle.slice_core_plan.specs.Parts.{PartsView, AfterDeliverNext, AfterPlan, SomePlan, IsStuck}
-use Rattle.slice_core_plan.specs.Plan.{plan_of}
+use Rattle.slice_core_plan.specs.Parts.{PartsView, AfterDeliverNext, AfterPlan, IsMove, IsNextPick, IsStuck, SomePlan}
+use Rattle.slice_core_plan.specs.Plan.{plan_of, planned_at}
 use Rattle.slice_core_plan.specs.View.{View}
 use Rattle.slice_core_plan.specs.declared.decide.Next.TheVariants as nexts
+use Rattle.slice_core_plan.specs.declared.decide.NextPick.TheVariants as next_picks
 use Rattle.slice_core_plan.specs.declared.decide.Plan.{Plan}
 use Rattle.slice_core_plan.specs.declared.decide.Plan.TheVariants as plans
 use Rattle.slice_queues_message.specs.Class.{is_of_class}
-use Rattle.slice_queues_message.specs.Pick.{pick_at}
+use Rattle.slice_queues_message.specs.Pick.{channel_of, pick_at}
 use Rattle.slice_queues_message.specs.declared.channel.Channel.{Channel}
 use Rattle.slice_queues_message.specs.declared.channel.Channel.TheVariants as channels
 use Rattle.slice_queues_message.specs.declared.channel.Class.{Class}
@@ -200,3 +201,42 @@ next-moved old new class local channel line answer plan can found planned after 
     moved-at old new class local channel line can.of_class found
     (moved-by local local channel channel (plan_of old.view local channel) old new answer can.planned
     (subst P planned after))
+
+-- what can be moved is a move
+is-move : (local at : Local) (channel other : Channel) (plan : Plan) → nexts.Move local channel ≡ next_by at other plan
+    → IsMove plan
+is-move local at channel other plans.Nothing h = cc
+is-move local at channel other plans.Blocked h = cc
+is-move local at channel other (plans.Broken cell) h = cc
+is-move local at channel other (plans.Directory a b c d e) h = tt
+is-move local at channel other (plans.Home a b c) h = tt
+is-move local at channel other (plans.Forwarded a b c) h = tt
+is-move local at channel other (plans.Fill a b) h = tt
+is-move local at channel other (plans.Acknowledge a b) h = tt
+
+-- what is planned for a channel at its line's place is planned for the pick of both
+move-at : (v : View) (local : Local) (channel : Channel) (line : LineAddr) → local_at v.lines line.0 ≡ Some local
+    → IsMove (plan_of v local channel) → IsMove (planned_at v (pick_at line channel))
+move-at v local (channels.Req core) line found move = rw found move
+move-at v local (channels.Fwd core) line found move = rw found move
+move-at v local (channels.Data core) line found move = rw found move
+move-at v local (channels.Ack to from) line found move = rw found move
+move-at v local channels.Home line found move = rw found move
+
+of-class-at : (class : Class) (channel : Channel) (line : LineAddr) → IsTrue (is_of_class class channel)
+    → IsTrue (is_of_class class (channel_of (pick_at line channel)))
+of-class-at class (channels.Req core) line h = h
+of-class-at class (channels.Fwd core) line h = h
+of-class-at class (channels.Data core) line h = h
+of-class-at class (channels.Ack to from) line h = h
+of-class-at class channels.Home line h = h
+
+-- what is found to be next, as a pick
+pub pick-moved : (v : View) (class : Class) (local : Local) (channel : Channel) (line : LineAddr)
+    → IsNextIn v class (nexts.Move local channel) → local_at v.lines line.0 ≡ Some local
+    → IsNextPick v class (next_picks.Move (pick_at line channel))
+pick-moved v class local channel line next found =
+    let can = can-move v class local channel next in (
+      of-class-at class channel line can.of_class,
+      move-at v local channel line found (is-move local local channel channel _ can.planned),
+    )

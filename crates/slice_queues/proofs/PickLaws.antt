@@ -135,11 +135,11 @@ count-round pick queues start =
     turned : (a b : ℕ) → a + b ≡ b + a
     turned a b = omega arith
 
--- each pick at which a message waits stands once among the waiting picks of a slice, and no other does
-pub picks_waiting-once : (queues : SliceChannels) (start : LineAddr) → queues.slice < queues.slices →
-    HasEachPickOnce queues (picks_waiting queues start)
-picks_waiting-once queues start one pick =
-    count-round pick queues start ∙ elim (cases_eq rest queues.slice) [
+-- each pick at which a message waits stands once among those from a slice's first line to its last, and no other does
+pub lines_waiting-once : (queues : SliceChannels) → queues.slice < queues.slices →
+    HasEachPickOnce queues (lines_waiting queues.slice queues.slices 0 queues.lines)
+lines_waiting-once queues one pick =
+    elim (cases_eq rest queues.slice) [
       | inl here ↦
           rw (eq-eqb rest queues.slice here)
           (count-one
@@ -161,3 +161,8 @@ picks_waiting-once queues start one pick =
 
     number : rest ≡ queues.slice → (line_of pick).0 ≡ at * queues.slices + queues.slice
     number here = sym (div-add-mod' (line_of pick).0 queues.slices) ∙ ap (λ n. at * queues.slices + n) here
+
+-- the same round and round from any line
+pub picks_waiting-once : (queues : SliceChannels) (start : LineAddr) → queues.slice < queues.slices →
+    HasEachPickOnce queues (picks_waiting queues start)
+picks_waiting-once queues start one pick = count-round pick queues start ∙ lines_waiting-once queues one pick

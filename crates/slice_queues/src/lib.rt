@@ -17,15 +17,16 @@
 //!   [`Queues::line_mut`] puts the line that it lends into the ring, so whatever is sent, that holds.
 //!   [`Queues::rotate`] sends the front lines with messages to the back, and the others out of the ring.
 //! - The calls of [`Queues`] that take a pick say of the slice what those of a line say of a line (specs/Slice.antt). A
-//!   pick names a line of the whole memory. [`Queues::picks_from`] goes through the lines, the start line first, round
-//!   and round (specs/Waiting.antt), and gives each pick with a message once and no other (`HasEachPickOnce`).
+//!   pick names a line of the whole memory. [`Queues::picks_of`] goes through the lines from the first to the last,
+//!   [`Queues::picks_from`] round and round from a start line (specs/Waiting.antt), and both give each pick with a
+//!   message once and no other (`HasEachPickOnce`).
 //!
 //! All memory is taken by [`Queues::build`], the only call that can fail: 184 bytes for each core of a line, and 137
 //! for the line, of which 9 are for the ring. The largest slice, 65536 lines of 64 cores, takes 781 MB, and its
 //! building 0.6 to 0.8 s, nearly all of it for the first touch of the pages. A send or a take costs the same whatever
 //! the number of lines and cores, and so does [`LineQueues::is_empty`]: four sets say for which cores messages wait.
 //! [`LineQueues::waiting`] looks at no core without a message, [`Queues::is_empty`] at the lines of the ring alone, and
-//! [`Queues::picks_from`] at each line.
+//! [`Queues::picks_of`] and [`Queues::picks_from`] at each line.
 #![tactic(auto)]
 
 pub use line_queues::LineQueues;

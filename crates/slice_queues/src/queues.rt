@@ -141,7 +141,7 @@ impl Queues {
     ghost use Rattle.slice_queues.specs.Line.{Carries, messages_at, after_take, TakesOnly};
     ghost use Rattle.slice_queues.specs.Slice.{at_local, with_local, HasLine, local_of, messages_in, HasPick, HasRoomIn, after_send_in, after_take_in, SendsOnlyIn, TakesOnlyIn};
     ghost use Rattle.slice_queues.specs.Ring.{with_listed};
-    ghost use Rattle.slice_queues.specs.Waiting.{picks_waiting, HasEachPickOnce};
+    ghost use Rattle.slice_queues.specs.Waiting.{lines_waiting, picks_waiting, placed_by, HasEachPickOnce};
 
     /// Whether the line is one of this slice, and is there.
     pub fn has_line(&self, line: LineAddr) -> bool
@@ -238,6 +238,21 @@ impl Queues {
         let (before, from) = self.lines.split_at(place);
         Picks::new(
             LinesWaiting::new(from, place, slice, slices),
+            LinesWaiting::new(before, 0, slice, slices),
+        )
+    }
+    /// The picks with a message, each once and no other, where the lines stand in the memory as the locator says: from
+    /// the first line to the last, within a line core by core, and home last. It takes no memory.
+    pub fn picks_of(&self, own: Locator) -> Picks<'_>
+        requires { own.lines ≡ length self.now.channels.lines }
+        ensures order { result ≡ lines_waiting own.slice own.slices 0 self.now.channels.lines }
+        ensures once { HasEachPickOnce (placed_by own self.now.channels.lines) result }
+    {
+        let slice = own.slice().0;
+        let slices = own.slices() as u8;
+        let (before, from) = self.lines.split_at(0);
+        Picks::new(
+            LinesWaiting::new(from, 0, slice, slices),
             LinesWaiting::new(before, 0, slice, slices),
         )
     }

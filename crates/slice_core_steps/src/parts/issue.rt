@@ -39,8 +39,8 @@ impl<F: MissFile> Parts<F> {
         }
     }
 
-    // What is to be done with the request, in the order in which it is judged.
-    fn decide(&self, core: CoreId, request: Request) -> Decision
+    /// What is to be done with the request, in the order in which it is judged.
+    pub fn decide(&self, core: CoreId, request: Request) -> Decision
         requires { core.0 < length self.now.view.sides }
         ensures decided { result ≡ decision_of self.now.view core request }
         ensures within { IsDecided self.now.view core request result }

@@ -1,7 +1,8 @@
 ghost use Rattle.std.specs.Prelude.{◌≡◌, ◌<◌, ◌≤◌, length, map, slice_get};
-ghost use Rattle.slice_core_plan.specs.View.{View, channels_at, entry_at};
+ghost use Rattle.slice_core_plan.specs.View.{View, channels_at, entry_at, IsShaped};
 ghost use Rattle.slice_core_side.specs.Side.{SideView, state_of};
 ghost use Rattle.slice_queues.specs.Line.{messages_at};
+ghost use Rattle.slice_queues.specs.Waiting.{lines_waiting, placed_by, HasEachPickOnce};
 
 use super::Parts;
 use crate::line_view::LineView;
@@ -10,6 +11,7 @@ use arrayvec::ArrayVec;
 use cache_table::CopyState;
 use mshr_file::MissFile;
 use slice_core_side::Side;
+use slice_queues::Picks;
 use slice_queues_message::{Channel, Message};
 
 impl<F: MissFile> Parts<F> {
@@ -41,6 +43,15 @@ impl<F: MissFile> Parts<F> {
         ensures { result ≡ slice_get (messages_at (channels_at self.now.view local) channel) 0 }
     {
         self.queues.line(local).front(channel)
+    }
+
+    /// The picks with a message, each once and no other, from the first line to the last.
+    pub fn waiting(&self) -> Picks<'_>
+        requires { IsShaped self.now.view }
+        ensures order { result ≡ lines_waiting self.now.view.lines.slice self.now.view.lines.slices 0 self.now.view.channels }
+        ensures once { HasEachPickOnce (placed_by self.now.view.lines self.now.view.channels) result }
+    {
+        self.queues.picks_of(self.lines)
     }
 }
 

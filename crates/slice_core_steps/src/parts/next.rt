@@ -1,6 +1,6 @@
 ghost use Rattle.std.specs.Prelude.{◌≡◌, ◌<◌, ◌≤◌, length};
 ghost use Rattle.slice_core_plan.specs.Next.{next_by, IsNextAt, IsNextIn};
-ghost use Rattle.slice_core_plan.specs.Parts.{PartsView, AfterDeliverNext, CanDeliver};
+ghost use Rattle.slice_core_plan.specs.Parts.{PartsView, AfterDeliverNext, CanDeliver, IsNextPick};
 ghost use Rattle.slice_core_plan.specs.View.{View, IsShaped};
 ghost use Rattle.slice_core_steps.specs.Found.{IsPlanFor};
 
@@ -8,7 +8,7 @@ use super::Parts;
 use address_map::Local;
 use mshr_file::MissFile;
 use slice_core_answer::DeliveredNext;
-use slice_core_plan::{Next, Plan};
+use slice_core_plan::{Next, NextPick, Plan};
 use slice_queues::{Channel, Class};
 
 // What is to be delivered next, with the plan for it where it can be moved.
@@ -51,6 +51,20 @@ impl<F: MissFile> Parts<F> {
         };
         self.queues.rotate(looked.min(self.queues.ring_len()));
         answer
+    }
+
+    /// What is to be delivered next of the class. It looks at the lines with mail, as a delivery does, and turns none.
+    pub fn next(&self, class: Class) -> NextPick
+        requires { IsShaped self.now.view }
+        ensures { IsNextPick self.now.view class result }
+    {
+        let (found, _) = self.find_next(class);
+        match found.next {
+            Next::Nothing => NextPick::Nothing,
+            Next::Blocked => NextPick::Blocked,
+            Next::Broken(cell) => NextPick::Broken(cell),
+            Next::Move(local, channel) => NextPick::Move(channel.at(self.lines.line_at(local))),
+        }
     }
 
     // What is to be delivered next, and how many lines of the ring were looked at for it.

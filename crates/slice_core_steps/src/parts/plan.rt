@@ -1,5 +1,5 @@
 ghost use Rattle.std.specs.Prelude.{◌≡◌, ◌<◌, length};
-ghost use Rattle.slice_core_plan.specs.Plan.{plan_of, request_plan, home_plan, forwarded_plan, data_plan, ack_plan, by_directory_row};
+ghost use Rattle.slice_core_plan.specs.Plan.{plan_of, planned_at, request_plan, home_plan, forwarded_plan, data_plan, ack_plan, by_directory_row};
 ghost use Rattle.slice_core_plan.specs.View.{View, IsShaped};
 ghost use Rattle.slice_core_plan.specs.Within.{IsPlanned};
 ghost use Rattle.slice_queues_message.specs.declared.channel.Channel.TheVariants as channels;
@@ -14,9 +14,20 @@ use slice_core_plan::{
     Plan, cache_room, directory_room, event_of_forwarded, event_of_request, is_put_ack,
     requester_of,
 };
-use slice_queues::{Channel, DataMessage, LineQueues};
+use slice_queues::{Channel, DataMessage, LineQueues, Pick};
 
 impl<F: MissFile> Parts<F> {
+    /// What is to be done with the message in front of a pick: a delivery there does it.
+    pub fn plan_at(&self, pick: Pick) -> Plan
+        requires { IsShaped self.now.view }
+        ensures { result ≡ planned_at self.now.view pick }
+    {
+        match self.lines.local_of(pick.line()) {
+            Some(local) => self.plan(local, pick.channel()),
+            None => Plan::Nothing,
+        }
+    }
+
     /// What is to be done at the front of a channel of a line.
     pub(super) fn plan(&self, local: Local, channel: Channel) -> Plan
         requires line { local.0 < self.now.view.lines.lines }

@@ -15,7 +15,9 @@
 //! message. A call does what was decided: its contract is by the same definitions (`decision_of`, `planned_at`).
 #![tactic(auto)]
 
-pub use address_map::{Block, CoreId, LineAddr, Op, Request, SliceId, WordAddr};
+pub use address_map::{Block, CoreId, CoreSet, LineAddr, Local, Op, Request, SliceId, WordAddr};
+pub use cache_table::{CacheSends, CopyState};
+pub use directory_table::{DirSends, DirState};
 pub use run::{Call, CallAnswer};
 pub use slice_core_answer::{
     Cell, Delivered, DeliveredNext, Evicted, Issue, Refused, Stall, Stats,

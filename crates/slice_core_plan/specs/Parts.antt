@@ -301,19 +301,15 @@ IsNextPick v class next_picks.Blocked =
     AllPlans v class (λ plan. (plan ≡ plans.Nothing) ⊎ (plan ≡ plans.Blocked)) × SomePlan v class plans.Blocked
 IsNextPick v class (next_picks.Broken cell) = AllPlans v class IsStuck × SomePlan v class (plans.Broken cell)
 
--- What the next delivery of a class answers and leaves: one that can be made is made; nothing moves only where the row
--- of each message in front of a channel of the class is blocked or broken; and nothing waits only where no channel of
--- the class has a message.
+-- What the next delivery of a class answers and leaves: one that can be made is made, and where none can be made it says
+-- what is to be done instead, and nothing has changed.
 abbrev pub AfterDeliverNext : PartsView → Class → DeliveredNext → PartsView → Type 0
 AfterDeliverNext old class (delivered_next.Moved pick) new =
     IsTrue (is_of_class class (channel_of pick)) × AfterDelivery old pick delivered.Moved new
-AfterDeliverNext old class delivered_next.Nothing new =
-    (new ≡ old) × AllPlans old.view class (λ plan. plan ≡ plans.Nothing)
-AfterDeliverNext old class delivered_next.Blocked new =
-    (new ≡ old) × AllPlans old.view class (λ plan. (plan ≡ plans.Nothing) ⊎ (plan ≡ plans.Blocked))
-    × SomePlan old.view class plans.Blocked
+AfterDeliverNext old class delivered_next.Nothing new = (new ≡ old) × IsNextPick old.view class next_picks.Nothing
+AfterDeliverNext old class delivered_next.Blocked new = (new ≡ old) × IsNextPick old.view class next_picks.Blocked
 AfterDeliverNext old class (delivered_next.Broken cell) new =
-    (new ≡ old) × AllPlans old.view class IsStuck × SomePlan old.view class (plans.Broken cell)
+    (new ≡ old) × IsNextPick old.view class (next_picks.Broken cell)
 
 -- ---- hand
 

@@ -8,7 +8,9 @@ use slice_core_answer::Stall;
 /// What a miss asks the directory for.
 #[derive(Clone, Copy, Debug, PartialEq, Eq)]
 pub enum Ask {
+    /// A copy to read.
     GetS,
+    /// The only copy, to write.
     GetM,
 }
 
@@ -26,21 +28,22 @@ pub enum Way {
 /// What is to be done with an access to a line of the slice, before memory is asked for.
 #[derive(Clone, Copy, Debug, PartialEq, Eq)]
 pub enum Access {
-    /// It joins the line's miss register.
+    /// A secondary miss: the line is waited for already, and the access joins its miss register.
     Join,
-    /// The copy in this place of its set allows it, and goes to the next state; silently where it was exclusive and is
-    /// written.
+    /// A hit: the copy in this place of its set allows it, and goes to the next state; silently where it was exclusive
+    /// and is written.
     Hit {
         place: usize,
         next: CopyState,
         silent: bool,
     },
-    /// A miss register is opened, the directory is asked, and the copy goes to the next state.
+    /// A primary miss: a miss register is opened, the directory is asked, and the copy goes to the next state.
     Open {
         next: CopyState,
         ask: Ask,
         way: Way,
     },
+    /// It has to be asked again later, for this reason.
     Stall(Stall),
 }
 

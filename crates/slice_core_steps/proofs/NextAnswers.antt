@@ -118,8 +118,10 @@ pub next-blocked : (old new : PartsView) (class : Class) → new ≡ old → IsN
     → AfterDeliverNext old class delivered_next.Blocked new
 next-blocked old new class same next = (
   same,
-  (λ local channel there of_class. blocked-planned local channel _ (next.0 local channel there of_class)),
-  met next.1,
+  (
+    (λ local channel there of_class. blocked-planned local channel _ (next.0 local channel there of_class)),
+    met next.1,
+  ),
 )
   where
     met : (nexts.Blocked ≡ nexts.Nothing)
@@ -134,8 +136,10 @@ pub next-broken : (old new : PartsView) (class : Class) (cell : Cell) → new �
     → AfterDeliverNext old class (delivered_next.Broken cell) new
 next-broken old new class cell same next = (
   same,
-  (λ local channel there of_class. stuck-planned local channel cell _ (next.0 local channel there of_class)),
-  met next.1,
+  (
+    (λ local channel there of_class. stuck-planned local channel cell _ (next.0 local channel there of_class)),
+    met next.1,
+  ),
 )
   where
     met : (nexts.Broken cell ≡ nexts.Nothing)

@@ -101,11 +101,16 @@ read_by true false fm g true w true get asks one current reads writes = apart (s
 read_by false false true g true w true get asks one current reads writes = apart (sym (one (writes refl)))
 read_by false false false g true w true get asks one current reads writes = apart (get ∙ asks refl)
 
+to_nobody : (g : Bool) (owner : Option CoreId) → None ≡ (if g && false then owner else None)
+to_nobody true owner = refl
+to_nobody false owner = refl
+
 to_by : (o owner : Option CoreId) (d g m : Bool) → (d || is_some o) ≡ g → (d ≡ true → m ≡ false)
     → is_some owner ≡ m → IfSome o (λ to. owner ≡ Some to) → o ≡ (if g && m then owner else None)
-to_by None owner true g m get current owned named = rw (current refl) (elim g as (λ b. None ≡ (if b && false then owner else None)) [ true ↦ refl | false ↦ refl ])
+to_by None owner true g m get current owned named = rw (current refl) (to_nobody g owner)
 to_by None owner false g m get current owned named = rw (sym get) refl
-to_by (Some to) owner true g m get current owned named = apart (sym (current refl) ∙ sym owned ∙ ap (λ o. is_some o) named)
+to_by (Some to) owner true g m get current owned named =
+    apart (sym (current refl) ∙ sym owned ∙ ap (λ o. is_some o) named)
 to_by (Some to) owner false g m get current owned named =
     rw (sym get) (rw (sym owned ∙ ap (λ o. is_some o) named) (sym named))
 
@@ -176,17 +181,19 @@ module _ (state : DirState) (owner : Option CoreId) (event : DirEvent) (x : DirS
 
   data-told : sends_data x ≡ (is_some (getter event) && not (is_modified state))
   data-told =
-      data_by (sends_data x) (is_some (forwarded_to x)) (is_some (getter event)) (is_modified state) replies.get current owned
+      data_by (sends_data x) (is_some (forwarded_to x)) (is_some (getter event)) (is_modified state) replies.get current
+      owned
 
   to-told : forwarded_to x ≡ (if is_some (getter event) && is_modified state then owner else None)
   to-told =
-      to_by (forwarded_to x) owner (sends_data x) (is_some (getter event)) (is_modified state) replies.get current kept named
+      to_by (forwarded_to x) owner (sends_data x) (is_some (getter event)) (is_modified state) replies.get current kept
+      named
 
   write-told : is_some (forwarded_get_m x) ≡ (is_some (writer event) && is_modified state)
   write-told =
       write_by (sends_data x) (is_some (forwarded_get_s x)) (is_some (forwarded_get_m x)) (is_some (getter event))
-      (is_some (reader event)) (is_some (writer event)) (is_modified state) get (writes_ask event) (no_reader event) current
-      replies.get_s
+      (is_some (reader event)) (is_some (writer event)) (is_modified state) get (writes_ask event) (no_reader event)
+      current replies.get_s
       (λ is. (
         replies.get_m is,
         owned (forwarded_either x ∙ or_right (is_some (forwarded_get_s x)) (is_some (forwarded_get_m x)) is),
@@ -195,7 +202,8 @@ module _ (state : DirState) (owner : Option CoreId) (event : DirEvent) (x : DirS
   read-told : is_some (forwarded_get_s x) ≡ (is_some (reader event) && is_modified state)
   read-told =
       read_by (sends_data x) (is_some (forwarded_get_s x)) (is_some (forwarded_get_m x)) (is_some (getter event))
-      (is_some (reader event)) (is_some (writer event)) (is_modified state) get (reads_ask event) (no_reader event) current
+      (is_some (reader event)) (is_some (writer event)) (is_modified state) get (reads_ask event) (no_reader event)
+      current
       (λ is. (replies.get_s is, owned (forwarded_either x ∙ ap (λ s. s || is_some (forwarded_get_m x)) is)))
       replies.get_m
 
@@ -223,8 +231,8 @@ Goes exclusive state owner sharers event next owns shares sent writes =
     IsLawful exclusive state owner sharers event (rows.Go next owns shares sent writes)
 
 -- Who reads a line that nobody has becomes its owner under the setting, and is named as one.
-read-granted : (state : DirState) (exclusive : Bool) (owner : Option CoreId) (sharers : ℕ) (core : CoreId) (next : DirState)
-    (shares : ℕ) (sent : DirSends) (writes : Bool) → IsKept state owner sharers (events.GetS core)
+read-granted : (state : DirState) (exclusive : Bool) (owner : Option CoreId) (sharers : ℕ) (core : CoreId)
+    (next : DirState) (shares : ℕ) (sent : DirSends) (writes : Bool) → IsKept state owner sharers (events.GetS core)
     → Goes exclusive state owner sharers (events.GetS core) next None shares sent writes
     → None ≡ (if exclusive && is_idle state then Some core else None)
 read-granted states.I true owner sharers core next shares sent writes kept row =
@@ -241,8 +249,8 @@ read-granted states.S_D true owner sharers core next shares sent writes kept row
 read-granted states.S_D false owner sharers core next shares sent writes kept row = refl
 
 -- An owner after a read was made one by it.
-read-owner : (exclusive : Bool) (state : DirState) (owner : Option CoreId) (sharers : ℕ) (core : CoreId) (next : DirState)
-    (c : CoreId) (shares : ℕ) (sent : DirSends) (writes : Bool) → IsKept state owner sharers (events.GetS core)
+read-owner : (exclusive : Bool) (state : DirState) (owner : Option CoreId) (sharers : ℕ) (core : CoreId)
+    (next : DirState) (c : CoreId) (shares : ℕ) (sent : DirSends) (writes : Bool) → IsKept state owner sharers (events.GetS core)
     → Goes exclusive state owner sharers (events.GetS core) next (Some c) shares sent writes
     → Some c ≡ (if exclusive && is_idle state then Some core else None)
 read-owner exclusive state owner sharers core next c shares sent writes kept row =
@@ -294,8 +302,8 @@ same_state a b s t one other owned awaited shares =
 
 -- ---- two rows
 
-same_row : (a b : DirState) (o p : Option CoreId) (s t : ℕ) (x y : DirSends) (v w : Bool) → a ≡ b → o ≡ p → s ≡ t → x ≡ y
-    → v ≡ w → rows.Go a o s x v ≡ rows.Go b p t y w
+same_row : (a b : DirState) (o p : Option CoreId) (s t : ℕ) (x y : DirSends) (v w : Bool) → a ≡ b → o ≡ p → s ≡ t
+    → x ≡ y → v ≡ w → rows.Go a o s x v ≡ rows.Go b p t y w
 same_row a b o p s t x y v w state owner sharers sent writes = cc
 
 -- Two rows that go on and obey the laws send the same.
@@ -316,7 +324,8 @@ same_sends exclusive state owner sharers event a b o p s t x y v w kept small sm
     (write-told state owner event x kept one.served one.replied
     ∙ sym (write-told state owner event y kept other.served other.replied))
     invalidated
-    (to-told state owner event x kept one.served one.replied ∙ sym (to-told state owner event y kept other.served other.replied))
+    (to-told state owner event x kept one.served one.replied
+    ∙ sym (to-told state owner event y kept other.served other.replied))
     in
     sym (sends_from-told x one.acknowledgements) ∙ told ∙ sends_from-told y other.acknowledgements
 
@@ -347,7 +356,8 @@ same_goes exclusive state owner sharers event a b o p s t x y v w kept sets sets
 -- Two rows that obey the laws are one.
 pub lawful-only : (exclusive : Bool) (state : DirState) (owner : Option CoreId) (sharers : ℕ) (event : DirEvent)
     (row other : DirRow) → IsKept state owner sharers event → HasSets row → HasSets other
-    → IsLawful exclusive state owner sharers event row → IsLawful exclusive state owner sharers event other → other ≡ row
+    → IsLawful exclusive state owner sharers event row → IsLawful exclusive state owner sharers event other
+    → other ≡ row
 lawful-only exclusive state owner sharers event (rows.Go a o s x v) (rows.Go b p t y w) kept sets sets_too one other =
     same_goes exclusive state owner sharers event b a p o t s y x w v kept sets_too sets other one
 lawful-only exclusive state owner sharers event rows.Blocked rows.Blocked kept sets sets_too one other = refl

@@ -61,5 +61,5 @@ returns-clause-only c =
     let small : IsSet entry.sharers = λ core past. has-past entry.sharers core fits past in
     let sets = cell-sets exclusive entry.state entry.owner entry.sharers event small in
     rw c.cell.ensures (λ kept other sets_too law.
-    lawful-only exclusive entry.state entry.owner entry.sharers event (row_of exclusive entry event) other kept sets sets_too
-    (lawful exclusive entry event) law)
+    lawful-only exclusive entry.state entry.owner entry.sharers event (row_of exclusive entry event) other kept sets
+    sets_too (lawful exclusive entry event) law)

@@ -25,17 +25,31 @@ type State = SliceState<ExplicitFile>;
 /// Makes the calls of a slice's book whose answers were worked out by hand, with nobody else about and no lock. Answers
 /// whether each was answered so.
 pub fn books_answer(alloc: Global) -> Result<bool, AllocError> {
-    let (Some(one), Some(two)) = (one_core(alloc)?, configure(alloc, false)?) else {
+    let sums = sums_answered(alloc)?;
+    let learns = learns_answered(alloc)?;
+    Ok(sums && learns)
+}
+
+fn sums_answered(alloc: Global) -> Result<bool, AllocError> {
+    let Some(config) = one_core(alloc)? else {
         return Ok(false);
     };
-    if one.cores() != 1 || two.cores() != 2 {
+    if config.cores() != 1 {
         return Ok(false);
     }
-    let sole = Blanks::new(1);
-    let sums = named_sums::<Brand>(alloc, &one, sole)?;
-    let both = Blanks::new(2);
-    let learns = named_learns::<Brand>(alloc, &two, both)?;
-    Ok(sums && learns)
+    let blanks = Blanks::new(1);
+    named_sums::<Brand>(alloc, &config, blanks)
+}
+
+fn learns_answered(alloc: Global) -> Result<bool, AllocError> {
+    let Some(config) = configure(alloc, false)? else {
+        return Ok(false);
+    };
+    if config.cores() != 2 {
+        return Ok(false);
+    }
+    let blanks = Blanks::new(2);
+    named_learns::<Brand>(alloc, &config, blanks)
 }
 
 fn named_sums<N: SliceNames>(
@@ -114,15 +128,26 @@ fn named_learns<N: SliceNames>(
         SliceId(0),
         blanks,
     )?;
-    let (Some(mut reader), Some(mut adder)) = (ports.pop(), ports.pop()) else {
-        return Ok(false);
+    Ok(told_and_read(&mut state, &mut book, &mut ports))
+}
+
+/// Whether the second port learns of what the first one added, and nothing else, and then reads it.
+fn told_and_read<N: SliceNames>(
+    state: &mut State,
+    book: &mut Book<N>,
+    ports: &mut [Port<N>],
+) -> bool
+    requires { IsTied N.setup N.number book.old state.old }
+{
+    let [adder, reader] = ports else {
+        return false;
     };
-    Ok(match adds(&mut state, &mut book, &mut adder) {
-        Some(added) => learns(&book, &state, &mut reader, &added)
-            && reads(&mut state, &mut book, &mut reader)
-            && learns_nothing_made_up(&book, &state, &mut reader, &added),
+    match adds(state, book, adder) {
+        Some(added) => learns(book, state, reader, &added)
+            && reads(state, book, reader)
+            && learns_nothing_made_up(book, state, reader, &added),
         None => false,
-    })
+    }
 }
 
 /// The receipt of an add of 5, the first in the log.

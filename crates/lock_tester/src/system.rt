@@ -10,7 +10,7 @@ use core_thread_system::{
 use mshr_file::ExplicitFile;
 use receipt_ledger::{Answer, LearnError, Receipt};
 use slice_core_answer::{Evicted, Refused};
-use std::alloc::{AllocFailed, Global};
+use std::alloc::{AllocError, Global};
 use std::fmt;
 use std::marker::Brand;
 use std::sync::Wait;
@@ -68,13 +68,25 @@ fn named_round<M: SystemKeys, R: AllocGlobal + Wait>(
     requires ledgers3 { AreLedgersOf M.setup (M.names 3) blanks.slice3 }
 {
     let (system, sets) = System::<ExplicitFile, All<M>>::build(rt.alloc(), config, blanks)?;
-    let mut cores = cores_of(rt.alloc(), &system, sets)?;
+    let wanted = on_system(rt, &system, sets, shared);
+    // In one call: dropped where it is it would be taken apart, each part with a proof of its own.
+    drop(system);
+    Ok(wanted?)
+}
+
+fn on_system<M: SystemNames, R: AllocGlobal + Wait>(
+    rt: &R,
+    system: &System<ExplicitFile, M>,
+    sets: Vec<PortSet<M>>,
+    shared: Shared,
+) -> Result<bool, AllocError>
+    requires cores { M.setup.cores ≡ 2 }
+    requires slices { M.setup.slices ≡ 2 }
+{
+    let mut cores = cores_of(rt.alloc(), system, sets)?;
     Ok(match shared {
-        Shared::Adds => play(rt, &mut cores) && is_settled(rt, &system, &mut cores),
-        Shared::Receipts => match cores.split_first_mut() {
-            Some((adder, rest)) => tells(rt, adder, rest),
-            None => false,
-        },
+        Shared::Adds => play(rt, &mut cores) && is_settled(rt, system, &mut cores),
+        Shared::Receipts => tells(rt, &mut cores),
     })
 }
 
@@ -83,7 +95,7 @@ fn cores_of<'a, M: SystemNames>(
     alloc: Global,
     system: &'a System<ExplicitFile, M>,
     sets: Vec<PortSet<M>>,
-) -> Result<Vec<Core<'a, ExplicitFile, M>>, AllocFailed<Core<'a, ExplicitFile, M>>> {
+) -> Result<Vec<Core<'a, ExplicitFile, M>>, AllocError> {
     let mut cores = Vec::new(alloc);
     for set in sets {
         cores.push(Core::new(system, set))?;
@@ -160,13 +172,12 @@ fn is_settled<'a, M: SystemNames, R: Wait>(
 
 /// Whether a core that is told of another's receipt learns from it, and then reads what that core added. Their three
 /// requests are in the log of the counter's slice, and that of the other slice is empty.
-fn tells<M: SystemNames, R: Wait>(
-    rt: &R,
-    adder: &mut Core<'_, ExplicitFile, M>,
-    rest: &mut [Core<'_, ExplicitFile, M>],
-) -> bool
+fn tells<M: SystemNames, R: Wait>(rt: &R, cores: &mut [Core<'_, ExplicitFile, M>]) -> bool
     requires slices { M.setup.slices ≡ 2 }
 {
+    let Some((adder, rest)) = cores.split_first_mut() else {
+        return false;
+    };
     let Some(reader) = rest.first_mut() else {
         return false;
     };

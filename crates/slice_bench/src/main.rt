@@ -1,10 +1,11 @@
 //! The program `slice_bench`: makes calls on a slice, and prints how many they were and how long they took. With `lock` it
-//! measures what a slice's lock costs.
+//! measures what a slice's lock costs, and with `cores` what the cores of machines get done in threads.
 //!
 //! Nothing is promised here but that no call is faulty; what the calls do is proved in `slice_core`. Times are those of
 //! the clock, so they are right only where nothing else runs beside.
 #![tactic(auto)]
 
+use cores::{Extent, run_cores};
 use load::{LOADS, Load};
 use lock::run_lock;
 use measure::{Measure, peak_memory, run_load};
@@ -15,10 +16,14 @@ use std::sync::Wait;
 use std::thread::Threads;
 use std::{env, io};
 
+mod cores;
 mod load;
 mod lock;
 mod measure;
 mod player;
+
+/// The exit status where a thread didn't end.
+const NOT_ENDED: u8 = 1;
 
 /// The exit status where the command line is refused, or a load ended early.
 const REFUSED: u8 = 2;
@@ -28,6 +33,11 @@ const REFUSED: u8 = 2;
 const LOCK_REQUESTS: u64 = 4000;
 
 const LOCK_ROUNDS: u64 = 200;
+
+/// How many accesses a core makes, and how many rounds there are, where the command line leaves it out.
+const CORE_ACCESSES: u64 = 20_000;
+
+const CORE_ROUNDS: u64 = 5;
 
 fn main(rt: HostRuntime) -> ExitCode {
     ExitCode::from(match run(&rt) {
@@ -56,6 +66,7 @@ fn answer<R: Files + Clock + AllocGlobal + Print + Eprint + Threads + Wait + Syn
             Ok(0)
         }
         Some(name) if name.as_str() == "lock" => measure_lock(rt, words),
+        Some(name) if name.as_str() == "cores" => measure_cores(rt, words),
         Some(name) => measure_load(rt, name, words.get(2)),
     }
 }
@@ -75,6 +86,43 @@ fn measure_lock<R: AllocGlobal + Clock + Print + Eprint + Threads + Wait + Sync>
         Ok(0)
     } else {
         refuse(rt, "a request wasn't answered as a hit")
+    }
+}
+
+/// Measures what the cores of machines get done in threads.
+fn measure_cores<R: AllocGlobal + Clock + Print + Eprint + Threads + Wait + Sync>(
+    rt: &R,
+    words: &[String],
+) -> io::Result<u8> {
+    match extent_of(words) {
+        Some(extent) => tell(rt, run_cores(rt, extent)),
+        None => refuse(rt, "ACCESSES and ROUNDS are numbers above 0"),
+    }
+}
+
+/// How much is to be measured of cores. None where it is no number above 0.
+fn extent_of(words: &[String]) -> Option<Extent> {
+    let accesses = number_or(words.get(2), CORE_ACCESSES)?;
+    let rounds = number_or(words.get(3), CORE_ROUNDS)?;
+    if accesses == 0 || rounds == 0 {
+        return None;
+    }
+    Some(Extent { accesses, rounds })
+}
+
+/// The exit status of what was measured of cores.
+fn tell(rt: &impl Eprint, measured: Result<(), cores::Fault>) -> io::Result<u8> {
+    match measured {
+        Ok(()) => Ok(0),
+        Err(cores::Fault::NotEnded) => {
+            eprintln!(rt; "slice_bench: a thread did not end")?;
+            Ok(NOT_ENDED)
+        }
+        Err(cores::Fault::NoMemory) => refuse(rt, "no memory"),
+        Err(cores::Fault::NoMachine) => refuse(rt, "no such machine"),
+        Err(cores::Fault::System) => {
+            refuse(rt, "the clock can't be read, or nothing can be printed")
+        }
     }
 }
 
@@ -120,6 +168,7 @@ fn print_usage(rt: &impl Print) -> io::Result<()> {
     println!(rt;
         "Times rounds of requests that hit: on a slice's state, behind its lock, and by two threads."
     )?;
+    print_cores_usage(rt)?;
     println!(rt;)?;
     for load in &LOADS {
         let name = load.name;
@@ -127,6 +176,20 @@ fn print_usage(rt: &impl Print) -> io::Result<()> {
         println!(rt; "{name:<24}{about}")?;
     }
     Ok(())
+}
+
+fn print_cores_usage(rt: &impl Print) -> io::Result<()> {
+    println!(rt; "slice_bench cores [ACCESSES [ROUNDS]]")?;
+    println!(rt;
+        "Lets cores make accesses, each core in a thread of its own, on a new machine each round."
+    )?;
+    println!(rt;
+        "Prints how many requests a second the best round made: of one core that hits in one slice,"
+    )?;
+    println!(rt;
+        "and of four that hit in a slice each. Then it prints whether each thread ended, and how long"
+    )?;
+    println!(rt; "the longest round took, where 64 cores add to two words that they share.")
 }
 
 /// Prints a measure as one line of numbers.

@@ -1,4 +1,4 @@
-use super::command::Extent;
+use super::Extent;
 use super::fault::Fault;
 use super::load::Load;
 use super::machine::on_machine;

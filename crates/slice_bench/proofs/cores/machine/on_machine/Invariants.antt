@@ -1,5 +1,5 @@
 use Rattle.std.specs.Prelude.{◌==◌, if◌then◌else◌, slice_index_or}
-use Rattle.core_bench.proofs.machine.on_machine.Given as goal
+use Rattle.slice_bench.proofs.cores.machine.on_machine.Given as goal
 
 abbrev pub ghosts-on_named : goal.ghosts-on_named
 ghosts-on_named g a = record {

@@ -1,5 +1,5 @@
 -- Why an audit fails.
-use Rattle.std.specs.Prelude.{◌≡◌, ◌<◌, ◌≤◌, List}
+use Rattle.std.specs.Prelude.{◌≡◌, ℕ, ◌<◌, ◌≤◌, List, ◌++◌, codes, decimal}
 use Rattle.address_map.specs.declared.address.CoreId.{CoreId}
 use Rattle.address_map.specs.declared.config.Config.{Config}
 use Rattle.core_thread_system.specs.Core.{CoreView}
@@ -22,3 +22,11 @@ IsFaultOf c cores (errors.Repeated core) = IsLeast c cores core × (2 ≤ times 
 IsFaultOf c cores (errors.NotQuiet slice) = AreWhole c cores × (slice.0 < c.slices)
 IsFaultOf c cores (errors.Differs slice) = AreWhole c cores × (slice.0 < c.slices) × AreSettledBelow c cores slice.0
 IsFaultOf c cores errors.Memory = AreWhole c cores × AreSettledBelow c cores c.slices
+
+-- how it is told: its number and name, and which core or slice
+abbrev pub text_of_error : AuditError → List ℕ
+text_of_error (errors.Missing core) = codes "1 Missing " ++ decimal core.0
+text_of_error (errors.Repeated core) = codes "2 Repeated " ++ decimal core.0
+text_of_error (errors.NotQuiet slice) = codes "3 NotQuiet " ++ decimal slice.0
+text_of_error (errors.Differs slice) = codes "4 Differs " ++ decimal slice.0
+text_of_error errors.Memory = codes "5 Memory"

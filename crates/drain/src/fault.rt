@@ -19,6 +19,11 @@ pub enum AuditError {
 }
 
 impl fmt::Display for AuditError {
+    ghost use Rattle.std.specs.Prelude.{Some};
+    ghost use Rattle.drain.specs.Fault.{text_of_error};
+
+    ghost output = { λ error. Some (text_of_error error) };
+
     fn fmt<W: fmt::Write>(&self, f: &mut fmt::Formatter<W>) -> fmt::Result {
         match self {
             AuditError::Missing(core) => write!(f, "1 Missing {}", core.0),

@@ -9,3 +9,4 @@ pub mod CommandLemmas
 pub mod AccessLemmas
 pub mod ChannelLemmas
 pub mod PolicyLemmas
+pub mod FieldLemmas

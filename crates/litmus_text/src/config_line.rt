@@ -41,6 +41,8 @@ impl ConfigLine {
     /// The configuration line that these words write.
     pub fn parse(words: &[&[u8]]) -> Result<Self, LineFault>
         ensures written { IfOk result (λ line. Writes (map (λ w. w.now) words.now) (parts_of_config_line line)) }
+        ensures only { IfOk result (λ line. (other : ConfigLine)
+            → Writes (map (λ w. w.now) words.now) (parts_of_config_line other) → other ≡ line) }
         ensures refused { IfErr result
             (λ fault. (line : ConfigLine) → Writes (map (λ w. w.now) words.now) (parts_of_config_line line) → ⊥) }
         ensures form { IfErr result
@@ -87,6 +89,8 @@ impl ConfigLine {
 #[tactic(auto, using(crate::proofs::FormLemmas::wrong_count, crate::proofs::FormLemmas::wrong_form))]
 fn misses(words: &[&[u8]]) -> Result<MissKind, LineFault>
     ensures written { IfOk result (λ kind. Writes (map (λ w. w.now) words.now) (key (name_of_misses kind) ∷ [])) }
+    ensures only { IfOk result (λ kind. (other : MissKind)
+        → Writes (map (λ w. w.now) words.now) (key (name_of_misses other) ∷ []) → other ≡ kind) }
     ensures refused { IfErr result
         (λ fault. (kind : MissKind) → Writes (map (λ w. w.now) words.now) (key (name_of_misses kind) ∷ []) → ⊥) }
     ensures form { IfErr result
@@ -114,6 +118,8 @@ fn miss_kind(name: &[u8]) -> Option<MissKind>
 #[tactic(auto, using(crate::proofs::FormLemmas::wrong_count, crate::proofs::FormLemmas::wrong_form))]
 fn setting(words: &[&[u8]]) -> Result<bool, LineFault>
     ensures written { IfOk result (λ is_on. Writes (map (λ w. w.now) words.now) (key (name_of_setting is_on) ∷ [])) }
+    ensures only { IfOk result (λ is_on. (other : Bool)
+        → Writes (map (λ w. w.now) words.now) (key (name_of_setting other) ∷ []) → other ≡ is_on) }
     ensures refused { IfErr result
         (λ fault. (is_on : Bool) → Writes (map (λ w. w.now) words.now) (key (name_of_setting is_on) ∷ []) → ⊥) }
     ensures form { IfErr result

@@ -11,12 +11,23 @@ pub enum LineFault {
     /// The first line isn't that of a trace.
     #[error("not a trace")]
     NotATrace,
+    /// The first line isn't that of a litmus text.
+    #[error("not a litmus text")]
+    NotALitmusText,
     #[error("bad number")]
     BadNumber,
     #[error("configuration after a command")]
     LateConfiguration,
     #[error("out of range")]
     OutOfRange,
+    #[error("name used twice")]
+    NameUsedTwice,
+    #[error("too many names")]
+    TooManyNames,
+    #[error("unknown name")]
+    UnknownName,
+    #[error("store to a counter")]
+    StoreToACounter,
 }
 
 /// Why a text was read no further. It displays as the text of the fault.

@@ -21,11 +21,13 @@ pub use config_line::ConfigLine;
 pub use fault::{LineFault, TextFault};
 pub use field::Count;
 pub use line::Lines;
-pub use number::parse_number;
+pub use number::{no_numbers, one_number, parse_number, three_numbers, two_numbers};
 pub use parse::parse_command;
+pub use range::{core_in, line_in, word_in};
 pub use row::{MOST_WORDS, first_words};
 pub use settings::{MissKind, Settings};
 pub use statement::{Statement, Statements};
+pub use table::value_named;
 pub use word::Words;
 
 mod access;

@@ -59,7 +59,7 @@ pub(super) fn tag_number(word: &[u8]) -> Result<u8, LineFault>
 
 /// There are no words.
 #[tactic(auto, using(crate::proofs::FormLemmas::wrong_count, crate::proofs::FormLemmas::wrong_form))]
-pub(super) fn no_numbers(words: &[&[u8]]) -> Result<(), LineFault>
+pub fn no_numbers(words: &[&[u8]]) -> Result<(), LineFault>
     ensures written { IfOk result (λ unit. Writes (map (λ w. w.now) words.now) []) }
     ensures refused { IfErr result (λ fault. Writes (map (λ w. w.now) words.now) [] → ⊥) }
     ensures form { IfErr result (λ fault. HasForm (map (λ w. w.now) words.now) [] → ⊥) }
@@ -72,7 +72,7 @@ pub(super) fn no_numbers(words: &[&[u8]]) -> Result<(), LineFault>
 
 /// The number that is all of these words.
 #[tactic(auto, using(crate::proofs::FormLemmas::wrong_count, crate::proofs::FormLemmas::wrong_form))]
-pub(super) fn one_number(words: &[&[u8]]) -> Result<u64, LineFault>
+pub fn one_number(words: &[&[u8]]) -> Result<u64, LineFault>
     ensures written { IfOk result (λ n. Writes (map (λ w. w.now) words.now) (num n ∷ [])) }
     ensures only { IfOk result (λ n. (m : ℕ) → Writes (map (λ w. w.now) words.now) (num m ∷ []) → m ≡ n) }
     ensures refused { IfErr result (λ fault. (n : ℕ) → Writes (map (λ w. w.now) words.now) (num n ∷ []) → ⊥) }
@@ -87,7 +87,7 @@ pub(super) fn one_number(words: &[&[u8]]) -> Result<u64, LineFault>
 
 /// The two numbers that are all of these words.
 #[tactic(auto, using(crate::proofs::FormLemmas::wrong_count, crate::proofs::FormLemmas::wrong_form))]
-pub(super) fn two_numbers(words: &[&[u8]]) -> Result<(u64, u64), LineFault>
+pub fn two_numbers(words: &[&[u8]]) -> Result<(u64, u64), LineFault>
     ensures written { IfOk result (λ p. Writes (map (λ w. w.now) words.now) (num p.0 ∷ num p.1 ∷ [])) }
     ensures only { IfOk result
         (λ p. (n m : ℕ) → Writes (map (λ w. w.now) words.now) (num n ∷ num m ∷ []) → (n ≡ p.0) × (m ≡ p.1)) }
@@ -103,7 +103,7 @@ pub(super) fn two_numbers(words: &[&[u8]]) -> Result<(u64, u64), LineFault>
 
 /// The three numbers that are all of these words.
 #[tactic(auto, using(crate::proofs::FormLemmas::wrong_count, crate::proofs::FormLemmas::wrong_form))]
-pub(super) fn three_numbers(words: &[&[u8]]) -> Result<(u64, u64, u64), LineFault>
+pub fn three_numbers(words: &[&[u8]]) -> Result<(u64, u64, u64), LineFault>
     ensures written { IfOk result (λ p. Writes (map (λ w. w.now) words.now) (num p.0 ∷ num p.1 ∷ num p.2 ∷ [])) }
     ensures only { IfOk result (λ p. (n m k : ℕ) → Writes (map (λ w. w.now) words.now) (num n ∷ num m ∷ num k ∷ [])
         → (n ≡ p.0) × (m ≡ p.1) × (k ≡ p.2)) }

@@ -27,6 +27,8 @@ static POLICIES: [(&[u8], PolicyName); 3] = [
 /// A replacement policy, by its name and its seed where it has one.
 pub(super) fn parse_policy(words: &[&[u8]]) -> Result<PolicyKind, LineFault>
     ensures written { IfOk result (λ kind. Writes (map (λ w. w.now) words.now) (parts_of_policy kind)) }
+    ensures only { IfOk result (λ kind. (other : PolicyKind)
+        → Writes (map (λ w. w.now) words.now) (parts_of_policy other) → other ≡ kind) }
     ensures refused { IfErr result (λ fault. (kind : PolicyKind) → Writes (map (λ w. w.now) words.now) (parts_of_policy kind) → ⊥) }
     ensures form { IfErr result (λ fault. (kind : PolicyKind) → HasForm (map (λ w. w.now) words.now) (parts_of_policy kind)
         → fault ≡ LineFault.BadNumber) }
@@ -51,6 +53,8 @@ fn policy_named(name: &[u8]) -> Option<PolicyName>
 fn parse_policy_called(policy: PolicyName, words: &[&[u8]]) -> Result<PolicyKind, LineFault>
     ensures written { IfOk result
         (λ kind. Writes (name_of_policy policy ∷ map (λ w. w.now) words.now) (parts_of_policy kind)) }
+    ensures only { IfOk result (λ kind. (other : PolicyKind)
+        → Writes (name_of_policy policy ∷ map (λ w. w.now) words.now) (parts_of_policy other) → other ≡ kind) }
     ensures refused { IfErr result (λ fault. (kind : PolicyKind)
         → Writes (name_of_policy policy ∷ map (λ w. w.now) words.now) (parts_of_policy kind) → ⊥) }
     ensures form { IfErr result (λ fault. (kind : PolicyKind)

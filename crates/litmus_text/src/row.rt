@@ -5,8 +5,8 @@ ghost use Rattle.litmus_text.specs.declared.row.TheConstants.{MOST_WORDS};
 use super::word::Words;
 use arrayvec::ArrayVec;
 
-/// How many words of a line are kept: more than any line of a fixed form has.
-pub const MOST_WORDS: usize = 12;
+/// How many words of a line are kept: more than any line of a text may have.
+pub const MOST_WORDS: usize = 18;
 
 /// The first words of a line. One that has more than are kept has none of the forms that are matched.
 pub fn first_words(line: &[u8]) -> ArrayVec<&[u8], MOST_WORDS>

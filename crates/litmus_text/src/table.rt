@@ -2,7 +2,7 @@ ghost use Rattle.std.specs.Prelude.{◌≡◌};
 ghost use Rattle.litmus_text.specs.Table.{entries, value_named};
 
 /// What stands under the name in the table.
-pub(super) fn value_named<T: Copy>(table: &[(&[u8], T)], name: &[u8]) -> Option<T>
+pub fn value_named<T: Copy>(table: &[(&[u8], T)], name: &[u8]) -> Option<T>
     ensures { result ≡ value_named (entries table.now) name.now }
 {
     let entry = table.iter().find(|entry| entry.0 == name)?;

@@ -1,0 +1,48 @@
+-- The words with which the lines begin that configure a machine.
+use Rattle.std.proofs.Common.{◌≡◌, ℕ, Bool, not, List, [], ◌∷◌, subst}
+use Rattle.std.specs.Prelude.{codes, IsTrue}
+use Rattle.std.specs.List.{list_all}
+use Rattle.std.specs.Str.{bytes_eq}
+use Rattle.litmus_text.specs.declared.config_line.ConfigLine.{ConfigLine}
+use Rattle.litmus_text.specs.declared.config_line.ConfigLine.TheVariants as lines
+use Rattle.litmus_text.specs.declared.field.Count.TheVariants as counts
+use Rattle.litmus_text.specs.declared.field.Field.{Field}
+use Rattle.litmus_text.specs.declared.field.Field.TheVariants as fields
+use Rattle.litmus_text.specs.ConfigLine.{parts_of_config_line}
+use Rattle.litmus_text.specs.Field.{name_of, IsFieldName}
+use Rattle.litmus_text.specs.Form.{Writes}
+
+-- whether a word is the name of no field
+abbrev pub is_no_field : List ℕ → Bool
+is_no_field word =
+    list_all (λ name. not (bytes_eq word name))
+    (codes "cores" ∷ codes "slices" ∷ codes "lines" ∷ codes "sets" ∷ codes "ways" ∷ codes "mshrs" ∷ codes "targets"
+    ∷ codes "writebacks" ∷ codes "policy" ∷ codes "misses" ∷ codes "exclusive" ∷ codes "init" ∷ codes "counter" ∷ [])
+
+fields_named : (field : Field) → IsTrue (is_no_field (name_of field)) → ⊥
+fields_named (fields.Count counts.Cores) other = cc
+fields_named (fields.Count counts.Slices) other = cc
+fields_named (fields.Count counts.Lines) other = cc
+fields_named (fields.Count counts.Sets) other = cc
+fields_named (fields.Count counts.Ways) other = cc
+fields_named (fields.Count counts.Mshrs) other = cc
+fields_named (fields.Count counts.Targets) other = cc
+fields_named (fields.Count counts.Writebacks) other = cc
+fields_named fields.Policy other = cc
+fields_named fields.Misses other = cc
+fields_named fields.Exclusive other = cc
+fields_named fields.Init other = cc
+fields_named fields.Counter other = cc
+
+pub no_field_name : (word : List ℕ) → IsTrue (is_no_field word) → IsFieldName word → ⊥
+no_field_name word other is = fields_named is.0 (subst (λ w. IsTrue (is_no_field w)) is.1 other)
+
+-- words that write a line that configures the machine begin with the name of a field
+pub field_name : (word : List ℕ) (words : List (List ℕ)) (line : ConfigLine)
+    → Writes (word ∷ words) (parts_of_config_line line) → IsFieldName word
+field_name word words (lines.Count count n) h = (fields.Count count, h.0)
+field_name word words (lines.Policy policy) h = (fields.Policy, h.0)
+field_name word words (lines.Misses kind) h = (fields.Misses, h.0)
+field_name word words (lines.Exclusive is_on) h = (fields.Exclusive, h.0)
+field_name word words (lines.Init w value) h = (fields.Init, h.0)
+field_name word words (lines.Counter w) h = (fields.Counter, h.0)

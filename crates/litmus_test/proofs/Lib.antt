@@ -1,0 +1,6 @@
+mod LineLemmas
+mod ClaimLemmas
+mod ReadingLemmas
+mod SoundLemmas
+mod BodyLemmas
+mod PreambleLemmas

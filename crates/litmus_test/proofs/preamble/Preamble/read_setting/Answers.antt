@@ -1,0 +1,18 @@
+use Rattle.std.proofs.lemmas.Result.{IfErr-weaker}
+use Rattle.litmus_test.proofs.ReadingLemmas.{IsNoMemoryOr-weaker, no_next_setting, on_ok_two, reading_setting}
+use Rattle.litmus_test.proofs.preamble.Preamble.read_setting.Goals as goal
+
+pub returns-in-Ok-clause-reading : goal.returns-in-Ok-clause-reading
+returns-in-Ok-clause-reading c =
+    on_ok_two c.take.result _ _ _
+    (λ may said version start all left. reading_setting version start _ _ all left _ c.in-Ok.setting c.requires
+    (rw c.as_slice.ensures.value at c.in-Ok.ensures.written) (rw c.as_slice.ensures.value at c.in-Ok.ensures.only) may
+    said)
+    c.take.ensures.may c.take.ensures.said
+
+pub returns-in-Ok-clause-refused : goal.returns-in-Ok-clause-refused
+returns-in-Ok-clause-refused c = λ version.
+    IfErr-weaker c.take.result _ _
+    (λ fault. IsNoMemoryOr-weaker _ _ fault
+    (no_next_setting version _ _ c.in-Ok.setting c.requires (rw c.as_slice.ensures.value at c.in-Ok.ensures.only)))
+    c.take.ensures.refused

@@ -1,0 +1,9 @@
+use Rattle.std.proofs.Common.{map, rules}
+use Rattle.litmus_test.specs.Line.{BeginsAsSetting}
+use Rattle.litmus_test.proofs.ReadingLemmas.{no_late_setting}
+use Rattle.litmus_test.proofs.test.LitmusTest.read_next.Goals as goal
+
+pub returns-then-begins_as_setting-clause-refused : goal.returns-then-begins_as_setting-clause-refused
+returns-then-begins_as_setting-clause-refused c =
+    let begins : BeginsAsSetting (map (λ w. w.now) c.args.statement.now.words.items) = search rules in
+    rw c.at.ensures (no_late_setting c.args.version _ _ begins c.requires)

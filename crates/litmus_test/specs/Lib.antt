@@ -1,0 +1,7 @@
+pub mod Name
+pub mod Sound
+pub mod Keyword
+pub mod Line
+pub mod Claim
+pub mod Text
+pub mod Reading

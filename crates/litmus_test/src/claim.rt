@@ -1,0 +1,98 @@
+ghost use Rattle.std.specs.Prelude.{◌≡◌, ◌+◌, ℕ, ◌≤◌, List, ◌∷◌, [], map, take, drop, IfOk, IfErr, IfSome, IfNone, IsTrue};
+ghost use Rattle.std.specs.List.{position};
+ghost use Rattle.litmus_test.specs.Name.{is_name as is_name_lem};
+ghost use Rattle.litmus_test.specs.Claim.{IsClaim, WritesClaims, is_equals_sign, claims_of};
+
+use super::name::is_name;
+use super::test::MOST_PAIRS;
+use arrayvec::ArrayVec;
+use litmus_text::{LineFault, parse_number};
+
+/// That a reply has a value.
+#[derive(Clone, Copy, Debug, Default)]
+pub(super) struct Claim<'a> {
+    pub name: &'a [u8],
+    pub value: u64,
+}
+
+/// A name, and the word behind the `=`, whether it is a number or not.
+#[derive(Clone, Copy)]
+struct Sides<'a> {
+    name: &'a [u8],
+    number: &'a [u8],
+}
+
+impl<'a> Sides<'a> {
+    fn of(word: &'a [u8]) -> Option<Self>
+        ensures parted { IfSome result (λ sides. (at : ℕ) × ((position is_equals_sign word.now ≡ Some at)
+            × (take at word.now ≡ sides.name.now) × (drop (at + 1) word.now ≡ sides.number.now))) }
+        ensures form { IfSome result (λ sides. IsTrue (is_name_lem sides.name.now)) }
+        ensures none { IfNone result ((name : List ℕ) (value : ℕ) → IsClaim word.now name value → ⊥) }
+    {
+        let at = equals_sign_at(word)?;
+        let name = &word[..at];
+        if is_name(name) {
+            Some(Sides {
+                name,
+                number: &word[at + 1..],
+            })
+        } else {
+            None
+        }
+    }
+}
+
+fn equals_sign_at(word: &[u8]) -> Option<usize>
+    ensures { result ≡ position is_equals_sign word.now }
+{
+    word.iter().position(|byte| *byte == b'=')
+}
+
+impl<'a> Claim<'a> {
+    /// The claim that a word writes, as NAME=VALUE.
+    fn parse(word: &'a [u8]) -> Option<Self>
+        ensures written { IfSome result (λ claim. IsClaim word.now claim.name.now claim.value) }
+        ensures only { IfSome result (λ claim. (name : List ℕ) (value : ℕ) → IsClaim word.now name value
+            → (name ≡ claim.name.now) × (value ≡ claim.value)) }
+        ensures none { IfNone result ((name : List ℕ) (value : ℕ) → IsClaim word.now name value → ⊥) }
+    {
+        let sides = Sides::of(word)?;
+        let value = parse_number(sides.number)?;
+        Some(Claim {
+            name: sides.name,
+            value,
+        })
+    }
+}
+
+/// One to 16 claims, a word each.
+pub(super) fn parse_claims<'a>(
+    words: &[&'a [u8]],
+) -> Result<ArrayVec<Claim<'a>, MOST_PAIRS>, LineFault>
+    ensures written { IfOk result (λ claims. WritesClaims (map (λ w. w.now) words.now) (claims_of claims.items)) }
+    ensures only { IfOk result (λ claims. (other : List (List ℕ × ℕ))
+        → WritesClaims (map (λ w. w.now) words.now) other → other ≡ claims_of claims.items) }
+    ensures refused { IfErr result
+        (λ fault. (other : List (List ℕ × ℕ)) → WritesClaims (map (λ w. w.now) words.now) other → ⊥) }
+{
+    if words.is_empty() || words.len() > MOST_PAIRS {
+        return Err(LineFault::NotACommand);
+    }
+    let mut claims = ArrayVec::new();
+    for word in words {
+        let Some(claim) = Claim::parse(word) else {
+            return Err(fault_of(words));
+        };
+        claims.push(claim);
+    }
+    Ok(claims)
+}
+
+// The forms of all words are judged before any number.
+fn fault_of(words: &[&[u8]]) -> LineFault {
+    if words.iter().all(|word| Sides::of(word).is_some()) {
+        LineFault::BadNumber
+    } else {
+        LineFault::NotACommand
+    }
+}

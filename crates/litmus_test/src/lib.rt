@@ -1,0 +1,27 @@
+//! Litmus tests: a program for each of some cores, over few words, and outcomes that must not come.
+//!
+//! A [`LitmusTest`] is what a litmus text says. Its threads are numbered in the order of the text, and so are the steps
+//! of each. A [`NamedReply`] is a step whose reply an outcome has under a name. All that it speaks of is there, which each
+//! test keeps to (specs/Sound.antt).
+//!
+//! [`LitmusTest::read`] reads a text. At Ok its lines say this test and no other, and a text is refused only where it
+//! says none; want of memory is a fault of its own (specs/Text.antt).
+#![tactic(auto)]
+
+pub use progress::{Progress, Silent};
+pub use test::{
+    Action, Forbidden, LONGEST_NAME, LitmusTest, MOST_MOVERS, MOST_NAMES, MOST_PAIRS, MOST_ROUNDS,
+    MOST_STEPS, NamedReply, Pair, Thread,
+};
+
+mod body;
+mod claim;
+mod keyword;
+mod line;
+mod name;
+mod preamble;
+mod progress;
+mod reader;
+mod setting;
+mod test;
+mod version;

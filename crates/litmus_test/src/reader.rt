@@ -1,0 +1,175 @@
+ghost use Rattle.std.specs.Prelude.{◌≡◌, ℕ, List, ◌∷◌, IfErr, IfOk, IsTrue, ◌↔◌, OnOk, map};
+ghost use Rattle.litmus_test.specs.declared.version.Version.{Version};
+ghost use Rattle.litmus_test.specs.Line.{BeginsAsSetting};
+ghost use Rattle.litmus_test.specs.Reading.{IsBegun, IsNoMemoryOr, IsNoNextLine, IsReading, SayNothing, SayOnly, said_first};
+ghost use Rattle.litmus_test.specs.Sound.{IsChecked};
+ghost use Rattle.litmus_test.specs.Text.{IsLitmusTest, Said, Says, said_by, said_nothing};
+
+use super::keyword::Keyword;
+use super::line::Line;
+use super::preamble::Preamble;
+use super::setting::Setting;
+use super::test::LitmusTest;
+use super::version::Version;
+use litmus_text::{LineFault, Statement, Statements, TextFault};
+use std::alloc::Global;
+
+impl<'a> LitmusTest<'a> {
+    /// Reads a litmus test. The only faults are want of memory, a faulty line, and a configuration that is refused.
+    pub fn read(alloc: Global, input: &'a [u8]) -> Result<LitmusTest<'a>, TextFault>
+        ensures written { IfOk result (λ test. IsLitmusTest input.now (said_by test)) }
+        ensures only { IfOk result (λ test. (other : Said) → IsLitmusTest input.now other → other ≡ said_by test) }
+        ensures refused { IfErr result (IsNoMemoryOr ((whole : Said) → ¬ IsLitmusTest input.now whole)) }
+    {
+        let mut statements = Statements::of(input);
+        let Some(first) = statements.next() else {
+            return Err(LineFault::NotALitmusText.at(1));
+        };
+        match Version::parse(first.words.as_slice()) {
+            Ok(version) => read_statements(alloc, version, statements),
+            Err(fault) => Err(fault.at(first.number)),
+        }
+    }
+
+    /// Reads a line that begins as no setting.
+    fn read_line(
+        &mut self,
+        alloc: Global,
+        version: Version,
+        statement: &Statement<'a>,
+    ) -> Result<(), TextFault>
+        requires { ¬ BeginsAsSetting (map (λ w. w.now) statement.now.words.items) }
+        ensures reading { OnOk result
+            ((start : Said) (all left : List (ℕ × List (List ℕ)))
+            → IsReading version start (said_by self.old) all ((statement.now.number, map (λ w. w.now) statement.now.words.items) ∷ left)
+            → IsReading version start (said_by self.new) all left) }
+        ensures begun { OnOk result (IsBegun (said_by self.new)) }
+        ensures refused { IfErr result (IsNoMemoryOr
+            (IsNoNextLine version (said_by self.old) (map (λ w. w.now) statement.now.words.items))) }
+    {
+        let words = statement.words.as_slice();
+        match Line::parse(version, words) {
+            Ok(line) => self.take(alloc, statement.number, line),
+            Err(fault) => Err(self.fault_of(words, fault).at(statement.number)),
+        }
+    }
+
+    // The fault of a line that isn't well formed. In the wrong place it would be none either if it were.
+    fn fault_of(&self, words: &[&[u8]], fault: LineFault) -> LineFault {
+        let Some(name) = words.first() else {
+            return fault;
+        };
+        let is_misplaced = match Keyword::named(name) {
+            Some(Keyword::Thread) => !self.forbidden.is_empty(),
+            Some(Keyword::Forbid) | None => false,
+            Some(_) => self.threads.is_empty() || !self.forbidden.is_empty(),
+        };
+        if is_misplaced {
+            LineFault::NotACommand
+        } else {
+            fault
+        }
+    }
+
+    /// Reads a line behind the first that is no setting.
+    fn read_next(
+        &mut self,
+        alloc: Global,
+        version: Version,
+        statement: &Statement<'a>,
+    ) -> Result<(), TextFault>
+        requires { IsBegun (said_by self.old) }
+        ensures reading { OnOk result
+            ((start : Said) (all left : List (ℕ × List (List ℕ)))
+            → IsReading version start (said_by self.old) all ((statement.now.number, map (λ w. w.now) statement.now.words.items) ∷ left)
+            → IsReading version start (said_by self.new) all left) }
+        ensures begun { OnOk result (IsBegun (said_by self.new)) }
+        ensures refused { IfErr result (IsNoMemoryOr
+            (IsNoNextLine version (said_by self.old) (map (λ w. w.now) statement.now.words.items))) }
+    {
+        let words = statement.words.as_slice();
+        if begins_as_setting(words) {
+            return Err(self.late_fault(words).at(statement.number));
+        }
+        self.read_line(alloc, version, statement)
+    }
+
+    // The fault of a setting behind the first thread, or behind a `forbid` where no thread came.
+    fn late_fault(&self, words: &[&[u8]]) -> LineFault {
+        if self.threads.is_empty() {
+            return LineFault::NotACommand;
+        }
+        match Setting::parse(words) {
+            Ok(_) => LineFault::LateConfiguration,
+            Err(fault) => fault,
+        }
+    }
+}
+
+fn begins_as_setting(words: &[&[u8]]) -> bool
+    ensures { IsTrue result ↔ BeginsAsSetting (map (λ w. w.now) words.now) }
+{
+    match words.split_first() {
+        Some((name, _)) => Setting::is_named(name),
+        None => false,
+    }
+}
+
+impl Preamble {
+    /// Reads a line that begins as a setting.
+    fn read_setting(&mut self, statement: &Statement<'_>) -> Result<(), TextFault>
+        requires { BeginsAsSetting (map (λ w. w.now) statement.now.words.items) }
+        ensures reading { OnOk result
+            ((version : Version) (start : Said) (all left : List (ℕ × List (List ℕ)))
+            → IsReading version start (said_first self.old) all ((statement.now.number, map (λ w. w.now) statement.now.words.items) ∷ left)
+            → IsReading version start (said_first self.new) all left) }
+        ensures refused { (version : Version) → IfErr result (IsNoMemoryOr
+            (IsNoNextLine version (said_first self.old) (map (λ w. w.now) statement.now.words.items))) }
+    {
+        match Setting::parse(statement.words.as_slice()) {
+            Ok(setting) => self.take(statement.number, setting),
+            Err(fault) => Err(fault.at(statement.number)),
+        }
+    }
+}
+
+/// Reads the lines behind the first.
+fn read_statements<'a>(
+    alloc: Global,
+    version: Version,
+    mut statements: Statements<'a>,
+) -> Result<LitmusTest<'a>, TextFault>
+    ensures says { IfOk result (λ test. SayOnly version said_nothing statements.entry (said_by test)) }
+    ensures refused { IfErr result (IsNoMemoryOr (SayNothing version said_nothing statements.entry)) }
+{
+    let mut preamble = Preamble::new(alloc);
+    while let Some(statement) = statements.next() {
+        if !begins_as_setting(statement.words.as_slice()) {
+            let test = preamble.test(alloc)?;
+            return read_threads(alloc, version, test, statement, statements);
+        }
+        preamble.read_setting(&statement)?;
+    }
+    preamble.test(alloc)
+}
+
+/// Reads the lines from the first on that is no setting.
+fn read_threads<'a>(
+    alloc: Global,
+    version: Version,
+    mut test: LitmusTest<'a>,
+    first: Statement<'a>,
+    statements: Statements<'a>,
+) -> Result<LitmusTest<'a>, TextFault>
+    requires { ¬ BeginsAsSetting (map (λ w. w.now) first.words.items) }
+    ensures says { IfOk result (λ whole. SayOnly version (said_by test.entry)
+        ((first.entry.number, map (λ w. w.now) first.entry.words.items) ∷ statements.entry) (said_by whole)) }
+    ensures refused { IfErr result (IsNoMemoryOr (SayNothing version (said_by test.entry)
+        ((first.entry.number, map (λ w. w.now) first.entry.words.items) ∷ statements.entry))) }
+{
+    test.read_line(alloc, version, &first)?;
+    for statement in statements {
+        test.read_next(alloc, version, &statement)?;
+    }
+    Ok(test)
+}

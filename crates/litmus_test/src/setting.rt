@@ -1,0 +1,44 @@
+ghost use Rattle.std.specs.Prelude.{◌≡◌, ◌↔◌, IfOk, IfErr, IsTrue, map};
+
+use litmus_text::{ConfigLine, LineFault, one_number};
+
+/// A line that comes before all threads.
+#[derive(Clone, Copy, Debug, PartialEq, Eq)]
+pub(super) enum Setting {
+    Config(ConfigLine),
+    /// How many times the test is run.
+    Rounds(u64),
+    /// How many threads move messages beside those of the cores.
+    Movers(u64),
+}
+
+impl Setting {
+    ghost use Rattle.litmus_test.specs.declared.setting.Setting.{Setting};
+    ghost use Rattle.litmus_test.specs.Line.{IsSettingName, WritesSetting};
+
+    /// Whether a line that begins with this word is a setting, or would be if it were well formed.
+    pub(super) fn is_named(name: &[u8]) -> bool
+        ensures { IsTrue result ↔ IsSettingName name.now }
+    {
+        name == b"rounds".as_slice() || name == b"movers".as_slice() || ConfigLine::is_named(name)
+    }
+
+    /// The setting that these words write.
+    #[tactic(auto, unfolding(crate::specs::Line::WritesSetting))]
+    pub(super) fn parse(words: &[&[u8]]) -> Result<Self, LineFault>
+        ensures written { IfOk result (λ setting. WritesSetting (map (λ w. w.now) words.now) setting) }
+        ensures only { IfOk result (λ setting. (other : Setting)
+            → WritesSetting (map (λ w. w.now) words.now) other → other ≡ setting) }
+        ensures refused { IfErr result
+            (λ fault. (other : Setting) → WritesSetting (map (λ w. w.now) words.now) other → ⊥) }
+    {
+        let Some((name, rest)) = words.split_first() else {
+            return Err(LineFault::NotACommand);
+        };
+        match *name {
+            b"rounds" => Ok(Setting::Rounds(one_number(rest)?)),
+            b"movers" => Ok(Setting::Movers(one_number(rest)?)),
+            _ => Ok(Setting::Config(ConfigLine::parse(words)?)),
+        }
+    }
+}

@@ -1,0 +1,8 @@
+mod SoughtLemmas
+pub mod NameLemmas
+mod Counting
+mod Rows
+mod Adding
+mod Cells
+mod Padding
+mod Unique

@@ -1,0 +1,4 @@
+pub mod Sought
+pub mod Table
+pub mod Forbid
+pub mod Text

@@ -1,0 +1,22 @@
+//! The outcomes of a litmus test's rounds: which requests they come from, how often each came, and their table.
+//!
+//! - A [`Sought`] says which request of which core in which slice a named reply answers (`sought_of` of
+//!   specs/Sought.antt): a slice numbers the requests of a core from 0, in the order of the core's program. Each name of
+//!   a test has one ([`each_name_is_sought`]).
+//! - [`Outcomes`] counts the outcomes of rounds. Its value is a table; contracts say of which rounds it is the table
+//!   (`IsTableOf` of specs/Table.antt): a row for each outcome, ascending, with how often it came and where first.
+//!   Rounds have one table alone ([`one_table`]), and its rows' counts add up to the rounds. To add an outcome is a
+//!   binary search, and takes memory only where it is a new one.
+//! - [`write_table`] prints the table byte for byte (`text_of` of specs/Text.antt).
+#![tactic(auto)]
+
+pub use row::Row;
+pub use sought::{Sought, each_name_is_sought};
+pub use table::{Outcomes, one_table};
+pub use text::write_table;
+
+mod forbid;
+mod row;
+mod sought;
+mod table;
+mod text;

@@ -1,7 +1,8 @@
 -- A machine that is built has its slices in order, and what they have counted is alike.
-use Rattle.std.proofs.Common.{◌≡◌, ℕ, ◌≤◌, List, [], ◌∷◌, ◌++◌, length, get_or, sym, ap, ◌∙◌, subst, arith, inl, inr, length-append}
+use Rattle.std.proofs.Common.{◌≡◌, ℕ, ◌+◌, ◌<◌, ◌≤◌, List, [], ◌∷◌, ◌++◌, length, get_or, sym, ap, below_more, ◌∙◌, subst, arith, inl, inr, length-append}
 use Rattle.std.proofs.lemmas.List.Elements.{All-head, All-tail, All-weaker}
 use Rattle.std.proofs.Math.ListN.{get_or-append}
+use Rattle.std.proofs.lemmas.List.{get_or_default}
 use Rattle.std.proofs.Math.Seq.{get_or-append_seam}
 use Rattle.std.proofs.lemmas.Bool.{cases_lt}
 use Rattle.std.specs.Prelude.{All}
@@ -11,7 +12,7 @@ use Rattle.mshr_file.specs.Miss.{Bound}
 use Rattle.slice_core_plan.specs.Parts.{PartsView, IsNew}
 use Rattle.slice_core_answer.specs.Stats.{StatsView}
 use Rattle.stats_report.specs.Report.{AreAlike, IsLike}
-use Rattle.litmus_script.specs.Machine.{IsSliceOf, AreSlicesOf, IsCountOf}
+use Rattle.litmus_script.specs.Machine.{IsSliceOf, AreSlicesOf, AreNew, IsCountOf}
 
 -- a state that was built is a slice's
 pub of_new : (config : Config) (bound : Bound) (slice : SliceId) (p : PartsView) → IsNew config bound slice p
@@ -33,6 +34,17 @@ are_slices_push config slices i p each count is = λ j d below. elim (cases_lt j
       (rw (get_or-append_seam slices p [] d) (rw count is))
 ]
 
+-- one more new state, of the next slice
+pub are_new_push : (config : Config) (bound : Bound) (slices : List PartsView) (i : ℕ) (p : PartsView) → AreNew config bound slices
+    → length slices ≡ i → IsNew config bound (record { 0 = i }) p → AreNew config bound (slices ++ p ∷ [])
+are_new_push config bound slices i p each count is = λ j d below. elim (cases_lt j (length slices)) [
+  | inl before ↦ rw (get_or-append slices (p ∷ []) d j before) (each j d before)
+  | inr last ↦
+      let at : j ≡ length slices = omega (arith, simp length-append at below) in
+      subst (λ k. IsNew config bound (record { 0 = k }) (get_or (slices ++ p ∷ []) k d)) (sym at)
+      (rw (get_or-append_seam slices p [] d) (rw count is))
+]
+
 like : (config : Config) (first other : StatsView) → IsCountOf config first → IsCountOf config other → IsLike first other
 like config first other one two = record { cores = two.cores ∙ sym one.cores; exclusive = two.exclusive ∙ sym one.exclusive }
 
@@ -42,3 +54,11 @@ are_alike config [] some each = absurd (omega (arith, some))
 are_alike config (first ∷ rest) some each =
     All-weaker (IsCountOf config) (IsLike first) (λ other. like config first other (All-head (IsCountOf config) first rest each)) rest
     (All-tail (IsCountOf config) first rest each)
+
+-- what holds of each state before this place, and of the one there, holds of each before the next place
+pub each_more : (P : PartsView → Type 0) (slices : List PartsView) (i : ℕ) (p : PartsView) → p ≡ get_or slices i p
+    → i < length slices → ((k : ℕ) (d : PartsView) → k < i → P (get_or slices k d)) → P p
+    → (k : ℕ) (d : PartsView) → k < i + 1 → P (get_or slices k d)
+each_more P slices i p here within before holds k d below =
+    below_more (λ k. P (get_or slices k d)) i (λ j less. before j d less)
+    (subst P (here ∙ get_or_default slices i p d within) holds) k below

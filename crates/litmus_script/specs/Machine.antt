@@ -1,9 +1,18 @@
 -- A machine is one slice's state for each slice of its configuration.
-use Rattle.std.specs.Prelude.{◌≡◌, ℕ, ◌<◌, List, length, slice_index_or}
+use Rattle.std.specs.Prelude.{◌≡◌, ℕ, ◌<◌, List, length, slice_get, slice_index_or, slice_set, [], Option, Some}
+use Rattle.std.specs.Option.{option_map_or}
 use Rattle.address_map.specs.Locator.{lines_of}
+use Rattle.address_map.specs.declared.address.WordAddr.{WordAddr}
 use Rattle.address_map.specs.declared.config.Config.{Config}
+use Rattle.mshr_file.specs.Miss.{Bound}
+use Rattle.slice_core.specs.Run.{AfterCall}
+use Rattle.slice_core.specs.declared.run.Call.{Call}
+use Rattle.slice_core.specs.declared.run.CallAnswer.{CallAnswer}
 use Rattle.slice_core_answer.specs.Stats.{StatsView}
-use Rattle.slice_core_plan.specs.Parts.{PartsView}
+use Rattle.slice_core_log.specs.Log.{initially, value}
+use Rattle.slice_core_log.specs.declared.entry.Entry.{Entry}
+use Rattle.slice_core_plan.specs.Parts.{PartsView, IsNew}
+use Rattle.slice_core_plan.specs.View.{IsQuiet}
 
 -- the state is of this slice, with the configured cores, its share of the lines, and the configured setting
 pub record IsSliceOf (config : Config) (id : ℕ) (p : PartsView) : Type 0 where
@@ -19,6 +28,39 @@ AreSlicesOf config slices = (i : ℕ) (d : PartsView) → i < length slices → 
 pub record IsMachine (config : Config) (slices : List PartsView) : Type 0 where
   pub count : length slices ≡ config.slices
   pub each : AreSlicesOf config slices
+
+-- each state is that of the slice at its place, with miss files bounded like this, in which nothing was asked for yet
+abbrev pub AreNew : Config → Bound → List PartsView → Type 0
+AreNew config bound slices =
+    (i : ℕ) (d : PartsView) → i < length slices → IsNew config bound (record { 0 = i }) (slice_index_or slices i d)
+
+-- the states are those of a new machine
+pub record IsNewMachine (config : Config) (bound : Bound) (slices : List PartsView) : Type 0 where
+  pub count : length slices ≡ config.slices
+  pub each : AreNew config bound slices
+
+-- the state answered this call, and left the other state
+pub record Answers (call : Call) (old new : PartsView) : Type 0 where
+  pub answer : CallAnswer
+  pub made : AfterCall old call answer new
+
+-- one of the slices answered this call, and the others are as they were
+pub record IsMade (slice : ℕ) (call : Call) (old new : List PartsView) : Type 0 where
+  pub before : PartsView
+  pub after : PartsView
+  pub found : slice_get old slice ≡ Some before
+  pub answers : Answers call before after
+  pub others : new ≡ slice_set old slice after
+
+-- what the slice has performed, in order; a slice that isn't there has performed nothing
+abbrev pub log_at : List PartsView → ℕ → List Entry
+log_at slices slice = option_map_or (λ state. state.view.log) (slice_get slices slice) []
+
+-- the slice is quiet, and this is its word's value after the whole log
+abbrev pub IsQuietWord : List PartsView → ℕ → WordAddr → ℕ → Type 0
+IsQuietWord slices slice word shown =
+    (state : PartsView) → slice_get slices slice ≡ Some state
+    → IsQuiet state.view × (shown ≡ value (initially state.view.init word.0) state.view.log word.0)
 
 -- what a slice of the machine has counted
 pub record IsCountOf (config : Config) (stats : StatsView) : Type 0 where

@@ -1,8 +1,12 @@
-ghost use Rattle.std.specs.Prelude.{◌≡◌, ◌/◌, ◌%◌, ◌<◌, ◌≤◌, length, IfOk};
+ghost use Rattle.std.specs.Prelude.{◌≡◌, ◌/◌, ◌%◌, ◌<◌, ◌≤◌, ◌↔◌, length, All, IfOk, IfSome, IsTrue};
 ghost use Rattle.litmus_text.specs.Command.{IsInRange, HasCore, HasLine};
 ghost use Rattle.address_map.specs.Config.{IsAllowed};
 ghost use Rattle.stats_report.specs.Report.{AreAlike, views_of};
-ghost use Rattle.litmus_script.specs.Machine.{IsMachine};
+ghost use Rattle.address_map.specs.Place.{line_of as line_of_word};
+ghost use Rattle.slice_core.specs.declared.run.Call.TheVariants as of_slice;
+ghost use Rattle.slice_core_plan.specs.View.{IsQuiet};
+ghost use Rattle.slice_queues_message.specs.Pick.{line_of};
+ghost use Rattle.litmus_script.specs.Machine.{IsMachine, IsMade, IsNewMachine, IsQuietWord, log_at};
 
 use super::answers::{
     Answers, Issued, Pumped, write_delivered, write_evicted, write_handed, write_issued,
@@ -17,7 +21,7 @@ use address_map::{Checked, CoreId, LineAddr, Request, SliceId, WordAddr};
 use litmus_text::{Command, Statement, TextFault};
 use mshr_file::MissFile;
 use slice_core::{
-    Delivered, DeliveredNext, Evicted, LineView, Message, Numbered, Pick, SliceState, Stats,
+    Delivered, DeliveredNext, Entry, Evicted, LineView, Message, Numbered, Pick, SliceState, Stats,
 };
 use stats_report::{ReportError, write_report};
 use std::alloc::{AllocError, Global};
@@ -28,7 +32,7 @@ use std::{fmt, io};
 #[derive(Drop)]
 pub struct Machine<F: MissFile> {
     pub config: Checked,
-    slices: Vec<SliceState<F>>,
+    pub slices: Vec<SliceState<F>>,
     alloc: Global,
     ghost shaped: { IsMachine config slices.items },
 }
@@ -73,7 +77,8 @@ impl<F: MissFile> Player for Machine<F> {
 
 impl<F: MissFile> Machine<F> {
     pub fn build(alloc: Global, config: Checked) -> Result<Self, TextFault>
-        ensures { IfOk result (λ machine. machine.config ≡ config) }
+        ensures config { IfOk result (λ machine. machine.config ≡ config) }
+        ensures new { IfOk result (λ machine. IsNewMachine config (F.bound_by config) machine.slices.items) }
     {
         let mut slices = Vec::new(alloc);
         for slice in 0..config.slices() {
@@ -121,7 +126,9 @@ impl<F: MissFile> Machine<F> {
     #[inline(always)]
     pub fn issue(&mut self, core: CoreId, request: Request) -> Result<Issued, TextFault>
         requires { HasCore self.old.config core }
-        ensures { self.new.config ≡ self.old.config }
+        ensures config { self.new.config ≡ self.old.config }
+        ensures made { IsMade ((line_of_word request.word).0 % self.old.config.slices) (of_slice.Issue core request)
+            self.old.slices.items self.new.slices.items }
     {
         let slice = self.slice_of(request.word.line());
         calls::issue(&mut self.slices[slice], core, request)
@@ -129,14 +136,17 @@ impl<F: MissFile> Machine<F> {
 
     pub fn evict(&mut self, core: CoreId, line: LineAddr) -> Evicted
         requires { HasCore self.old.config core }
-        ensures { self.new.config ≡ self.old.config }
+        ensures config { self.new.config ≡ self.old.config }
+        ensures made { IsMade (line.0 % self.old.config.slices) (of_slice.Evict core line) self.old.slices.items self.new.slices.items }
     {
         let slice = self.slice_of(line);
         calls::evict(&mut self.slices[slice], core, line)
     }
 
     pub fn deliver(&mut self, pick: Pick) -> Delivered
-        ensures { self.new.config ≡ self.old.config }
+        ensures config { self.new.config ≡ self.old.config }
+        ensures made { IsMade ((line_of pick).0 % self.old.config.slices) (of_slice.Deliver pick)
+            self.old.slices.items self.new.slices.items }
     {
         let slice = self.slice_of(pick.line());
         calls::deliver(&mut self.slices[slice], pick)
@@ -145,7 +155,8 @@ impl<F: MissFile> Machine<F> {
     pub fn hand(&mut self, core: CoreId, slice: SliceId) -> Option<Numbered>
         requires core { HasCore self.old.config core }
         requires slice { slice.0 < self.old.config.slices }
-        ensures { self.new.config ≡ self.old.config }
+        ensures config { self.new.config ≡ self.old.config }
+        ensures made { IsMade slice.0 (of_slice.Hand core) self.old.slices.items self.new.slices.items }
     {
         calls::hand(&mut self.slices[slice.0 as usize], core)
     }
@@ -160,10 +171,40 @@ impl<F: MissFile> Machine<F> {
         self.slices[self.slice_of(line)].line_view(line)
     }
 
+    /// What a slice has performed, in order.
+    pub fn log_of(&self, slice: SliceId) -> &[Entry]
+        ensures { result.now ≡ log_at self.now.slices.items slice.0 }
+    {
+        match self.slices.get(slice.0 as usize) {
+            Some(state) => state.log(),
+            None => &[],
+        }
+    }
+
+    /// Whether nothing is in flight, and each reply is handed out.
+    pub fn is_quiet(&self) -> bool
+        ensures { IsTrue result ↔ All (λ state. IsQuiet state.view) self.now.slices.items }
+    {
+        for state in &self.slices {
+            if !state.is_quiet() {
+                return false;
+            }
+        }
+        true
+    }
+
+    /// The value of a word of the memory, where its slice is quiet.
+    pub fn word_now(&self, word: WordAddr) -> Option<u64>
+        requires { word.0 / 8 < self.now.config.lines }
+        ensures { IfSome result (IsQuietWord self.now.slices.items (word.0 / 8 % self.now.config.slices) word) }
+    {
+        calls::word(&self.slices[self.slice_of(word.line())], word)
+    }
+
     fn word<W: Write>(&self, word: WordAddr, out: &mut W) -> fmt::Result
         requires { word.0 / 8 < self.now.config.lines }
     {
-        match calls::word(&self.slices[self.slice_of(word.line())], word) {
+        match self.word_now(word) {
             Some(value) => writeln!(out, "{value}"),
             None => writeln!(out, "not quiet"),
         }

@@ -1,5 +1,5 @@
 use Rattle.litmus_script.proofs.MachineLemmas.{of_new}
 use Rattle.litmus_script.proofs.calls.build.Goals as goal
 
-pub returns : goal.returns
-returns g c = of_new c.args.config.now _ _ c.in-Ok.state c.in-Ok.ensures.new
+pub returns-clause-slice : goal.returns-clause-slice
+returns-clause-slice g c = of_new c.args.config.now _ _ c.in-Ok.state c.in-Ok.ensures.new

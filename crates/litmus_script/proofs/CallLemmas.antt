@@ -1,0 +1,31 @@
+-- What a state answers and leaves is that it answered the call.
+use Rattle.std.specs.Prelude.{Option, Result}
+use Rattle.address_map.specs.declared.address.CoreId.{CoreId}
+use Rattle.address_map.specs.declared.address.LineAddr.{LineAddr}
+use Rattle.address_map.specs.declared.request.Request.{Request}
+use Rattle.slice_core.specs.declared.run.Call.TheVariants as calls
+use Rattle.slice_core.specs.declared.run.CallAnswer.TheVariants as answers
+use Rattle.slice_core_answer.specs.declared.answer.Delivered.{Delivered}
+use Rattle.slice_core_answer.specs.declared.answer.Evicted.{Evicted}
+use Rattle.slice_core_answer.specs.declared.answer.Issue.{Issue}
+use Rattle.slice_core_answer.specs.declared.answer.Refused.{Refused}
+use Rattle.slice_core_log.specs.declared.entry.Numbered.{Numbered}
+use Rattle.slice_core_plan.specs.Parts.{PartsView, AfterDelivery, AfterEvict, AfterHand, AfterIssue}
+use Rattle.slice_queues_message.specs.declared.channel.Pick.{Pick}
+use Rattle.litmus_script.specs.Machine.{Answers}
+
+pub issued : (old new : PartsView) (core : CoreId) (request : Request) (answer : Result Issue Refused)
+    → AfterIssue old core request answer new → Answers (calls.Issue core request) old new
+issued old new core request answer after = record { answer = answers.Issue answer; made = after }
+
+pub evicted : (old new : PartsView) (core : CoreId) (line : LineAddr) (answer : Evicted)
+    → AfterEvict old core line answer new → Answers (calls.Evict core line) old new
+evicted old new core line answer after = record { answer = answers.Evict answer; made = after }
+
+pub delivered : (old new : PartsView) (pick : Pick) (answer : Delivered)
+    → AfterDelivery old pick answer new → Answers (calls.Deliver pick) old new
+delivered old new pick answer after = record { answer = answers.Deliver answer; made = after }
+
+pub handed : (old new : PartsView) (core : CoreId) (answer : Option Numbered)
+    → AfterHand old core answer new → Answers (calls.Hand core) old new
+handed old new core answer after = record { answer = answers.Hand answer; made = after }

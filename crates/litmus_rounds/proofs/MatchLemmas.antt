@@ -1,0 +1,38 @@
+-- Lists that match go on matching where each has one more.
+use Rattle.std.proofs.Common.{ℕ, ◌+◌, ◌<◌, List, [], ◌∷◌, ◌++◌, length, get_or, take, append_assoc, ap, sym, subst, ◌∙◌}
+use Rattle.std.proofs.lemmas.List.{append-nil, take_more}
+use Rattle.litmus_rounds.specs.Outcome.{AddsMatch, Match}
+
+pub match_push : {X : Type 0} (P : X → ℕ → Type 0) (xs : List X) (values : List ℕ) (x : X) (value : ℕ) → Match P xs values
+    → P x value → Match P (xs ++ x ∷ []) (values ++ value ∷ [])
+match_push P [] [] x value all one = (one, tt)
+match_push P [] (v ∷ vs) x value all one = absurd all
+match_push P (y ∷ ys) [] x value all one = absurd all
+match_push P (y ∷ ys) (v ∷ vs) x value all one = (all.0, match_push P ys vs x value all.1 one)
+
+-- no value was added
+pub adds_none : {X : Type 0} (P : X → ℕ → Type 0) (values : List ℕ) → AddsMatch P [] values values
+adds_none P values = record { values = []; added = sym (append-nil values); each = tt }
+
+-- one more was added
+pub adds_push : {X : Type 0} (P : X → ℕ → Type 0) (xs : List X) (old new : List ℕ) (x : X) (value : ℕ) → AddsMatch P xs old new
+    → P x value → AddsMatch P (xs ++ x ∷ []) old (new ++ value ∷ [])
+adds_push P xs old new x value adds one = record {
+  values = adds.values ++ value ∷ [];
+  added = ap (λ all. all ++ value ∷ []) adds.added ∙ append_assoc old adds.values (value ∷ []);
+  each = match_push P xs adds.values x value adds.each one;
+}
+
+-- the next of a list matches, behind those before it
+pub match_next : {X : Type 0} (P : X → ℕ → Type 0) (xs : List X) (i : ℕ) (d : X) (values : List ℕ) (value : ℕ)
+    → Match P (take i xs) values → P (get_or xs i d) value → i < length xs → Match P (take (i + 1) xs) (values ++ value ∷ [])
+match_next P xs i d values value all one within =
+    subst (λ taken. Match P taken (values ++ value ∷ [])) (sym (take_more xs i d within))
+    (match_push P (take i xs) values (get_or xs i d) value all one)
+
+pub adds_next : {X : Type 0} (P : X → ℕ → Type 0) (xs : List X) (i : ℕ) (d : X) (old new : List ℕ) (value : ℕ)
+    → AddsMatch P (take i xs) old new → P (get_or xs i d) value → i < length xs
+    → AddsMatch P (take (i + 1) xs) old (new ++ value ∷ [])
+adds_next P xs i d old new value adds one within =
+    subst (λ taken. AddsMatch P taken old (new ++ value ∷ [])) (sym (take_more xs i d within))
+    (adds_push P (take i xs) old new (get_or xs i d) value adds one)

@@ -1,0 +1,12 @@
+use Rattle.litmus_rounds.specs.Outcome.{HasReply}
+use Rattle.litmus_rounds.proofs.MatchLemmas.{match_next}
+use Rattle.litmus_rounds.proofs.outcome.read_replies.Goals as goal
+
+pub loop-request-init : goal.loop-request-init
+loop-request-init g c = rw c.requires tt
+
+pub loop-request-preserved : goal.loop-request-preserved
+loop-request-preserved g c =
+    rw c.in_ok-push.ensures.items
+    (match_next (HasReply c.args.recorded.now.slices) c.args.sought.now c.loop-request.request-index _ _ c.in-Some.reply
+    c.loop-request.invariant c.in-Some.ensures c.loop-request-test.true)

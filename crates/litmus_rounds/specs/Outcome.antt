@@ -1,0 +1,52 @@
+-- A round's outcome is read from the logs of its slices, and from what their words are once they are quiet.
+use Rattle.std.specs.Prelude.{◌≡◌, ℕ, ◌/◌, ◌%◌, List, [], ◌∷◌, ◌++◌, length, map, Contains, Option, Some, None}
+use Rattle.std.specs.List.{range_with_len}
+use Rattle.address_map.specs.declared.address.WordAddr.{WordAddr}
+use Rattle.address_map.specs.declared.config.Config.{Config}
+use Rattle.litmus_outcomes.specs.Sought.{IsOf, sought_of}
+use Rattle.litmus_outcomes.specs.declared.sought.Sought.{Sought}
+use Rattle.litmus_script.specs.Machine.{IsQuietWord, log_at}
+use Rattle.litmus_test.specs.declared.test.LitmusTest.{LitmusTest}
+use Rattle.slice_core_log.specs.declared.entry.Entry.{Entry}
+use Rattle.slice_core_plan.specs.Parts.{PartsView}
+
+-- the request is an entry in the log of its slice, and this is its reply
+pub record IsReplyOf (slices : List PartsView) (sought : Sought) (value : ℕ) : Type 0 where
+  pub entry : Entry
+  pub there : Contains (log_at slices sought.slice.0) entry
+  pub same : IsOf sought sought.slice entry
+  pub reply : value ≡ entry.reply
+
+-- there is a request, and this is its reply
+abbrev pub HasReply : List PartsView → Option Sought → ℕ → Type 0
+HasReply slices None reply = ⊥
+HasReply slices (Some sought) reply = IsReplyOf slices sought reply
+
+-- the word's slice is quiet, and this is the word's value after the whole log
+abbrev pub HasWord : Config → List PartsView → WordAddr → ℕ → Type 0
+HasWord config slices word shown = IsQuietWord slices (word.0 / 8 % config.slices) word shown
+
+-- each has its value, in order
+abbrev pub Match : {X : Type 0} → (X → ℕ → Type 0) → List X → List ℕ → Type 0
+Match P [] [] = Unit {0}
+Match P [] (value ∷ values) = ⊥
+Match P (x ∷ xs) [] = ⊥
+Match P (x ∷ xs) (value ∷ values) = P x value × Match P xs values
+
+-- these values were added, one for each
+pub record AddsMatch {X : Type 0} (P : X → ℕ → Type 0) (xs : List X) (old new : List ℕ) : Type 0 where
+  pub values : List ℕ
+  pub added : new ≡ old ++ values
+  pub each : Match P xs values
+
+-- the requests of all names, in order
+abbrev pub all_sought : LitmusTest → List (Option Sought)
+all_sought test = map (sought_of test) (range_with_len 0 (length test.names.items))
+
+-- the replies of all named steps, and then the values of all counters
+pub record IsOutcome (test : LitmusTest) (slices : List PartsView) (values : List ℕ) : Type 0 where
+  pub replies : List ℕ
+  pub counters : List ℕ
+  pub both : values ≡ replies ++ counters
+  pub named : Match (HasReply slices) (all_sought test) replies
+  pub counted : Match (HasWord test.config slices) test.config.counters counters

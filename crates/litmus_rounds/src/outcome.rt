@@ -1,0 +1,78 @@
+ghost use Rattle.std.specs.Prelude.{◌≡◌, [], IfOk, IfSome, IsTrue};
+ghost use Rattle.litmus_rounds.specs.Outcome.{AddsMatch, HasReply, HasWord, IsOutcome, Match, all_sought};
+
+use litmus_outcomes::Sought;
+use litmus_test::LitmusTest;
+use litmus_walk::Recorded;
+use mshr_file::MissFile;
+use std::alloc::AllocError;
+
+/// Writes the outcome of a walk to `values`: the replies of all named steps, and then the counters' values. There is
+/// none before the walk is over.
+pub(crate) fn read_outcome<F: MissFile>(
+    test: &LitmusTest<'_>,
+    sought: &[Option<Sought>],
+    recorded: &Recorded<F>,
+    values: &mut Vec<u64>,
+) -> Result<bool, AllocError>
+    requires config { recorded.now.config ≡ test.now.config }
+    requires sought { sought.now ≡ all_sought test.now }
+    ensures { IfOk result (λ read. IsTrue read → IsOutcome test.now recorded.now.slices values.new.items) }
+{
+    values.clear();
+    if !read_replies(sought, recorded, values)? {
+        return Ok(false);
+    }
+    read_counters(test, recorded, values)
+}
+
+// The replies that are sought, in order.
+fn read_replies<F: MissFile>(
+    sought: &[Option<Sought>],
+    recorded: &Recorded<F>,
+    values: &mut Vec<u64>,
+) -> Result<bool, AllocError>
+    requires { values.old.items ≡ [] }
+    ensures { IfOk result (λ read. IsTrue read → Match (HasReply recorded.now.slices) sought.now values.new.items) }
+{
+    for request in sought {
+        let Some(reply) = reply_to(request, recorded) else {
+            return Ok(false);
+        };
+        values.push(reply)?;
+    }
+    Ok(true)
+}
+
+fn reply_to<F: MissFile>(request: &Option<Sought>, recorded: &Recorded<F>) -> Option<u64>
+    ensures { IfSome result (HasReply recorded.now.slices request.now) }
+{
+    let Some(request) = request else {
+        return None;
+    };
+    let slice = request.slice;
+    let entry = recorded
+        .log_of(slice)
+        .iter()
+        .find(|entry| request.is_of(slice, entry))?;
+    Some(entry.reply)
+}
+
+// Adds the counters' values, in order.
+fn read_counters<F: MissFile>(
+    test: &LitmusTest<'_>,
+    recorded: &Recorded<F>,
+    values: &mut Vec<u64>,
+) -> Result<bool, AllocError>
+    requires { recorded.now.config ≡ test.now.config }
+    ensures { IfOk result (λ read. IsTrue read
+        → AddsMatch (HasWord test.now.config recorded.now.slices) test.now.config.counters values.old.items values.new.items) }
+{
+    for counter in test.config.counters() {
+        let Some(value) = recorded.word_now(*counter) else {
+            return Ok(false);
+        };
+        values.push(value)?;
+    }
+    Ok(true)
+}

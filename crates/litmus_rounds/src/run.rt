@@ -1,0 +1,165 @@
+ghost use Rattle.std.specs.Prelude.{◌≡◌, ◌⊎◌, ℕ, ◌+◌, ◌<◌, ◌^◌, List, [], ◌∷◌, ◌++◌, IfNone, IfOk, IfSome, IsTrue, OnOk, Some, All};
+ghost use Rattle.std.specs.Prelude.{codes, decimal};
+ghost use Rattle.std.specs.Fmt.{WritesInCalls};
+ghost use Rattle.std.specs.Io.KnownBytes.{Appends};
+ghost use Rattle.litmus_outcomes.specs.Table.{IsTableOf};
+ghost use Rattle.litmus_outcomes.specs.Text.{text_of};
+ghost use Rattle.litmus_rounds.specs.Outcome.{all_sought};
+ghost use Rattle.litmus_rounds.specs.Run.{AreRounds, IsRound, PrintsRounds, PrintsStuck};
+ghost use Rattle.litmus_walk.specs.Walk.{IsWalkOf};
+ghost use Rattle.mshr_file.specs.Miss.{Bound};
+ghost use Rattle.slice_core_plan.specs.View.{IsQuiet};
+
+use super::outcome::read_outcome;
+use litmus_outcomes::{Outcomes, Sought, write_table};
+use litmus_script::Answers;
+use litmus_test::{LitmusTest, Progress};
+use litmus_text::{MissKind, TextFault};
+use litmus_walk::{Walked, named_lines, walk};
+use mshr_file::{ExplicitFile, InvertedFile, MissFile};
+use std::alloc::{AllocError, Global};
+use std::fmt;
+use std::io::Write;
+
+/// Walks through a litmus test so many times, and prints how often each outcome came, with the least seed that has it:
+/// the first round has the given seed, and each the next. Answers the exit status, which is 1 where a forbidden outcome
+/// came or a round is stuck; then nothing else is printed.
+pub fn run_walk<W: Write, P: Progress>(
+    alloc: Global,
+    test: &LitmusTest<'_>,
+    rounds: u64,
+    seed: u64,
+    progress: &mut P,
+    out: &mut W,
+) -> Result<u8, TextFault>
+    ensures { IfOk result (λ status. (bound : Bound)
+        × (PrintsRounds test.now bound rounds seed status (W.contents out.old) (W.contents out.new)
+        ⊎ PrintsStuck rounds status (W.contents out.old) (W.contents out.new))) }
+{
+    match test.misses {
+        MissKind::Explicit => run_on::<ExplicitFile, W, P>(
+            alloc, test, rounds, seed, progress, out,
+        ),
+        MissKind::Inverted => run_on::<InvertedFile, W, P>(
+            alloc, test, rounds, seed, progress, out,
+        ),
+    }
+}
+
+fn run_on<F: MissFile, W: Write, P: Progress>(
+    alloc: Global,
+    test: &LitmusTest<'_>,
+    rounds: u64,
+    seed: u64,
+    progress: &mut P,
+    out: &mut W,
+) -> Result<u8, TextFault>
+    ensures { IfOk result (λ status.
+        PrintsRounds test.now (F.bound_by test.now.config) rounds seed status (W.contents out.old) (W.contents out.new)
+        ⊎ PrintsStuck rounds status (W.contents out.old) (W.contents out.new)) }
+{
+    let mut outcomes = Outcomes::new(alloc);
+    match walk_rounds::<F, P>(alloc, test, rounds, seed, progress, &mut outcomes)? {
+        Some(round) => {
+            print_stuck(round, out)?;
+            Ok(1)
+        }
+        None => {
+            print_table(test, &outcomes, seed, out)?;
+            if outcomes.forbidden(test) == 0 {
+                Ok(0)
+            } else {
+                Ok(1)
+            }
+        }
+    }
+}
+
+fn print_stuck<W: Write>(round: u64, out: &mut W) -> Result<(), TextFault>
+    ensures printed { OnOk result (Appends (W.contents out.old) (W.contents out.new)
+        (codes "stuck round " ++ decimal round ++ codes "\n")) }
+{
+    let mut answers = Answers { out };
+    match write_stuck(round, &mut answers) {
+        Ok(()) => Ok(()),
+        Err(_) => Err(TextFault::CannotWrite),
+    }
+}
+
+fn write_stuck<W: fmt::Write>(round: u64, out: &mut W) -> fmt::Result
+    ensures { OnOk result (WritesInCalls W.write_str_gives out.old (codes "stuck round " ++ decimal round ++ codes "\n") out.new) }
+{
+    writeln!(out, "stuck round {round}")
+}
+
+fn print_table<W: Write>(
+    test: &LitmusTest<'_>,
+    outcomes: &Outcomes,
+    seed: u64,
+    out: &mut W,
+) -> Result<(), TextFault>
+    ensures printed { (rounds : List (List ℕ)) → IsTableOf rounds outcomes.now → OnOk result
+        (Appends (W.contents out.old) (W.contents out.new) (text_of test.now (Some seed) outcomes.now.rows rounds)) }
+{
+    let mut answers = Answers { out };
+    match write_table(test, outcomes, Some(seed), &mut answers) {
+        Ok(()) => Ok(()),
+        Err(_) => Err(TextFault::CannotWrite),
+    }
+}
+
+// Adds the outcomes of so many rounds, up to one that is stuck. Answers its number.
+fn walk_rounds<F: MissFile, P: Progress>(
+    alloc: Global,
+    test: &LitmusTest<'_>,
+    rounds: u64,
+    seed: u64,
+    progress: &mut P,
+    outcomes: &mut Outcomes,
+) -> Result<Option<u64>, TextFault>
+    requires { IsTableOf [] outcomes.old }
+    ensures done { IfOk result (λ stuck. IfNone stuck
+        (AreRounds test.now (F.bound_by test.now.config) rounds outcomes.new)) }
+    ensures stuck { IfOk result (λ stuck. IfSome stuck (λ round. round < rounds)) }
+{
+    let (Ok(lines), Ok(sought)) = (named_lines(alloc, test), Sought::all(alloc, test)) else {
+        return Err(TextFault::NoMemory);
+    };
+    let mut values = Vec::new(alloc);
+    for round in 0..rounds {
+        let walked: Walked<F> = walk(alloc, test, &lines, seed.wrapping_add(round))?;
+        if !walked.over {
+            return Ok(Some(round));
+        }
+        match add_outcome(test, &sought, &walked, &mut values, outcomes) {
+            Ok(true) => {}
+            Ok(false) => return Ok(Some(round)),
+            Err(AllocError) => return Err(TextFault::NoMemory),
+        }
+        progress.done(round + 1, rounds);
+    }
+    Ok(None)
+}
+
+// Adds a walk's outcome, where it has one.
+fn add_outcome<F: MissFile>(
+    test: &LitmusTest<'_>,
+    sought: &[Option<Sought>],
+    walked: &Walked<F>,
+    values: &mut Vec<u64>,
+    outcomes: &mut Outcomes,
+) -> Result<bool, AllocError>
+    requires fits { outcomes.old.rounds + 1 < 2 ^ 64 }
+    requires sought { sought.now ≡ all_sought test.now }
+    requires walked { IsWalkOf test.now.config (F.bound_by test.now.config) walked.now.recorded }
+    requires quiet { All (λ state. IsQuiet state.view) walked.now.recorded.slices }
+    ensures { IfOk result (λ added. IsTrue added → (outcome : List ℕ)
+        × IsRound test.now (F.bound_by test.now.config) outcome
+        × ((rounds : List (List ℕ)) → IsTableOf rounds outcomes.old → IsTableOf (rounds ++ outcome ∷ []) outcomes.new)) }
+{
+    if !read_outcome(test, sought, &walked.recorded, values)? {
+        return Ok(false);
+    }
+    outcomes.add(values)?;
+    Ok(true)
+}

@@ -1,0 +1,37 @@
+-- A walk as a script.
+use Rattle.std.specs.Prelude.{◌≡◌, ℕ, All, List, [], ◌++◌, codes, decimal, Option, Some, None}
+use Rattle.std.specs.Io.KnownBytes.{Appends}
+use Rattle.std.specs.List.{flat_map}
+use Rattle.address_map.specs.declared.config.Config.{Config}
+use Rattle.litmus_text.specs.Command.{parts_of}
+use Rattle.litmus_text.specs.declared.settings.MissKind.{MissKind}
+use Rattle.litmus_walk.specs.declared.place.StepPlace.{StepPlace}
+use Rattle.litmus_walk.specs.declared.recorded.Made.{Made}
+use Rattle.litmus_walk.specs.Walk.{WalkView, IsWalkOf}
+use Rattle.mshr_file.specs.Miss.{Bound}
+use Rattle.slice_core_plan.specs.View.{IsQuiet}
+use Rattle.script_text.specs.Line.{line_of_parts}
+use Rattle.script_text.specs.Settings.{lines_of_settings, text_of_lines}
+
+-- a comment that names the step which makes the call, if one does
+abbrev pub text_of_step : Option StepPlace → List ℕ
+text_of_step None = []
+text_of_step (Some at) = codes "# thread " ++ (decimal at.thread ++ (codes ", step " ++ (decimal at.step ++ codes "\n")))
+
+-- the line of a call, behind such a comment
+abbrev pub text_of_call : Made → List ℕ
+text_of_call made = text_of_step made.step ++ line_of_parts (parts_of made.command)
+
+abbrev pub text_of_calls : List Made → List ℕ
+text_of_calls calls = flat_map text_of_call calls
+
+-- what configures the machine, and then each call
+abbrev pub text_of_script : Config → MissKind → List Made → List ℕ
+text_of_script config misses calls = text_of_lines (lines_of_settings config misses) ++ text_of_calls calls
+
+-- A walk is printed as a script, behind what was written before. With status 0 it has come to its end.
+pub record PrintsWalk (config : Config) (bound : Bound) (misses : MissKind) (status : ℕ) (before after : Option (List ℕ)) : Type 0 where
+  pub walk : WalkView
+  pub walked : IsWalkOf config bound walk
+  pub over : status ≡ 0 → All (λ state. IsQuiet state.view) walk.slices
+  pub printed : Appends before after (text_of_script config misses walk.calls)

@@ -1,0 +1,112 @@
+use super::place::Place;
+use super::walker::{Reply, Walker};
+use address_map::{CoreId, LineAddr};
+use litmus_test::{Action, LitmusTest, Thread};
+use mshr_file::MissFile;
+use slice_core::Pick;
+use std::alloc::{AllocError, Global};
+
+/// What may be done next.
+#[derive(Clone, Copy)]
+pub(crate) enum Move {
+    /// The next step of the thread of this number.
+    Step(usize),
+    Deliver(Pick),
+    /// The reply of this number, of those that wait, is handed out.
+    Hand(usize),
+}
+
+impl<F: MissFile> Walker<F> {
+    /// Lists what may be done next: steps in the order of the threads, deliveries line by line, and hand-outs.
+    pub fn list_moves(
+        &self,
+        test: &LitmusTest<'_>,
+        lines: &[LineAddr],
+        moves: &mut Vec<Move>,
+    ) -> Result<(), AllocError> {
+        moves.clear();
+        for (number, (thread, place)) in test.threads.iter().zip(self.places.iter()).enumerate() {
+            if can_step(thread, place) {
+                moves.push(Move::Step(number))?;
+            }
+        }
+        for line in lines {
+            self.list_deliveries(test, *line, moves)?;
+        }
+        for reply in 0..self.replies.len() {
+            moves.push(Move::Hand(reply))?;
+        }
+        Ok(())
+    }
+
+    /// Adds the deliveries of a line's messages. Only cores of threads send and are sent any.
+    fn list_deliveries(
+        &self,
+        test: &LitmusTest<'_>,
+        line: LineAddr,
+        moves: &mut Vec<Move>,
+    ) -> Result<(), AllocError> {
+        for thread in &test.threads {
+            let core = thread.core;
+            self.list_delivery(Pick::Req(line, core), moves)?;
+            self.list_delivery(Pick::Fwd(line, core), moves)?;
+            self.list_delivery(Pick::Data(line, core), moves)?;
+            self.list_acknowledgements(test, line, core, moves)?;
+        }
+        self.list_delivery(Pick::Home(line), moves)
+    }
+
+    fn list_acknowledgements(
+        &self,
+        test: &LitmusTest<'_>,
+        line: LineAddr,
+        to: CoreId,
+        moves: &mut Vec<Move>,
+    ) -> Result<(), AllocError> {
+        for thread in &test.threads {
+            let from = thread.core;
+            self.list_delivery(Pick::Ack { line, to, from }, moves)?;
+        }
+        Ok(())
+    }
+
+    fn list_delivery(&self, pick: Pick, moves: &mut Vec<Move>) -> Result<(), AllocError> {
+        if self.recorded.has_front(pick) {
+            moves.push(Move::Deliver(pick))?;
+        }
+        Ok(())
+    }
+}
+
+/// Whether the thread's next step may be made: there is one, an access has a free tag, and who settles waits for nothing.
+fn can_step(thread: &Thread, place: &Place) -> bool {
+    match thread.steps.get(place.step) {
+        Some(Action::Access(_, _)) => place.free_tag().is_some(),
+        Some(Action::Settle) => place.is_settled(),
+        Some(Action::Evict(_)) => true,
+        None => false,
+    }
+}
+
+/// The lines that a test names, each once. Messages are for these lines alone.
+pub fn named_lines(alloc: Global, test: &LitmusTest<'_>) -> Result<Vec<LineAddr>, AllocError> {
+    let mut lines = Vec::new(alloc);
+    for thread in &test.threads {
+        for step in &thread.steps {
+            if let Some(line) = line_of(step) {
+                if !lines.contains(&line) {
+                    lines.push(line)?;
+                }
+            }
+        }
+    }
+    Ok(lines)
+}
+
+fn line_of(step: &Action) -> Option<LineAddr> {
+    match step {
+        Action::Access(word, _) => Some(word.line()),
+        Action::Evict(line) => Some(*line),
+        Action::Settle => None,
+    }
+}

@@ -1,0 +1,50 @@
+ghost use Rattle.std.specs.Prelude.{◌<◌, IfSome, length};
+
+/// A step of a thread. Threads and steps count from 0.
+#[derive(Clone, Copy, Debug, PartialEq, Eq)]
+pub struct StepPlace {
+    pub thread: usize,
+    pub step: usize,
+}
+
+/// How far a thread is, and under which tags its core waits for replies.
+#[derive(Clone, Copy)]
+pub(crate) struct Place {
+    pub step: usize,
+    open: [bool; 64],
+}
+
+impl Place {
+    /// Before the first step.
+    pub fn first() -> Self {
+        Place {
+            step: 0,
+            open: [false; 64],
+        }
+    }
+
+    /// The lowest tag under which nothing is waited for.
+    pub fn free_tag(&self) -> Option<u8>
+        ensures { IfSome result (λ tag. tag < 64) }
+    {
+        let tag = self.open.iter().position(|open| !*open)?;
+        Some(tag as u8)
+    }
+
+    /// Whether no reply is waited for.
+    pub fn is_settled(&self) -> bool {
+        !self.open.contains(&true)
+    }
+
+    /// The step is done.
+    pub fn go_on(&mut self) {
+        self.step = self.step.saturating_add(1);
+    }
+
+    /// A reply is waited for under the tag, or no more.
+    pub fn set_open(&mut self, tag: u8, open: bool) {
+        if let Some(place) = self.open.get_mut(tag as usize) {
+            *place = open;
+        }
+    }
+}

@@ -1,0 +1,80 @@
+ghost use Rattle.std.specs.Prelude.{◌≡◌, IfOk, IsTrue, OnOk, All};
+ghost use Rattle.slice_core_plan.specs.View.{IsQuiet};
+ghost use Rattle.litmus_walk.specs.Walk.{IsWalkOf, Walks};
+
+use super::copy::copy_of;
+use super::moves::Move;
+use super::recorded::Recorded;
+use super::walker::Walker;
+use address_map::LineAddr;
+use litmus_test::LitmusTest;
+use litmus_text::TextFault;
+use mshr_file::MissFile;
+use rand_core::{Rng, SeedableRng};
+use rand_xoshiro::Xoshiro256PlusPlus;
+use std::alloc::Global;
+
+/// A walk that makes so many moves and isn't over is stuck.
+const MOST_MOVES: usize = 1_000_000;
+
+/// A walk that came to its end, or is stuck.
+#[derive(Drop)]
+pub struct Walked<F: MissFile> {
+    pub recorded: Recorded<F>,
+    /// All threads are done, nothing is in flight and each reply is handed out.
+    pub over: bool,
+}
+
+/// Walks through the test, by the moves that the seed draws. All messages are for these lines.
+pub fn walk<F: MissFile>(
+    alloc: Global,
+    test: &LitmusTest<'_>,
+    lines: &[LineAddr],
+    seed: u64,
+) -> Result<Walked<F>, TextFault>
+    ensures walk { IfOk result (λ walked. IsWalkOf test.now.config (F.bound_by test.now.config) walked.recorded) }
+    ensures over { IfOk result (λ walked. IsTrue walked.over → All (λ state. IsQuiet state.view) walked.recorded.slices) }
+{
+    let recorded = Recorded::new(alloc, copy_of(alloc, &test.config)?)?;
+    let Ok(mut walker) = Walker::new(alloc, test, recorded) else {
+        return Err(TextFault::NoMemory);
+    };
+    walk_on(alloc, test, lines, seed, &mut walker)?;
+    let over = walker.is_over(test);
+    let Walker { recorded, .. } = walker;
+    Ok(Walked { recorded, over })
+}
+
+// Makes moves up to the end.
+fn walk_on<F: MissFile>(
+    alloc: Global,
+    test: &LitmusTest<'_>,
+    lines: &[LineAddr],
+    seed: u64,
+    walker: &mut Walker<F>,
+) -> Result<(), TextFault>
+    requires { walker.old.recorded.config ≡ test.now.config }
+    ensures { OnOk result (Walks walker.old.recorded walker.new.recorded) }
+{
+    let mut generator = Xoshiro256PlusPlus::seed_from_u64(seed);
+    let mut moves = Vec::new(alloc);
+    for _ in 0..MOST_MOVES {
+        let Ok(()) = walker.list_moves(test, lines, &mut moves) else {
+            return Err(TextFault::NoMemory);
+        };
+        let Some(to) = draw(&mut generator, &moves) else {
+            break;
+        };
+        walker.go(test, to)?;
+    }
+    Ok(())
+}
+
+// One of the moves, each as likely as the others.
+fn draw(generator: &mut Xoshiro256PlusPlus, moves: &[Move]) -> Option<Move> {
+    if moves.is_empty() {
+        return None;
+    }
+    let place = generator.next_u64() % moves.len() as u64;
+    Some(moves[place as usize])
+}

@@ -1,0 +1,106 @@
+ghost use Rattle.std.specs.Prelude.{IfOk, OnOk};
+ghost use Rattle.std.specs.Fmt.{WritesInCalls};
+ghost use Rattle.std.specs.Io.KnownBytes.{Appends};
+ghost use Rattle.mshr_file.specs.Miss.{Bound};
+ghost use Rattle.litmus_walk.specs.Script.{PrintsWalk, text_of_call, text_of_calls, text_of_script, text_of_step};
+
+use super::moves::named_lines;
+use super::place::StepPlace;
+use super::recorded::Made;
+use super::round::{Walked, walk};
+use address_map::Checked;
+use litmus_script::Answers;
+use litmus_test::LitmusTest;
+use litmus_text::{MissKind, TextFault};
+use mshr_file::{ExplicitFile, InvertedFile, MissFile};
+use script_text::{write_command, write_settings};
+use std::alloc::Global;
+use std::fmt::Write;
+use std::{fmt, io};
+
+/// Prints the walk that this seed draws as a script. Answers the exit status, which is 1 where the walk is stuck.
+pub fn write_walk<W: io::Write>(
+    alloc: Global,
+    test: &LitmusTest<'_>,
+    seed: u64,
+    out: &mut W,
+) -> Result<u8, TextFault>
+    ensures { IfOk result (λ status. (bound : Bound) × PrintsWalk test.now.config bound test.now.misses status
+        (W.contents out.old) (W.contents out.new)) }
+{
+    match test.misses {
+        MissKind::Explicit => write_on::<ExplicitFile, W>(alloc, test, seed, out),
+        MissKind::Inverted => write_on::<InvertedFile, W>(alloc, test, seed, out),
+    }
+}
+
+fn write_on<F: MissFile, W: io::Write>(
+    alloc: Global,
+    test: &LitmusTest<'_>,
+    seed: u64,
+    out: &mut W,
+) -> Result<u8, TextFault>
+    ensures { IfOk result (λ status. PrintsWalk test.now.config (F.bound_by test.now.config) test.now.misses status
+        (W.contents out.old) (W.contents out.new)) }
+{
+    let Ok(lines) = named_lines(alloc, test) else {
+        return Err(TextFault::NoMemory);
+    };
+    let walked: Walked<F> = walk(alloc, test, &lines, seed)?;
+    print_script(&test.config, test.misses, walked.recorded.calls(), out)?;
+    if walked.over { Ok(0) } else { Ok(1) }
+}
+
+fn print_script<W: io::Write>(
+    config: &Checked,
+    misses: MissKind,
+    calls: &[Made],
+    out: &mut W,
+) -> Result<(), TextFault>
+    ensures printed { OnOk result (Appends (W.contents out.old) (W.contents out.new) (text_of_script config.now misses calls.now)) }
+{
+    let mut answers = Answers { out };
+    match write_script(config, misses, calls, &mut answers) {
+        Ok(()) => Ok(()),
+        Err(_) => Err(TextFault::CannotWrite),
+    }
+}
+
+/// Writes these calls of a new machine as a script: first what configures the machine, then each call, behind a comment
+/// where a step made it.
+pub(crate) fn write_script<W: Write>(
+    config: &Checked,
+    misses: MissKind,
+    calls: &[Made],
+    out: &mut W,
+) -> fmt::Result
+    ensures { OnOk result (WritesInCalls W.write_str_gives out.old (text_of_script config.now misses calls.now) out.new) }
+{
+    write_settings(config, misses, out)?;
+    write_calls(calls, out)
+}
+
+fn write_calls<W: Write>(calls: &[Made], out: &mut W) -> fmt::Result
+    ensures { OnOk result (WritesInCalls W.write_str_gives out.old (text_of_calls calls.now) out.new) }
+{
+    for made in calls {
+        write_call(*made, out)?;
+    }
+    Ok(())
+}
+
+fn write_call<W: Write>(made: Made, out: &mut W) -> fmt::Result
+    ensures { OnOk result (WritesInCalls W.write_str_gives out.old (text_of_call made) out.new) }
+{
+    write_step(made.step, out)?;
+    write_command(made.command, out)
+}
+
+fn write_step<W: Write>(step: Option<StepPlace>, out: &mut W) -> fmt::Result
+    ensures { OnOk result (WritesInCalls W.write_str_gives out.old (text_of_step step) out.new) }
+{
+    match step {
+        Some(StepPlace { thread, step }) => writeln!(out, "# thread {thread}, step {step}"),
+        None => Ok(()),
+    }
+}

@@ -1,0 +1,90 @@
+-- Cores that are dealt out to threads one after the other.
+use Rattle.std.proofs.Common.{◌≡◌, Bool, true, false, List, [], ◌∷◌, ◌++◌, ◌∙◌, Option, None, Some, ap, append-nil, refl, subst, sym}
+use Rattle.std.specs.Prelude.{cond, filter, is_some, map, not}
+use Rattle.std.specs.Option.{option_map_or}
+use Rattle.std.proofs.lemmas.List.{map-append}
+use Rattle.std.proofs.lemmas.List.Elements.{filter-append}
+use Rattle.core_thread_system.specs.Core.{CoreView, SetView, core_of}
+use Rattle.core_thread_system.specs.declared.program.Step.{Step}
+use Rattle.litmus_test.specs.declared.test.Action.{Action}
+use Rattle.litmus_test.specs.declared.test.Thread.{Thread}
+use Rattle.litmus_threads.specs.Crew.{AreDealt, has_thread}
+use Rattle.litmus_threads.specs.Program.{IsProgramOf}
+use Rattle.litmus_threads.specs.Threads.{steps_at, thread_at}
+use Rattle.litmus_threads.proofs.Replies.{zip-push}
+
+-- a core that passes a test goes behind those that did
+passes : (test : CoreView → Bool) (cores : List CoreView) (v : CoreView) → test v ≡ true
+    → filter test (cores ++ v ∷ []) ≡ filter test cores ++ v ∷ []
+passes test cores v so =
+    filter-append test cores (v ∷ [])
+    ∙ ap (λ (b : Bool). filter test cores ++ cond b (v ∷ []) []) so
+
+-- and one that doesn't changes nothing
+fails : (test : CoreView → Bool) (cores : List CoreView) (v : CoreView) → test v ≡ false
+    → filter test (cores ++ v ∷ []) ≡ filter test cores
+fails test cores v so =
+    filter-append test cores (v ∷ [])
+    ∙ ap (λ (b : Bool). filter test cores ++ cond b (v ∷ []) []) so
+    ∙ append-nil (filter test cores)
+
+-- one core more that has a thread
+pub thread-dealt : (threads : List Thread) (cores working : List CoreView) (programs : List (List Step))
+    (idle : List CoreView) (v : CoreView) (thread : Thread) (program : List Step) → Some thread ≡ thread_at threads v.core
+    → IsProgramOf thread.steps.items program → AreDealt threads cores working programs idle
+    → AreDealt threads (cores ++ v ∷ []) (working ++ v ∷ []) (programs ++ program ∷ []) idle
+thread-dealt threads cores working programs idle v thread program found its dealt =
+    let has : has_thread threads v ≡ true = ap is_some (sym found) in
+    record {
+      working_are =
+          ap (λ (ws : List CoreView). ws ++ v ∷ []) dealt.working_are
+          ∙ sym (passes (has_thread threads) cores v has);
+      programs_are =
+          zip-push (λ (w : CoreView) (p : List Step). IsProgramOf (steps_at threads w.core) p) working programs v program
+          dealt.programs_are
+          (subst (λ (t : Option Thread). IsProgramOf (option_map_or (λ thread. thread.steps.items) t []) program) found its);
+      idle_are = dealt.idle_are ∙ sym (fails (λ w. not (has_thread threads w)) cores v (ap not has));
+    }
+
+-- one core more that has none
+pub idle-dealt : (threads : List Thread) (cores working : List CoreView) (programs : List (List Step))
+    (idle : List CoreView) (v : CoreView) → None ≡ thread_at threads v.core
+    → AreDealt threads cores working programs idle → AreDealt threads (cores ++ v ∷ []) working programs (idle ++ v ∷ [])
+idle-dealt threads cores working programs idle v found dealt =
+    let has : has_thread threads v ≡ false = ap is_some (sym found) in
+    record {
+      working_are = dealt.working_are ∙ sym (fails (has_thread threads) cores v has);
+      programs_are = dealt.programs_are;
+      idle_are =
+          ap (λ (is : List CoreView). is ++ v ∷ []) dealt.idle_are
+          ∙ sym (passes (λ w. not (has_thread threads w)) cores v (ap not has));
+    }
+
+-- The same, where a job of whatever form is appended to jobs.
+pub thread-taken : {J : Type 0} (core_in : J → CoreView) (program_in : J → List Step) (threads : List Thread)
+    (cores : List CoreView) (jobs grown : List J) (job : J) (idle : List CoreView) (v : CoreView) (thread : Thread)
+    (shown : List Action) (program : List Step) → grown ≡ jobs ++ job ∷ [] → core_in job ≡ v → program_in job ≡ program
+    → Some thread ≡ thread_at threads v.core → shown ≡ thread.steps.items → IsProgramOf shown program
+    → AreDealt threads cores (map core_in jobs) (map program_in jobs) idle
+    → AreDealt threads (cores ++ v ∷ []) (map core_in grown) (map program_in grown) idle
+thread-taken {J} core_in program_in threads cores jobs grown job idle v thread shown program grows its_core its_program
+    found is its dealt =
+    let working : map core_in grown ≡ map core_in jobs ++ v ∷ [] =
+    ap (map core_in) grows ∙ map-append core_in jobs (job ∷ [])
+    ∙ ap (λ (w : CoreView). map core_in jobs ++ w ∷ []) its_core in
+    let programs : map program_in grown ≡ map program_in jobs ++ program ∷ [] =
+    ap (map program_in) grows ∙ map-append program_in jobs (job ∷ [])
+    ∙ ap (λ (p : List Step). map program_in jobs ++ p ∷ []) its_program in
+    let own : IsProgramOf thread.steps.items program = subst (λ (steps : List Action). IsProgramOf steps program) is its in
+    subst (λ (ws : List CoreView). AreDealt threads (cores ++ v ∷ []) ws (map program_in grown) idle) (sym working)
+    (subst (λ (ps : List (List Step)). AreDealt threads (cores ++ v ∷ []) (map core_in jobs ++ v ∷ []) ps idle) (sym programs)
+    (thread-dealt threads cores (map core_in jobs) (map program_in jobs) idle v thread program found own dealt))
+
+-- The cores of ports, one more.
+pub deal-more : (threads : List Thread) (sets : List SetView) (set : SetView) (v : CoreView) (working : List CoreView)
+    (programs : List (List Step)) (idle : List CoreView) → v ≡ core_of set
+    → AreDealt threads (map core_of sets ++ v ∷ []) working programs idle
+    → AreDealt threads (map core_of (sets ++ set ∷ [])) working programs idle
+deal-more threads sets set v working programs idle is dealt =
+    subst (λ (cores : List CoreView). AreDealt threads cores working programs idle)
+    (ap (λ (w : CoreView). map core_of sets ++ w ∷ []) is ∙ sym (map-append core_of sets (set ∷ []))) dealt

@@ -1,0 +1,64 @@
+-- How a run of a litmus test ends, round by round.
+use Rattle.std.proofs.Common.{◌≡◌, ℕ, ◌+◌, ◌∙◌, List, [], ◌∷◌, ◌++◌, Result, Ok, Err, ap, arith, inl, inr, length, length-append, subst}
+use Rattle.std.specs.Prelude.{All, IfOk, None, OnOk, Option}
+use Rattle.std.specs.Fmt.{WritesInCalls}
+use Rattle.std.proofs.lemmas.List.Elements.{All-push}
+use Rattle.litmus_outcomes.specs.Table.{IsTableOf, TableView}
+use Rattle.litmus_outcomes.specs.Text.{text_of}
+use Rattle.litmus_outcomes.specs.declared.sought.Sought.{Sought}
+use Rattle.litmus_test.specs.declared.test.LitmusTest.{LitmusTest}
+use Rattle.litmus_text.specs.declared.fault.TextFault.{TextFault}
+use Rattle.litmus_threads.specs.Round.{IsFoundOn, IsOutcomeOf, IsRunOf, IsTableFor, soughts_of}
+use Rattle.litmus_threads.specs.Run.{HasStatus, IsEndOf, IsTold, text_of_stuck}
+use Rattle.litmus_threads.specs.declared.rounds.Run.{Run}
+use Rattle.litmus_threads.specs.declared.rounds.Run.TheVariants as runs
+
+-- One round more had an outcome of the test, and was counted.
+pub table-more : (test : LitmusTest) (round : ℕ) (old new : TableView) (values shown : List ℕ)
+    (soughts : List (Option Sought)) → shown ≡ values → soughts ≡ soughts_of test → IsTableFor test round old
+    → IsFoundOn test.config test.threads.items soughts values
+    → ((rounds : List (List ℕ)) → IsTableOf rounds old → IsTableOf (rounds ++ shown ∷ []) new)
+    → IsTableFor test (round + 1) new
+table-more test round old new values shown soughts same named so_far found counted =
+    let own : IsOutcomeOf test values =
+    subst (λ (ss : List (Option Sought)). IsFoundOn test.config test.threads.items ss values) named found in
+    record {
+      outcomes = so_far.outcomes ++ values ∷ [];
+      table_is =
+          subst (λ (vs : List ℕ). IsTableOf (so_far.outcomes ++ vs ∷ []) new) same
+          (counted so_far.outcomes so_far.table_is);
+      each_round = length-append so_far.outcomes (values ∷ []) ∙ ap (λ (n : ℕ). n + 1) so_far.each_round;
+      each = All-push (IsOutcomeOf test) so_far.outcomes values so_far.each own;
+    }
+
+-- What was told in calls of a writer is told in what these calls come to, where they also show that they left it so.
+pub told-in-calls : {S X N : Type 0} (gives : S → List ℕ → S → Type 0) (old new : S) (test : LitmusTest) (run : Run)
+    (written : X → List ℕ → Type 0) (left exit : X) → IsTold test (λ text. WritesInCalls gives old text new) run
+    → ((text : List ℕ) → WritesInCalls gives old text new → N × written left text) → (N → left ≡ exit)
+    → IsTold test (written exit) run
+told-in-calls {S} {X} {N} gives old new test (runs.Whole table) written left exit told on same =
+    λ outcomes table_is.
+    let text : List ℕ = text_of test None table.rows outcomes in
+    let wrote : N × written left text = on text (told outcomes table_is) in
+    subst (λ (x : X). written x text) (same wrote.0) wrote.1
+told-in-calls {S} {X} {N} gives old new test (runs.Stuck round) written left exit told on same =
+    let text : List ℕ = text_of_stuck round in
+    let wrote : N × written left text = on text told in
+    subst (λ (x : X). written x text) (same wrote.0) wrote.1
+
+-- A run that was told has ended in one of the two ways.
+pub ended : (test : LitmusTest) (run : Run) (written : List ℕ → Type 0) (told : Result ℕ TextFault) → IsRunOf test run
+    → OnOk told (IsTold test written run) → IfOk told (HasStatus test run) → IfOk told (IsEndOf test written)
+ended test (runs.Whole table) written (Ok status) of_test told has =
+    inl (record {
+      outcomes = of_test.outcomes;
+      rows = table.rows;
+      rows_are = of_test.table_is.rows;
+      each_round = of_test.each_round;
+      each = of_test.each;
+      text = told of_test.outcomes of_test.table_is;
+      status_is = has of_test.outcomes of_test.table_is;
+    })
+ended test (runs.Stuck round) written (Ok status) of_test told has =
+    inr (record { round = round; is_one = of_test; text = told; status_is = has })
+ended test run written (Err fault) of_test told has = tt

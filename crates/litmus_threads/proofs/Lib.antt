@@ -1,0 +1,5 @@
+pub mod Asked
+pub mod Dealing
+pub mod Ends
+pub mod Programs
+pub mod Replies

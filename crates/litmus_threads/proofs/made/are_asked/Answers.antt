@@ -1,0 +1,23 @@
+use Rattle.litmus_threads.proofs.Asked.{asked-more, asked-still}
+use Rattle.litmus_threads.proofs.made.are_asked.Goals as goal
+use Rattle.litmus_threads.proofs.made.are_asked.Goals.{in-Some+else-not-is_asked, in_default}
+
+pub loop-step-preserved : goal.loop-step-preserved
+loop-step-preserved c =
+    let steps = c.args.steps.now in
+    let asked = c.args.asked.now in
+    let config = c.args.config.now in
+    let i = c.loop-step.step-index in
+    let so_far = c.loop-step.invariant in
+    let inside = c.loop-step-test.true in
+    elim c.match-access_in.branch [
+      | in-Some+else-not-is_asked w ↦
+          let more = asked-more config c.args.slice.0 steps asked i c.loop-step.next _ _ _ inside w.in-Some.ensures
+          (w.is_asked.ensures w.if-not-is_asked.false) so_far.asked in
+          rw w.next-is (record { within = more.0; asked = more.1 })
+      | in_default w ↦
+          rw w.next-is (record {
+            within = so_far.within;
+            asked = asked-still config c.args.slice.0 steps asked i c.loop-step.next _ inside w.in_default.ensures so_far.asked;
+          })
+    ]

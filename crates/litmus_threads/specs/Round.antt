@@ -1,0 +1,48 @@
+-- What the rounds of a litmus test come to.
+use Rattle.std.specs.Prelude.{◌≡◌, ℕ, ◌<◌, All, List, Option, length, map}
+use Rattle.std.specs.List.{range_with_len}
+use Rattle.address_map.specs.declared.config.Config.{Config}
+use Rattle.core_thread_system.specs.Core.{CoreView}
+use Rattle.drain.specs.Audited.{IsAudited}
+use Rattle.drain.specs.declared.report.CounterValue.{CounterValue}
+use Rattle.litmus_outcomes.specs.Sought.{sought_of}
+use Rattle.litmus_outcomes.specs.Table.{IsTableOf, TableView}
+use Rattle.litmus_outcomes.specs.declared.sought.Sought.{Sought}
+use Rattle.litmus_test.specs.declared.test.LitmusTest.{LitmusTest}
+use Rattle.litmus_test.specs.declared.test.Thread.{Thread}
+use Rattle.litmus_threads.specs.Found.{IsOutcomeIn}
+use Rattle.litmus_threads.specs.Made.{HaveMadeAll}
+use Rattle.litmus_threads.specs.declared.rounds.Run.{Run}
+use Rattle.litmus_threads.specs.declared.rounds.Run.TheVariants as runs
+use Rattle.receipt_ledger.specs.declared.receipt.Receipt.{Receipt}
+
+-- the request of each name of a test
+abbrev pub soughts_of : LitmusTest → List (Option Sought)
+soughts_of test = map (sought_of test) (range_with_len 0 (length test.names.items))
+
+-- The cores of a machine made what the threads say and nothing else, the machine was audited with them, and this is what
+-- the audit found: the outcome is told by a legal log of each slice.
+pub record IsFoundOn (c : Config) (threads : List Thread) (soughts : List (Option Sought)) (values : List ℕ) : Type 0
+  where
+    pub cores : List CoreView
+    pub receipts : List Receipt
+    pub counters : List CounterValue
+    pub made : HaveMadeAll c threads cores
+    pub audited : IsAudited c cores receipts counters
+    pub found : IsOutcomeIn receipts counters soughts values
+
+-- an outcome of a test
+abbrev pub IsOutcomeOf : LitmusTest → List ℕ → Type 0
+IsOutcomeOf test values = IsFoundOn test.config test.threads.items (soughts_of test) values
+
+-- The table is of so many rounds, and each had an outcome of the test.
+pub record IsTableFor (test : LitmusTest) (rounds : ℕ) (table : TableView) : Type 0 where
+  pub outcomes : List (List ℕ)
+  pub table_is : IsTableOf outcomes table
+  pub each_round : length outcomes ≡ rounds
+  pub each : All (IsOutcomeOf test) outcomes
+
+-- what a run of all rounds may come to
+abbrev pub IsRunOf : LitmusTest → Run → Type 0
+IsRunOf test (runs.Whole table) = IsTableFor test test.rounds table
+IsRunOf test (runs.Stuck round) = round < test.rounds

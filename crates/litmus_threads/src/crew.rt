@@ -1,0 +1,103 @@
+ghost use Rattle.std.specs.Prelude.{◌≡◌, ◌∷◌, [], ◌++◌, List, IfOk, OnOk, map};
+ghost use Rattle.core_thread_system.specs.Core.{CoreView, core_of};
+ghost use Rattle.litmus_threads.specs.Crew.{AreDealt};
+
+use super::program::program_of;
+use super::threads::thread_at;
+use core_thread::Job;
+use core_thread_system::{All, Core, Outcome, PortSet, System, SystemKeys};
+use litmus_test::Thread;
+use mshr_file::MissFile;
+use rand_core::SeedableRng;
+use rand_xoshiro::Xoshiro256PlusPlus;
+use slice_core_answer::Refused;
+use std::alloc::{AllocError, Global};
+
+/// The cores of a machine: those that have a thread, each in a job, and the others.
+#[derive(Drop)]
+pub(crate) struct Crew<'a, F: MissFile, M: SystemKeys> {
+    pub jobs: Vec<Job<'a, F, All<M>>>,
+    idle: Vec<Core<'a, F, All<M>>>,
+}
+
+impl<'a, F: MissFile, M: SystemKeys> Crew<'a, F, M> {
+    /// Gives each core that has a thread a job with a program of the thread.
+    pub(crate) fn deal(
+        alloc: Global,
+        system: &'a System<F, All<M>>,
+        sets: Vec<PortSet<All<M>>>,
+        threads: &[Thread],
+        seed: u64,
+    ) -> Result<Crew<'a, F, M>, AllocError>
+        ensures { IfOk result (λ crew. AreDealt threads.now (map core_of sets.items)
+            (map (λ job. job.core) crew.jobs.items) (map (λ job. job.program.items) crew.jobs.items) crew.idle.items) }
+    {
+        let mut crew = Crew {
+            jobs: Vec::new(alloc),
+            idle: Vec::new(alloc),
+        };
+        for set in sets {
+            crew.take(alloc, Core::new(system, set), threads, seed)?;
+        }
+        Ok(crew)
+    }
+
+    // Takes one more core. Its turns are drawn from the seed and its number.
+    fn take(
+        &mut self,
+        alloc: Global,
+        core: Core<'a, F, All<M>>,
+        threads: &[Thread],
+        seed: u64,
+    ) -> Result<(), AllocError>
+        ensures { OnOk result ((cores : List CoreView) →
+            AreDealt threads.now cores (map (λ job. job.core) self.old.jobs.items)
+            (map (λ job. job.program.items) self.old.jobs.items) self.old.idle.items →
+            AreDealt threads.now (cores ++ core.entry ∷ []) (map (λ job. job.core) self.new.jobs.items)
+            (map (λ job. job.program.items) self.new.jobs.items) self.new.idle.items) }
+    {
+        match thread_at(threads, core.core()) {
+            Some(thread) => {
+                let seed = seed.wrapping_add(u64::from(core.core().0));
+                let mut words = Xoshiro256PlusPlus::seed_from_u64(seed);
+                let program = program_of(alloc, &thread.steps, &mut words)?;
+                self.jobs.push(Job {
+                    core,
+                    program,
+                    outcome: Outcome::NotRun,
+                })?;
+            }
+            None => self.idle.push(core)?,
+        }
+        Ok(())
+    }
+
+    /// Whether each thread has done all its steps. An `Err` says that one was refused for want of memory.
+    pub(crate) fn has_ended(&self) -> Result<bool, AllocError> {
+        let mut all = true;
+        for job in &self.jobs {
+            match job.outcome {
+                Outcome::Finished => {}
+                Outcome::Refused(_, Refused::Memory) => return Err(AllocError),
+                Outcome::Refused(..) | Outcome::Limit(_) | Outcome::NotRun => all = false,
+            }
+        }
+        Ok(all)
+    }
+
+    /// All its cores.
+    pub(crate) fn cores(self) -> Result<Vec<Core<'a, F, All<M>>>, AllocError> {
+        let Crew { jobs, idle } = self;
+        let mut cores = idle;
+        for job in jobs {
+            cores.push(core_of(job))?;
+        }
+        Ok(cores)
+    }
+}
+
+fn core_of<'a, F: MissFile, M: SystemKeys>(job: Job<'a, F, All<M>>) -> Core<'a, F, All<M>> {
+    let Job { core, program, .. } = job;
+    drop(program);
+    core
+}

@@ -1,0 +1,49 @@
+ghost use Rattle.std.specs.Prelude.{◌≡◌, ◌++◌, IfOk, MatchOption, OnOk, map};
+ghost use Rattle.litmus_threads.specs.Found.{HasReply, IsOutcomeIn, LacksReply, LacksAReply};
+
+use drain::{Audit, CounterValue};
+use litmus_outcomes::Sought;
+use receipt_ledger::Receipt;
+use std::alloc::{AllocError, Global};
+
+/// The outcome that an audit found: the reply of each sought request, and then each counter's value. None where a
+/// request has no receipt.
+pub(crate) fn outcome_of(
+    alloc: Global,
+    soughts: &[Option<Sought>],
+    audit: &Audit,
+) -> Result<Option<Vec<u64>>, AllocError>
+    ensures { IfOk result (λ found. MatchOption found (LacksAReply audit.now.receipts.items soughts.now)
+        (λ values. IsOutcomeIn audit.now.receipts.items audit.now.counters.items soughts.now values.items)) }
+{
+    let mut values = Vec::new(alloc);
+    for sought in soughts {
+        match reply_to(&audit.receipts, *sought) {
+            Some(reply) => values.push(reply)?,
+            None => return Ok(None),
+        }
+    }
+    append_values(&mut values, &audit.counters)?;
+    Ok(Some(values))
+}
+
+// The reply of the request's receipt.
+fn reply_to(receipts: &[Receipt], sought: Option<Sought>) -> Option<u64>
+    ensures { MatchOption result (LacksReply receipts.now sought) (HasReply receipts.now sought) }
+{
+    let sought = sought?;
+    receipts
+        .iter()
+        .find(|receipt| sought.is_of(receipt.slice, &receipt.entry))
+        .map(|receipt| receipt.entry.reply)
+}
+
+// Appends the counters' values.
+fn append_values(values: &mut Vec<u64>, counters: &[CounterValue]) -> Result<(), AllocError>
+    ensures { OnOk result (values.new.items ≡ values.old.items ++ map (λ counter. counter.value) counters.now) }
+{
+    for counter in counters {
+        values.push(counter.value)?;
+    }
+    Ok(())
+}

@@ -1,0 +1,133 @@
+ghost use Rattle.std.specs.Prelude.{◌≡◌, IfOk, IfSome};
+ghost use Rattle.receipt_shares.specs.Names.{AreLedgersOf};
+ghost use Rattle.litmus_threads.specs.Round.{IsFoundOn};
+
+use super::copy::copy_of;
+use super::crew::Crew;
+use super::found::outcome_of;
+use super::made::have_made_all;
+use super::plan::Plan;
+use address_map::Config;
+use core_thread::{RunError, run_all};
+use core_thread_system::{All, BuildError, Core, Open, PortSet, System, SystemBlanks, SystemKeys};
+use drain::{AuditError, AuditFault, Drain, audit, drain};
+use litmus_test::LitmusTest;
+use litmus_text::MissKind;
+use mshr_file::{ExplicitFile, InvertedFile, MissFile};
+use std::alloc::AllocError;
+use std::marker::Brand;
+use std::sync::Wait;
+use std::thread::Threads;
+
+/// Plays a round of a test on a new machine. Answers its outcome, or none where the round is stuck.
+pub(crate) fn play<R: Threads + Wait + Sync>(
+    rt: &R,
+    test: &LitmusTest<'_>,
+    plan: &Plan,
+    round: u64,
+) -> Result<Option<Vec<u64>>, AllocError>
+    ensures { IfOk result (λ found. IfSome found (λ values.
+        IsFoundOn test.now.config test.now.threads.items plan.now.soughts.items values.items)) }
+{
+    match test.misses {
+        MissKind::Explicit => on_machine::<ExplicitFile, R>(rt, test, plan, round),
+        MissKind::Inverted => on_machine::<InvertedFile, R>(rt, test, plan, round),
+    }
+}
+
+// Builds the machine.
+fn on_machine<F: MissFile + Send, R: Threads + Wait + Sync>(
+    rt: &R,
+    test: &LitmusTest<'_>,
+    plan: &Plan,
+    round: u64,
+) -> Result<Option<Vec<u64>>, AllocError>
+    ensures { IfOk result (λ found. IfSome found (λ values.
+        IsFoundOn test.now.config test.now.threads.items plan.now.soughts.items values.items)) }
+{
+    let config = copy_of(plan.alloc, &test.config)?;
+    let blanks = SystemBlanks::new(config.cores);
+    on_named::<F, Brand, R>(rt, config, blanks, test, plan, round)
+}
+
+fn on_named<F: MissFile + Send, M: SystemKeys + Send + Sync, R: Threads + Wait + Sync>(
+    rt: &R,
+    config: Config,
+    blanks: SystemBlanks,
+    test: &LitmusTest<'_>,
+    plan: &Plan,
+    round: u64,
+) -> Result<Option<Vec<u64>>, AllocError>
+    requires setup { config ≡ M.setup }
+    requires ledgers0 { AreLedgersOf M.setup (M.names 0) blanks.slice0 }
+    requires ledgers1 { AreLedgersOf M.setup (M.names 1) blanks.slice1 }
+    requires ledgers2 { AreLedgersOf M.setup (M.names 2) blanks.slice2 }
+    requires ledgers3 { AreLedgersOf M.setup (M.names 3) blanks.slice3 }
+    ensures { IfOk result (λ found. IfSome found (λ values.
+        IsFoundOn M.setup test.now.threads.items plan.now.soughts.items values.items)) }
+{
+    match System::<F, All<M>>::build(plan.alloc, config, blanks) {
+        Ok((system, sets)) => {
+            let played = on_system(rt, &system, sets, test, plan, round);
+            // In one call: dropped where it is it would be taken apart, each part with a proof of its own.
+            drop(system);
+            played
+        }
+        // A test's configuration was checked.
+        Err(BuildError::Config(_) | BuildError::Memory) => Err(AllocError),
+    }
+}
+
+// Runs the threads, and sees what came of them.
+fn on_system<F: MissFile + Send, M: SystemKeys + Send + Sync, R: Threads + Wait + Sync>(
+    rt: &R,
+    system: &System<F, All<M>>,
+    sets: Vec<PortSet<All<M>>>,
+    test: &LitmusTest<'_>,
+    plan: &Plan,
+    round: u64,
+) -> Result<Option<Vec<u64>>, AllocError>
+    ensures { IfOk result (λ found. IfSome found (λ values.
+        IsFoundOn M.setup test.now.threads.items plan.now.soughts.items values.items)) }
+{
+    let seed = plan.seed.wrapping_add(round.wrapping_mul(64));
+    let mut crew = Crew::deal(plan.alloc, system, sets, &test.threads, seed)?;
+    let started = run_all(rt, system, &mut crew.jobs, plan.movers, &Open, plan.limit);
+    let ended = crew.has_ended();
+    let cores = crew.cores()?;
+    match started {
+        Ok(()) if ended? => end(rt, system, cores, test, plan),
+        Ok(()) => Ok(None),
+        Err(RunError::Start) => Err(AllocError),
+    }
+}
+
+// Drains the cores and audits them. What no clause says of threads is seen here: each core has asked for just what its
+// thread says.
+fn end<F: MissFile, M: SystemKeys, R: Wait>(
+    rt: &R,
+    system: &System<F, All<M>>,
+    cores: Vec<Core<'_, F, All<M>>>,
+    test: &LitmusTest<'_>,
+    plan: &Plan,
+) -> Result<Option<Vec<u64>>, AllocError>
+    ensures { IfOk result (λ found. IfSome found (λ values.
+        IsFoundOn M.setup test.now.threads.items plan.now.soughts.items values.items)) }
+{
+    let mut cores = cores;
+    if drain(rt, system, &mut cores, plan.limit) == Drain::Stuck
+        || !have_made_all(system.config(), &test.threads, &cores)
+    {
+        return Ok(None);
+    }
+    match audit(rt, plan.alloc, system, cores) {
+        Ok(audit) => outcome_of(plan.alloc, &plan.soughts, &audit),
+        Err(
+            AuditFault {
+                error: AuditError::Memory,
+                ..
+            },
+        ) => Err(AllocError),
+        Err(_) => Ok(None),
+    }
+}

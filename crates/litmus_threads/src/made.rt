@@ -1,0 +1,91 @@
+ghost use Rattle.std.specs.Prelude.{◌≡◌, ◌==◌, [], ◌∷◌, IsSomeAnd, IsTrue, MatchOption, slice_get};
+ghost use Rattle.address_map.specs.Place.{line_of, slice_of};
+ghost use Rattle.core_thread_system.specs.Program.{accesses_of};
+ghost use Rattle.litmus_outcomes.specs.Sought.{requests_in};
+ghost use Rattle.litmus_threads.specs.Made.{HasMadeBelow, HaveMadeAll};
+
+use super::threads::steps_at;
+use address_map::{Checked, Op, SliceId, WordAddr};
+use core_thread_system::{Core, SystemNames};
+use litmus_test::{Action, Thread};
+use mshr_file::MissFile;
+use receipt_ledger::Ask;
+
+/// Whether each core has asked for just what its thread says. A core without a thread asks for nothing.
+pub(crate) fn have_made_all<F: MissFile, M: SystemNames>(
+    config: &Checked,
+    threads: &[Thread],
+    cores: &[Core<'_, F, M>],
+) -> bool
+    requires { config.now ≡ M.setup }
+    ensures { IsTrue result → HaveMadeAll M.setup threads.now cores.now }
+{
+    for core in cores {
+        if !has_made(config, steps_at(threads, core.core()), core) {
+            return false;
+        }
+    }
+    true
+}
+
+// Whether the core has asked each slice for just what the steps ask of it, in their order.
+fn has_made<F: MissFile, M: SystemNames>(
+    config: &Checked,
+    steps: &[Action],
+    core: &Core<'_, F, M>,
+) -> bool
+    requires { config.now ≡ M.setup }
+    ensures { IsTrue result → HasMadeBelow M.setup M.setup.slices steps.now core.now }
+{
+    for slice in 0..config.slices() {
+        let slice = SliceId(slice as u8);
+        if !are_asked(config, slice, steps, core.asked(slice)) {
+            return false;
+        }
+    }
+    true
+}
+
+// Whether this is what the steps ask of the slice.
+fn are_asked(config: &Checked, slice: SliceId, steps: &[Action], asked: &[Ask]) -> bool
+    ensures { IsTrue result → accesses_of asked.now ≡ requests_in config.now slice.0 steps.now }
+{
+    let mut next = 0;
+    for step in steps {
+        if let Some((word, op)) = access_in(config, slice, *step) {
+            if !is_asked(asked, next, word, op) {
+                return false;
+            }
+            next += 1;
+        }
+    }
+    next == asked.len()
+}
+
+// What the step asks of the slice, if it asks for anything.
+fn access_in(config: &Checked, slice: SliceId, step: Action) -> Option<(WordAddr, Op)>
+    ensures { MatchOption result (requests_in config.now slice.0 (step ∷ []) ≡ [])
+        (λ access. requests_in config.now slice.0 (step ∷ []) ≡ access ∷ []) }
+{
+    match step {
+        Action::Access(word, op) if is_in(config, slice, word) => Some((word, op)),
+        Action::Access(..) | Action::Settle | Action::Evict(_) => None,
+    }
+}
+
+// Whether the slice has the word.
+fn is_in(config: &Checked, slice: SliceId, word: WordAddr) -> bool
+    ensures { result ≡ ((slice_of config.now (line_of word)).0 == slice.0) }
+{
+    word.line().0 % config.slices() as u64 == u64::from(slice.0)
+}
+
+// Whether the access was asked for at this place.
+fn is_asked(asked: &[Ask], at: usize, word: WordAddr, op: Op) -> bool
+    ensures { IsTrue result → IsSomeAnd (slice_get asked.now at) (λ ask. (ask.request.word ≡ word) × (ask.request.op ≡ op)) }
+{
+    match asked.get(at) {
+        Some(ask) => ask.request.word == word && ask.request.op == op,
+        None => false,
+    }
+}

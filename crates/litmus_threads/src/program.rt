@@ -1,0 +1,36 @@
+ghost use Rattle.std.specs.Prelude.{◌≡◌, IfOk};
+ghost use Rattle.litmus_threads.specs.Program.{IsProgramOf, step_of};
+
+use core_thread_system::Step;
+use litmus_test::Action;
+use rand_core::Rng;
+use rand_xoshiro::Xoshiro256PlusPlus;
+use std::alloc::{AllocError, Global};
+
+/// The program of a core that does these steps, each after at most three turns. The turns are drawn, a word a step, so
+/// that threads meet in other ways in other rounds.
+pub(crate) fn program_of(
+    alloc: Global,
+    steps: &[Action],
+    words: &mut Xoshiro256PlusPlus,
+) -> Result<Vec<Step>, AllocError>
+    ensures { IfOk result (λ program. IsProgramOf steps.now program.items) }
+{
+    let mut program = Vec::new(alloc);
+    for step in steps {
+        program.push(Step::Turns((words.next_u64() % 4) as u8))?;
+        program.push(step_of(*step))?;
+    }
+    Ok(program)
+}
+
+// The step as one of a core's program.
+fn step_of(step: Action) -> Step
+    ensures { result ≡ step_of step }
+{
+    match step {
+        Action::Access(word, op) => Step::Access(word, op),
+        Action::Settle => Step::Settle,
+        Action::Evict(line) => Step::Evict(line),
+    }
+}

@@ -1,0 +1,44 @@
+ghost use Rattle.std.specs.Prelude.{IfOk};
+ghost use Rattle.litmus_threads.specs.Round.{IsRunOf};
+
+use super::machine::play;
+use super::plan::Plan;
+use litmus_outcomes::Outcomes;
+use litmus_test::{LitmusTest, Progress};
+use std::alloc::{AllocError, Global};
+use std::sync::Wait;
+use std::thread::Threads;
+
+/// What a run of a test came to.
+#[derive(Drop)]
+pub enum Run {
+    /// All rounds were played, and had these outcomes.
+    Whole(Outcomes),
+    /// This round was stuck, and those before it weren't. Rounds count from 0.
+    Stuck(u64),
+}
+
+/// Plays all rounds of a test, each on a new machine, and tells `progress` of each. A round is stuck where a thread
+/// needed more turns than `limit` or was refused a request, and where its machine isn't quiet at the end. An `Err` says
+/// that memory was wanting, or a thread couldn't be started.
+pub fn run_test<R: Threads + Wait + Sync, P: Progress>(
+    rt: &R,
+    alloc: Global,
+    test: &LitmusTest<'_>,
+    seed: u64,
+    limit: u64,
+    progress: &mut P,
+) -> Result<Run, AllocError>
+    ensures { IfOk result (IsRunOf test.now) }
+{
+    let plan = Plan::new(alloc, test, seed, limit)?;
+    let mut outcomes = Outcomes::new(alloc);
+    for round in 0..test.rounds {
+        match play(rt, test, &plan, round)? {
+            Some(values) => outcomes.add(&values)?,
+            None => return Ok(Run::Stuck(round)),
+        }
+        progress.done(round + 1, test.rounds);
+    }
+    Ok(Run::Whole(outcomes))
+}

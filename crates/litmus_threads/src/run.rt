@@ -1,0 +1,64 @@
+ghost use Rattle.std.specs.Prelude.{IfOk, OnOk};
+ghost use Rattle.std.specs.Fmt.{WritesInCalls};
+ghost use Rattle.std.specs.Io.KnownBytes.{Appends};
+ghost use Rattle.litmus_threads.specs.Run.{HasStatus, IsEndOf, IsTold};
+
+use super::rounds::{Run, run_test};
+use litmus_outcomes::write_table;
+use litmus_script::Answers;
+use litmus_test::{LitmusTest, Progress};
+use litmus_text::TextFault;
+use std::alloc::Global;
+use std::fmt;
+use std::io::Write;
+use std::sync::Wait;
+use std::thread::Threads;
+
+/// Runs a test, and writes the table of its outcomes, or which round was stuck. Answers the exit status: 1 where an
+/// outcome came that must not come, or a round was stuck.
+pub fn play_test<R: Threads + Wait + Sync, W: Write, P: Progress>(
+    alloc: Global,
+    rt: &R,
+    test: &LitmusTest<'_>,
+    seed: u64,
+    limit: u64,
+    progress: &mut P,
+    out: &mut W,
+) -> Result<u8, TextFault>
+    ensures { IfOk result (IsEndOf test.now (λ text. Appends (W.contents out.old) (W.contents out.new) text)) }
+{
+    match run_test(rt, alloc, test, seed, limit, progress) {
+        Ok(run) => tell(test, &run, out),
+        Err(_) => Err(TextFault::NoMemory),
+    }
+}
+
+// Writes what the run came to. Answers the exit status.
+fn tell<W: Write>(test: &LitmusTest<'_>, run: &Run, out: &mut W) -> Result<u8, TextFault>
+    ensures told { OnOk result (IsTold test.now (λ text. Appends (W.contents out.old) (W.contents out.new) text) run.now) }
+    ensures status { IfOk result (HasStatus test.now run.now) }
+{
+    let mut answers = Answers { out };
+    match write_run(test, run, &mut answers) {
+        Ok(()) => Ok(status_of(test, run)),
+        Err(_) => Err(TextFault::CannotWrite),
+    }
+}
+
+fn write_run<W: fmt::Write>(test: &LitmusTest<'_>, run: &Run, out: &mut W) -> fmt::Result
+    ensures { OnOk result (IsTold test.now (λ text. WritesInCalls W.write_str_gives out.old text out.new) run.now) }
+{
+    match run {
+        Run::Whole(outcomes) => write_table(test, outcomes, None, out),
+        Run::Stuck(round) => writeln!(out, "stuck round {round}"),
+    }
+}
+
+fn status_of(test: &LitmusTest<'_>, run: &Run) -> u8
+    ensures { HasStatus test.now run.now result }
+{
+    match run {
+        Run::Whole(outcomes) if outcomes.forbidden(test) == 0 => 0,
+        Run::Whole(_) | Run::Stuck(_) => 1,
+    }
+}

@@ -2,17 +2,22 @@
 //!
 //! - [`read_line`] reads what the program's own words ask for.
 //! - [`run_script`] runs a script, and [`run_chart`] draws its run as a sequence diagram.
+//! - [`run_litmus`] runs a litmus test over threads, and [`run_walk`] on random schedules without any; each counts the
+//!   outcomes, and tells a [`Progress`] how far it is. [`write_walk`] prints a round of such a schedule as a script.
 //! - [`run_check`] judges a trace, and writes what it comes to.
 //! - [`run_table`] prints a table of the protocol.
 //!
-//! Each part but the last two is a crate of its own.
+//! Running, drawing, reading and walking are crates of their own.
 #![tactic(auto)]
 
 pub use check::run_check;
 pub use litmus_chart::run_chart;
 pub use litmus_command_line::{CommandLine, Table, read_line};
 pub use litmus_script::run_script;
+pub use litmus_test::Progress;
 pub use table::run_table;
+pub use tests::{run_litmus, run_walk, write_walk};
 
 mod check;
 mod table;
+mod tests;

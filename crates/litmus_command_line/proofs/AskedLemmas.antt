@@ -1,12 +1,12 @@
 -- What `clap`'s getters give of a subcommand is what it read.
-use Rattle.std.proofs.Common.{◌≡◌, ◌∙◌, Bool, true, false, List, Option, Some, None, refl, sym, ap, ap₂, inl, inr}
+use Rattle.std.proofs.Common.{◌≡◌, ◌∙◌, ℕ, Bool, true, false, List, Option, Some, None, refl, sym, ap, ap₂, inl, inr}
 use Rattle.std.proofs.Common.{option_map}
-use Rattle.std.specs.Prelude.{Box, IfSome, unwrap_or}
+use Rattle.std.specs.Prelude.{Box, IfSome, Result, unwrap_or}
 use Rattle.std.specs.Box.{box_value}
 use Rattle.std.specs.Borrow.{Bor}
 use Rattle.std.specs.Option.{option_map_or}
 use Rattle.std.specs.Str.{bytes_eq}
-use Rattle.std.specs.Str.Parse.{ParsesBool, true_text}
+use Rattle.std.specs.Str.Parse.{ParsesBool, ParsesUnsigned, true_text}
 use Rattle.std.proofs.lemmas.Bool.{cases_Bool}
 use Rattle.std.proofs.lemmas.Slice.Eq.{bytes_eq-Decides}
 use Rattle.clap.specs.declared.parser.matches.SubCommand.{SubCommand}
@@ -17,7 +17,7 @@ use Rattle.clap.specs.Matches.{ReadsOne}
 use Rattle.clap.specs.Words.{Row, Text, first_of, first_value, one_text, rows_of, subcommand_name_of}
 use Rattle.clap.specs.Words.{subcommand_rows, subcommand_rows_of}
 use Rattle.clap.proofs.WalkLemmas.{first_value-rows, one_text-rows}
-use Rattle.litmus_command_line.specs.CommandLine.{IsAsked, IsLine, is_given}
+use Rattle.litmus_command_line.specs.CommandLine.{IsAsked, IsLine, IsNumberOf, is_given}
 use Rattle.litmus_command_line.specs.declared.command_line.CommandLine.{CommandLine}
 
 named_rows : {Z : Type 0} (s : Option (Box SubCommand Z))
@@ -69,3 +69,25 @@ pub flag_given : (E : Type 0) (found : Found) (name : Text) (flag : Option Bool)
 flag_given E found name flag none some =
     given_of E (one_text found name) flag none some
     ∙ ap (λ o. option_map_or (λ t. bytes_eq t true_text) o false) (one_text-rows found name)
+
+-- a number that the getter gives is the one that the option has
+pub number_given : (E : Type 0) (gives : List ℕ → Result ℕ E → Type 0) (found : Found) (name : Text) (number : Option ℕ)
+    → ((t : Text) (r : Result ℕ E) → gives t r → ParsesUnsigned 64 10 t r)
+    → (one_text found name ≡ None → number ≡ None)
+    → ((t : Text) → one_text found name ≡ Some t → ReadsOne gives t number)
+    → IfSome number (IsNumberOf name (rows_of found))
+number_given E gives found name None parses none some = tt
+number_given E gives found name (Some n) parses none some = of_text (one_text found name) refl
+  where
+    of_text : (o : Option Text) → one_text found name ≡ o → IsNumberOf name (rows_of found) n
+    of_text None is = cc (none is)
+    of_text (Some t) is =
+        let there = rw (one_text-rows found name) at is in
+        let read = parses t _ (some t is) in
+        rw there (sym read.1)
+
+-- an option without a first value was given none
+pub none_given : (found : Found) (id : Text) (text : Option (Bor Text)) → text ≡ None
+    → option_map (λ s. s.now) text ≡ first_value found id → first_of id (rows_of found) ≡ None
+none_given found id None is given = sym (given ∙ first_value-rows found id)
+none_given found id (Some s) is given = cc (is)

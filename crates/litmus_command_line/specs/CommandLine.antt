@@ -1,7 +1,8 @@
 -- What the program's words ask for, as `clap` reads them.
-use Rattle.std.specs.Prelude.{◌≡◌, Bool, true, false, List, [], ◌∷◌, map, Option, Some, IsSomeAnd, codes}
+use Rattle.std.specs.Prelude.{◌≡◌, ℕ, Bool, true, false, List, [], ◌∷◌, map, Option, Some, None, IsSomeAnd, codes}
 use Rattle.std.specs.Option.{option_map_or}
 use Rattle.std.specs.Str.{bytes_eq}
+use Rattle.std.specs.Str.Parse.{digits_value, without_leading_plus}
 use Rattle.std.specs.Borrow.{Bor}
 use Rattle.clap.specs.Words.{App, Row, Rule, Text, first_of, new_app, new_rule, one_of, subcommand_of}
 use Rattle.clap.specs.Words.{with_rule, with_subcommand}
@@ -32,6 +33,34 @@ script_app = with_rule (with_rule (new_app (codes "script")) file_rule) (flag_ru
 abbrev pub chart_app : App
 chart_app = with_rule (new_app (codes "chart")) file_rule
 
+-- an option `--name` that takes a number below 2^64
+abbrev pub number_rule : Text → Rule
+number_rule name = record (new_rule name) {
+  long = Some name;
+  value_names = 1;
+  parser = Some (parsers.Unsigned 0 18446744073709551615);
+}
+
+-- such an option, which has this value where it is given none
+abbrev pub number_rule_or : Text → Text → Rule
+number_rule_or name value = record (number_rule name) { defaults = value ∷ [] }
+
+-- the subcommand that runs a litmus test over threads
+abbrev pub litmus_app : App
+litmus_app =
+    with_rule
+    (with_rule (with_rule (new_app (codes "litmus")) file_rule) (number_rule_or (codes "seed") (codes "1")))
+    (number_rule_or (codes "limit") (codes "1000000"))
+
+-- the subcommand that runs one on random schedules
+abbrev pub walk_app : App
+walk_app =
+    with_rule
+    (with_rule
+    (with_rule (with_rule (new_app (codes "walk")) file_rule) (number_rule (codes "rounds")))
+    (number_rule_or (codes "seed") (codes "1")))
+    (flag_rule (codes "script"))
+
 -- the subcommand that judges a trace
 abbrev pub check_app : App
 check_app = with_rule (new_app (codes "check")) file_rule
@@ -50,7 +79,11 @@ top_app = record (new_app (codes "lockup")) {
 abbrev pub lockup_app : Bor (List (Bor Text)) → App
 lockup_app names =
     with_subcommand
-    (with_subcommand (with_subcommand (with_subcommand top_app script_app.top) chart_app.top) check_app.top)
+    (with_subcommand
+    (with_subcommand
+    (with_subcommand (with_subcommand (with_subcommand top_app script_app.top) chart_app.top) litmus_app.top)
+    walk_app.top)
+    check_app.top)
     (table_app names).top
 
 -- the word that names a table
@@ -78,11 +111,27 @@ pub record IsLockup (app : App) : Type 0 where
 abbrev pub is_given : Text → List Row → Bool
 is_given name rows = option_map_or (λ text. bytes_eq text (codes "true")) (one_of name rows) false
 
+-- this is the number that the option has
+abbrev pub IsNumberOf : Text → List Row → ℕ → Type 0
+IsNumberOf name rows n = IsSomeAnd (one_of name rows) (λ text. digits_value 10 (without_leading_plus text) ≡ n)
+
+-- this is the number that the option was given, if it was given one
+abbrev pub IsNumberIfGiven : Text → List Row → Option ℕ → Type 0
+IsNumberIfGiven name rows None = first_of name rows ≡ None
+IsNumberIfGiven name rows (Some n) = IsNumberOf name rows n
+
 -- the subcommand of this name, with these values, is what the line holds
 abbrev pub IsLine : Text → List Row → CommandLine → Type 0
 IsLine name rows (lines.Script file echo) =
     (name ≡ codes "script") × (first_of (codes "FILE") rows ≡ Some file.now) × (echo ≡ is_given (codes "echo") rows)
 IsLine name rows (lines.Chart file) = (name ≡ codes "chart") × (first_of (codes "FILE") rows ≡ Some file.now)
+IsLine name rows (lines.Litmus file seed limit) =
+    (name ≡ codes "litmus") × (first_of (codes "FILE") rows ≡ Some file.now)
+    × IsNumberOf (codes "seed") rows seed × IsNumberOf (codes "limit") rows limit
+IsLine name rows (lines.Walk file rounds seed script) =
+    (name ≡ codes "walk") × (first_of (codes "FILE") rows ≡ Some file.now)
+    × IsNumberIfGiven (codes "rounds") rows rounds × IsNumberOf (codes "seed") rows seed
+    × (script ≡ is_given (codes "script") rows)
 IsLine name rows (lines.Check file) = (name ≡ codes "check") × (first_of (codes "FILE") rows ≡ Some file.now)
 IsLine name rows (lines.Table table exclusive) =
     (name ≡ codes "table") × (first_of (codes "TABLE") rows ≡ Some (word_of table))

@@ -2,24 +2,51 @@ ghost use Rattle.std.specs.Prelude.{◌≡◌, map, IfOk, IfSome, string_bytes, 
 ghost use Rattle.clap.specs.declared.builder.command.Command.TheViews.{out-Command as fields_of};
 ghost use Rattle.litmus_command_line.specs.CommandLine.{IsAsked, IsLine, IsLockup, IsRead, IsTable, chart_app, check_app};
 ghost use Rattle.litmus_command_line.specs.CommandLine.{file_rule, flag_rule, is_given, script_app, word_of};
+ghost use Rattle.litmus_command_line.specs.CommandLine.{IsNumberOf, IsNumberIfGiven, litmus_app, number_rule};
+ghost use Rattle.litmus_command_line.specs.CommandLine.{number_rule_or, walk_app};
 ghost use Rattle.clap.specs.Words.{app_of, found_of, rows_of, rule_of, first_of, subcommand_rows_of};
 
 use super::table::Table;
 use clap::error::ErrorKind;
-use clap::{Arg, ArgAction, ArgMatches, Command, Error};
+use clap::{Arg, ArgAction, ArgMatches, Command, Error, value_parser};
 use std::alloc::{AllocError, Global};
 
 /// What the program's command line asks for.
 #[derive(Clone, Copy, Debug, PartialEq, Eq)]
 pub enum CommandLine<'a> {
     /// Run the script in this file. With `echo`, print each command's line before its answer.
-    Script { file: &'a str, echo: bool },
+    Script {
+        file: &'a str,
+        echo: bool,
+    },
     /// Draw the run of the script in this file.
-    Chart { file: &'a str },
+    Chart {
+        file: &'a str,
+    },
+    /// Run the litmus test in this file over threads. The seed is that of the cores' extra turns, and no run takes more
+    /// turns than `limit`.
+    Litmus {
+        file: &'a str,
+        seed: u64,
+        limit: u64,
+    },
+    /// Run the litmus test in this file on random schedules: so many rounds, or as many as it says, of which the first
+    /// has this seed. With `script`, print the round of this seed as a script.
+    Walk {
+        file: &'a str,
+        rounds: Option<u64>,
+        seed: u64,
+        script: bool,
+    },
     /// Judge the trace in this file.
-    Check { file: &'a str },
+    Check {
+        file: &'a str,
+    },
     /// Print a table of the protocol, with the exclusive state or without it.
-    Table { table: Table, exclusive: bool },
+    Table {
+        table: Table,
+        exclusive: bool,
+    },
 }
 
 /// The words that name a table.
@@ -45,6 +72,8 @@ fn asked<'a>(matches: &ArgMatches<'a>) -> Option<CommandLine<'a>>
     match name {
         "script" => script_line(given),
         "chart" => chart_line(given),
+        "litmus" => litmus_line(given),
+        "walk" => walk_line(given),
         "check" => check_line(given),
         "table" => table_line(given),
         _ => None,
@@ -64,6 +93,30 @@ fn chart_line<'a>(given: &ArgMatches<'a>) -> Option<CommandLine<'a>>
 {
     let file = file_of(given)?;
     Some(CommandLine::Chart { file })
+}
+
+fn litmus_line<'a>(given: &ArgMatches<'a>) -> Option<CommandLine<'a>>
+    ensures { IfSome result (IsLine (codes "litmus") (rows_of (found_of given.now))) }
+{
+    let file = file_of(given)?;
+    let seed = number_of(given, "seed")?;
+    let limit = number_of(given, "limit")?;
+    Some(CommandLine::Litmus { file, seed, limit })
+}
+
+fn walk_line<'a>(given: &ArgMatches<'a>) -> Option<CommandLine<'a>>
+    ensures { IfSome result (IsLine (codes "walk") (rows_of (found_of given.now))) }
+{
+    let file = file_of(given)?;
+    let rounds = number_if_given(given, "rounds")?;
+    let seed = number_of(given, "seed")?;
+    let script = is_given(given, "script");
+    Some(CommandLine::Walk {
+        file,
+        rounds,
+        seed,
+        script,
+    })
 }
 
 fn check_line<'a>(given: &ArgMatches<'a>) -> Option<CommandLine<'a>>
@@ -97,6 +150,23 @@ fn table_of(given: &ArgMatches<'_>) -> Option<Table>
     }
 }
 
+/// The number that an option has, by itself or because nothing else was given.
+fn number_of(given: &ArgMatches<'_>, name: &str) -> Option<u64>
+    ensures { IfSome result (IsNumberOf name.now (rows_of (found_of given.now))) }
+{
+    given.get_one::<u64>(name)
+}
+
+/// The number that an option was given, if it was given one.
+fn number_if_given(given: &ArgMatches<'_>, name: &str) -> Option<Option<u64>>
+    ensures { IfSome result (IsNumberIfGiven name.now (rows_of (found_of given.now))) }
+{
+    if given.get_str(name).is_none() {
+        return Some(None);
+    }
+    Some(Some(number_of(given, name)?))
+}
+
 /// Whether an option without a value was given.
 fn is_given(given: &ArgMatches<'_>, name: &str) -> bool
     ensures { result ≡ is_given name.now (rows_of (found_of given.now)) }
@@ -109,6 +179,8 @@ fn lockup<'a>(alloc: Global) -> Result<Command<'a>, AllocError>
 {
     let script = script(alloc)?;
     let chart = chart(alloc)?;
+    let litmus = litmus(alloc)?;
+    let walk = walk(alloc)?;
     let check = check(alloc)?;
     let table = table(alloc)?;
     Command::new(alloc, "lockup")
@@ -117,6 +189,8 @@ fn lockup<'a>(alloc: Global) -> Result<Command<'a>, AllocError>
         .subcommand_required(true)
         .subcommand(script)?
         .subcommand(chart)?
+        .subcommand(litmus)?
+        .subcommand(walk)?
         .subcommand(check)?
         .subcommand(table)
 }
@@ -141,6 +215,50 @@ fn chart<'a>(alloc: Global) -> Result<Command<'a>, AllocError>
         .about("Draws the run of a script as a sequence diagram, in Mermaid's words")
         .after_help("Example: lockup chart examples/shared_line.txt")
         .arg(file(alloc, "The script: one command a line; - is standard input"))
+}
+
+fn litmus<'a>(alloc: Global) -> Result<Command<'a>, AllocError>
+    ensures reads { IfOk result (λ c. app_of c ≡ litmus_app) }
+    ensures plain { IfOk result (λ c. (fields_of c).has_globals ≡ false) }
+{
+    let seed = number_or(
+        alloc,
+        "seed",
+        "Seeds the extra turns that a core makes before each step",
+        "1",
+    );
+    let limit = number_or(alloc, "limit", "How many turns a run may take", "1000000");
+    Command::new(alloc, "litmus")
+        .about("Runs a litmus test over threads, round by round, and counts its outcomes")
+        .after_help(help::LITMUS)
+        .arg(file(alloc, "The litmus test; - is standard input"))?
+        .arg(seed)?
+        .arg(limit)
+}
+
+fn walk<'a>(alloc: Global) -> Result<Command<'a>, AllocError>
+    ensures reads { IfOk result (λ c. app_of c ≡ walk_app) }
+    ensures plain { IfOk result (λ c. (fields_of c).has_globals ≡ false) }
+{
+    let rounds = number(
+        alloc,
+        "rounds",
+        "How many rounds, and not as many as the test says",
+    );
+    let seed = number_or(
+        alloc,
+        "seed",
+        "The first round's seed; each later one's is one more",
+        "1",
+    );
+    let script = flag(alloc, "script", "Print the round of this seed, as a script");
+    Command::new(alloc, "walk")
+        .about("Runs a litmus test on random schedules, without threads, and counts its outcomes")
+        .after_help(help::WALK)
+        .arg(file(alloc, "The litmus test; - is standard input"))?
+        .arg(rounds)?
+        .arg(seed)?
+        .arg(script)
 }
 
 fn check<'a>(alloc: Global) -> Result<Command<'a>, AllocError>
@@ -178,6 +296,26 @@ fn file<'a>(alloc: Global, help: &'a str) -> Arg<'a>
     ensures plain { result.global ≡ false }
 {
     Arg::new(alloc, "FILE").help(help).required(true)
+}
+
+/// An option with a number.
+fn number<'a>(alloc: Global, name: &'a str, help: &'a str) -> Arg<'a>
+    ensures rule { rule_of result ≡ number_rule name.entry.now }
+    ensures plain { result.global ≡ false }
+{
+    Arg::new(alloc, name)
+        .long(name)
+        .value_name("N")
+        .help(help)
+        .value_parser(value_parser!(u64))
+}
+
+/// An option with a number, which is this one where none is given.
+fn number_or<'a>(alloc: Global, name: &'a str, help: &'a str, value: &'a str) -> Arg<'a>
+    ensures rule { rule_of result ≡ number_rule_or name.entry.now value.entry.now }
+    ensures plain { result.global ≡ false }
+{
+    number(alloc, name, help).default_value(value)
 }
 
 /// An option without a value.

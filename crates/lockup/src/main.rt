@@ -1,18 +1,26 @@
 //! The program `lockup`: reads its command line, and runs the text or prints the table that it names.
 //!
 //! Answers go to standard output, through one buffer. A fault goes to standard error as one line, behind all
-//! answers that came before it.
+//! answers that came before it. Only a litmus test that runs over threads starts any.
 #![tactic(auto)]
 
 use clap::Error;
 use clap::error::ErrorKind;
-use litmus::{CommandLine, read_line, run_chart, run_check, run_script, run_table};
+use litmus::{
+    CommandLine, read_line, run_chart, run_check, run_litmus, run_script, run_table, run_walk,
+    write_walk,
+};
 use litmus_text::TextFault;
+use progress::Shown;
 use std::fmt::Display;
-use std::io::{BufWriter, Read, Write};
+use std::io::{BufWriter, IsTerminal, Read, Write};
 use std::process::ExitCode;
 use std::rt::{Env, Files};
+use std::sync::Wait;
+use std::thread::Threads;
 use std::{env, fs, io};
+
+mod progress;
 
 /// The exit status where the command line or the file is refused.
 const REFUSED: u8 = 2;
@@ -21,23 +29,31 @@ const REFUSED: u8 = 2;
 const STANDARD_INPUT: &str = "-";
 
 fn main(rt: HostRuntime) -> ExitCode {
-    ExitCode::from(run(&rt))
+    let is_watched = rt.stderr().is_terminal();
+    ExitCode::from(run(&rt, is_watched))
 }
 
-/// Does what the command line asks for, and answers the exit status.
-fn run<R: Env + Files + Input + AllocGlobal + Print + Eprint>(rt: &R) -> u8 {
+/// Does what the command line asks for, and answers the exit status. Where somebody watches, a long run shows how far it
+/// is.
+fn run<R>(rt: &R, is_watched: bool) -> u8
+where
+    R: Env + Files + Input + AllocGlobal + Print + Eprint + Threads + Wait + Sync,
+{
     let words: Vec<String> = match env::args(rt).and_then(|words| Ok(words.collect(rt.alloc())?)) {
         Ok(words) => words,
         Err(error) => return report(rt, &error, "cannot read the command line"),
     };
     match read_line(rt.alloc(), &words) {
-        Ok(line) => answer(rt, line),
+        Ok(line) => answer(rt, line, is_watched),
         Err(error) => show(rt, &error),
     }
 }
 
 /// Runs the text in the file that the command line names, or prints the table.
-fn answer<R: Files + Input + AllocGlobal + Print + Eprint>(rt: &R, line: CommandLine<'_>) -> u8 {
+fn answer<R>(rt: &R, line: CommandLine<'_>, is_watched: bool) -> u8
+where
+    R: Files + Input + AllocGlobal + Print + Eprint + Threads + Wait + Sync,
+{
     let mut input = Vec::new(rt.alloc());
     if let Some(file) = file_of(line) {
         match read(rt, file) {
@@ -45,7 +61,8 @@ fn answer<R: Files + Input + AllocGlobal + Print + Eprint>(rt: &R, line: Command
             Err(error) => return report(rt, &error, format_args!("cannot read {file}")),
         }
     }
-    match print_answers(rt, line, &input) {
+    let mut shown = Shown { rt, is_watched };
+    match print_answers(rt, line, &input, &mut shown) {
         Ok(status) => status,
         Err(fault) => {
             complain(rt, fault);
@@ -59,6 +76,8 @@ fn file_of<'a>(line: CommandLine<'a>) -> Option<&'a str> {
     match line {
         CommandLine::Script { file, .. }
         | CommandLine::Chart { file }
+        | CommandLine::Litmus { file, .. }
+        | CommandLine::Walk { file, .. }
         | CommandLine::Check { file } => Some(file),
         CommandLine::Table { .. } => None,
     }
@@ -75,23 +94,53 @@ fn read<R: Files + Input + AllocGlobal>(rt: &R, file: &str) -> io::Result<Vec<u8
 }
 
 /// Prints what the command line asks for, also the answers before a fault.
-fn print_answers<R: AllocGlobal + Print>(
+fn print_answers<R>(
     rt: &R,
     line: CommandLine<'_>,
     input: &[u8],
-) -> Result<u8, TextFault> {
+    shown: &mut Shown<'_, R>,
+) -> Result<u8, TextFault>
+where
+    R: AllocGlobal + Print + Eprint + Threads + Wait + Sync,
+{
     let Ok(mut out) = BufWriter::new(rt.alloc(), io::writer(rt)) else {
         return Err(TextFault::NoMemory);
     };
-    let ran = match line {
-        CommandLine::Script { echo, .. } => run_script(rt.alloc(), input, echo, &mut out),
-        CommandLine::Chart { .. } => run_chart(rt.alloc(), input, &mut out),
-        CommandLine::Check { .. } => run_check(rt.alloc(), input, &mut out),
-        CommandLine::Table { table, exclusive } => run_table(table, exclusive, &mut out),
-    };
+    let ran = write_answers(rt, line, input, shown, &mut out);
     match out.flush() {
         Ok(()) => ran,
         Err(_) => Err(TextFault::CannotWrite),
+    }
+}
+
+fn write_answers<R, W>(
+    rt: &R,
+    line: CommandLine<'_>,
+    input: &[u8],
+    shown: &mut Shown<'_, R>,
+    out: &mut W,
+) -> Result<u8, TextFault>
+where
+    R: AllocGlobal + Eprint + Threads + Wait + Sync,
+    W: Write,
+{
+    let alloc = rt.alloc();
+    match line {
+        CommandLine::Script { echo, .. } => run_script(alloc, input, echo, out),
+        CommandLine::Chart { .. } => run_chart(alloc, input, out),
+        CommandLine::Litmus { seed, limit, .. } => {
+            run_litmus(alloc, rt, input, seed, limit, shown, out)
+        }
+        CommandLine::Walk {
+            seed,
+            script: true,
+            ..
+        } => write_walk(alloc, input, seed, out),
+        CommandLine::Walk { rounds, seed, .. } => {
+            run_walk(alloc, input, rounds, seed, shown, out)
+        }
+        CommandLine::Check { .. } => run_check(alloc, input, out),
+        CommandLine::Table { table, exclusive } => run_table(table, exclusive, out),
     }
 }
 

@@ -24,3 +24,31 @@ Documents: docs/TEXTS.md (each line and answer), docs/PROTOCOL.md (states and me
 docs/EXAMPLES.md (scripts to begin with)
 
 Example: lockup script examples/first_add.txt";
+
+/// What stands below the options of `litmus`.
+pub const LITMUS: &str = "\
+Each round runs the test's programs on a new machine, in a thread for each core, beside threads
+that move messages. A line of the table is an outcome, with how many rounds had it:
+
+       2 x=0 y=3 [0]=7
+
+The replies come by their names, and the counters by their words. The last line says how many
+rounds had an outcome that the test forbids; the status is 1 where there was one.
+
+Documents: docs/TEXTS.md (the lines of a litmus test), docs/EXAMPLES.md (tests to begin with)
+
+Example: lockup litmus examples/litmus/sb.txt";
+
+/// What stands below the options of `walk`.
+pub const WALK: &str = "\
+Each round runs the test's programs on a new machine, on one thread: the cores' steps and single
+deliveries come in an order that is drawn from the round's seed. So the same words print the same
+table, whose lines end with the least seed of a round that had the outcome:
+
+       3 a=0 b=0 seed 5
+
+With '--seed 5 --script' that round is printed, as a script for 'lockup script' and 'lockup chart'.
+
+Documents: docs/TEXTS.md (the lines of a litmus test), docs/EXAMPLES.md (tests to begin with)
+
+Example: lockup walk examples/litmus/sb.txt --rounds 1000";

@@ -17,6 +17,20 @@ returns-in-chart c =
     let found = c.in_ok-name.ensures.rows in
     asked_of c.args.matches.now (codes "chart") rows c.chart_line.result named found c.chart_line.ensures
 
+pub returns-in-litmus : goal.returns-in-litmus
+returns-in-litmus c =
+    let named = rw c.in-litmus.is at c.in_ok-name.ensures.name in
+    let rows = rows_of (found_of c.in_ok-name.given.now) in
+    let found = c.in_ok-name.ensures.rows in
+    asked_of c.args.matches.now (codes "litmus") rows c.litmus_line.result named found c.litmus_line.ensures
+
+pub returns-in-walk : goal.returns-in-walk
+returns-in-walk c =
+    let named = rw c.in-walk.is at c.in_ok-name.ensures.name in
+    let rows = rows_of (found_of c.in_ok-name.given.now) in
+    let found = c.in_ok-name.ensures.rows in
+    asked_of c.args.matches.now (codes "walk") rows c.walk_line.result named found c.walk_line.ensures
+
 pub returns-in-check : goal.returns-in-check
 returns-in-check c =
     let named = rw c.in-check.is at c.in_ok-name.ensures.name in

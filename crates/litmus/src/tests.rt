@@ -1,0 +1,73 @@
+ghost use Rattle.std.specs.Prelude.{◌⊎◌, IfOk, Option, unwrap_or};
+ghost use Rattle.litmus.specs.Tests.{IsOfTest};
+ghost use Rattle.litmus_rounds.specs.Run.{PrintsRounds, PrintsStuck};
+ghost use Rattle.litmus_threads.specs.Run.{IsEndOf};
+ghost use Rattle.litmus_walk.specs.Script.{PrintsWalk};
+ghost use Rattle.mshr_file.specs.Miss.{Bound};
+ghost use Rattle.std.specs.Io.KnownBytes.{Appends};
+
+use litmus_test::{LitmusTest, Progress};
+use litmus_text::TextFault;
+use litmus_threads::play_test;
+use std::alloc::Global;
+use std::io::Write;
+use std::sync::Wait;
+use std::thread::Threads;
+
+/// Runs a litmus test over threads, and prints the table of its outcomes, or which round was stuck. Answers the exit
+/// status.
+pub fn run_litmus<R: Threads + Wait + Sync, W: Write, P: Progress>(
+    alloc: Global,
+    rt: &R,
+    input: &[u8],
+    seed: u64,
+    limit: u64,
+    progress: &mut P,
+    out: &mut W,
+) -> Result<u8, TextFault>
+    ensures { IfOk result (λ status. IsOfTest input.now
+        (λ test. IsEndOf test (λ text. Appends (W.contents out.old) (W.contents out.new) text) status)) }
+{
+    let test = LitmusTest::read(alloc, input)?;
+    let ended = play_test(alloc, rt, &test, seed, limit, progress, out);
+    // In one call: dropped where it is it would be taken apart, each part with a proof of its own.
+    drop(test);
+    ended
+}
+
+/// Runs a litmus test on random schedules, so many rounds or as many as it says, and prints their table with the least
+/// seed of each outcome, or which round was stuck. Answers the exit status.
+pub fn run_walk<W: Write, P: Progress>(
+    alloc: Global,
+    input: &[u8],
+    rounds: Option<u64>,
+    seed: u64,
+    progress: &mut P,
+    out: &mut W,
+) -> Result<u8, TextFault>
+    ensures { IfOk result (λ status. IsOfTest input.now (λ test. (bound : Bound)
+        × (PrintsRounds test bound (unwrap_or rounds test.rounds) seed status (W.contents out.old) (W.contents out.new)
+        ⊎ PrintsStuck (unwrap_or rounds test.rounds) status (W.contents out.old) (W.contents out.new)))) }
+{
+    let test = LitmusTest::read(alloc, input)?;
+    let rounds = rounds.unwrap_or(test.rounds);
+    let ended = litmus_rounds::run_walk(alloc, &test, rounds, seed, progress, out);
+    drop(test);
+    ended
+}
+
+/// Prints the round of this seed as a script. Answers the exit status, which is 1 where the round is stuck.
+pub fn write_walk<W: Write>(
+    alloc: Global,
+    input: &[u8],
+    seed: u64,
+    out: &mut W,
+) -> Result<u8, TextFault>
+    ensures { IfOk result (λ status. IsOfTest input.now (λ test. (bound : Bound)
+        × PrintsWalk test.config bound test.misses status (W.contents out.old) (W.contents out.new))) }
+{
+    let test = LitmusTest::read(alloc, input)?;
+    let ended = litmus_walk::write_walk(alloc, &test, seed, out);
+    drop(test);
+    ended
+}

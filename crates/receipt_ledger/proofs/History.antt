@@ -1,10 +1,11 @@
 -- Where each entry of the log is held, and the ports have no more receipts than it has entries, the receipts are exactly
 -- the log.
 use Rattle.std.proofs.Common.{◌≡◌, ℕ, zero, suc, ◌+◌, ◌<◌, ◌≤◌, ◌⊎◌, Bool, true, false, cond, List, [], ◌∷◌, ◌++◌, length, map, Option, Some, None, refl, sym, ap, ◌∙◌, subst, inl, inr, arith}
-use Rattle.std.specs.Prelude.{◌==◌, find, slice_get, IsSomeAnd, MatchOption}
+use Rattle.std.specs.Prelude.{◌==◌, find, slice_get, MatchOption}
 use Rattle.std.proofs.lemmas.Bool.{eqb-true}
 use Rattle.std.proofs.lemmas.List.{length-map}
 use Rattle.std.proofs.lemmas.Option.{same_Some, slice_get_within}
+use Rattle.receipt_ledger.proofs.Near.{contained-at}
 use Rattle.receipt_ledger.proofs.Times.{are-once, counted-at, one-place}
 use Rattle.receipt_ledger.specs.History.{AreHeld, AreHistory, HasAsked, HasReceipt, IsAccounted, IsHeld, receipts_in, times}
 use Rattle.receipt_ledger.specs.Port.{PortView}
@@ -144,21 +145,17 @@ record Held (ports : List PortView) (number : ℕ) (e : Entry) : Type 0 where
 held : (ports : List PortView) (number : ℕ) (e : Entry) → IsHeld ports number e → Held ports number e
 held ports number e is = by_port (find (λ p. p.core.0 == e.core.0) ports) refl is
   where
-    by_place : (p : PortView) → find (λ q. q.core.0 == e.core.0) ports ≡ Some p → HasAsked p number e
-        → (noted : Option ℕ)
-        → IsSomeAnd noted (λ place. slice_get p.receipts place ≡ Some (receipt_at p number e)) → Held ports number e
-    by_place p found asked None has = absurd has
-    by_place p found asked (Some place) has = record {
-      port = p;
-      core = eqb-true p.core.0 e.core.0 (found-passes (λ q. q.core.0 == e.core.0) ports p found);
-      asked = asked;
-      stands = stands-found (λ q. q.core.0 == e.core.0) ports p place (receipt_at p number e) found has;
-    }
-
     by_port : (found : Option PortView) → find (λ p. p.core.0 == e.core.0) ports ≡ found
         → MatchOption found ⊥ (λ p. HasAsked p number e × HasReceipt p number e) → Held ports number e
     by_port None found has = absurd has
-    by_port (Some p) found has = by_place p found has.0 (slice_get p.places e.seq) has.1
+    by_port (Some p) found has = record {
+      port = p;
+      core = eqb-true p.core.0 e.core.0 (found-passes (λ q. q.core.0 == e.core.0) ports p found);
+      asked = has.0;
+      stands =
+          stands-found (λ q. q.core.0 == e.core.0) ports p has.1.0 (receipt_at p number e) found
+          (contained-at p.receipts (receipt_at p number e) has.1);
+    }
 
 module _ (ports : List PortView) (log : List Entry) (all : AreHeld ports log)
     (sized : length (receipts_in ports) ≡ length log) where

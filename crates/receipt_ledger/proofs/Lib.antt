@@ -7,6 +7,7 @@ pub mod History
 pub mod Issued
 pub mod Last
 pub mod Marks
+pub mod Near
 pub mod New
 pub mod Numbered
 pub mod Picked

@@ -1,5 +1,5 @@
 -- The history of a slice as its ports hold it: what each of them asked for, and a receipt of each entry of the log.
-use Rattle.std.specs.Prelude.{◌≡◌, ◌≤◌, ◌<◌, ◌==◌, ℕ, ◌+◌, if◌then◌else◌, List, [], ◌∷◌, ◌++◌, length, map, find, slice_get, IsSomeAnd, MatchOption, Some}
+use Rattle.std.specs.Prelude.{◌≡◌, ◌≤◌, ◌<◌, ◌==◌, ℕ, ◌+◌, if◌then◌else◌, List, [], ◌∷◌, ◌++◌, length, map, find, slice_get, Contains, IsSomeAnd, MatchOption, Some}
 use Rattle.address_map.specs.declared.request.Request.{Request}
 use Rattle.receipt_ledger.specs.Port.{PortView}
 use Rattle.receipt_ledger.specs.declared.receipt.Receipt.{Receipt}
@@ -19,11 +19,9 @@ request_of e = record { op = e.op; word = e.word; tag = e.tag }
 abbrev pub HasAsked : PortView → ℕ → Entry → Type 0
 HasAsked p number e = IsSomeAnd (slice_get p.asked e.seq) (λ ask. (ask.request ≡ request_of e) × (ask.seen ≤ number))
 
--- Where the port noted that the request's receipt stands, there is that of the entry of this number.
+-- Among the port's receipts is that of the entry of this number.
 abbrev pub HasReceipt : PortView → ℕ → Entry → Type 0
-HasReceipt p number e =
-    IsSomeAnd (slice_get p.places e.seq)
-    (λ place. slice_get p.receipts place ≡ Some (record { entry = e; number = number; slice = p.slice }))
+HasReceipt p number e = Contains p.receipts (record { entry = e; number = number; slice = p.slice })
 
 -- The port of the entry's core asked for it, and has its receipt.
 abbrev pub IsHeld : List PortView → ℕ → Entry → Type 0

@@ -1,5 +1,5 @@
 -- What a port has: the receipts of one core of a slice, and what it holds of the slice's ledgers.
-use Rattle.std.specs.Prelude.{◌≡◌, ◌≤◌, ◌<◌, ℕ, ◌+◌, true, List, [], ◌∷◌, ◌++◌, length, map, max, slice_get, slice_set, Some}
+use Rattle.std.specs.Prelude.{◌≡◌, ◌≤◌, ◌<◌, ℕ, ◌+◌, true, List, [], ◌∷◌, ◌++◌, length, map, max, slice_get, Some}
 use Rattle.address_map.specs.declared.address.CoreId.{CoreId}
 use Rattle.address_map.specs.declared.address.SliceId.{SliceId}
 use Rattle.address_map.specs.declared.config.Config.{Config}
@@ -14,7 +14,6 @@ use Rattle.slice_core_plan.specs.Initial.{is_of_slice}
 -- how much each of a port's lists can hold before it has to grow
 pub record Room : Type 0 where
   pub asked : ℕ
-  pub places : ℕ
   pub receipts : ℕ
 
 pub record PortView : Type 0 where
@@ -22,8 +21,6 @@ pub record PortView : Type 0 where
   pub slice : SliceId
   -- the requests that were accepted through it, in this order
   pub asked : List Ask
-  -- by a request's place in that order, where its receipt stands, once it was handed out
-  pub places : List ℕ
   -- those that were handed out, in the order in which they were
   pub receipts : List Receipt
   -- one more than the greatest number of a receipt that it got or was told of, and 0 before the first
@@ -31,12 +28,11 @@ pub record PortView : Type 0 where
   pub room : Room
 
 -- the port with these lists
-abbrev pub port_with : CoreId → SliceId → List Ask → List ℕ → List Receipt → ℕ → Room → PortView
-port_with core slice asked places receipts seen room = record {
+abbrev pub port_with : CoreId → SliceId → List Ask → List Receipt → ℕ → Room → PortView
+port_with core slice asked receipts seen room = record {
   core = core;
   slice = slice;
   asked = asked;
-  places = places;
   receipts = receipts;
   seen = seen;
   room = room;
@@ -81,31 +77,26 @@ pub record IsPort (c : Config) (number : ℕ) (p : PortView) (shares : Amounts) 
 
 -- a port through which nothing was asked for yet
 abbrev pub fresh_port : CoreId → SliceId → PortView
-fresh_port core slice = port_with core slice [] [] [] 0 (record { asked = 0; places = 0; receipts = 0 })
+fresh_port core slice = port_with core slice [] [] 0 (record { asked = 0; receipts = 0 })
 
 -- There is room for one more request and for its receipt.
 pub record HasRoom (p : PortView) : Type 0 where
   pub asked : length p.asked < p.room.asked
-  pub places : length p.places < p.room.places
   pub receipts : length p.asked < p.room.receipts
 
 -- the port with one more accepted request, the last, asked when it had seen so much
 abbrev pub with_request : PortView → Request → PortView
 with_request p request = record p {
   asked = p.asked ++ record { request = request; seen = p.seen } ∷ [];
-  places = p.places ++ 0 ∷ [];
 }
 
 -- the port that has seen the log's entry of this number
 abbrev pub with_seen : PortView → ℕ → PortView
 with_seen p number = record p { seen = max p.seen (number + 1) }
 
--- the port with one more receipt, the last, which it finds again by the request's place
+-- the port with one more receipt, the last
 abbrev pub with_receipt : PortView → Receipt → PortView
-with_receipt p r = record (with_seen p r.number) {
-  receipts = p.receipts ++ r ∷ [];
-  places = slice_set p.places r.entry.seq (length p.receipts);
-}
+with_receipt p r = record (with_seen p r.number) { receipts = p.receipts ++ r ∷ [] }
 
 -- The port is that one, but that its lists may have got more room.
 abbrev pub IsWithRoom : PortView → PortView → Type 0

@@ -1,4 +1,4 @@
-ghost use Rattle.std.specs.Prelude.{◌≡◌, ◌<◌, ◌≤◌, ◌↔◌, length, map, slice_get, IsSomeAnd, IsTrue, Some};
+ghost use Rattle.std.specs.Prelude.{◌≡◌, ◌⊎◌, ◌+◌, ◌-◌, ◌<◌, ◌≤◌, ◌↔◌, length, map, slice_get, Contains, IsSomeAnd, IsTrue, Some};
 ghost use Rattle.receipt_ledger.specs.History.{AreHeld, HasAsked, HasReceipt, IsHeld, request_of};
 
 use super::lends::Lends;
@@ -48,11 +48,18 @@ impl<N: SliceNames> Port<N> {
         was_asked(self.asked(), number, entry)
     }
 
-    // Whether the receipt of the entry of this number stands where it noted.
+    // Whether it has the receipt of the entry of this number. That is looked for from the request's own place outwards: it
+    // stands as far from there as requests overtook it and it overtook. Each overtakes fewer than the 64 that a core can
+    // have in flight, so the looks for all receipts of a port grow with their number, though those for one may be many.
     fn has_receipt(&self, number: u64, entry: &Entry) -> bool
         ensures { IsTrue result ↔ HasReceipt self.now number entry.now }
     {
-        stands(self.places(), self.receipts(), self.slice(), number, entry)
+        let wanted = Receipt {
+            entry: *entry,
+            number,
+            slice: self.slice(),
+        };
+        is_among(self.receipts(), entry.seq, &wanted)
     }
 }
 
@@ -76,24 +83,28 @@ fn is_ask_of(ask: &Ask, number: u64, entry: &Entry) -> bool
     ask.request == request && ask.seen <= number
 }
 
-fn stands(
-    places: &[usize],
-    receipts: &[Receipt],
-    slice: SliceId,
-    number: u64,
-    entry: &Entry,
-) -> bool
-    ensures { IsTrue result ↔ IsSomeAnd (slice_get places.now entry.now.seq) (λ place. slice_get receipts.now place ≡ Some (record { entry = entry.now; number = number; slice = slice })) }
+// Whether the receipt is one of these. It is looked for at this place first, and then ever further from it.
+fn is_among(receipts: &[Receipt], place: u64, wanted: &Receipt) -> bool
+    ensures { IsTrue result ↔ Contains receipts.now wanted.now }
 {
-    let wanted = Receipt {
-        entry: *entry,
-        number,
-        slice,
-    };
-    match places.get(entry.seq as usize) {
-        Some(place) => is_at(receipts, *place, &wanted),
-        None => false,
+    let first = receipts.len().min(place as usize);
+    for distance in 0..receipts.len() {
+        if is_so_far(receipts, first, distance, wanted) {
+            return true;
+        }
     }
+    false
+}
+
+// Whether the receipt stands so far from the place, after it or before it.
+fn is_so_far(receipts: &[Receipt], place: usize, distance: usize, wanted: &Receipt) -> bool
+    requires place { place ≤ length receipts.now }
+    requires distance { distance < length receipts.now }
+    ensures { IsTrue result ↔ (slice_get receipts.now (place + distance) ≡ Some wanted.now) ⊎ ((distance < place) × (slice_get receipts.now (place - distance - 1) ≡ Some wanted.now)) }
+{
+    let _long = receipts.len();
+    is_at(receipts, place + distance, wanted)
+        || (distance < place && is_at(receipts, place - distance - 1, wanted))
 }
 
 fn is_at(receipts: &[Receipt], place: usize, wanted: &Receipt) -> bool

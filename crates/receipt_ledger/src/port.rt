@@ -1,4 +1,4 @@
-ghost use Rattle.std.specs.Prelude.{◌≡◌, ◌+◌, ◌<◌, ◌≤◌, true, false, length, slice_get, slice_set, vec_capacity, vec_len, OnOk, Some};
+ghost use Rattle.std.specs.Prelude.{◌≡◌, ◌+◌, ◌<◌, ◌≤◌, true, false, length, slice_get, vec_capacity, vec_len, OnOk, Some};
 ghost use Rattle.receipt_ledger.specs.Answers.{IsGiven, IsLastOf};
 ghost use Rattle.receipt_ledger.specs.Port.{AreOwn, HasRoom, IsEntryOf, IsWithRoom, fresh_port, with_request, with_seen};
 ghost use Rattle.receipt_shares.specs.Names.{AreCounters};
@@ -19,8 +19,6 @@ pub struct Port<N: SliceNames> {
     slice: SliceId,
     /// The accepted requests, in this order, which numbers them.
     pub(crate) asked: Vec<Ask>,
-    /// By that number, where among the receipts the request's own is, once it is there.
-    places: Vec<usize>,
     pub(crate) receipts: Vec<Receipt>,
     seen: u64,
     pub(crate) shares: Shares<N>,
@@ -32,9 +30,9 @@ impl<N: SliceNames> Model for Port<N> {
 
     ghost Value = { PortView };
 
-    ghost view = { λ p. port_with p.core p.slice p.asked.items p.places.items p.receipts.items p.seen (record { asked = vec_capacity p.asked; places = vec_capacity p.places; receipts = vec_capacity p.receipts }) };
+    ghost view = { λ p. port_with p.core p.slice p.asked.items p.receipts.items p.seen (record { asked = vec_capacity p.asked; receipts = vec_capacity p.receipts }) };
 
-    ghost invariant = { λ p. IsPort N.setup N.number (port_with p.core p.slice p.asked.items p.places.items p.receipts.items p.seen (record { asked = vec_capacity p.asked; places = vec_capacity p.places; receipts = vec_capacity p.receipts })) p.shares };
+    ghost invariant = { λ p. IsPort N.setup N.number (port_with p.core p.slice p.asked.items p.receipts.items p.seen (record { asked = vec_capacity p.asked; receipts = vec_capacity p.receipts })) p.shares };
 }
 
 impl<N: SliceNames> Port<N> {
@@ -69,13 +67,6 @@ impl<N: SliceNames> Port<N> {
         &self.asked
     }
 
-    /// By a request's place in that order, where its receipt stands, once it is there.
-    pub(crate) fn places(&self) -> &[usize]
-        ensures { result.now ≡ self.now.places }
-    {
-        &self.places
-    }
-
     /// Those of them that were handed out, in the order in which they were.
     pub fn receipts(&self) -> &[Receipt]
         ensures receipts { result.now ≡ self.now.receipts }
@@ -93,7 +84,7 @@ impl<N: SliceNames> Port<N> {
     }
 
     /// Whether a request that was accepted isn't handed out yet.
-    pub(crate) fn is_waiting(&self) -> bool
+    pub fn is_waiting(&self) -> bool
         ensures waiting { result ≡ true → length self.now.receipts < length self.now.asked }
         ensures idle { result ≡ false → length self.now.asked ≤ length self.now.receipts }
     {
@@ -112,7 +103,6 @@ impl<N: SliceNames> Port<N> {
             core,
             slice,
             asked: Vec::new(alloc),
-            places: Vec::new(alloc),
             receipts: Vec::new(alloc),
             seen: 0,
             shares,
@@ -125,7 +115,11 @@ impl<N: SliceNames> Port<N> {
         ensures fewer { length self.old.receipts ≤ length self.old.asked }
         ensures room { OnOk result (HasRoom self.new) }
     {
-        reserve(&mut self.asked, &mut self.places, &mut self.receipts)
+        let accepted = self.asked.len();
+        if accepted < self.asked.capacity() && accepted < self.receipts.capacity() {
+            return Ok(());
+        }
+        grow(&mut self.asked, &mut self.receipts)
     }
 
     /// Keeps one more accepted request, and counts it in the book too.
@@ -137,7 +131,6 @@ impl<N: SliceNames> Port<N> {
         books.accept(&mut self.shares);
         let seen = self.seen;
         self.asked.push_reserved(Ask { request, seen });
-        self.places.push_reserved(0);
     }
 
     /// Takes the receipt of the entry of the log with this number, and counts it in the book too.
@@ -156,7 +149,6 @@ impl<N: SliceNames> Port<N> {
     {
         let entry = entry_at(log, number);
         books.hand(&mut self.shares, words, entry);
-        set_place(&mut self.places, entry.seq, self.receipts.len());
         self.seen = self.seen.max(after(log, number));
         self.receipts.push_reserved(Receipt {
             entry: *entry,
@@ -183,36 +175,22 @@ impl<N: SliceNames> Port<N> {
     }
 }
 
-// Makes room for one more request, and for the receipts of all requests and of that one.
-fn reserve(
-    asked: &mut Vec<Ask>,
-    places: &mut Vec<usize>,
-    receipts: &mut Vec<Receipt>,
-) -> Result<(), AllocError>
+// Makes room for one more request, and for the receipts of all requests and of that one. It stands apart, since most
+// requests find room.
+#[cold]
+#[inline(never)]
+fn grow(asked: &mut Vec<Ask>, receipts: &mut Vec<Receipt>) -> Result<(), AllocError>
     requires fewer { vec_len receipts.old ≤ vec_len asked.old }
     requires reserved { vec_len asked.old ≤ vec_capacity receipts.old }
     ensures asked { asked.new.items ≡ asked.old.items }
-    ensures places { places.new.items ≡ places.old.items }
     ensures receipts { receipts.new.items ≡ receipts.old.items }
     ensures asked_room { OnOk result (vec_len asked.new < vec_capacity asked.new) }
-    ensures places_room { OnOk result (vec_len places.new < vec_capacity places.new) }
     ensures receipts_room { OnOk result (vec_len asked.new < vec_capacity receipts.new) }
     ensures reserved { length asked.new.items ≤ vec_capacity receipts.new }
 {
     asked.reserve(1)?;
-    places.reserve(1)?;
     let in_flight = asked.len() - receipts.len();
     receipts.reserve(in_flight + 1)
-}
-
-// Notes where the receipt of the request with this number stands.
-fn set_place(places: &mut Vec<usize>, seq: u64, place: usize)
-    ensures items { places.new.items ≡ slice_set places.old.items seq place }
-    ensures room { vec_capacity places.new ≡ vec_capacity places.old }
-{
-    if seq < places.len() as u64 {
-        places[seq as usize] = place;
-    }
 }
 
 // The entry of the log with this number.

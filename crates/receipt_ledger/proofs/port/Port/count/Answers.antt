@@ -8,8 +8,6 @@ invariant_of-self g c =
     rw (
       c.push_reserved.ensures.items,
       c.push_reserved.ensures.capacity,
-      c.push_reserved-2.ensures.items,
-      c.push_reserved-2.ensures.capacity,
     )
     (request-port g.N.SliceNames.setup g.N.SliceNames.number _ c.self.inside.shares c.accept.new.shares c.self.invariant
     c.accept.ensures.parts c.args.request (subst HasRoom (sym c.self.view_is) c.requires) c.accept.ensures.held)

@@ -8,8 +8,6 @@ invariant_of-result g c =
       c.new.ensures.capacity,
       c.new-2.ensures.items,
       c.new-2.ensures.capacity,
-      c.new-3.ensures.items,
-      c.new-3.ensures.capacity,
     )
     (fresh-port g.N.SliceNames.setup g.N.SliceNames.number c.args.core c.args.slice c.args.shares c.requires.known
     c.requires.named c.requires.part c.requires.nothing)

@@ -7,7 +7,7 @@ use Rattle.receipt_ledger.proofs.port.Port.make_room.Goals as goal
 
 pub invariant_of-self : goal.invariant_of-self
 invariant_of-self g c =
-    let receipts = vec_capacity c.reserve.new.receipts in
-    rw (c.reserve.ensures.asked, c.reserve.ensures.places, c.reserve.ensures.receipts)
+    let receipts = vec_capacity c.grow.new.receipts in
+    rw (c.grow.ensures.asked, c.grow.ensures.receipts)
     (room-port g.N.SliceNames.setup g.N.SliceNames.number _ c.self.inside.shares _ c.self.invariant
-    (subst (λ (asked : List Ask). length asked ≤ receipts) c.reserve.ensures.asked c.reserve.ensures.reserved))
+    (subst (λ (asked : List Ask). length asked ≤ receipts) c.grow.ensures.asked c.grow.ensures.reserved))

@@ -11,9 +11,6 @@ invariant_of-self g c =
     rw (
       c.push_reserved.ensures.items,
       c.push_reserved.ensures.capacity,
-      c.set_place.ensures.items,
-      c.set_place.ensures.room,
-      c.len.ensures ∙ c.self.inside.receipts.ok.0,
       c.max-self-inside.ensures,
       c.after.ensures,
     )

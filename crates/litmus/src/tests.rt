@@ -3,7 +3,7 @@ ghost use Rattle.litmus.specs.Tests.{IsOfTest};
 ghost use Rattle.litmus_rounds.specs.Run.{PrintsRounds, PrintsStuck};
 ghost use Rattle.litmus_threads.specs.Run.{IsEndOf};
 ghost use Rattle.litmus_walk.specs.Script.{PrintsWalk};
-ghost use Rattle.mshr_file.specs.Miss.{Bound};
+ghost use Rattle.litmus_walk.specs.Walk.{bound_of};
 ghost use Rattle.std.specs.Io.KnownBytes.{Appends};
 
 use litmus_test::{LitmusTest, Progress};
@@ -45,9 +45,10 @@ pub fn run_walk<W: Write, P: Progress>(
     progress: &mut P,
     out: &mut W,
 ) -> Result<u8, TextFault>
-    ensures { IfOk result (λ status. IsOfTest input.now (λ test. (bound : Bound)
-        × (PrintsRounds test bound (unwrap_or rounds test.rounds) seed status (W.contents out.old) (W.contents out.new)
-        ⊎ PrintsStuck (unwrap_or rounds test.rounds) status (W.contents out.old) (W.contents out.new)))) }
+    ensures { IfOk result (λ status. IsOfTest input.now (λ test.
+        PrintsRounds test (bound_of test.misses test.config) (unwrap_or rounds test.rounds) seed status
+        (W.contents out.old) (W.contents out.new)
+        ⊎ PrintsStuck (unwrap_or rounds test.rounds) status (W.contents out.old) (W.contents out.new))) }
 {
     let test = LitmusTest::read(alloc, input)?;
     let rounds = rounds.unwrap_or(test.rounds);
@@ -63,8 +64,8 @@ pub fn write_walk<W: Write>(
     seed: u64,
     out: &mut W,
 ) -> Result<u8, TextFault>
-    ensures { IfOk result (λ status. IsOfTest input.now (λ test. (bound : Bound)
-        × PrintsWalk test.config bound test.misses status (W.contents out.old) (W.contents out.new))) }
+    ensures { IfOk result (λ status. IsOfTest input.now (λ test.
+        PrintsWalk test.config test.misses (bound_of test.misses test.config) status (W.contents out.old) (W.contents out.new))) }
 {
     let test = LitmusTest::read(alloc, input)?;
     let ended = litmus_walk::write_walk(alloc, &test, seed, out);

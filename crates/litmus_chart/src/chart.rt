@@ -4,11 +4,10 @@ ghost use Rattle.litmus_text.specs.Command.{HasCore, IsInRange};
 use super::arrow::{Fate, Participant};
 use super::note::{begin_cross, begin_note, write_participants};
 use super::picture::Picture;
-use super::twin::twin_of;
 use address_map::{Checked, CoreId, LineAddr, Request, SliceId};
 use litmus_script::{
-    Answers, Issued, Machine, Player, Script, write_delivered, write_evicted, write_handed,
-    write_issued, write_pumped, written,
+    Answers, Issued, Machine, Player, Script, copy_of, write_delivered, write_evicted,
+    write_handed, write_issued, write_pumped, written,
 };
 use litmus_text::{Command, MissKind, Settings, Statement, TextFault};
 use mshr_file::{ExplicitFile, InvertedFile, MissFile};
@@ -118,7 +117,7 @@ impl<F: MissFile> Player for Chart<F> {
 
 impl<F: MissFile> Chart<F> {
     fn new(alloc: Global, config: Checked) -> Result<Self, TextFault> {
-        let twin = twin_of(alloc, &config)?;
+        let twin = copy_of(alloc, &config)?;
         Ok(Chart {
             ahead: Machine::build(alloc, config)?,
             picture: Picture::new(alloc, twin)?,
@@ -139,7 +138,7 @@ impl<F: MissFile> Chart<F> {
     {
         let directory = Participant::Directory(self.ahead.slice_of(line));
         written(begin_note(directory, statement, out))?;
-        self.ahead.run(command, out)
+        self.ahead.run(command, out.out)
     }
 
     fn issue<W: Write>(

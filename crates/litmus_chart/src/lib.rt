@@ -5,7 +5,6 @@
 //!
 //! - `chart` draws the commands, `picture` the messages and the changes of lines;
 //! - `arrow` says who takes part and what an arrow says, `note` what the notes say;
-//! - `twin` makes the second machine's configuration.
 #![tactic(auto)]
 
 pub use chart::run_chart;
@@ -14,4 +13,3 @@ mod arrow;
 mod chart;
 mod note;
 mod picture;
-mod twin;

@@ -6,8 +6,7 @@ ghost use Rattle.litmus_outcomes.specs.Table.{IsTableOf};
 ghost use Rattle.litmus_outcomes.specs.Text.{text_of};
 ghost use Rattle.litmus_rounds.specs.Outcome.{all_sought};
 ghost use Rattle.litmus_rounds.specs.Run.{AreRounds, IsRound, PrintsRounds, PrintsStuck};
-ghost use Rattle.litmus_walk.specs.Walk.{IsWalkOf};
-ghost use Rattle.mshr_file.specs.Miss.{Bound};
+ghost use Rattle.litmus_walk.specs.Walk.{IsWalkOf, bound_of};
 ghost use Rattle.slice_core_plan.specs.View.{IsQuiet};
 
 use super::outcome::read_outcome;
@@ -32,9 +31,9 @@ pub fn run_walk<W: Write, P: Progress>(
     progress: &mut P,
     out: &mut W,
 ) -> Result<u8, TextFault>
-    ensures { IfOk result (λ status. (bound : Bound)
-        × (PrintsRounds test.now bound rounds seed status (W.contents out.old) (W.contents out.new)
-        ⊎ PrintsStuck rounds status (W.contents out.old) (W.contents out.new))) }
+    ensures { IfOk result (λ status.
+        PrintsRounds test.now (bound_of test.now.misses test.now.config) rounds seed status (W.contents out.old) (W.contents out.new)
+        ⊎ PrintsStuck rounds status (W.contents out.old) (W.contents out.new)) }
 {
     match test.misses {
         MissKind::Explicit => run_on::<ExplicitFile, W, P>(

@@ -1,4 +1,5 @@
 -- What a state answers and leaves is that it answered the call.
+use Rattle.std.proofs.Common.{◌≡◌, subst}
 use Rattle.std.specs.Prelude.{Option, Result}
 use Rattle.address_map.specs.declared.address.CoreId.{CoreId}
 use Rattle.address_map.specs.declared.address.LineAddr.{LineAddr}
@@ -14,18 +15,20 @@ use Rattle.slice_core_plan.specs.Parts.{PartsView, AfterDelivery, AfterEvict, Af
 use Rattle.slice_queues_message.specs.declared.channel.Pick.{Pick}
 use Rattle.litmus_script.specs.Machine.{Answers}
 
-pub issued : (old new : PartsView) (core : CoreId) (request : Request) (answer : Result Issue Refused)
-    → AfterIssue old core request answer new → Answers (calls.Issue core request) old new
-issued old new core request answer after = record { answer = answers.Issue answer; made = after }
+-- .. an access, whose answer is known
+pub issued : (old new : PartsView) (core : CoreId) (request : Request) (answer known : Result Issue Refused)
+    → AfterIssue old core request answer new → answer ≡ known → Answers (calls.Issue core request) (answers.Issue known) old new
+issued old new core request answer known after is =
+    subst (λ (a : Result Issue Refused). Answers (calls.Issue core request) (answers.Issue a) old new) is (record { made = after })
 
 pub evicted : (old new : PartsView) (core : CoreId) (line : LineAddr) (answer : Evicted)
-    → AfterEvict old core line answer new → Answers (calls.Evict core line) old new
-evicted old new core line answer after = record { answer = answers.Evict answer; made = after }
+    → AfterEvict old core line answer new → Answers (calls.Evict core line) (answers.Evict answer) old new
+evicted old new core line answer after = record { made = after }
 
 pub delivered : (old new : PartsView) (pick : Pick) (answer : Delivered)
-    → AfterDelivery old pick answer new → Answers (calls.Deliver pick) old new
-delivered old new pick answer after = record { answer = answers.Deliver answer; made = after }
+    → AfterDelivery old pick answer new → Answers (calls.Deliver pick) (answers.Deliver answer) old new
+delivered old new pick answer after = record { made = after }
 
 pub handed : (old new : PartsView) (core : CoreId) (answer : Option Numbered)
-    → AfterHand old core answer new → Answers (calls.Hand core) old new
-handed old new core answer after = record { answer = answers.Hand answer; made = after }
+    → AfterHand old core answer new → Answers (calls.Hand core) (answers.Hand answer) old new
+handed old new core answer after = record { made = after }

@@ -31,6 +31,11 @@ text_of_handed (Some given) =
     codes "receipt " ++ decimal given.number ++ codes " tag " ++ decimal given.entry.tag ++ codes " reply " ++ decimal given.entry.reply
 text_of_handed None = codes "none"
 
+-- the value of a word, or that its slice isn't quiet
+abbrev pub text_of_word : Option ℕ → List ℕ
+text_of_word (Some value) = decimal value
+text_of_word None = codes "not quiet"
+
 -- what is left after a pump
 abbrev pub text_of_pumped : Pumped → List ℕ
 text_of_pumped pumps.Empty = codes "empty"

@@ -1,2 +1,4 @@
 pub mod Answer
+pub mod Issued
 pub mod Machine
+pub mod Prints

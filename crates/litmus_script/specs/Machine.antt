@@ -1,5 +1,5 @@
 -- A machine is one slice's state for each slice of its configuration.
-use Rattle.std.specs.Prelude.{◌≡◌, ℕ, ◌<◌, List, length, slice_get, slice_index_or, slice_set, [], Option, Some}
+use Rattle.std.specs.Prelude.{◌≡◌, ℕ, ◌<◌, List, length, slice_get, slice_index_or, slice_set, [], Option, None, Some}
 use Rattle.std.specs.Option.{option_map_or}
 use Rattle.address_map.specs.Locator.{lines_of}
 use Rattle.address_map.specs.declared.address.WordAddr.{WordAddr}
@@ -12,7 +12,7 @@ use Rattle.slice_core_answer.specs.Stats.{StatsView}
 use Rattle.slice_core_log.specs.Log.{initially, value}
 use Rattle.slice_core_log.specs.declared.entry.Entry.{Entry}
 use Rattle.slice_core_plan.specs.Parts.{PartsView, IsNew}
-use Rattle.slice_core_plan.specs.View.{IsQuiet}
+use Rattle.slice_core_plan.specs.View.{View, IsQuiet}
 
 -- the state is of this slice, with the configured cores, its share of the lines, and the configured setting
 pub record IsSliceOf (config : Config) (id : ℕ) (p : PartsView) : Type 0 where
@@ -39,22 +39,45 @@ pub record IsNewMachine (config : Config) (bound : Bound) (slices : List PartsVi
   pub count : length slices ≡ config.slices
   pub each : AreNew config bound slices
 
--- the state answered this call, and left the other state
-pub record Answers (call : Call) (old new : PartsView) : Type 0 where
-  pub answer : CallAnswer
+-- the state answered this call in this way, and left the other state
+pub record Answers (call : Call) (answer : CallAnswer) (old new : PartsView) : Type 0 where
   pub made : AfterCall old call answer new
 
--- one of the slices answered this call, and the others are as they were
-pub record IsMade (slice : ℕ) (call : Call) (old new : List PartsView) : Type 0 where
+-- one of the slices went from the one state to the other in this way, and the others are as they were
+pub record OneSlice (slice : ℕ) (Goes : PartsView → PartsView → Type 0) (old new : List PartsView) : Type 0 where
   pub before : PartsView
   pub after : PartsView
   pub found : slice_get old slice ≡ Some before
-  pub answers : Answers call before after
+  pub goes : Goes before after
   pub others : new ≡ slice_set old slice after
+
+-- the slice answered this call in this way
+abbrev pub IsAnswered : ℕ → Call → CallAnswer → List PartsView → List PartsView → Type 0
+IsAnswered slice call answer old new = OneSlice slice (Answers call answer) old new
+
+-- .. in some way
+pub record IsMade (slice : ℕ) (call : Call) (old new : List PartsView) : Type 0 where
+  pub answer : CallAnswer
+  pub answered : IsAnswered slice call answer old new
 
 -- what the slice has performed, in order; a slice that isn't there has performed nothing
 abbrev pub log_at : List PartsView → ℕ → List Entry
 log_at slices slice = option_map_or (λ state. state.view.log) (slice_get slices slice) []
+
+-- what a slice shows of its word: where it is quiet, the word's value after the whole log, and else nothing
+abbrev pub ShowsWord : View → WordAddr → Option ℕ → Type 0
+ShowsWord v word (Some shown) = IsQuiet v × (shown ≡ value (initially v.init word.0) v.log word.0)
+ShowsWord v word None = IsQuiet v → ⊥
+
+-- this is so of one of the slices
+pub record HasAt (slices : List PartsView) (slice : ℕ) (Holds : PartsView → Type 0) : Type 0 where
+  pub state : PartsView
+  pub found : slice_get slices slice ≡ Some state
+  pub holds : Holds state
+
+-- what the slice shows of its word
+abbrev pub IsShownWord : List PartsView → ℕ → WordAddr → Option ℕ → Type 0
+IsShownWord slices slice word shown = HasAt slices slice (λ state. ShowsWord state.view word shown)
 
 -- the slice is quiet, and this is its word's value after the whole log
 abbrev pub IsQuietWord : List PartsView → ℕ → WordAddr → ℕ → Type 0

@@ -1,7 +1,7 @@
 ghost use Rattle.std.specs.Prelude.{◌≡◌, ◌↔◌, ◌++◌, IfErr, IsOk, OnOk, codes, decimal};
 ghost use Rattle.std.specs.Io.KnownBytes.{Appends};
 ghost use Rattle.slice_core_answer.specs.Text.{text_of_evicted};
-ghost use Rattle.litmus_script.specs.Answer.{WritesLine, text_of_delivered, text_of_handed, text_of_issued, text_of_pumped};
+ghost use Rattle.litmus_script.specs.Answer.{WritesLine, text_of_delivered, text_of_handed, text_of_issued, text_of_pumped, text_of_word};
 
 use arrayvec::ArrayString;
 use itoa::Buffer;
@@ -114,6 +114,16 @@ pub fn write_handed<W: fmt::Write>(handed: Option<Numbered>, out: &mut W) -> fmt
             writeln!(out, "receipt {number} tag {tag} reply {reply}")
         }
         None => writeln!(out, "none"),
+    }
+}
+
+/// Writes the value of a word, or that its slice isn't quiet.
+pub(crate) fn write_word<W: fmt::Write>(shown: Option<u64>, out: &mut W) -> fmt::Result
+    ensures { OnOk result (WritesLine W.write_str_gives out.old (text_of_word shown) out.new) }
+{
+    match shown {
+        Some(value) => writeln!(out, "{value}"),
+        None => writeln!(out, "not quiet"),
     }
 }
 

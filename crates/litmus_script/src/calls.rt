@@ -1,14 +1,14 @@
 //! The calls that a machine makes of one of its slices. What a slice promises of a call is long, and a machine needs
 //! little of it: that the slice stays the one that it was.
-ghost use Rattle.std.specs.Prelude.{◌≡◌, ◌<◌, length, IfOk, IfSome, IsSome};
+ghost use Rattle.std.specs.Prelude.{◌<◌, length, IfErr, IfOk, IsSome};
 ghost use Rattle.address_map.specs.Locator.{local_at};
 ghost use Rattle.address_map.specs.Place.{line_of};
 ghost use Rattle.slice_core.specs.Facts.{IsSameSlice};
 ghost use Rattle.slice_core.specs.declared.run.Call.TheVariants as of_slice;
-ghost use Rattle.slice_core_log.specs.Log.{initially, value};
+ghost use Rattle.slice_core.specs.declared.run.CallAnswer.TheVariants as answers;
 ghost use Rattle.slice_core_plan.specs.Parts.{IsNew};
-ghost use Rattle.slice_core_plan.specs.View.{IsQuiet};
-ghost use Rattle.litmus_script.specs.Machine.{Answers, IsSliceOf};
+ghost use Rattle.litmus_script.specs.Issued.{Issues, LacksMemory};
+ghost use Rattle.litmus_script.specs.Machine.{Answers, IsSliceOf, ShowsWord};
 
 use super::answers::Issued;
 use address_map::{Checked, CoreId, LineAddr, Request, SliceId, WordAddr};
@@ -43,7 +43,8 @@ pub(crate) fn issue<F: MissFile>(
 ) -> Result<Issued, TextFault>
     requires { core.0 < length state.old.view.sides }
     ensures same { IsSameSlice state.old state.new }
-    ensures made { Answers (of_slice.Issue core request) state.old state.new }
+    ensures issued { IfOk result (λ issued. Issues core request issued state.old state.new) }
+    ensures memory { IfErr result (λ fault. LacksMemory core request state.old state.new) }
 {
     match state.issue(core, request) {
         Ok(Issue::Done(number)) => {
@@ -61,7 +62,7 @@ pub(crate) fn issue<F: MissFile>(
 pub(crate) fn evict<F: MissFile>(state: &mut SliceState<F>, core: CoreId, line: LineAddr) -> Evicted
     requires { core.0 < length state.old.view.sides }
     ensures same { IsSameSlice state.old state.new }
-    ensures made { Answers (of_slice.Evict core line) state.old state.new }
+    ensures made { Answers (of_slice.Evict core line) (answers.Evict result) state.old state.new }
 {
     state.evict(core, line)
 }
@@ -69,7 +70,7 @@ pub(crate) fn evict<F: MissFile>(state: &mut SliceState<F>, core: CoreId, line: 
 #[inline(always)]
 pub(crate) fn deliver<F: MissFile>(state: &mut SliceState<F>, pick: Pick) -> Delivered
     ensures same { IsSameSlice state.old state.new }
-    ensures made { Answers (of_slice.Deliver pick) state.old state.new }
+    ensures made { Answers (of_slice.Deliver pick) (answers.Deliver result) state.old state.new }
 {
     state.deliver(pick)
 }
@@ -85,7 +86,7 @@ pub(crate) fn deliver_next<F: MissFile>(state: &mut SliceState<F>) -> DeliveredN
 pub(crate) fn hand<F: MissFile>(state: &mut SliceState<F>, core: CoreId) -> Option<Numbered>
     requires { core.0 < length state.old.view.sides }
     ensures same { IsSameSlice state.old state.new }
-    ensures made { Answers (of_slice.Hand core) state.old state.new }
+    ensures made { Answers (of_slice.Hand core) (answers.Hand result) state.old state.new }
 {
     state.hand(core)
 }
@@ -93,8 +94,7 @@ pub(crate) fn hand<F: MissFile>(state: &mut SliceState<F>, core: CoreId) -> Opti
 /// The value of a word, where the slice is quiet.
 pub(crate) fn word<F: MissFile>(state: &SliceState<F>, word: WordAddr) -> Option<u64>
     requires { IsSome (local_at state.now.view.lines (line_of word).0) }
-    ensures quiet { IfSome result (λ value. IsQuiet state.now.view) }
-    ensures last { IfSome result (λ shown. shown ≡ value (initially state.now.view.init word.0) state.now.view.log word.0) }
+    ensures { ShowsWord state.now.view word result }
 {
     if !state.is_quiet() {
         return None;

@@ -5,6 +5,7 @@
 //! - [`Script`] is a script whose configuration was read. Its [`Commands`] are played in order by a [`Player`]: the
 //!   [`Machine`] itself, or another on it.
 //! - [`Answers`] is where answers go, and the functions beside it write the text of each.
+//! - [`copy_of`] makes an equal configuration, for another machine.
 //! - A [`Watcher`] is told of each message that [`Machine::pump`] delivers.
 #![tactic(auto)]
 
@@ -12,6 +13,7 @@ pub use answers::{
     Answers, Issued, Pumped, write_delivered, write_evicted, write_handed, write_issued,
     write_pumped, written,
 };
+pub use copy::copy_of;
 pub use line::write_sharers;
 pub use machine::Machine;
 pub use player::Player;
@@ -20,10 +22,12 @@ pub use watcher::Watcher;
 
 mod answers;
 mod calls;
+mod copy;
 mod echo;
 mod line;
 mod machine;
 mod player;
+mod run;
 mod script;
 mod trace;
 mod watcher;

@@ -1,39 +1,35 @@
-ghost use Rattle.std.specs.Prelude.{◌≡◌, ◌/◌, ◌%◌, ◌<◌, ◌≤◌, ◌↔◌, length, All, IfOk, IfSome, IsTrue};
+ghost use Rattle.std.specs.Prelude.{◌≡◌, ◌/◌, ◌%◌, ◌<◌, ◌≤◌, ◌↔◌, length, All, IfErr, IfOk, IfSome, IsTrue};
 ghost use Rattle.litmus_text.specs.Command.{IsInRange, HasCore, HasLine};
 ghost use Rattle.address_map.specs.Config.{IsAllowed};
 ghost use Rattle.stats_report.specs.Report.{AreAlike, views_of};
 ghost use Rattle.address_map.specs.Place.{line_of as line_of_word};
 ghost use Rattle.slice_core.specs.declared.run.Call.TheVariants as of_slice;
+ghost use Rattle.slice_core.specs.declared.run.CallAnswer.TheVariants as answers;
 ghost use Rattle.slice_core_plan.specs.View.{IsQuiet};
 ghost use Rattle.slice_queues_message.specs.Pick.{line_of};
-ghost use Rattle.litmus_script.specs.Machine.{IsMachine, IsMade, IsNewMachine, IsQuietWord, log_at};
+ghost use Rattle.litmus_script.specs.Issued.{IsIssued, IsOutOfMemory};
+ghost use Rattle.litmus_script.specs.Machine.{IsAnswered, IsMachine, IsNewMachine, IsQuietWord, IsShownWord, log_at};
 
-use super::answers::{
-    Answers, Issued, Pumped, write_delivered, write_evicted, write_handed, write_issued,
-    write_pumped, written,
-};
+use super::answers::{Answers, Issued, Pumped};
 use super::calls;
-use super::line::write_line;
 use super::player::Player;
-use super::trace::write_trace;
-use super::watcher::{Nobody, Watcher};
+use super::watcher::Watcher;
 use address_map::{Checked, CoreId, LineAddr, Request, SliceId, WordAddr};
 use litmus_text::{Command, Statement, TextFault};
 use mshr_file::MissFile;
 use slice_core::{
-    Delivered, DeliveredNext, Entry, Evicted, LineView, Message, Numbered, Pick, SliceState, Stats,
+    Delivered, DeliveredNext, Entry, Evicted, LineView, LineWaiting, Message, Numbered, Pick,
+    SliceState, Stats,
 };
-use stats_report::{ReportError, write_report};
 use std::alloc::{AllocError, Global};
-use std::fmt::Write;
-use std::{fmt, io};
+use std::io::Write;
 
 /// A machine on one thread: the state of each slice. Its caches keep track of their misses in files of type `F`.
 #[derive(Drop)]
 pub struct Machine<F: MissFile> {
     pub config: Checked,
     pub slices: Vec<SliceState<F>>,
-    alloc: Global,
+    pub(crate) alloc: Global,
     ghost shaped: { IsMachine config slices.items },
 }
 
@@ -65,13 +61,13 @@ impl<F: MissFile> Player for Machine<F> {
         &self.config
     }
 
-    fn play<W: io::Write>(
+    fn play<W: Write>(
         &mut self,
         _statement: &Statement<'_>,
         command: Command,
         out: &mut Answers<'_, W>,
     ) -> Result<(), TextFault> {
-        self.run(command, out)
+        self.run(command, out.out)
     }
 }
 
@@ -94,41 +90,16 @@ impl<F: MissFile> Machine<F> {
         })
     }
 
-    /// Does what the command says, and writes the answer.
-    pub fn run<W: io::Write>(
-        &mut self,
-        command: Command,
-        out: &mut Answers<'_, W>,
-    ) -> Result<(), TextFault>
-        requires { IsInRange self.old.config command }
-        ensures { self.new.config ≡ self.old.config }
-    {
-        match command {
-            Command::Issue { core, request } => {
-                written(write_issued(self.issue(core, request)?, out))
-            }
-            Command::Evict { core, line } => written(write_evicted(self.evict(core, line), out)),
-            Command::Deliver(pick) => written(write_delivered(self.deliver(pick), out)),
-            Command::Hand { core, slice } => written(write_handed(self.hand(core, slice), out)),
-            Command::Word(word) => written(self.word(word, out)),
-            Command::State(line) => written(self.state(line, out)),
-            Command::Log(slice) => written(self.log(slice, out)),
-            Command::Stats => self.report(out),
-            Command::Pump(calls) => match self.pump(calls, &mut Nobody) {
-                Ok(pumped) => written(write_pumped(pumped, out)),
-                Err(AllocError) => Err(TextFault::NoMemory),
-            },
-        }
-    }
-
     /// A word past the memory goes to slice 0, which refuses it.
     // Most commands are accesses: what became of one isn't put together where it is written at once.
     #[inline(always)]
     pub fn issue(&mut self, core: CoreId, request: Request) -> Result<Issued, TextFault>
         requires { HasCore self.old.config core }
         ensures config { self.new.config ≡ self.old.config }
-        ensures made { IsMade ((line_of_word request.word).0 % self.old.config.slices) (of_slice.Issue core request)
-            self.old.slices.items self.new.slices.items }
+        ensures issued { IfOk result (λ issued. IsIssued ((line_of_word request.word).0 % self.old.config.slices)
+            core request issued self.old.slices.items self.new.slices.items) }
+        ensures memory { IfErr result (λ fault. IsOutOfMemory ((line_of_word request.word).0 % self.old.config.slices)
+            core request self.old.slices.items self.new.slices.items) }
     {
         let slice = self.slice_of(request.word.line());
         calls::issue(&mut self.slices[slice], core, request)
@@ -137,7 +108,8 @@ impl<F: MissFile> Machine<F> {
     pub fn evict(&mut self, core: CoreId, line: LineAddr) -> Evicted
         requires { HasCore self.old.config core }
         ensures config { self.new.config ≡ self.old.config }
-        ensures made { IsMade (line.0 % self.old.config.slices) (of_slice.Evict core line) self.old.slices.items self.new.slices.items }
+        ensures answered { IsAnswered (line.0 % self.old.config.slices) (of_slice.Evict core line) (answers.Evict result)
+            self.old.slices.items self.new.slices.items }
     {
         let slice = self.slice_of(line);
         calls::evict(&mut self.slices[slice], core, line)
@@ -145,8 +117,8 @@ impl<F: MissFile> Machine<F> {
 
     pub fn deliver(&mut self, pick: Pick) -> Delivered
         ensures config { self.new.config ≡ self.old.config }
-        ensures made { IsMade ((line_of pick).0 % self.old.config.slices) (of_slice.Deliver pick)
-            self.old.slices.items self.new.slices.items }
+        ensures answered { IsAnswered ((line_of pick).0 % self.old.config.slices) (of_slice.Deliver pick)
+            (answers.Deliver result) self.old.slices.items self.new.slices.items }
     {
         let slice = self.slice_of(pick.line());
         calls::deliver(&mut self.slices[slice], pick)
@@ -156,7 +128,8 @@ impl<F: MissFile> Machine<F> {
         requires core { HasCore self.old.config core }
         requires slice { slice.0 < self.old.config.slices }
         ensures config { self.new.config ≡ self.old.config }
-        ensures made { IsMade slice.0 (of_slice.Hand core) self.old.slices.items self.new.slices.items }
+        ensures answered { IsAnswered slice.0 (of_slice.Hand core) (answers.Hand result)
+            self.old.slices.items self.new.slices.items }
     {
         calls::hand(&mut self.slices[slice.0 as usize], core)
     }
@@ -164,6 +137,11 @@ impl<F: MissFile> Machine<F> {
     /// The message that a delivery at the pick would take.
     pub fn front(&self, pick: Pick) -> Option<Message> {
         self.slices[self.slice_of(pick.line())].front(pick)
+    }
+
+    /// The channels of a line in which a message waits, core by core and home last.
+    pub fn waiting_at(&self, line: LineAddr) -> Option<LineWaiting<'_>> {
+        self.slices[self.slice_of(line)].waiting_at(line)
     }
 
     /// What its slice has of a line of the memory.
@@ -196,50 +174,14 @@ impl<F: MissFile> Machine<F> {
     /// The value of a word of the memory, where its slice is quiet.
     pub fn word_now(&self, word: WordAddr) -> Option<u64>
         requires { word.0 / 8 < self.now.config.lines }
-        ensures { IfSome result (IsQuietWord self.now.slices.items (word.0 / 8 % self.now.config.slices) word) }
+        ensures quiet { IfSome result (IsQuietWord self.now.slices.items (word.0 / 8 % self.now.config.slices) word) }
+        ensures shown { IsShownWord self.now.slices.items (word.0 / 8 % self.now.config.slices) word result }
     {
         calls::word(&self.slices[self.slice_of(word.line())], word)
     }
 
-    fn word<W: Write>(&self, word: WordAddr, out: &mut W) -> fmt::Result
-        requires { word.0 / 8 < self.now.config.lines }
-    {
-        match self.word_now(word) {
-            Some(value) => writeln!(out, "{value}"),
-            None => writeln!(out, "not quiet"),
-        }
-    }
-
-    fn state<W: Write>(&self, line: LineAddr, out: &mut W) -> fmt::Result
-        requires { HasLine self.now.config line }
-    {
-        match self.view(line) {
-            Some(view) => write_line(line, &view, out),
-            // Each line of the memory is its slice's, so this isn't met.
-            None => Ok(()),
-        }
-    }
-
-    fn log<W: Write>(&self, slice: SliceId, out: &mut W) -> fmt::Result
-        requires { slice.0 < self.now.config.slices }
-    {
-        let state = &self.slices[slice.0 as usize];
-        write_trace(&self.config, state.init(), state.log(), out)
-    }
-
-    fn report<W: io::Write>(&self, out: &mut Answers<'_, W>) -> Result<(), TextFault> {
-        let Ok(stats) = self.stats() else {
-            return Err(TextFault::NoMemory);
-        };
-        match write_report(self.alloc, stats.as_slice(), out.out) {
-            Ok(()) => Ok(()),
-            Err(ReportError::Memory) => Err(TextFault::NoMemory),
-            Err(ReportError::Cut(_)) => Err(TextFault::CannotWrite),
-        }
-    }
-
     /// What each slice has counted.
-    fn stats(&self) -> Result<Vec<&Stats>, AllocError>
+    pub(crate) fn stats(&self) -> Result<Vec<&Stats>, AllocError>
         ensures { IfOk result (λ stats. AreAlike (views_of stats.items)) }
     {
         let mut stats = Vec::with_capacity(self.alloc, self.slices.len())?;

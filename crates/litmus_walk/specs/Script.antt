@@ -30,7 +30,7 @@ abbrev pub text_of_script : Config → MissKind → List Made → List ℕ
 text_of_script config misses calls = text_of_lines (lines_of_settings config misses) ++ text_of_calls calls
 
 -- A walk is printed as a script, behind what was written before. With status 0 it has come to its end.
-pub record PrintsWalk (config : Config) (bound : Bound) (misses : MissKind) (status : ℕ) (before after : Option (List ℕ)) : Type 0 where
+pub record PrintsWalk (config : Config) (misses : MissKind) (bound : Bound) (status : ℕ) (before after : Option (List ℕ)) : Type 0 where
   pub walk : WalkView
   pub walked : IsWalkOf config bound walk
   pub over : status ≡ 0 → All (λ state. IsQuiet state.view) walk.slices

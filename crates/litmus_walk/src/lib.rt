@@ -19,7 +19,6 @@ pub use recorded::{Made, Recorded};
 pub use round::{Walked, walk};
 pub use script::write_walk;
 
-mod copy;
 mod moves;
 mod place;
 mod recorded;

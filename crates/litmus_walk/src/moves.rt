@@ -1,6 +1,6 @@
 use super::place::Place;
 use super::walker::{Reply, Walker};
-use address_map::{CoreId, LineAddr};
+use address_map::LineAddr;
 use litmus_test::{Action, LitmusTest, Thread};
 use mshr_file::MissFile;
 use slice_core::Pick;
@@ -31,7 +31,7 @@ impl<F: MissFile> Walker<F> {
             }
         }
         for line in lines {
-            self.list_deliveries(test, *line, moves)?;
+            self.list_deliveries(*line, moves)?;
         }
         for reply in 0..self.replies.len() {
             moves.push(Move::Hand(reply))?;
@@ -39,40 +39,13 @@ impl<F: MissFile> Walker<F> {
         Ok(())
     }
 
-    /// Adds the deliveries of a line's messages. Only cores of threads send and are sent any.
-    fn list_deliveries(
-        &self,
-        test: &LitmusTest<'_>,
-        line: LineAddr,
-        moves: &mut Vec<Move>,
-    ) -> Result<(), AllocError> {
-        for thread in &test.threads {
-            let core = thread.core;
-            self.list_delivery(Pick::Req(line, core), moves)?;
-            self.list_delivery(Pick::Fwd(line, core), moves)?;
-            self.list_delivery(Pick::Data(line, core), moves)?;
-            self.list_acknowledgements(test, line, core, moves)?;
-        }
-        self.list_delivery(Pick::Home(line), moves)
-    }
-
-    fn list_acknowledgements(
-        &self,
-        test: &LitmusTest<'_>,
-        line: LineAddr,
-        to: CoreId,
-        moves: &mut Vec<Move>,
-    ) -> Result<(), AllocError> {
-        for thread in &test.threads {
-            let from = thread.core;
-            self.list_delivery(Pick::Ack { line, to, from }, moves)?;
-        }
-        Ok(())
-    }
-
-    fn list_delivery(&self, pick: Pick, moves: &mut Vec<Move>) -> Result<(), AllocError> {
-        if self.recorded.has_front(pick) {
-            moves.push(Move::Deliver(pick))?;
+    /// Adds the deliveries of a line's messages, core by core and home last.
+    fn list_deliveries(&self, line: LineAddr, moves: &mut Vec<Move>) -> Result<(), AllocError> {
+        let Some(mut waiting) = self.recorded.waiting_at(line) else {
+            return Ok(());
+        };
+        while let Some(channel) = waiting.next() {
+            moves.push(Move::Deliver(channel.at(line)))?;
         }
         Ok(())
     }

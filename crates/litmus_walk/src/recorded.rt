@@ -11,7 +11,7 @@ use address_map::{Checked, CoreId, LineAddr, Request, SliceId, WordAddr};
 use litmus_script::{Issued, Machine};
 use litmus_text::{Command, TextFault};
 use mshr_file::MissFile;
-use slice_core::{Entry, Numbered, Pick};
+use slice_core::{Entry, LineWaiting, Numbered, Pick};
 use std::alloc::Global;
 use std::marker::Model;
 
@@ -104,9 +104,9 @@ impl<F: MissFile> Recorded<F> {
         &self.calls
     }
 
-    /// Whether a message waits there.
-    pub fn has_front(&self, pick: Pick) -> bool {
-        self.machine.front(pick).is_some()
+    /// The channels of a line in which a message waits.
+    pub fn waiting_at(&self, line: LineAddr) -> Option<LineWaiting<'_>> {
+        self.machine.waiting_at(line)
     }
 
     /// The slice of a line.

@@ -2,11 +2,11 @@ ghost use Rattle.std.specs.Prelude.{◌≡◌, IfOk, IsTrue, OnOk, All};
 ghost use Rattle.slice_core_plan.specs.View.{IsQuiet};
 ghost use Rattle.litmus_walk.specs.Walk.{IsWalkOf, Walks};
 
-use super::copy::copy_of;
 use super::moves::Move;
 use super::recorded::Recorded;
 use super::walker::Walker;
 use address_map::LineAddr;
+use litmus_script::copy_of;
 use litmus_test::LitmusTest;
 use litmus_text::TextFault;
 use mshr_file::MissFile;

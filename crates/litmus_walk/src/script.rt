@@ -1,8 +1,8 @@
 ghost use Rattle.std.specs.Prelude.{IfOk, OnOk};
 ghost use Rattle.std.specs.Fmt.{WritesInCalls};
 ghost use Rattle.std.specs.Io.KnownBytes.{Appends};
-ghost use Rattle.mshr_file.specs.Miss.{Bound};
 ghost use Rattle.litmus_walk.specs.Script.{PrintsWalk, text_of_call, text_of_calls, text_of_script, text_of_step};
+ghost use Rattle.litmus_walk.specs.Walk.{bound_of};
 
 use super::moves::named_lines;
 use super::place::StepPlace;
@@ -25,7 +25,7 @@ pub fn write_walk<W: io::Write>(
     seed: u64,
     out: &mut W,
 ) -> Result<u8, TextFault>
-    ensures { IfOk result (λ status. (bound : Bound) × PrintsWalk test.now.config bound test.now.misses status
+    ensures { IfOk result (λ status. PrintsWalk test.now.config test.now.misses (bound_of test.now.misses test.now.config) status
         (W.contents out.old) (W.contents out.new)) }
 {
     match test.misses {
@@ -40,7 +40,7 @@ fn write_on<F: MissFile, W: io::Write>(
     seed: u64,
     out: &mut W,
 ) -> Result<u8, TextFault>
-    ensures { IfOk result (λ status. PrintsWalk test.now.config (F.bound_by test.now.config) test.now.misses status
+    ensures { IfOk result (λ status. PrintsWalk test.now.config test.now.misses (F.bound_by test.now.config) status
         (W.contents out.old) (W.contents out.new)) }
 {
     let Ok(lines) = named_lines(alloc, test) else {

@@ -28,7 +28,7 @@ use Rattle.slice_core_plan.specs.Parts.{PartsView}
 use Rattle.slice_core_plan.specs.View.{View, channels_at, entry_at, side_at, word_now}
 use Rattle.slice_core_steps.specs.declared.line_view.LineView.{LineView}
 use Rattle.slice_queues.specs.Line.{messages_at}
-use Rattle.slice_queues.specs.Waiting.{is_from_core, is_same_pick}
+use Rattle.slice_queues.specs.Waiting.{HasEachOnce, is_from_core, is_same_pick, line_waiting}
 use Rattle.slice_queues_message.specs.Pick.{channel_of, line_of}
 use Rattle.slice_queues_message.specs.declared.channel.Channel.{Channel}
 use Rattle.slice_queues_message.specs.declared.channel.Pick.{Pick}
@@ -114,6 +114,12 @@ ShowsLine v (Some local) shown =
 abbrev pub front_at : View → Option Local → Channel → Option Message
 front_at v None channel = None
 front_at v (Some local) channel = slice_get (messages_at (channels_at v local) channel) 0
+
+-- What a slice shows of a line's channels: those in which a message waits, in their order, each once and no other.
+abbrev pub AreWaitingAt : View → Option Local → List Channel → Type 0
+AreWaitingAt v None shown = ⊥
+AreWaitingAt v (Some local) shown =
+    (shown ≡ line_waiting (channels_at v local)) × HasEachOnce (channels_at v local) shown
 
 -- Each pick in front of which a message waits stands in the list once, and no other does. (A channel of acknowledgements
 -- names one of 64 cores as its sender.)

@@ -11,8 +11,8 @@
 //!
 //! What a call would do can be asked before it is made, and that changes nothing and takes no memory:
 //! [`SliceState::decide`] says what an access would be, [`SliceState::plan`] what a delivery would do,
-//! [`SliceState::next`] which pick of a class can be delivered, and [`SliceState::waiting`] goes through the picks with a
-//! message. A call does what was decided: its contract is by the same definitions (`decision_of`, `planned_at`).
+//! [`SliceState::next`] which pick of a class can be delivered, [`SliceState::waiting`] goes through the picks with a
+//! message, and [`SliceState::waiting_at`] through the channels of one line that have one. A call does what was decided: its contract is by the same definitions (`decision_of`, `planned_at`).
 #![tactic(auto)]
 
 pub use address_map::{Block, CoreId, CoreSet, LineAddr, Local, Op, Request, SliceId, WordAddr};
@@ -26,7 +26,7 @@ pub use slice_core_log::{Entry, Numbered};
 pub use slice_core_plan::{Decision, NextPick, Plan};
 pub use slice_core_side::{Access, Ask, Way};
 pub use slice_core_steps::LineView;
-pub use slice_queues::Picks;
+pub use slice_queues::{LineWaiting, Picks};
 pub use slice_queues_message::{
     Class, DataMessage, ForwardedMessage, Message, Pick, RequestMessage,
 };

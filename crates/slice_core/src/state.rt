@@ -1,7 +1,7 @@
-ghost use Rattle.std.specs.Prelude.{◌≡◌, ℕ, ◌<◌, ◌↔◌, [], ◌∷◌, length, All, IfOk, IfSome, IsTrue, IsSome};
+ghost use Rattle.std.specs.Prelude.{◌≡◌, ℕ, ◌<◌, ◌↔◌, [], ◌∷◌, length, All, IfNone, IfOk, IfSome, IsTrue, IsSome, None};
 ghost use Rattle.address_map.specs.Locator.{local_at};
 ghost use Rattle.address_map.specs.Place.{line_of};
-ghost use Rattle.slice_core.specs.Facts.{HasEachFrontOnce, Holds, IsInverted, IsNotBroken, IsNotBrokenNext, IsSameSlice, NeedsNoRegister, ShowsLast, ShowsLine, ShowsWord, front_at};
+ghost use Rattle.slice_core.specs.Facts.{AreWaitingAt, HasEachFrontOnce, Holds, IsInverted, IsNotBroken, IsNotBrokenNext, IsSameSlice, NeedsNoRegister, ShowsLast, ShowsLine, ShowsWord, front_at};
 ghost use Rattle.slice_core.specs.Run.{AfterCall, HasCore, HasCores, IsOneRun, IsUnbroken, Runs};
 ghost use Rattle.slice_core_machine.specs.Machine.{IsSame, new_machine};
 ghost use Rattle.slice_core_machine.specs.Shows.{Leads, Performs, hand_steps, issue_steps, next_of, shown};
@@ -19,7 +19,7 @@ use slice_core_answer::{Delivered, DeliveredNext, Evicted, Issue, Refused, Stats
 use slice_core_log::{Entry, Numbered};
 use slice_core_plan::{Decision, NextPick, Plan};
 use slice_core_steps::{LineView, Parts};
-use slice_queues::Picks;
+use slice_queues::{LineWaiting, Picks};
 use slice_queues_message::{Class, Message, Pick};
 use std::alloc::{AllocError, Global};
 use std::marker::Model;
@@ -239,6 +239,17 @@ impl<F: MissFile> SliceState<F> {
         ensures once { HasEachFrontOnce self.now.view result }
     {
         self.parts.waiting()
+    }
+
+    /// The channels of a line in which a message waits, each once and no other: core by core, each one's request,
+    /// forwarded message, data and acknowledgements, and the block that comes home last. None for a line that isn't the
+    /// slice's.
+    pub fn waiting_at(&self, line: LineAddr) -> Option<LineWaiting<'_>>
+        ensures there { IfNone result (local_at self.now.view.lines line.0 ≡ None) }
+        ensures waiting { IfSome result (AreWaitingAt self.now.view (local_at self.now.view.lines line.0)) }
+    {
+        let local = self.parts.lines().local_of(line)?;
+        Some(self.parts.waiting_at(local))
     }
 
     /// The message that a delivery at the pick would take: none for a line that isn't the slice's, nor for a core that

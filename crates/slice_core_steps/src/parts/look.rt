@@ -2,7 +2,7 @@ ghost use Rattle.std.specs.Prelude.{◌≡◌, ◌<◌, ◌≤◌, length, map, 
 ghost use Rattle.slice_core_plan.specs.View.{View, channels_at, entry_at, IsShaped};
 ghost use Rattle.slice_core_side.specs.Side.{SideView, state_of};
 ghost use Rattle.slice_queues.specs.Line.{messages_at};
-ghost use Rattle.slice_queues.specs.Waiting.{lines_waiting, placed_by, HasEachPickOnce};
+ghost use Rattle.slice_queues.specs.Waiting.{line_waiting, lines_waiting, placed_by, HasEachOnce, HasEachPickOnce};
 
 use super::Parts;
 use crate::line_view::LineView;
@@ -11,7 +11,7 @@ use arrayvec::ArrayVec;
 use cache_table::CopyState;
 use mshr_file::MissFile;
 use slice_core_side::Side;
-use slice_queues::Picks;
+use slice_queues::{LineWaiting, Picks};
 use slice_queues_message::{Channel, Message};
 
 impl<F: MissFile> Parts<F> {
@@ -52,6 +52,15 @@ impl<F: MissFile> Parts<F> {
         ensures once { HasEachPickOnce (placed_by self.now.view.lines self.now.view.channels) result }
     {
         self.queues.picks_of(self.lines)
+    }
+
+    /// The channels of a line in which a message waits, each once and no other.
+    pub fn waiting_at(&self, local: Local) -> LineWaiting<'_>
+        requires { local.0 < length self.now.view.channels }
+        ensures order { result ≡ line_waiting (channels_at self.now.view local) }
+        ensures once { HasEachOnce (channels_at self.now.view local) result }
+    {
+        self.queues.line(local).waiting()
     }
 }
 

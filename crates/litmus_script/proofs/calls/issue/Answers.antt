@@ -1,22 +1,11 @@
+use Rattle.std.proofs.Common.{Ok, ap, get_or, ◌∙◌}
+use Rattle.litmus_script.specs.Issued.{no_entry}
 use Rattle.litmus_script.proofs.CallLemmas.{issued}
 use Rattle.litmus_script.proofs.calls.issue.Goals as goal
 
-pub returns-in-Ok-Done-clause-made : goal.returns-in-Ok-Done-clause-made
-returns-in-Ok-Done-clause-made g c =
-    issued c.args.state.now c.issue.new.self c.args.core c.args.request c.issue.result c.issue.ensures.step
-
-pub returns-in-Ok-Pending-clause-made : goal.returns-in-Ok-Pending-clause-made
-returns-in-Ok-Pending-clause-made g c =
-    issued c.args.state.now c.issue.new.self c.args.core c.args.request c.issue.result c.issue.ensures.step
-
-pub returns-in-Ok-Stall-clause-made : goal.returns-in-Ok-Stall-clause-made
-returns-in-Ok-Stall-clause-made g c =
-    issued c.args.state.now c.issue.new.self c.args.core c.args.request c.issue.result c.issue.ensures.step
-
-pub returns-in-Err-Memory-clause-made : goal.returns-in-Err-Memory-clause-made
-returns-in-Err-Memory-clause-made g c =
-    issued c.args.state.now c.issue.new.self c.args.core c.args.request c.issue.result c.issue.ensures.step
-
-pub returns-in-Err-clause-made : goal.returns-in-Err-clause-made
-returns-in-Err-clause-made g c =
-    issued c.args.state.now c.issue.new.self c.args.core c.args.request c.issue.result c.issue.ensures.step
+pub returns-in-Ok-Done-clause-issued : goal.returns-in-Ok-Done-clause-issued
+returns-in-Ok-Done-clause-issued g c = record {
+  answers = issued c.args.state.now c.issue.new.self c.args.core c.args.request c.issue.result _ c.issue.ensures.step
+      (c.in-Ok-Done.is ∙ ap Ok c.in-Ok-Done.field-0-is);
+  said = ap (λ log. (get_or log c.in-Ok-Done.number no_entry).reply) c.log.ensures.log;
+}

@@ -4,8 +4,8 @@ use address_map::{Checked, Config, CounterWords, InitialValues, WordAddr};
 use litmus_text::TextFault;
 use std::alloc::{AllocError, Global};
 
-/// Another configuration that is equal.
-pub(crate) fn copy_of(alloc: Global, config: &Checked) -> Result<Checked, TextFault>
+/// Another configuration that is equal: each machine keeps its own.
+pub fn copy_of(alloc: Global, config: &Checked) -> Result<Checked, TextFault>
     ensures { IfOk result (λ copy. copy ≡ config.now) }
 {
     let (Ok(init), Ok(counters)) = (

@@ -1,0 +1,51 @@
+-- What a command does to a machine, and what it prints.
+use Rattle.std.specs.Prelude.{◌≡◌, ℕ, ◌/◌, ◌%◌, List, ◌++◌, codes, Option}
+use Rattle.std.specs.Io.KnownBytes.{Appends}
+use Rattle.address_map.specs.Place.{line_of as line_of_word}
+use Rattle.address_map.specs.declared.config.Config.{Config}
+use Rattle.litmus_script.specs.Answer.{text_of_delivered, text_of_handed, text_of_issued, text_of_word}
+use Rattle.litmus_script.specs.Issued.{IsIssued}
+use Rattle.litmus_script.specs.Machine.{IsAnswered, IsShownWord}
+use Rattle.litmus_script.specs.declared.answers.Issued.{Issued}
+use Rattle.litmus_text.specs.declared.command.Command.{Command}
+use Rattle.litmus_text.specs.declared.command.Command.TheVariants as commands
+use Rattle.slice_core.specs.declared.run.Call.TheVariants as calls
+use Rattle.slice_core.specs.declared.run.CallAnswer.TheVariants as answers
+use Rattle.slice_core_answer.specs.Text.{text_of_evicted}
+use Rattle.slice_core_answer.specs.declared.answer.Delivered.{Delivered}
+use Rattle.slice_core_answer.specs.declared.answer.Evicted.{Evicted}
+use Rattle.slice_core_log.specs.declared.entry.Numbered.{Numbered}
+use Rattle.slice_core_plan.specs.Parts.{PartsView}
+use Rattle.slice_queues_message.specs.Pick.{line_of}
+
+-- what is written grows by this text and the end of its line
+abbrev pub Adds : Option (List ℕ) → Option (List ℕ) → List ℕ → Type 0
+Adds before after text = Appends before after (text ++ codes "\n")
+
+-- The command's call of its slice, and what is written of the slice's answer behind what was written before. What only
+-- shows something leaves the machine as it was. The text of a line's state, of a log, of the counts and of a pump isn't
+-- said.
+abbrev pub Prints : Config → Command → List PartsView → List PartsView → Option (List ℕ) → Option (List ℕ) → Type 0
+Prints config (commands.Issue core request) old new before after =
+    (issued : Issued) × IsIssued ((line_of_word request.word).0 % config.slices) core request issued old new
+    × Adds before after (text_of_issued issued)
+Prints config (commands.Evict core line) old new before after =
+    (answer : Evicted) × IsAnswered (line.0 % config.slices) (calls.Evict core line) (answers.Evict answer) old new
+    × Adds before after (text_of_evicted answer)
+Prints config (commands.Deliver pick) old new before after =
+    (answer : Delivered) × IsAnswered ((line_of pick).0 % config.slices) (calls.Deliver pick) (answers.Deliver answer) old new
+    × Adds before after (text_of_delivered answer)
+Prints config (commands.Hand core slice) old new before after =
+    (answer : Option Numbered) × IsAnswered slice.0 (calls.Hand core) (answers.Hand answer) old new
+    × Adds before after (text_of_handed answer)
+Prints config (commands.Word word) old new before after =
+    (new ≡ old) × (shown : Option ℕ) × IsShownWord old (word.0 / 8 % config.slices) word shown
+    × Adds before after (text_of_word shown)
+Prints config (commands.State line) old new before after = new ≡ old
+Prints config (commands.Log slice) old new before after = new ≡ old
+Prints config commands.Stats old new before after = new ≡ old
+Prints config (commands.Pump calls) old new before after = Unit {0}
+
+-- The command's answer is printed. As a record it isn't unfolded where it is handed on.
+pub record IsPrinted (config : Config) (command : Command) (old new : List PartsView) (before after : Option (List ℕ)) : Type 0 where
+  pub printed : Prints config command old new before after

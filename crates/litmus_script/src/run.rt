@@ -1,0 +1,151 @@
+//! What a machine does and prints for each command.
+ghost use Rattle.std.specs.Prelude.{◌≡◌, ◌/◌, ◌<◌, OnOk};
+ghost use Rattle.litmus_script.specs.Prints.{IsPrinted};
+ghost use Rattle.litmus_text.specs.Command.{IsInRange, HasCore, HasLine};
+ghost use Rattle.litmus_text.specs.declared.command.Command.TheVariants as commands;
+
+use super::answers::{
+    Answers, write_delivered, write_evicted, write_handed, write_issued, write_pumped, write_word,
+    written,
+};
+use super::line::write_line;
+use super::machine::Machine;
+use super::trace::write_trace;
+use super::watcher::Nobody;
+use address_map::{CoreId, LineAddr, Request, SliceId, WordAddr};
+use litmus_text::{Command, TextFault};
+use mshr_file::MissFile;
+use slice_core::Pick;
+use stats_report::{ReportError, write_report};
+use std::io::Write;
+
+impl<F: MissFile> Machine<F> {
+    /// Does what the command says, and writes the answer.
+    pub fn run<W: Write>(&mut self, command: Command, out: &mut W) -> Result<(), TextFault>
+        requires { IsInRange self.old.config command }
+        ensures config { self.new.config ≡ self.old.config }
+        ensures printed { OnOk result (IsPrinted self.old.config command self.old.slices.items self.new.slices.items
+            (W.contents out.old) (W.contents out.new)) }
+    {
+        match command {
+            Command::Issue { core, request } => self.run_issue(core, request, out),
+            Command::Evict { core, line } => self.run_evict(core, line, out),
+            Command::Deliver(pick) => self.run_deliver(pick, out),
+            Command::Hand { core, slice } => self.run_hand(core, slice, out),
+            Command::Word(word) => self.run_word(word, out),
+            Command::State(line) => self.run_state(line, out),
+            Command::Log(slice) => self.run_log(slice, out),
+            Command::Stats => self.run_stats(out),
+            Command::Pump(calls) => self.run_pump(calls, out),
+        }
+    }
+
+    fn run_issue<W: Write>(
+        &mut self,
+        core: CoreId,
+        request: Request,
+        out: &mut W,
+    ) -> Result<(), TextFault>
+        requires { HasCore self.old.config core }
+        ensures config { self.new.config ≡ self.old.config }
+        ensures printed { OnOk result (IsPrinted self.old.config (commands.Issue core request)
+            self.old.slices.items self.new.slices.items (W.contents out.old) (W.contents out.new)) }
+    {
+        let issued = self.issue(core, request)?;
+        let mut answers = Answers { out };
+        written(write_issued(issued, &mut answers))
+    }
+
+    fn run_evict<W: Write>(
+        &mut self,
+        core: CoreId,
+        line: LineAddr,
+        out: &mut W,
+    ) -> Result<(), TextFault>
+        requires { HasCore self.old.config core }
+        ensures config { self.new.config ≡ self.old.config }
+        ensures printed { OnOk result (IsPrinted self.old.config (commands.Evict core line)
+            self.old.slices.items self.new.slices.items (W.contents out.old) (W.contents out.new)) }
+    {
+        let evicted = self.evict(core, line);
+        let mut answers = Answers { out };
+        written(write_evicted(evicted, &mut answers))
+    }
+
+    fn run_deliver<W: Write>(&mut self, pick: Pick, out: &mut W) -> Result<(), TextFault>
+        ensures config { self.new.config ≡ self.old.config }
+        ensures printed { OnOk result (IsPrinted self.old.config (commands.Deliver pick)
+            self.old.slices.items self.new.slices.items (W.contents out.old) (W.contents out.new)) }
+    {
+        let delivered = self.deliver(pick);
+        let mut answers = Answers { out };
+        written(write_delivered(delivered, &mut answers))
+    }
+
+    fn run_hand<W: Write>(
+        &mut self,
+        core: CoreId,
+        slice: SliceId,
+        out: &mut W,
+    ) -> Result<(), TextFault>
+        requires core { HasCore self.old.config core }
+        requires slice { slice.0 < self.old.config.slices }
+        ensures config { self.new.config ≡ self.old.config }
+        ensures printed { OnOk result (IsPrinted self.old.config (commands.Hand core slice)
+            self.old.slices.items self.new.slices.items (W.contents out.old) (W.contents out.new)) }
+    {
+        let handed = self.hand(core, slice);
+        let mut answers = Answers { out };
+        written(write_handed(handed, &mut answers))
+    }
+
+    fn run_word<W: Write>(&self, word: WordAddr, out: &mut W) -> Result<(), TextFault>
+        requires { word.0 / 8 < self.now.config.lines }
+        ensures { OnOk result (IsPrinted self.now.config (commands.Word word) self.now.slices.items self.now.slices.items
+            (W.contents out.old) (W.contents out.new)) }
+    {
+        let shown = self.word_now(word);
+        let mut answers = Answers { out };
+        written(write_word(shown, &mut answers))
+    }
+
+    fn run_state<W: Write>(&self, line: LineAddr, out: &mut W) -> Result<(), TextFault>
+        requires { HasLine self.now.config line }
+    {
+        let mut answers = Answers { out };
+        match self.view(line) {
+            Some(view) => written(write_line(line, &view, &mut answers)),
+            // Each line of the memory is its slice's, so this isn't met.
+            None => Ok(()),
+        }
+    }
+
+    fn run_log<W: Write>(&self, slice: SliceId, out: &mut W) -> Result<(), TextFault>
+        requires { slice.0 < self.now.config.slices }
+    {
+        let mut answers = Answers { out };
+        let state = &self.slices[slice.0 as usize];
+        written(write_trace(&self.config, state.init(), state.log(), &mut answers))
+    }
+
+    fn run_stats<W: Write>(&self, out: &mut W) -> Result<(), TextFault> {
+        let Ok(stats) = self.stats() else {
+            return Err(TextFault::NoMemory);
+        };
+        match write_report(self.alloc, stats.as_slice(), out) {
+            Ok(()) => Ok(()),
+            Err(ReportError::Memory) => Err(TextFault::NoMemory),
+            Err(ReportError::Cut(_)) => Err(TextFault::CannotWrite),
+        }
+    }
+
+    fn run_pump<W: Write>(&mut self, calls: u64, out: &mut W) -> Result<(), TextFault>
+        ensures { self.new.config ≡ self.old.config }
+    {
+        let Ok(pumped) = self.pump(calls, &mut Nobody) else {
+            return Err(TextFault::NoMemory);
+        };
+        let mut answers = Answers { out };
+        written(write_pumped(pumped, &mut answers))
+    }
+}

@@ -1,5 +1,5 @@
 -- Where a line can't come next, the text is no trace.
-use Rattle.std.proofs.Common.{◌≡◌, ℕ, ◌+◌, ◌<◌, List, [], ◌∷◌, ◌++◌, length, get_or, Option, Some, None, map, refl, sym, ap, subst, ◌∙◌, arith, length-append, append_assoc}
+use Rattle.std.proofs.Common.{◌≡◌, ℕ, ◌+◌, ◌<◌, List, [], ◌∷◌, ◌++◌, length, get_or, Option, Some, None, map, refl, sym, ap, subst, ◌∙◌, arith, inr, length-append, append_assoc}
 use Rattle.std.specs.Prelude.{IfSome}
 use Rattle.std.specs.Str.Lines.{lines}
 use Rattle.std.proofs.Math.Seq.{get_or-append_seam}
@@ -16,7 +16,7 @@ use Rattle.trace_check.specs.declared.trace_line.Version.{Version}
 use Rattle.trace_check.specs.declared.trace_line.TraceLine.{TraceLine}
 use Rattle.trace_check.specs.declared.trace_line.TraceLine.TheVariants as trace_lines
 use Rattle.trace_check.specs.TraceLine.{IsLineOf, parts_of_first, parts_of_line}
-use Rattle.trace_check.specs.Trace.{AreLines, lines_of, AreTrace, AreNoTrace, IsNoTrace, IsLastNamed, IsNoMemoryOr, IsNoNextLine, IsReading, MayBegin, MayFollow, Stands}
+use Rattle.trace_check.specs.Trace.{AreLines, IsAtLine, IsFaultAt, IsFirstFault, lines_of, AreTrace, AreNoTrace, IsNoTrace, IsLastNamed, IsNoMemoryOr, IsNoNextLine, IsReading, MayBegin, MayFollow, Stands}
 use Rattle.trace_check.proofs.ReadingLemmas.{one_version, one_line, same_lines, not_both}
 
 -- the word and the value that a line names, where it names them
@@ -164,6 +164,40 @@ no_trace check version all left s same reading none init entries trace =
     (may_follow check reading.init init reading.entries entries parts.before parts.after parts.line reading.stands
     trace.ascending names parts.shape)
 
+-- .. and the statement is the first at fault, since those before it are lines of a trace
+pub first_fault : (check : Check) (version : Version) (all left : List (ℕ × List (List ℕ))) (number : ℕ) (words : List (List ℕ))
+    → check.version ≡ version → IsReading check all ((number, words) ∷ left) → IsNoNextLine check words
+    → IsFirstFault version all number
+first_fault check version all left number words same reading none = record {
+  before = reading.done;
+  words = words;
+  behind = left;
+  stands = sym reading.split;
+  init = reading.init;
+  entries = reading.entries;
+  sound = record { written = rw same at reading.written; ascending = reading.stands.ascending };
+  refused = no_trace check version (reading.done ++ (number, words) ∷ []) [] (number, words) same
+      (record {
+        init = reading.init;
+        entries = reading.entries;
+        done = reading.done;
+        split = refl;
+        written = reading.written;
+        stands = reading.stands;
+      }) none;
+}
+
+-- where a fault names the line of a refused statement, it names the first at fault
+pub at_first_fault : (check : Check) (version : Version) (all left : List (ℕ × List (List ℕ))) (number : ℕ)
+    (words : List (List ℕ)) (fault : TextFault) → check.version ≡ version → IsReading check all ((number, words) ∷ left)
+    → IsNoMemoryOr (IsNoNextLine check words) fault → IsAtLine (λ n. n ≡ number) fault
+    → IsAtLine (IsFirstFault version all) fault
+at_first_fault check version all left number words faults.NoMemory same reading none at = tt
+at_first_fault check version all left number words (faults.Line n fault) same reading none at =
+    subst (IsFirstFault version all) (sym at) (first_fault check version all left number words same reading none)
+at_first_fault check version all left number words (faults.Config error) same reading none at = tt
+at_first_fault check version all left number words faults.CannotWrite same reading none at = tt
+
 -- a text with a first line, and no trace behind it, is no trace
 pub no_text : (text : List ℕ) (number : ℕ) (first : List (List ℕ)) (rest : List (ℕ × List (List ℕ))) (version : Version)
     → statements_from 0 (lines text) ≡ (number, first) ∷ rest → Writes first (parts_of_first version)
@@ -180,6 +214,16 @@ no_text text number first rest version is begins none other init entries trace =
     (subst (λ ws. Writes ws (parts_of_first version)) same_first begins) in
     none init entries (subst (λ ss. AreTrace version init entries ss) same_rest
     (subst (λ v. AreTrace v init entries trace.rest) one trace.goes_on))
+
+-- a line at fault behind the first is the text's
+pub at_fault : (statements rest : List (ℕ × List (List ℕ))) (number : ℕ) (first : List (List ℕ)) (version : Version)
+    (fault : TextFault) → statements ≡ (number, first) ∷ rest → Writes first (parts_of_first version)
+    → IsAtLine (IsFirstFault version rest) fault → IsAtLine (IsFaultAt statements) fault
+at_fault statements rest number first version faults.NoMemory is begins at = tt
+at_fault statements rest number first version (faults.Line n fault) is begins at =
+    subst (λ ss. IsFaultAt ss n) (sym is) (inr (version, begins, at))
+at_fault statements rest number first version (faults.Config error) is begins at = tt
+at_fault statements rest number first version faults.CannotWrite is begins at = tt
 
 -- a fault that is no want of memory comes also where less is refused
 pub IsNoMemoryOr-weaker : (P Q : Type 0) (fault : TextFault) → (P → Q) → IsNoMemoryOr P fault → IsNoMemoryOr Q fault

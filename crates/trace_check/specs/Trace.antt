@@ -1,5 +1,5 @@
 -- What the text of a trace is.
-use Rattle.std.specs.Prelude.{◌≡◌, ℕ, List, [], ◌∷◌, ◌++◌, map, length, ◌<◌, IfSome, Option, Some, None}
+use Rattle.std.specs.Prelude.{◌≡◌, ◌⊎◌, ℕ, List, [], ◌∷◌, ◌++◌, map, length, ◌<◌, IfSome, Option, Some, None}
 use Rattle.std.specs.Str.Lines.{lines}
 use Rattle.address_map.specs.declared.address.WordAddr.{WordAddr}
 use Rattle.address_map.specs.Words.{IsAscendingBy}
@@ -17,7 +17,7 @@ use Rattle.trace_check.specs.declared.verdict.Reason.{Reason}
 use Rattle.trace_check.specs.declared.verdict.Verdict.{Verdict}
 use Rattle.trace_check.specs.declared.verdict.Verdict.TheVariants as verdicts
 use Rattle.trace_check.specs.declared.check.Check.{Check}
-use Rattle.trace_check.specs.TraceLine.{IsLineOf, parts_of_first}
+use Rattle.trace_check.specs.TraceLine.{IsLineOf, IsNoFirstLine, parts_of_first}
 use Rattle.trace_check.specs.Verdict.{IsVerdict}
 use Rattle.trace_check.specs.Judge.{Knows}
 
@@ -73,6 +73,30 @@ IsNoMemoryOr refused faults.NoMemory = Unit {0}
 IsNoMemoryOr refused (faults.Line number fault) = refused
 IsNoMemoryOr refused (faults.Config error) = ⊥
 IsNoMemoryOr refused faults.CannotWrite = ⊥
+
+-- what holds of the line that a fault names, where it names one
+abbrev pub IsAtLine : (ℕ → Type 0) → TextFault → Type 0
+IsAtLine holds (faults.Line number fault) = holds number
+IsAtLine holds other = Unit {0}
+
+-- The first statement at fault has this number: those before it are lines of a trace, and with it they are none.
+pub record IsFirstFault (version : Version) (statements : List (ℕ × List (List ℕ))) (number : ℕ) : Type 0 where
+  pub before : List (ℕ × List (List ℕ))
+  pub words : List (List ℕ)
+  pub behind : List (ℕ × List (List ℕ))
+  pub stands : statements ≡ before ++ (number, words) ∷ behind
+  pub init : List (WordAddr × ℕ)
+  pub entries : List Entry
+  pub sound : AreTrace version init entries before
+  pub refused : AreNoTrace version (before ++ (number, words) ∷ [])
+
+-- The line at fault of a text, by its statements: line 1 where there are none, the first of them where it begins no trace,
+-- and else the first at fault behind it.
+abbrev pub IsFaultAt : List (ℕ × List (List ℕ)) → ℕ → Type 0
+IsFaultAt [] number = number ≡ 1
+IsFaultAt (first ∷ rest) number =
+    ((number ≡ first.0) × IsNoFirstLine first.1)
+    ⊎ ((version : Version) × Writes first.1 (parts_of_first version) × IsFirstFault version rest number)
 
 -- the word that was named last
 abbrev pub IsLastNamed : Option WordAddr → List (WordAddr × ℕ) → Type 0

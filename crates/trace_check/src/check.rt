@@ -1,5 +1,7 @@
 ghost use Rattle.std.specs.Prelude.{◌≡◌, ℕ, ◌<◌, List, [], ◌∷◌, ◌++◌, map, length, IfOk, IfErr, OnOk, IsTrue, ◌↔◌};
+ghost use Rattle.std.specs.Str.Lines.{lines};
 ghost use Rattle.address_map.specs.declared.address.WordAddr.{WordAddr};
+ghost use Rattle.litmus_text.specs.Statement.{statements_from};
 ghost use Rattle.slice_core_log.specs.Log.{initially};
 ghost use Rattle.slice_core_log.specs.declared.entry.Entry.{Entry};
 ghost use Rattle.trace_check.specs.Judge.{IsNameable};
@@ -7,7 +9,7 @@ ghost use Rattle.trace_check.specs.declared.judge.TheConstants.{MOST_WORDS};
 ghost use Rattle.trace_check.specs.TraceLine.{IsLineOf};
 ghost use Rattle.trace_check.specs.declared.verdict.Verdict.{Verdict};
 ghost use Rattle.trace_check.specs.Verdict.{IsVerdict};
-ghost use Rattle.trace_check.specs.Trace.{IsJudged, AreJudged, IsNoTrace, AreNoTrace, IsNoMemoryOr, IsNoNextLine, IsReading, IsSoFar, Stands, MayBegin, MayFollow};
+ghost use Rattle.trace_check.specs.Trace.{IsJudged, AreJudged, IsAtLine, IsFaultAt, IsFirstFault, IsNoTrace, AreNoTrace, IsNoMemoryOr, IsNoNextLine, IsReading, IsSoFar, Stands, MayBegin, MayFollow};
 
 use super::judge::Judge;
 use super::trace_line::{TraceLine, Version};
@@ -35,6 +37,7 @@ struct Check {
 pub fn check_trace(alloc: Global, input: &[u8]) -> Result<Verdict, TextFault>
     ensures judged { IfOk result (IsJudged input.now) }
     ensures refused { IfErr result (IsNoMemoryOr (IsNoTrace input.now)) }
+    ensures line { IfErr result (IsAtLine (IsFaultAt (statements_from 0 (lines input.now)))) }
 {
     let mut statements = Statements::of(input);
     let Some(first) = statements.next() else {
@@ -59,6 +62,7 @@ fn check_lines(
 ) -> Result<Verdict, TextFault>
     ensures judged { IfOk result (AreJudged version statements.entry) }
     ensures refused { IfErr result (IsNoMemoryOr (AreNoTrace version statements.entry)) }
+    ensures line { IfErr result (IsAtLine (IsFirstFault version statements.entry)) }
 {
     let mut check = Check::new(alloc, version);
     for statement in statements {
@@ -87,6 +91,7 @@ impl Check {
             → IsReading self.old all ((statement.now.number, map (λ w. w.now) statement.now.words.items) ∷ left)
             → IsReading self.new all left) }
         ensures refused { IfErr result (IsNoMemoryOr (IsNoNextLine self.old (map (λ w. w.now) statement.now.words.items))) }
+        ensures line { IfErr result (IsAtLine (λ number. number ≡ statement.now.number)) }
         ensures version { self.new.version ≡ self.old.version }
     {
         match self.line(statement.words.as_slice()) {

@@ -2,8 +2,9 @@
 //! first at fault, and why.
 //!
 //! - [`check_trace`] judges a text. At Ok its lines write a trace's initial values and entries, and the verdict is that
-//!   on these entries. A text is refused only where it is no trace, with any initial values and entries; want of memory
-//!   is a fault of its own (specs/Trace.antt). [`one_judgement`] says that no text has two verdicts.
+//!   on these entries. A text is refused only where it is no trace, with any initial values and entries, and the line that
+//!   the fault names is the first with which it can be none (`IsFaultAt`); want of memory is a fault of its own
+//!   (specs/Trace.antt). [`one_judgement`] says that no text has two verdicts.
 //! - [`judge_log`] judges a log that is at hand (specs/Verdict.antt), and [`one_verdict`] says that no log has two
 //!   verdicts.
 //! - [`TraceLine`] is a line of a trace. At Ok of [`TraceLine::parse`] the words write that line, and it names only

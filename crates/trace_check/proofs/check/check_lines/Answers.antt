@@ -1,6 +1,6 @@
 use Rattle.std.proofs.lemmas.Result.{err_from_is_err_and}
 use Rattle.trace_check.proofs.CheckLemmas.{reading-none}
-use Rattle.trace_check.proofs.RefusalLemmas.{no_trace, IsNoMemoryOr-weaker}
+use Rattle.trace_check.proofs.RefusalLemmas.{at_first_fault, no_trace, IsNoMemoryOr-weaker}
 use Rattle.trace_check.proofs.check.check_lines.Goals as goal
 
 pub loop-statement-init : goal.loop-statement-init
@@ -17,3 +17,11 @@ returns-in_err-take-clause-refused c =
     (no_trace c.loop-statement.check c.args.version _ _ _ c.loop-statement.invariant.version
     (rw c.in-Some.ensures.steps at c.loop-statement.invariant.reading))
     c.in_err-take.ensures.refused)
+
+pub returns-in_err-take-clause-line : goal.returns-in_err-take-clause-line
+returns-in_err-take-clause-line c =
+    let p = err_from_is_err_and c.from_residual.result c.from_residual.ensures.1 in
+    rw (p.1, p.2)
+    (at_first_fault c.loop-statement.check c.args.version _ _ _ _ _ c.loop-statement.invariant.version
+    (rw c.in-Some.ensures.steps at c.loop-statement.invariant.reading)
+    c.in_err-take.ensures.refused c.in_err-take.ensures.line)

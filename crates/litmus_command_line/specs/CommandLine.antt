@@ -4,7 +4,9 @@ use Rattle.std.specs.Option.{option_map_or}
 use Rattle.std.specs.Str.{bytes_eq}
 use Rattle.std.specs.Str.Parse.{digits_value, without_leading_plus}
 use Rattle.std.specs.Borrow.{Bor}
-use Rattle.clap.specs.Words.{App, Row, Rule, Text, first_of, new_app, new_rule, one_of, subcommand_of}
+use Rattle.clap.specs.declared.builder.command.Command.{Command}
+use Rattle.clap.specs.declared.builder.command.Command.TheViews.{out-Command as fields_of}
+use Rattle.clap.specs.Words.{App, Row, Rule, Text, app_of, first_of, new_app, new_rule, one_of, subcommand_of}
 use Rattle.clap.specs.Words.{with_rule, with_subcommand}
 use Rattle.clap.specs.declared.builder.action.ArgAction.TheVariants.{SetTrue}
 use Rattle.clap.specs.declared.builder.value_parser.ValueParser.TheVariants as parsers
@@ -74,6 +76,10 @@ abbrev pub top_app : App
 top_app = record (new_app (codes "lockup")) {
   top = record (new_app (codes "lockup")).top { subcommand_required = true; has_version = true };
 }
+
+-- this is the program with one more subcommand, which has no global argument
+abbrev pub IsWith : App → Command → App → Type 0
+IsWith program sub app = (fields_of sub).has_globals ≡ false → app ≡ with_subcommand program (app_of sub).top
 
 -- the program with its subcommands
 abbrev pub lockup_app : Bor (List (Bor Text)) → App

@@ -1,6 +1,6 @@
-ghost use Rattle.std.specs.Prelude.{◌≡◌, map, IfOk, IfSome, string_bytes, codes, false};
+ghost use Rattle.std.specs.Prelude.{◌≡◌, map, IfOk, IfSome, IsOkAnd, string_bytes, codes, false};
 ghost use Rattle.clap.specs.declared.builder.command.Command.TheViews.{out-Command as fields_of};
-ghost use Rattle.litmus_command_line.specs.CommandLine.{IsAsked, IsLine, IsLockup, IsRead, IsTable, chart_app, check_app};
+ghost use Rattle.litmus_command_line.specs.CommandLine.{IsAsked, IsLine, IsLockup, IsRead, IsTable, IsWith, chart_app, check_app};
 ghost use Rattle.litmus_command_line.specs.CommandLine.{file_rule, flag_rule, is_given, script_app, word_of};
 ghost use Rattle.litmus_command_line.specs.CommandLine.{IsNumberOf, IsNumberIfGiven, litmus_app, number_rule};
 ghost use Rattle.litmus_command_line.specs.CommandLine.{number_rule_or, walk_app};
@@ -58,11 +58,17 @@ pub fn read_line<'a>(alloc: Global, words: &'a [String]) -> Result<CommandLine<'
     ensures { IfOk result (IsRead (map string_bytes words.entry.now)) }
 {
     let matches = lockup(alloc)?.try_get_matches_from(words)?;
-    match asked(&matches) {
+    let line = asked(&matches);
+    drop(matches);
+    match line {
         Some(line) => Ok(line),
         // The command asks for a subcommand and its arguments, so this isn't met.
-        None => Err(lockup(alloc)?.error(ErrorKind::MissingSubcommand, "a subcommand is missing")?),
+        None => Err(missing(alloc)?),
     }
+}
+
+fn missing(alloc: Global) -> Result<Error, AllocError> {
+    lockup(alloc)?.error(ErrorKind::MissingSubcommand, "a subcommand is missing")
 }
 
 fn asked<'a>(matches: &ArgMatches<'a>) -> Option<CommandLine<'a>>
@@ -177,34 +183,38 @@ fn is_given(given: &ArgMatches<'_>, name: &str) -> bool
 fn lockup<'a>(alloc: Global) -> Result<Command<'a>, AllocError>
     ensures { IfOk result (λ c. IsLockup (app_of c)) }
 {
-    let script = script(alloc)?;
-    let chart = chart(alloc)?;
-    let litmus = litmus(alloc)?;
-    let walk = walk(alloc)?;
-    let check = check(alloc)?;
-    let table = table(alloc)?;
-    Command::new(alloc, "lockup")
+    let program = Command::new(alloc, "lockup")
         .about("Runs a verified model of lockup-free caches under a directory protocol")
         .version("0.1.0")
-        .subcommand_required(true)
-        .subcommand(script)?
-        .subcommand(chart)?
-        .subcommand(litmus)?
-        .subcommand(walk)?
-        .subcommand(check)?
-        .subcommand(table)
+        .subcommand_required(true);
+    let program = with(program, script(alloc))?;
+    let program = with(program, chart(alloc))?;
+    let program = with(program, litmus(alloc))?;
+    let program = with(program, walk(alloc))?;
+    let program = with(program, check(alloc))?;
+    with(program, table(alloc))
+}
+
+/// The program with one more subcommand, where there was memory to make it. One is made at a time: of several, each
+/// would be dropped on each way out.
+fn with<'a>(
+    program: Command<'a>,
+    made: Result<Command<'a>, AllocError>,
+) -> Result<Command<'a>, AllocError>
+    ensures { IfOk result (λ c. IsOkAnd made.entry (λ sub. IsWith (app_of program.entry) sub (app_of c))) }
+{
+    program.subcommand(made?)
 }
 
 fn script<'a>(alloc: Global) -> Result<Command<'a>, AllocError>
     ensures reads { IfOk result (λ c. app_of c ≡ script_app) }
     ensures plain { IfOk result (λ c. (fields_of c).has_globals ≡ false) }
 {
-    let echo = flag(alloc, "echo", "Print each command's line before its answer");
     Command::new(alloc, "script")
         .about("Runs a script on the state of each slice, without threads, and prints its answers")
         .after_help(help::SCRIPT)
         .arg(file(alloc, "The script: one command a line; - is standard input"))?
-        .arg(echo)
+        .arg(flag(alloc, "echo", "Print each command's line before its answer"))
 }
 
 fn chart<'a>(alloc: Global) -> Result<Command<'a>, AllocError>
@@ -221,44 +231,39 @@ fn litmus<'a>(alloc: Global) -> Result<Command<'a>, AllocError>
     ensures reads { IfOk result (λ c. app_of c ≡ litmus_app) }
     ensures plain { IfOk result (λ c. (fields_of c).has_globals ≡ false) }
 {
-    let seed = number_or(
-        alloc,
-        "seed",
-        "Seeds the extra turns that a core makes before each step",
-        "1",
-    );
-    let limit = number_or(alloc, "limit", "How many turns a run may take", "1000000");
     Command::new(alloc, "litmus")
         .about("Runs a litmus test over threads, round by round, and counts its outcomes")
         .after_help(help::LITMUS)
         .arg(file(alloc, "The litmus test; - is standard input"))?
-        .arg(seed)?
-        .arg(limit)
+        .arg(number_or(
+            alloc,
+            "seed",
+            "Seeds the extra turns that a core makes before each step",
+            "1",
+        ))?
+        .arg(number_or(alloc, "limit", "How many turns a run may take", "1000000"))
 }
 
 fn walk<'a>(alloc: Global) -> Result<Command<'a>, AllocError>
     ensures reads { IfOk result (λ c. app_of c ≡ walk_app) }
     ensures plain { IfOk result (λ c. (fields_of c).has_globals ≡ false) }
 {
-    let rounds = number(
-        alloc,
-        "rounds",
-        "How many rounds, and not as many as the test says",
-    );
-    let seed = number_or(
-        alloc,
-        "seed",
-        "The first round's seed; each later one's is one more",
-        "1",
-    );
-    let script = flag(alloc, "script", "Print the round of this seed, as a script");
     Command::new(alloc, "walk")
         .about("Runs a litmus test on random schedules, without threads, and counts its outcomes")
         .after_help(help::WALK)
         .arg(file(alloc, "The litmus test; - is standard input"))?
-        .arg(rounds)?
-        .arg(seed)?
-        .arg(script)
+        .arg(number(
+            alloc,
+            "rounds",
+            "How many rounds, and not as many as the test says",
+        ))?
+        .arg(number_or(
+            alloc,
+            "seed",
+            "The first round's seed; each later one's is one more",
+            "1",
+        ))?
+        .arg(flag(alloc, "script", "Print the round of this seed, as a script"))
 }
 
 fn check<'a>(alloc: Global) -> Result<Command<'a>, AllocError>
@@ -277,7 +282,6 @@ fn table<'a>(alloc: Global) -> Result<Command<'a>, AllocError>
     ensures reads { IfOk result (λ c. IsTable (app_of c)) }
     ensures plain { IfOk result (λ c. (fields_of c).has_globals ≡ false) }
 {
-    let exclusive = flag(alloc, "exclusive", "Also show the exclusive state");
     Command::new(alloc, "table")
         .about("Prints a table of the protocol: what a state does at each event")
         .after_help("Example: lockup table cache --exclusive")
@@ -287,7 +291,7 @@ fn table<'a>(alloc: Global) -> Result<Command<'a>, AllocError>
                 .required(true)
                 .value_parser(TABLES.as_slice()),
         )?
-        .arg(exclusive)
+        .arg(flag(alloc, "exclusive", "Also show the exclusive state"))
 }
 
 /// The argument that names the file of a text.

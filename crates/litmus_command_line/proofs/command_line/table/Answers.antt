@@ -16,5 +16,5 @@ returns-clause-reads c =
     IfOk-weaker c.arg-2.result _ _ (λ made adds. record {
       names = names;
       words = search rules;
-      is = adds.shape c.flag-exclusive.ensures.plain ∙ ap₂ with_rule one c.flag-exclusive.ensures.rule;
+      is = adds.shape c.flag.ensures.plain ∙ ap₂ with_rule one c.flag.ensures.rule;
     }) c.arg-2.ensures

@@ -8,20 +8,20 @@ pub returns-clause-reads : goal.returns-clause-reads
 returns-clause-reads c =
     let named : app_of c.after_help.result ≡ new_app (codes "walk") = search rules in
     let file = c.in_ok-arg.ensures.shape c.file.ensures.plain ∙ ap₂ with_rule named c.file.ensures.rule in
-    let rounds = c.in_ok-arg-2.ensures.shape c.number-rounds.ensures.plain
-    ∙ ap₂ with_rule file c.number-rounds.ensures.rule in
-    let seed = c.in_ok-arg-3.ensures.shape c.number_or-seed.ensures.plain
-    ∙ ap₂ with_rule rounds c.number_or-seed.ensures.rule in
+    let rounds = c.in_ok-arg-2.ensures.shape c.number.ensures.plain
+    ∙ ap₂ with_rule file c.number.ensures.rule in
+    let seed = c.in_ok-arg-3.ensures.shape c.number_or.ensures.plain
+    ∙ ap₂ with_rule rounds c.number_or.ensures.rule in
     IfOk-weaker c.arg-4.result _ _
-    (λ made adds. adds.shape c.flag-script.ensures.plain ∙ ap₂ with_rule seed c.flag-script.ensures.rule)
+    (λ made adds. adds.shape c.flag.ensures.plain ∙ ap₂ with_rule seed c.flag.ensures.rule)
     c.arg-4.ensures
 
 pub returns-clause-plain : goal.returns-clause-plain
 returns-clause-plain c =
     let none : (fields_of c.after_help.result).has_globals ≡ false = search rules in
     let file = c.in_ok-arg.ensures.globals ∙ ap₂ (λ a b. a || b) none c.file.ensures.plain in
-    let rounds = c.in_ok-arg-2.ensures.globals ∙ ap₂ (λ a b. a || b) file c.number-rounds.ensures.plain in
-    let seed = c.in_ok-arg-3.ensures.globals ∙ ap₂ (λ a b. a || b) rounds c.number_or-seed.ensures.plain in
+    let rounds = c.in_ok-arg-2.ensures.globals ∙ ap₂ (λ a b. a || b) file c.number.ensures.plain in
+    let seed = c.in_ok-arg-3.ensures.globals ∙ ap₂ (λ a b. a || b) rounds c.number_or.ensures.plain in
     IfOk-weaker c.arg-4.result _ _
-    (λ made adds. adds.globals ∙ ap₂ (λ a b. a || b) seed c.flag-script.ensures.plain)
+    (λ made adds. adds.globals ∙ ap₂ (λ a b. a || b) seed c.flag.ensures.plain)
     c.arg-4.ensures

@@ -1,0 +1,28 @@
+-- What the program is with one more subcommand.
+use Rattle.std.proofs.Common.{◌≡◌, ◌∙◌, List, false, sym, ap, ap₂}
+use Rattle.std.specs.Prelude.{IfOk, IsOkAnd, Result, Ok, Err}
+use Rattle.std.specs.Borrow.{Bor}
+use Rattle.clap.specs.declared.builder.command.Command.{Command}
+use Rattle.clap.specs.declared.builder.command.Command.TheViews.{out-Command as fields_of}
+use Rattle.clap.specs.Words.{App, Text, app_of, with_subcommand}
+use Rattle.litmus_command_line.specs.CommandLine.{IsLockup, IsTable, IsWith, lockup_app, table_app}
+
+-- the program with a subcommand that is known
+pub with_known : {E : Type 0} (made : Result Command E) (program before known app : App) → program ≡ before
+    → IfOk made (λ sub. app_of sub ≡ known) → IfOk made (λ sub. (fields_of sub).has_globals ≡ false)
+    → IsOkAnd made (λ sub. IsWith program sub app) → app ≡ with_subcommand before known.top
+with_known (Ok sub) program before known app is reads plain added =
+    added plain ∙ ap₂ with_subcommand is (ap (λ (a : App). a.top) reads)
+with_known (Err e) program before known app is reads plain added = absurd added
+
+-- the program is whole with the subcommand that prints a table
+pub with_table : {E : Type 0} (made : Result Command E) (program before app : App) → program ≡ before
+    → ((names : Bor (List (Bor Text))) → lockup_app names ≡ with_subcommand before (table_app names).top)
+    → IfOk made (λ sub. IsTable (app_of sub)) → IfOk made (λ sub. (fields_of sub).has_globals ≡ false)
+    → IsOkAnd made (λ sub. IsWith program sub app) → IsLockup app
+with_table (Ok sub) program before app is whole reads plain added = record {
+  names = reads.names;
+  words = reads.words;
+  is = added plain ∙ ap₂ with_subcommand is (ap (λ (a : App). a.top) reads.is) ∙ sym (whole reads.names);
+}
+with_table (Err e) program before app is whole reads plain added = absurd added

@@ -1,6 +1,6 @@
 -- Cores that are dealt out to threads one after the other.
-use Rattle.std.proofs.Common.{◌≡◌, Bool, true, false, List, [], ◌∷◌, ◌++◌, ◌∙◌, Option, None, Some, ap, append-nil, refl, subst, sym}
-use Rattle.std.specs.Prelude.{cond, filter, is_some, map, not}
+use Rattle.std.proofs.Common.{◌≡◌, Bool, true, false, List, [], ◌∷◌, ◌++◌, ◌∙◌, Option, None, Some, ap, append-nil, subst, sym}
+use Rattle.std.specs.Prelude.{Err, IfOk, IsOkAnd, Ok, Result, cond, filter, is_some, map, not}
 use Rattle.std.specs.Option.{option_map_or}
 use Rattle.std.proofs.lemmas.List.{map-append}
 use Rattle.std.proofs.lemmas.List.Elements.{filter-append}
@@ -60,25 +60,22 @@ idle-dealt threads cores working programs idle v found dealt =
           ∙ sym (passes (λ w. not (has_thread threads w)) cores v (ap not has));
     }
 
--- The same, where a job of whatever form is appended to jobs.
-pub thread-taken : {J : Type 0} (core_in : J → CoreView) (program_in : J → List Step) (threads : List Thread)
-    (cores : List CoreView) (jobs grown : List J) (job : J) (idle : List CoreView) (v : CoreView) (thread : Thread)
-    (shown : List Action) (program : List Step) → grown ≡ jobs ++ job ∷ [] → core_in job ≡ v → program_in job ≡ program
-    → Some thread ≡ thread_at threads v.core → shown ≡ thread.steps.items → IsProgramOf shown program
-    → AreDealt threads cores (map core_in jobs) (map program_in jobs) idle
-    → AreDealt threads (cores ++ v ∷ []) (map core_in grown) (map program_in grown) idle
-thread-taken {J} core_in program_in threads cores jobs grown job idle v thread shown program grows its_core its_program
-    found is its dealt =
-    let working : map core_in grown ≡ map core_in jobs ++ v ∷ [] =
-    ap (map core_in) grows ∙ map-append core_in jobs (job ∷ [])
-    ∙ ap (λ (w : CoreView). map core_in jobs ++ w ∷ []) its_core in
-    let programs : map program_in grown ≡ map program_in jobs ++ program ∷ [] =
-    ap (map program_in) grows ∙ map-append program_in jobs (job ∷ [])
-    ∙ ap (λ (p : List Step). map program_in jobs ++ p ∷ []) its_program in
-    let own : IsProgramOf thread.steps.items program = subst (λ (steps : List Action). IsProgramOf steps program) is its in
-    subst (λ (ws : List CoreView). AreDealt threads (cores ++ v ∷ []) ws (map program_in grown) idle) (sym working)
-    (subst (λ (ps : List (List Step)). AreDealt threads (cores ++ v ∷ []) (map core_in jobs ++ v ∷ []) ps idle) (sym programs)
-    (thread-dealt threads cores (map core_in jobs) (map program_in jobs) idle v thread program found own dealt))
+-- The same, where the program was made and its core put to work.
+pub thread-taken : {P E : Type 0} (made : Result P E) (steps_in : P → List Step) (threads : List Thread)
+    (cores working grown : List CoreView) (programs more : List (List Step)) (idle : List CoreView) (v : CoreView)
+    (thread : Thread) (shown : List Action)
+    → IsOkAnd made (λ program. (grown ≡ working ++ v ∷ []) × (more ≡ programs ++ steps_in program ∷ []))
+    → Some thread ≡ thread_at threads v.core → shown ≡ thread.steps.items
+    → IfOk made (λ program. IsProgramOf shown (steps_in program)) → AreDealt threads cores working programs idle
+    → AreDealt threads (cores ++ v ∷ []) grown more idle
+thread-taken (Ok program) steps_in threads cores working grown programs more idle v thread shown put found is its dealt =
+    let own : IsProgramOf thread.steps.items (steps_in program) =
+    subst (λ (steps : List Action). IsProgramOf steps (steps_in program)) is its in
+    subst (λ (ws : List CoreView). AreDealt threads (cores ++ v ∷ []) ws more idle) (sym put.0)
+    (subst (λ (ps : List (List Step)). AreDealt threads (cores ++ v ∷ []) (working ++ v ∷ []) ps idle) (sym put.1)
+    (thread-dealt threads cores working programs idle v thread (steps_in program) found own dealt))
+thread-taken (Err e) steps_in threads cores working grown programs more idle v thread shown put found is its dealt =
+    absurd put
 
 -- The cores of ports, one more.
 pub deal-more : (threads : List Thread) (sets : List SetView) (set : SetView) (v : CoreView) (working : List CoreView)

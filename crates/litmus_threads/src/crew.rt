@@ -1,11 +1,11 @@
-ghost use Rattle.std.specs.Prelude.{◌≡◌, ◌∷◌, [], ◌++◌, List, IfOk, OnOk, map};
+ghost use Rattle.std.specs.Prelude.{◌≡◌, ◌∷◌, [], ◌++◌, List, IfOk, IsOkAnd, OnOk, map};
 ghost use Rattle.core_thread_system.specs.Core.{CoreView, core_of};
 ghost use Rattle.litmus_threads.specs.Crew.{AreDealt};
 
 use super::program::program_of;
 use super::threads::thread_at;
 use core_thread::Job;
-use core_thread_system::{All, Core, Outcome, PortSet, System, SystemKeys};
+use core_thread_system::{All, Core, Outcome, PortSet, Step, System, SystemKeys};
 use litmus_test::Thread;
 use mshr_file::MissFile;
 use rand_core::SeedableRng;
@@ -60,12 +60,8 @@ impl<'a, F: MissFile, M: SystemKeys> Crew<'a, F, M> {
             Some(thread) => {
                 let seed = seed.wrapping_add(u64::from(core.core().0));
                 let mut words = Xoshiro256PlusPlus::seed_from_u64(seed);
-                let program = program_of(alloc, &thread.steps, &mut words)?;
-                self.jobs.push(Job {
-                    core,
-                    program,
-                    outcome: Outcome::NotRun,
-                })?;
+                let program = program_of(alloc, &thread.steps, &mut words);
+                put_to_work(&mut self.jobs, core, program)?;
             }
             None => self.idle.push(core)?,
         }
@@ -94,6 +90,32 @@ impl<'a, F: MissFile, M: SystemKeys> Crew<'a, F, M> {
         }
         Ok(cores)
     }
+}
+
+// Appends a job with this program, if there was memory for one. Otherwise the core is dropped in one call: at a `?` it
+// would be taken apart, each part with a proof of its own.
+fn put_to_work<'a, F: MissFile, M: SystemKeys>(
+    jobs: &mut Vec<Job<'a, F, All<M>>>,
+    core: Core<'a, F, All<M>>,
+    program: Result<Vec<Step>, AllocError>,
+) -> Result<(), AllocError>
+    ensures { OnOk result (IsOkAnd program (λ program.
+        (map (λ job. job.core) jobs.new.items ≡ map (λ job. job.core) jobs.old.items ++ core.entry ∷ [])
+        × (map (λ job. job.program.items) jobs.new.items
+        ≡ map (λ job. job.program.items) jobs.old.items ++ program.items ∷ []))) }
+{
+    match program {
+        Ok(program) => jobs.push(Job {
+            core,
+            program,
+            outcome: Outcome::NotRun,
+        })?,
+        Err(error) => {
+            drop(core);
+            return Err(error);
+        }
+    }
+    Ok(())
 }
 
 fn core_of<'a, F: MissFile, M: SystemKeys>(job: Job<'a, F, All<M>>) -> Core<'a, F, All<M>> {

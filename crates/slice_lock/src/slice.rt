@@ -82,11 +82,15 @@ impl<F: MissFile, N: SliceNames> Slice<F, N> {
         }
     }
 
-    /// Hands out the reply of the least number that waits for the port's core, if any does.
+    /// Hands out the reply of the least number that waits for the port's core, if any does. Where the port has no request
+    /// in flight the lock isn't taken.
     pub fn collect<R: Wait>(&self, rt: &R, port: &mut Port<N>) -> Option<Receipt>
         ensures port { AfterReply port.old result port.new }
         ensures idle { length port.old.asked ≤ length port.old.receipts → result ≡ None }
     {
+        if !port.is_waiting() {
+            return None;
+        }
         self.booked.lock(rt).collect(port)
     }
 

@@ -3,11 +3,14 @@
 //! receipt of each request, and each counter is what was added to it. Before that come calls whose answers were worked
 //! out by hand, behind the lock and on a slice's book alone.
 //!
-//! At last two cores share a machine of two slices, in one thread: both add to a counter of each slice and take turns
+//! Then two cores share a machine of two slices, in one thread: both add to a counter of each slice and take turns
 //! until all replies are handed out, and then each slice is settled with both cores. On another such machine one adds, and
-//! the other is told of the receipt.
+//! the other is told of the receipt. At last random calls through a slice's lock, and through the cores of a system, are
+//! compared with the same calls on states beside them (`twins`).
 //!
 //! It prints a line for each of these, or the first difference, and then it ends with status 1.
+//!
+//! `lock_tester twins SEEDS` makes random calls alone, of so many seeds (tests/runs).
 //!
 //! `lock_tester memory` makes requests of one core instead, each again where memory was refused for it, and prints how many
 //! were. Nothing refuses memory to it of itself: whoever runs it so does (tests/memory).
@@ -27,6 +30,7 @@ mod memory;
 mod round;
 mod setting;
 mod system;
+mod twins;
 mod work;
 mod worked;
 
@@ -35,10 +39,14 @@ use memory::ask_again;
 use round::one_round;
 use setting::configure;
 use system::SHARED;
+use twins::test_twins;
 use worked::WORKED;
 
 /// How many times the slice of a setting is built, shared and settled.
 const ROUNDS: u32 = 100;
+
+/// Seeds of the calls on twins, where the command line names no other number.
+const SEEDS: u64 = 2;
 
 fn main(rt: HostRuntime) -> ExitCode {
     match run(&rt) {
@@ -50,9 +58,38 @@ fn main(rt: HostRuntime) -> ExitCode {
 /// Does what the command line asks for. Answers whether nothing was found.
 fn run<R: AllocGlobal + Env + Print + Threads + Wait + Sync>(rt: &R) -> io::Result<bool> {
     let words: Vec<String> = env::args(rt)?.collect(rt.alloc())?;
+    let answer = answer(rt, &words);
+    drop(words);
+    answer
+}
+
+fn answer<R: AllocGlobal + Print + Threads + Wait + Sync>(
+    rt: &R,
+    words: &[String],
+) -> io::Result<bool> {
     match words.get(1) {
         Some(word) if word.as_str() == "memory" => test_memory(rt),
-        _ => Ok(test_worked(rt)? && test_books(rt)? && test_settings(rt)? && test_systems(rt)?),
+        Some(word) if word.as_str() == "twins" => test_twins(rt, seeds_of(words.get(2))),
+        _ => test_all(rt),
+    }
+}
+
+/// Runs all tests. Answers whether nothing was found.
+fn test_all<R: AllocGlobal + Print + Threads + Wait + Sync>(rt: &R) -> io::Result<bool> {
+    Ok(
+        test_worked(rt)?
+            && test_books(rt)?
+            && test_settings(rt)?
+            && test_systems(rt)?
+            && test_twins(rt, SEEDS)?,
+    )
+}
+
+/// The number that a word names, or as many as there are where none is named.
+fn seeds_of(word: Option<&String>) -> u64 {
+    match word {
+        Some(word) => word.parse::<u64>().unwrap_or(SEEDS),
+        None => SEEDS,
     }
 }
 

@@ -7,7 +7,7 @@ use address_map::{Config, LineAddr, Op, Request, SliceId, WordAddr};
 use core_thread_system::{
     All, BuildError, Core, PortSet, System, SystemBlanks, SystemKeys, SystemNames,
 };
-use mshr_file::ExplicitFile;
+use mshr_file::{ExplicitFile, MissFile};
 use receipt_ledger::{Answer, LearnError, Receipt};
 use slice_core_answer::{Evicted, Refused};
 use std::alloc::{AllocError, Global};
@@ -91,11 +91,11 @@ fn on_system<M: SystemNames, R: AllocGlobal + Wait>(
 }
 
 /// A core for each set of ports.
-fn cores_of<'a, M: SystemNames>(
+pub fn cores_of<'a, F: MissFile, M: SystemNames>(
     alloc: Global,
-    system: &'a System<ExplicitFile, M>,
+    system: &'a System<F, M>,
     sets: Vec<PortSet<M>>,
-) -> Result<Vec<Core<'a, ExplicitFile, M>>, AllocError> {
+) -> Result<Vec<Core<'a, F, M>>, AllocError> {
     let mut cores = Vec::new(alloc);
     for set in sets {
         cores.push(Core::new(system, set))?;

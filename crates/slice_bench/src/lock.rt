@@ -5,7 +5,9 @@
 //! Each is done in rounds, on a new slice each time, and the least time of a round is told: the first rounds also ask the
 //! system for memory, which later ones use again.
 
-use hits::{Fault, hit_apart, hit_locked, hit_shared, hit_state};
+use asked::{Fault, hit_shared, hit_state};
+pub use asked::{ask_apart, ask_four_apart, ask_locked};
+pub use requests::Asks;
 use requests::Hits;
 use std::io;
 use std::rt::Clock;
@@ -13,7 +15,7 @@ use std::sync::Wait;
 use std::thread::Threads;
 use std::time::Instant;
 
-mod hits;
+mod asked;
 mod requests;
 mod slices;
 
@@ -93,8 +95,8 @@ fn measured<R: AllocGlobal + Threads + Wait + Sync>(
 ) -> Result<(), Fault> {
     match work {
         Work::State(hits) => hit_state(rt.alloc(), hits, requests),
-        Work::Locked(hits) => hit_locked(rt, hits, requests),
+        Work::Locked(hits) => ask_locked(rt, Asks::Hits(hits), requests),
         Work::Shared => hit_shared(rt, requests),
-        Work::Apart => hit_apart(rt, requests),
+        Work::Apart => ask_apart(rt, Asks::Hits(Hits::Word), requests),
     }
 }

@@ -187,9 +187,12 @@ fn print_cores_usage(rt: &impl Print) -> io::Result<()> {
         "Prints how many requests a second the best round made: of one core that hits in one slice,"
     )?;
     println!(rt;
-        "and of four that hit in a slice each. Then it prints whether each thread ended, and how long"
+        "and of four that hit in a slice each; and of one slice and of four that are asked for lines"
     )?;
-    println!(rt; "the longest round took, where 64 cores add to two words that they share.")
+    println!(rt;
+        "that aren't there. Then it prints whether each thread ended, and how long the longest round"
+    )?;
+    println!(rt; "took, where 64 cores add to two words that they share.")
 }
 
 /// Prints a measure as one line of numbers.

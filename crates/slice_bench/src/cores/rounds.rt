@@ -48,9 +48,14 @@ pub fn speed<R: AllocGlobal + Clock + Threads + Wait + Sync>(
     if !rounds.ended {
         return Err(Fault::NotEnded);
     }
-    let requests = u128::from(load.cores()).saturating_mul(u128::from(extent.accesses));
+    Ok(a_second(load.cores(), extent.accesses, rounds.least))
+}
+
+/// How many requests a second so many cores made, each as many as this, in this time.
+pub fn a_second(cores: u64, accesses: u64, time: Duration) -> u128 {
+    let requests = u128::from(cores).saturating_mul(u128::from(accesses));
     let speed = requests
         .saturating_mul(NANOS_A_SECOND)
-        .checked_div(rounds.least.as_nanos());
-    Ok(speed.unwrap_or(0))
+        .checked_div(time.as_nanos());
+    speed.unwrap_or(0)
 }

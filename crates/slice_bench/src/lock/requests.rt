@@ -5,7 +5,16 @@ use address_map::{Op, Request, WordAddr};
 /// How many lines the cache of the usual machine holds: two in each of its four sets.
 const HELD: u64 = 8;
 
-/// Which requests are made. Each of them hits.
+/// Which requests are made.
+#[derive(Clone, Copy, Debug)]
+pub enum Asks {
+    Hits(Hits),
+    /// Adds to twice as many lines as the cache holds, one line after the other: each of them misses, and in a full cache
+    /// takes the place of a line that was written.
+    Misses,
+}
+
+/// Which requests are made that hit.
 #[derive(Clone, Copy, Debug)]
 pub enum Hits {
     /// Loads of one word: the least that a hit can cost.
@@ -42,6 +51,11 @@ impl Hits {
             Hits::Lines => request(8 * (number % HELD) + (number & 7), op),
         }
     }
+}
+
+/// The request of this number that misses.
+pub const fn missing(number: u64) -> Request {
+    request(8 * (number % (2 * HELD)), Op::Add(1))
 }
 
 /// A request with tag 0, which is free again once the request is handed out.

@@ -1,14 +1,14 @@
 ghost use Rattle.std.specs.Prelude.{◌≡◌, ◌<◌};
 ghost use Rattle.receipt_shares.specs.Names.{AreLedgersOf};
 
-use super::requests::Hits;
+use super::requests::{Asks, Hits, missing};
 use super::slices::{MOST_DELIVERIES, configure};
 use address_map::{Checked, CoreId, SliceId};
 use mshr_file::ExplicitFile;
 use receipt_ledger::{Answer, Port};
 use receipt_shares::{Blanks, SliceNames};
 use slice_core::SliceState;
-use slice_core_answer::{Issue, Refused};
+use slice_core_answer::{DeliveredNext, Issue, Refused};
 use slice_lock::Slice;
 use slice_queues_message::Class;
 use std::alloc::{AllocError, Global};
@@ -19,7 +19,7 @@ use std::thread::Threads;
 
 const CORE: CoreId = CoreId(0);
 
-/// A request wasn't answered as a hit, or there was no memory for it.
+/// A request wasn't answered as a hit or as a miss, as it should have been, or there was no memory for it.
 #[derive(Clone, Copy, Debug, PartialEq, Eq)]
 pub struct Fault;
 
@@ -86,10 +86,10 @@ fn fetch_state(state: &mut SliceState<ExplicitFile>, hits: Hits, line: u64) -> R
     Ok(())
 }
 
-/// Makes so many requests that hit on a slice behind its lock.
-pub fn hit_locked<R: AllocGlobal + Wait>(rt: &R, hits: Hits, requests: u64) -> Result<(), Fault> {
+/// Makes so many requests on a slice behind its lock.
+pub fn ask_locked<R: AllocGlobal + Wait>(rt: &R, asks: Asks, requests: u64) -> Result<(), Fault> {
     let config = configure(rt.alloc(), 1).ok_or(Fault)?;
-    let done = configured_locked(rt, &config, hits, requests);
+    let done = configured_locked(rt, &config, asks, requests);
     drop(config);
     done
 }
@@ -97,7 +97,7 @@ pub fn hit_locked<R: AllocGlobal + Wait>(rt: &R, hits: Hits, requests: u64) -> R
 fn configured_locked<R: AllocGlobal + Wait>(
     rt: &R,
     config: &Checked,
-    hits: Hits,
+    asks: Asks,
     requests: u64,
 ) -> Result<(), Fault> {
     let _slices = config.slices();
@@ -105,14 +105,14 @@ fn configured_locked<R: AllocGlobal + Wait>(
         return Err(Fault);
     }
     let blanks = Blanks::new(1);
-    named_locked::<Brand, R>(rt, config, blanks, hits, requests)
+    named_locked::<Brand, R>(rt, config, blanks, asks, requests)
 }
 
 fn named_locked<N: SliceNames, R: AllocGlobal + Wait>(
     rt: &R,
     config: &Checked,
     blanks: Blanks,
-    hits: Hits,
+    asks: Asks,
     requests: u64,
 ) -> Result<(), Fault>
     requires slices { 0 < config.now.slices }
@@ -124,7 +124,7 @@ fn named_locked<N: SliceNames, R: AllocGlobal + Wait>(
     let mut ports = ports;
     let done = match ports.pop() {
         Some(mut port) => {
-            let done = fetch_and_hit_locked(rt, &slice, &mut port, hits, requests);
+            let done = ask(rt, &slice, &mut port, asks, requests);
             drop(port);
             done
         }
@@ -135,15 +135,20 @@ fn named_locked<N: SliceNames, R: AllocGlobal + Wait>(
     done
 }
 
-fn fetch_and_hit_locked<N: SliceNames, R: Wait>(
+fn ask<N: SliceNames, R: Wait>(
     rt: &R,
     slice: &Slice<ExplicitFile, N>,
     port: &mut Port<N>,
-    hits: Hits,
+    asks: Asks,
     requests: u64,
 ) -> Result<(), Fault> {
-    fetch(rt, slice, port, hits)?;
-    hit(rt, slice, port, hits, requests)
+    match asks {
+        Asks::Hits(hits) => {
+            fetch(rt, slice, port, hits)?;
+            hit(rt, slice, port, hits, requests)
+        }
+        Asks::Misses => miss(rt, slice, port, requests),
+    }
 }
 
 /// Makes so many loads of one word that hit by each of two threads on one slice.
@@ -228,15 +233,34 @@ fn fetch_and_hit_shared<N: SliceNames + Send + Sync, R: Threads + Wait + Sync>(
     other
 }
 
-/// Makes so many loads of one word that hit by each of two threads on a slice of its own.
-pub fn hit_apart<R: AllocGlobal + Threads + Wait + Sync>(rt: &R, loads: u64) -> Result<(), Fault> {
+/// Makes so many requests by each of two threads on a slice of its own.
+pub fn ask_apart<R: AllocGlobal + Threads + Wait + Sync>(
+    rt: &R,
+    asks: Asks,
+    requests: u64,
+) -> Result<(), Fault> {
     let (one, other) = thread::join(
         rt,
-        || hit_locked(rt, Hits::Word, loads),
-        || hit_locked(rt, Hits::Word, loads),
+        || ask_locked(rt, asks, requests),
+        || ask_locked(rt, asks, requests),
     );
     one?;
     other
+}
+
+/// Makes so many requests by each of four threads on a slice of its own.
+pub fn ask_four_apart<R: AllocGlobal + Threads + Wait + Sync>(
+    rt: &R,
+    asks: Asks,
+    requests: u64,
+) -> Result<(), Fault> {
+    let (two, others) = thread::join(
+        rt,
+        || ask_apart(rt, asks, requests),
+        || ask_apart(rt, asks, requests),
+    );
+    two?;
+    others
 }
 
 /// Brings the lines to the port's core.
@@ -273,4 +297,28 @@ fn hit<N: SliceNames, R: Wait>(
         };
     }
     Ok(())
+}
+
+fn miss<N: SliceNames, R: Wait>(
+    rt: &R,
+    slice: &Slice<ExplicitFile, N>,
+    port: &mut Port<N>,
+    requests: u64,
+) -> Result<(), Fault> {
+    for number in 0..requests {
+        let Answer::Pending = slice.issue(rt, port, missing(number))? else {
+            return Err(Fault);
+        };
+        deliver_what_waits(rt, slice);
+        slice.collect(rt, port).ok_or(Fault)?;
+    }
+    Ok(())
+}
+
+fn deliver_what_waits<N: SliceNames, R: Wait>(rt: &R, slice: &Slice<ExplicitFile, N>) {
+    for _ in 0..MOST_DELIVERIES {
+        if slice.deliver_next(rt, Class::Any) == DeliveredNext::Nothing {
+            return;
+        }
+    }
 }

@@ -13,6 +13,7 @@ use Rattle.slice_core_plan.specs.View.{View, no_side, side_at}
 use Rattle.slice_core_side.specs.Side.{SideView}
 use Rattle.slice_core_standing.proofs.Grown.{no_entry-standings}
 use Rattle.slice_core_standing.specs.Standing.{standings}
+use Rattle.slice_core.proofs.LinksSettling.{waits-held}
 use Rattle.slice_core.specs.Facts.{CountsAccepted, HasOneRegister, HasTags, IsStanding}
 use Rattle.slice_core.specs.Sound.{HasAccounts, HasLinks, IsSound}
 
@@ -51,6 +52,9 @@ pub registers-from : (v : View) → HasAccounts v → HasLinks v → HasOneRegis
 registers-from v has links = record {
   single = λ core known. (has.accounts core known).waits.file;
   waits = links.waits;
+  own = λ core local known missed.
+      links.own core local known
+      (waits-held (side_at v core) local (links.kept core known) (links.waits core local known ∙ missed));
 }
 
 module _ (p : PartsView) (sound : IsSound p) where

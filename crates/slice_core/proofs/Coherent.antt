@@ -78,7 +78,8 @@ shows_last p sound quiet word None shown is shows = tt
 shows_last p sound quiet word (Some local) shown is shows =
     let v = p.view in
     let newest =
-    quiet_newest v (whole p sound) sound.counted.some_core sound.links.waits sound.faithful.reached quiet local
+    quiet_newest v (whole p sound) sound.counted.some_core
+    (λ core local known inside. sound.links.waits core local known) sound.faithful.reached quiet local
     (located v.lines (line_of_word word).0 local is) in
     let below : word.0 % 8 < 8 = omega arith in
     let place : word.0 ≡ first_word v local + word.0 % 8 =

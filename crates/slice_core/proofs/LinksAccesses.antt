@@ -99,7 +99,7 @@ module _ (v : View) (core : CoreId) (local : Local) (shaped : IsShaped v) (links
         fits = on.stands;
         misses = λ other apart. refl;
         requests = λ other apart. refl;
-        waits = on.waits ∙ links.waits core local there within;
+        waits = on.waits ∙ links.waits core local there;
         sent = on.sent (links.sent core local there within);
       })
       shaped links there within)
@@ -118,7 +118,7 @@ module _ (v : View) (core : CoreId) (local : Local) (shaped : IsShaped v) (links
         fits = fits_now side local kept;
         misses = adds.others;
         requests = λ other apart. refl;
-        waits = links.waits core local there within ∙ waits
+        waits = links.waits core local there ∙ waits
             ∙ sym (has_miss-added side.misses misses local.0 target adds);
         sent = links.sent core local there within;
       })
@@ -204,7 +204,7 @@ module _ (v : View) (core : CoreId) (local : Local) (shaped : IsShaped v) (links
         links_asking v core local shaped links there within side None (Some (evicted copy)) (sides.put_of copy) changes
         by.leaving
         (λ other apart. ap (λ m. targets_of m other) misses)
-        (by.waits ∙ sym by.idle ∙ sym (ap is_waiting state) ∙ links.waits core local there within
+        (by.waits ∙ sym by.idle ∙ sym (ap is_waiting state) ∙ links.waits core local there
         ∙ ap (λ m. has_miss m local.0) (sym misses))
         by.sent
 
@@ -294,10 +294,10 @@ links_hand v core tag links there =
           placed (λ (s : SideView). IsSome (array_at s.array l) →
           l.0 < v.lines.lines) v.sides core.0 other.0 now no_side there
           (λ same. links.own core l there) (λ apart. links.own other l (is_core other.0 h));
-      waits = λ other l h inside.
+      waits = λ other l h.
           placed (λ (s : SideView). is_waiting (state_of s l) ≡ has_miss s.misses l.0) v.sides core.0 other.0 now
           no_side there
-          (λ same. links.waits core l there inside) (λ apart. links.waits other l (is_core other.0 h) inside);
+          (λ same. links.waits core l there) (λ apart. links.waits other l (is_core other.0 h));
       sent = λ other l h inside.
           placed (λ (s : SideView). has_sent (state_of s l) (asked (channels_at v l) other.0) ≡ true) v.sides core.0
           other.0 now no_side there

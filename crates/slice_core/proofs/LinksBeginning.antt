@@ -61,7 +61,7 @@ links_new v c bound slice own power few sides entries channels = record {
   kept = λ core h. subst IsKept (sym (new core h)) (kept-new c bound slice core.0 power few);
   own = λ core local h some. absurd (copy-held (side_at v core) local some
       (subst IsKept (sym (new core h)) (kept-new c bound slice core.0 power few)) (gone core local h));
-  waits = λ core local h inside.
+  waits = λ core local h.
       ap is_waiting (gone core local h)
       ∙ sym (ap (λ (s : SideView). has_miss s.misses local.0) (new core h));
   sent = λ core local h inside.

@@ -146,7 +146,7 @@ links_forwarded v local core next sent requester shaped links there within is st
       fits = fits_on copy leaving (is_gone next) next (fits_now side local kept) on.stands on.leaves;
       misses = λ other apart. ap (λ m. targets_of m other) misses;
       requests = λ other apart. same other;
-      waits = ap is_waiting state ∙ on.waits ∙ links.waits core local there within
+      waits = ap is_waiting state ∙ on.waits ∙ links.waits core local there
           ∙ ap (λ m. has_miss m local.0) (sym misses);
       sent =
           ap (λ s. has_sent s (asked (cache_sent taken core requester (copy_of side local).block sent) core.0)) state

@@ -74,16 +74,15 @@ module _ (v : View) (core : CoreId) (local : Local) (side : SideView) (line : Li
         | inr apart ↦ links.own core other there (subst IsSome (step.changes.array_others other apart) some)
       ]
 
-  waits_now : (other : Local) → other.0 < v.lines.lines →
-      is_waiting (state_of side other) ≡ has_miss side.misses other.0
-  waits_now other inside =
+  waits_now : (other : Local) → is_waiting (state_of side other) ≡ has_miss side.misses other.0
+  waits_now other =
       elim (cases_eq other.0 local.0) [
         | inl same ↦
             subst (λ (l : Local). is_waiting (state_of side l) ≡ has_miss side.misses l.0)
             (sym (same_local other local same))
             (ap (λ (c : CacheCopy). is_waiting c.state) copy_is ∙ step.waits)
         | inr apart ↦
-            ap (λ (c : CacheCopy). is_waiting c.state) (other_is other apart) ∙ links.waits core other there inside
+            ap (λ (c : CacheCopy). is_waiting c.state) (other_is other apart) ∙ links.waits core other there
             ∙ sym (ap is_waited (step.misses other.0 apart))
       ]
 
@@ -121,10 +120,10 @@ module _ (v : View) (core : CoreId) (local : Local) (side : SideView) (line : Li
         placed (λ (s : SideView). IsSome (array_at s.array l) →
         l.0 < v.lines.lines) v.sides core.0 other.0 side no_side there
         (λ same. own_now l) (λ apart. links.own other l (is_core other.0 h));
-    waits = λ other l h inside.
+    waits = λ other l h.
         placed (λ (s : SideView). is_waiting (state_of s l) ≡ has_miss s.misses l.0) v.sides core.0 other.0 side
         no_side there
-        (λ same. waits_now l inside) (λ apart. links.waits other l (is_core other.0 h) inside);
+        (λ same. waits_now l) (λ apart. links.waits other l (is_core other.0 h));
     sent = λ other l h inside.
         placed (λ (c : LineChannels). has_sent (state_of (get_or (set v.sides core.0 side) other.0 no_side) l)
         (core_at c other.0).request ≡ true)

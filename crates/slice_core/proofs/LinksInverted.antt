@@ -206,7 +206,7 @@ module _ (old : PartsView) (core : CoreId) (request : Request) (answer : Result 
           subst FindsRegister judged.decided
           (finds-access (side_at old.view core) local request.op (sound.links.kept core known) request.tag inverted
           (free-unused old core request.tag sound.accounts known judged.free)
-          (sound.links.waits core local known judged.within))
+          (sound.links.waits core local known))
 
       decided : (decision : Decision) → decision_of old.view core request ≡ decision → by_decision decision
           → NeedsNoRegister answer

@@ -134,7 +134,7 @@ module _ (v : View) (local : Local) (core : CoreId) (shaped : IsShaped v) (links
       let left = left_in copy.state targets in
       let state : new.state ≡ settled_state copy.state left =
       state-settled copy (block_after copy.block (performed_in copy.state targets)) (settled_state copy.state left) in
-      let some : is_waited targets ≡ true = sym (links.waits core local there within) ∙ waited in
+      let some : is_waited targets ≡ true = sym (links.waits core local there) ∙ waited in
       let rest : left ≡ targets_of misses local.0 =
       append_cancel_left (performed_in copy.state targets) left (targets_of misses local.0)
       (performed-left copy.state targets ∙ takes.here) in

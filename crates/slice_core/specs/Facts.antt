@@ -1,5 +1,5 @@
 -- What callers of a slice may rely on after every call.
-use Rattle.std.specs.Prelude.{◌≡◌, ℕ, ◌<◌, ◌&&◌, if◌then◌else◌, count_by, is_some, nat_lt, length, map, slice_get, List, Option, Some, None, Result, Ok}
+use Rattle.std.specs.Prelude.{◌≡◌, ℕ, ◌<◌, ◌&&◌, true, if◌then◌else◌, count_by, is_some, nat_lt, length, map, slice_get, List, Option, Some, None, Result, Ok}
 use Rattle.address_map.specs.declared.address.CoreId.{CoreId}
 use Rattle.address_map.specs.Locator.{local_at}
 use Rattle.address_map.specs.Place.{offset_of}
@@ -48,12 +48,14 @@ pub record HasTags (v : View) : Type 0 where
   pub replies : (core : CoreId) (tag number : ℕ) → core.0 < length v.sides → tag_at (side_at v core) tag ≡ tags.Performed number
       → (e : Entry) × (slice_get v.log number ≡ Some e) × (e.core.0 ≡ core.0) × (e.tag ≡ tag)
 
--- No core has two miss registers for a line, and it has one exactly where its copy of the line waits. (Kroft's miss
--- status holding registers.)
+-- No core has two miss registers for a line, it has one exactly where its copy of the line waits, and each is for a line
+-- of the slice. (Kroft's miss status holding registers.)
 pub record HasOneRegister (v : View) : Type 0 where
   pub single : (core : CoreId) → core.0 < length v.sides → IsMissFile (side_at v core).misses
-  pub waits : (core : CoreId) (local : Local) → core.0 < length v.sides → local.0 < v.lines.lines
+  pub waits : (core : CoreId) (local : Local) → core.0 < length v.sides
       → is_waiting (state_of (side_at v core) local) ≡ has_miss (side_at v core).misses local.0
+  pub own : (core : CoreId) (local : Local) → core.0 < length v.sides
+      → has_miss (side_at v core).misses local.0 ≡ true → local.0 < v.lines.lines
 
 -- Hits, misses that opened a register and misses that joined one add up to the accepted requests, for each core.
 abbrev pub CountsAccepted : PartsView → Type 0
@@ -64,7 +66,7 @@ pub record Holds (p : PartsView) : Type 0 where
   -- no request is lost, doubled or made up, and each tag names what was asked for under it
   pub standing : IsStanding p.view
   pub tags : HasTags p.view
-  -- a core has one miss register for a line that it waits for, and none for any other
+  -- a core has one miss register for a line of the slice that it waits for, and none for any other
   pub registers : HasOneRegister p.view
   -- a core's entries of a line are in the order in which it asked for them, and each reply is the value that its word had
   pub ordered : IsOrdered p.view.log

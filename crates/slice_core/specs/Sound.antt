@@ -61,7 +61,7 @@ pub record HasLinks (v : View) : Type 0 where
   pub kept : (core : CoreId) → core.0 < length v.sides → IsKept (side_at v core)
   pub own : (core : CoreId) (local : Local) → core.0 < length v.sides → IsSome (array_at (side_at v core).array local)
       → local.0 < v.lines.lines
-  pub waits : (core : CoreId) (local : Local) → core.0 < length v.sides → local.0 < v.lines.lines
+  pub waits : (core : CoreId) (local : Local) → core.0 < length v.sides
       → is_waiting (state_of (side_at v core) local) ≡ has_miss (side_at v core).misses local.0
   pub sent : (core : CoreId) (local : Local) → core.0 < length v.sides → local.0 < v.lines.lines
       → has_sent (state_of (side_at v core) local) (core_at (channels_at v local) core.0).request ≡ true

@@ -1,5 +1,5 @@
--- How a program ends at a fault.
-use Rattle.std.specs.Prelude.{ℕ}
+-- Which line a fault names, and how a program ends at it.
+use Rattle.std.specs.Prelude.{◌≡◌, ℕ, List, [], ◌∷◌, ◌++◌}
 use Rattle.litmus_text.specs.declared.fault.TextFault.{TextFault}
 use Rattle.litmus_text.specs.declared.fault.TextFault.TheVariants.{Line, Config, CannotWrite, NoMemory}
 
@@ -9,3 +9,18 @@ status_of (Line number fault) = 2
 status_of (Config error) = 2
 status_of CannotWrite = 2
 status_of NoMemory = 3
+
+-- what holds of the line that a fault names, where it names one
+abbrev pub IsAtLine : (ℕ → Type 0) → TextFault → Type 0
+IsAtLine holds (Line number fault) = holds number
+IsAtLine holds other = Unit {0}
+
+-- The first statement at fault has this number: those before it are read, and with it they are not.
+pub record IsFirstFault (AreRead : List (ℕ × List (List ℕ)) → Type 0) (statements : List (ℕ × List (List ℕ)))
+    (number : ℕ) : Type 0 where
+  pub before : List (ℕ × List (List ℕ))
+  pub words : List (List ℕ)
+  pub behind : List (ℕ × List (List ℕ))
+  pub stands : statements ≡ before ++ (number, words) ∷ behind
+  pub sound : AreRead before
+  pub refused : ¬ AreRead (before ++ (number, words) ∷ [])

@@ -7,6 +7,7 @@ use Rattle.std.proofs.lemmas.List.{map-append}
 use Rattle.address_map.specs.declared.address.WordAddr.{WordAddr}
 use Rattle.address_map.specs.Words.{IsAscendingBy}
 use Rattle.slice_core_log.specs.declared.entry.Entry.{Entry}
+use Rattle.litmus_text.specs.Fault.{IsAtLine, IsFirstFault}
 use Rattle.litmus_text.specs.Form.{Writes}
 use Rattle.litmus_text.specs.Statement.{statements_from}
 use Rattle.litmus_text.specs.declared.fault.TextFault.{TextFault}
@@ -16,7 +17,7 @@ use Rattle.trace_check.specs.declared.trace_line.Version.{Version}
 use Rattle.trace_check.specs.declared.trace_line.TraceLine.{TraceLine}
 use Rattle.trace_check.specs.declared.trace_line.TraceLine.TheVariants as trace_lines
 use Rattle.trace_check.specs.TraceLine.{IsLineOf, parts_of_first, parts_of_line}
-use Rattle.trace_check.specs.Trace.{AreLines, IsAtLine, IsFaultAt, IsFirstFault, lines_of, AreTrace, AreNoTrace, IsNoTrace, IsLastNamed, IsNoMemoryOr, IsNoNextLine, IsReading, MayBegin, MayFollow, Stands}
+use Rattle.trace_check.specs.Trace.{AreLines, IsFaultAt, lines_of, AreTrace, AreNoTrace, AreSomeTrace, IsNoTrace, IsLastNamed, IsNoMemoryOr, IsNoNextLine, IsReading, MayBegin, MayFollow, Stands}
 use Rattle.trace_check.proofs.ReadingLemmas.{one_version, one_line, same_lines, not_both}
 
 -- the word and the value that a line names, where it names them
@@ -153,7 +154,10 @@ may_follow check init all entries more before after (trace_lines.Init word value
 pub no_trace : (check : Check) (version : Version) (all left : List (ℕ × List (List ℕ))) (s : ℕ × List (List ℕ))
     → check.version ≡ version
     → IsReading check all (s ∷ left) → IsNoNextLine check s.1 → AreNoTrace version all
-no_trace check version all left s same reading none init entries trace =
+no_trace check version all left s same reading none some =
+    let init = some.0 in
+    let entries = some.1.0 in
+    let trace = some.1.1 in
     let written : AreLines check.version (reading.done ++ s ∷ left) (lines_of init entries) =
     rw (same, reading.split) trace.written in
     let parts = parts_of check.version reading.done left s (lines_of init entries) written in
@@ -167,15 +171,19 @@ no_trace check version all left s same reading none init entries trace =
 -- .. and the statement is the first at fault, since those before it are lines of a trace
 pub first_fault : (check : Check) (version : Version) (all left : List (ℕ × List (List ℕ))) (number : ℕ) (words : List (List ℕ))
     → check.version ≡ version → IsReading check all ((number, words) ∷ left) → IsNoNextLine check words
-    → IsFirstFault version all number
+    → IsFirstFault (AreSomeTrace version) all number
 first_fault check version all left number words same reading none = record {
   before = reading.done;
   words = words;
   behind = left;
   stands = sym reading.split;
-  init = reading.init;
-  entries = reading.entries;
-  sound = record { written = rw same at reading.written; ascending = reading.stands.ascending };
+  sound = (
+    reading.init,
+    (
+      reading.entries,
+      record { written = rw same at reading.written; ascending = reading.stands.ascending },
+    ),
+  );
   refused = no_trace check version (reading.done ++ (number, words) ∷ []) [] (number, words) same
       (record {
         init = reading.init;
@@ -191,10 +199,11 @@ first_fault check version all left number words same reading none = record {
 pub at_first_fault : (check : Check) (version : Version) (all left : List (ℕ × List (List ℕ))) (number : ℕ)
     (words : List (List ℕ)) (fault : TextFault) → check.version ≡ version → IsReading check all ((number, words) ∷ left)
     → IsNoMemoryOr (IsNoNextLine check words) fault → IsAtLine (λ n. n ≡ number) fault
-    → IsAtLine (IsFirstFault version all) fault
+    → IsAtLine (IsFirstFault (AreSomeTrace version) all) fault
 at_first_fault check version all left number words faults.NoMemory same reading none at = tt
 at_first_fault check version all left number words (faults.Line n fault) same reading none at =
-    subst (IsFirstFault version all) (sym at) (first_fault check version all left number words same reading none)
+    subst (IsFirstFault (AreSomeTrace version) all) (sym at)
+    (first_fault check version all left number words same reading none)
 at_first_fault check version all left number words (faults.Config error) same reading none at = tt
 at_first_fault check version all left number words faults.CannotWrite same reading none at = tt
 
@@ -212,13 +221,19 @@ no_text text number first rest version is begins none other init entries trace =
     let one : other ≡ version =
     one_version trace.first other version trace.begins
     (subst (λ ws. Writes ws (parts_of_first version)) same_first begins) in
-    none init entries (subst (λ ss. AreTrace version init entries ss) same_rest
-    (subst (λ v. AreTrace v init entries trace.rest) one trace.goes_on))
+    none (
+      init,
+      (
+        entries,
+        subst (λ ss. AreTrace version init entries ss) same_rest
+            (subst (λ v. AreTrace v init entries trace.rest) one trace.goes_on),
+      ),
+    )
 
 -- a line at fault behind the first is the text's
 pub at_fault : (statements rest : List (ℕ × List (List ℕ))) (number : ℕ) (first : List (List ℕ)) (version : Version)
     (fault : TextFault) → statements ≡ (number, first) ∷ rest → Writes first (parts_of_first version)
-    → IsAtLine (IsFirstFault version rest) fault → IsAtLine (IsFaultAt statements) fault
+    → IsAtLine (IsFirstFault (AreSomeTrace version) rest) fault → IsAtLine (IsFaultAt statements) fault
 at_fault statements rest number first version faults.NoMemory is begins at = tt
 at_fault statements rest number first version (faults.Line n fault) is begins at =
     subst (λ ss. IsFaultAt ss n) (sym is) (inr (version, begins, at))

@@ -5,6 +5,7 @@ use Rattle.address_map.specs.declared.address.WordAddr.{WordAddr}
 use Rattle.address_map.specs.Words.{IsAscendingBy}
 use Rattle.slice_core_log.specs.Log.{initially}
 use Rattle.slice_core_log.specs.declared.entry.Entry.{Entry}
+use Rattle.litmus_text.specs.Fault.{IsFirstFault}
 use Rattle.litmus_text.specs.Form.{Writes}
 use Rattle.litmus_text.specs.Statement.{statements_from}
 use Rattle.litmus_text.specs.declared.fault.TextFault.{TextFault}
@@ -62,10 +63,14 @@ abbrev pub IsNoTrace : List ℕ → Type 0
 IsNoTrace text =
     (version : Version) (init : List (WordAddr × ℕ)) (entries : List Entry) → ¬ IsTrace version init entries text
 
--- the statements are no trace of this version behind its first line
+-- the statements are a trace of this version behind its first line, with some initial values and entries
+abbrev pub AreSomeTrace : Version → List (ℕ × List (List ℕ)) → Type 0
+AreSomeTrace version statements =
+    (init : List (WordAddr × ℕ)) × ((entries : List Entry) × AreTrace version init entries statements)
+
+-- they are none
 abbrev pub AreNoTrace : Version → List (ℕ × List (List ℕ)) → Type 0
-AreNoTrace version statements =
-    (init : List (WordAddr × ℕ)) (entries : List Entry) → ¬ AreTrace version init entries statements
+AreNoTrace version statements = ¬ AreSomeTrace version statements
 
 -- why a text was read no further: there was no memory, or a line is at fault, and then it is refused for this
 abbrev pub IsNoMemoryOr : Type 0 → TextFault → Type 0
@@ -74,29 +79,13 @@ IsNoMemoryOr refused (faults.Line number fault) = refused
 IsNoMemoryOr refused (faults.Config error) = ⊥
 IsNoMemoryOr refused faults.CannotWrite = ⊥
 
--- what holds of the line that a fault names, where it names one
-abbrev pub IsAtLine : (ℕ → Type 0) → TextFault → Type 0
-IsAtLine holds (faults.Line number fault) = holds number
-IsAtLine holds other = Unit {0}
-
--- The first statement at fault has this number: those before it are lines of a trace, and with it they are none.
-pub record IsFirstFault (version : Version) (statements : List (ℕ × List (List ℕ))) (number : ℕ) : Type 0 where
-  pub before : List (ℕ × List (List ℕ))
-  pub words : List (List ℕ)
-  pub behind : List (ℕ × List (List ℕ))
-  pub stands : statements ≡ before ++ (number, words) ∷ behind
-  pub init : List (WordAddr × ℕ)
-  pub entries : List Entry
-  pub sound : AreTrace version init entries before
-  pub refused : AreNoTrace version (before ++ (number, words) ∷ [])
-
 -- The line at fault of a text, by its statements: line 1 where there are none, the first of them where it begins no trace,
 -- and else the first at fault behind it.
 abbrev pub IsFaultAt : List (ℕ × List (List ℕ)) → ℕ → Type 0
 IsFaultAt [] number = number ≡ 1
 IsFaultAt (first ∷ rest) number =
     ((number ≡ first.0) × IsNoFirstLine first.1)
-    ⊎ ((version : Version) × Writes first.1 (parts_of_first version) × IsFirstFault version rest number)
+    ⊎ ((version : Version) × Writes first.1 (parts_of_first version) × IsFirstFault (AreSomeTrace version) rest number)
 
 -- the word that was named last
 abbrev pub IsLastNamed : Option WordAddr → List (WordAddr × ℕ) → Type 0

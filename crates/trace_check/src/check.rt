@@ -1,6 +1,7 @@
 ghost use Rattle.std.specs.Prelude.{◌≡◌, ℕ, ◌<◌, List, [], ◌∷◌, ◌++◌, map, length, IfOk, IfErr, OnOk, IsTrue, ◌↔◌};
 ghost use Rattle.std.specs.Str.Lines.{lines};
 ghost use Rattle.address_map.specs.declared.address.WordAddr.{WordAddr};
+ghost use Rattle.litmus_text.specs.Fault.{IsAtLine, IsFirstFault};
 ghost use Rattle.litmus_text.specs.Statement.{statements_from};
 ghost use Rattle.slice_core_log.specs.Log.{initially};
 ghost use Rattle.slice_core_log.specs.declared.entry.Entry.{Entry};
@@ -9,7 +10,7 @@ ghost use Rattle.trace_check.specs.declared.judge.TheConstants.{MOST_WORDS};
 ghost use Rattle.trace_check.specs.TraceLine.{IsLineOf};
 ghost use Rattle.trace_check.specs.declared.verdict.Verdict.{Verdict};
 ghost use Rattle.trace_check.specs.Verdict.{IsVerdict};
-ghost use Rattle.trace_check.specs.Trace.{IsJudged, AreJudged, IsAtLine, IsFaultAt, IsFirstFault, IsNoTrace, AreNoTrace, IsNoMemoryOr, IsNoNextLine, IsReading, IsSoFar, Stands, MayBegin, MayFollow};
+ghost use Rattle.trace_check.specs.Trace.{IsJudged, AreJudged, IsFaultAt, IsNoTrace, AreNoTrace, AreSomeTrace, IsNoMemoryOr, IsNoNextLine, IsReading, IsSoFar, Stands, MayBegin, MayFollow};
 
 use super::judge::Judge;
 use super::trace_line::{TraceLine, Version};
@@ -62,7 +63,7 @@ fn check_lines(
 ) -> Result<Verdict, TextFault>
     ensures judged { IfOk result (AreJudged version statements.entry) }
     ensures refused { IfErr result (IsNoMemoryOr (AreNoTrace version statements.entry)) }
-    ensures line { IfErr result (IsAtLine (IsFirstFault version statements.entry)) }
+    ensures line { IfErr result (IsAtLine (IsFirstFault (AreSomeTrace version) statements.entry)) }
 {
     let mut check = Check::new(alloc, version);
     for statement in statements {

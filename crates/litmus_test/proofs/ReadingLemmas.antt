@@ -1,5 +1,5 @@
 -- What the statements that are left say, all of them say.
-use Rattle.std.proofs.Common.{◌≡◌, ℕ, List, [], ◌∷◌, length, map, refl, sym, ap, subst, ◌∙◌, arith, length-append}
+use Rattle.std.proofs.Common.{◌≡◌, ℕ, List, [], ◌∷◌, ◌++◌, length, map, refl, sym, ap, subst, ◌∙◌, arith, inr, length-append, append_assoc}
 use Rattle.std.specs.Prelude.{Result, Ok, Err, OnOk}
 use Rattle.litmus_text.specs.declared.fault.TextFault.{TextFault}
 use Rattle.litmus_text.specs.declared.fault.TextFault.TheVariants as faults
@@ -12,6 +12,7 @@ use Rattle.litmus_test.specs.declared.setting.Setting.TheVariants as settings
 use Rattle.litmus_test.specs.declared.test.Action.{Action}
 use Rattle.litmus_test.specs.declared.test.Action.TheVariants as actions
 use Rattle.std.specs.Str.Lines.{lines}
+use Rattle.litmus_text.specs.Fault.{IsAtLine, IsFirstFault}
 use Rattle.litmus_text.specs.Form.{Writes}
 use Rattle.litmus_text.specs.Statement.{statements_from}
 use Rattle.litmus_test.specs.declared.preamble.Preamble.{Preamble}
@@ -21,14 +22,49 @@ use Rattle.litmus_test.specs.declared.version.Version.{Version}
 use Rattle.litmus_test.specs.Claim.{claims_of}
 use Rattle.litmus_test.specs.Line.{Line, setting, thread, load, store, add, cas, settle, evict, forbid, BeginsAsSetting, WritesSetting, WritesLine, line_of, parts_of_first}
 use Rattle.litmus_test.specs.Sound.{IsChecked}
-use Rattle.litmus_test.specs.Text.{IsLitmusTest, Said, Says, said_by, said_nothing, IsEarly, MayFollow, MaySet, pair_of, said_line, said_setting}
+use Rattle.litmus_test.specs.Text.{AreLines, IsFaultAt, IsLitmusTest, Said, Says, said_by, said_nothing, IsEarly, MayFollow, MaySet, pair_of, said_line, said_setting}
 use Rattle.litmus_test.specs.Reading.{IsBegun, IsReading, IsNoMemoryOr, IsNoNextLine, SayNothing, SayOnly, said_first}
 use Rattle.litmus_test.proofs.BodyLemmas.{length-with_step}
 use Rattle.litmus_test.proofs.LineLemmas.{no_empty_line, only_setting, setting_name}
 
+-- what statements say, and what others say behind them, both say together
+says_append : (version : Version) (start said whole : Said) (done left : List (ℕ × List (List ℕ)))
+    → Says version start done said → Says version said left whole → Says version start (done ++ left) whole
+unfolding Says
+says_append version start said whole [] left first behind = rw first behind
+says_append version start said whole (s ∷ done) left first behind =
+    let next = first.1.2 in
+    (first.0, (first.1.0, first.1.1, says_append version (said_line start first.0) said whole done left next behind))
+
+-- .. and what both say, the first say a part of
+says_split : (version : Version) (start whole : Said) (done left : List (ℕ × List (List ℕ)))
+    → Says version start (done ++ left) whole
+    → (said : Said) × (Says version start done said × Says version said left whole)
+unfolding Says
+says_split version start whole [] left both = (start, (refl, both))
+says_split version start whole (s ∷ done) left both =
+    let behind = says_split version (said_line start both.0) whole done left both.1.2 in
+    (behind.0, ((both.0, (both.1.0, both.1.1, behind.1.0)), behind.1.1))
+
+-- what the statements that are left say, all say
+reading_whole : (version : Version) (start said : Said) (all left : List (ℕ × List (List ℕ))) (whole : Said)
+    → IsReading version start said all left → Says version said left whole → Says version start all whole
+reading_whole version start said all left whole reading behind =
+    subst (λ ss. Says version start ss whole) reading.split
+    (says_append version start said whole reading.done left reading.says behind)
+
+-- .. and nothing else
+reading_only : (version : Version) (start said : Said) (all left : List (ℕ × List (List ℕ))) (whole : Said)
+    → IsReading version start said all left → Says version start all whole → Says version said left whole
+reading_only version start said all left whole reading says =
+    let parts = says_split version start whole reading.done left
+    (subst (λ ss. Says version start ss whole) (sym reading.split) says) in
+    subst (λ (s : Said). Says version s left whole) (reading.only parts.0 parts.1.0) parts.1.1
+
 -- nothing was read yet
 pub reading_none : (version : Version) (said : Said) (all : List (ℕ × List (List ℕ))) → IsReading version said said all all
-reading_none version said all = record { whole = λ whole h. h; only = λ whole h. h }
+unfolding Says
+reading_none version said all = record { done = []; split = refl; says = refl; only = λ other h. sym h }
 
 -- a line was read
 pub reading_line : (version : Version) (start said : Said) (all left : List (ℕ × List (List ℕ)))
@@ -38,10 +74,16 @@ pub reading_line : (version : Version) (start said : Said) (all left : List (ℕ
     → IsReading version start (said_line said line) all left
 unfolding Says
 reading_line version start said all left s line written only may reading = record {
-  whole = λ whole h. reading.whole whole (line, (written, may, h));
-  only = λ whole h.
-      let next = reading.only whole h in
-      subst (λ l. Says version (said_line said l) left whole) (only next.0 next.1.0) next.1.2;
+  done = reading.done ++ s ∷ [];
+  split = append_assoc reading.done (s ∷ []) left ∙ reading.split;
+  says = says_append version start said (said_line said line) reading.done (s ∷ []) reading.says
+      (line, (written, may, refl));
+  only = λ other h.
+      let parts = says_split version start other reading.done (s ∷ []) h in
+      let last = parts.1.1 in
+      let same : parts.0 ≡ said = reading.only parts.0 parts.1.0 in
+      sym last.1.2 ∙ (ap (λ (before : Said). said_line before last.0) same
+      ∙ ap (λ (l : Line). said_line said l) (only last.0 last.1.0));
 }
 
 -- where the next statement writes no line that may come next, all say nothing
@@ -51,14 +93,47 @@ pub reading_stops : (version : Version) (start said : Said) (all left : List (�
     → (whole : Said) → Says version start all whole → ⊥
 unfolding Says
 reading_stops version start said all left s reading none whole h =
-    let next = reading.only whole h in none next.0 next.1.0 next.1.1
+    let next = reading_only version start said all (s ∷ left) whole reading h in none next.0 next.1.0 next.1.1
+
+-- .. and the statement is the first at fault, since those before it say something
+first_fault : (version : Version) (start said : Said) (all left : List (ℕ × List (List ℕ))) (number : ℕ)
+    (words : List (List ℕ))
+    → IsReading version start said all ((number, words) ∷ left) → IsNoNextLine version said words
+    → IsFirstFault (AreLines version start) all number
+first_fault version start said all left number words reading none =
+    let s : ℕ × List (List ℕ) = (number, words) in
+    let read : IsReading version start said (reading.done ++ s ∷ []) (s ∷ []) =
+    record { done = reading.done; split = refl; says = reading.says; only = reading.only } in
+    record {
+      before = reading.done;
+      words = words;
+      behind = left;
+      stands = sym reading.split;
+      sound = (said, reading.says);
+      refused = λ h. reading_stops version start said (reading.done ++ s ∷ []) [] s read none h.0 h.1;
+    }
+
+-- where a fault names the line of a refused statement, it names the first at fault
+pub at_first_fault : (version : Version) (start said : Said) (all left : List (ℕ × List (List ℕ))) (number : ℕ)
+    (words : List (List ℕ)) (fault : TextFault)
+    → IsReading version start said all ((number, words) ∷ left) → IsNoMemoryOr (IsNoNextLine version said words) fault
+    → IsAtLine (λ n. n ≡ number) fault → IsAtLine (IsFirstFault (AreLines version start) all) fault
+at_first_fault version start said all left number words faults.NoMemory reading none at = tt
+at_first_fault version start said all left number words (faults.Line n fault) reading none at =
+    subst (IsFirstFault (AreLines version start) all) (sym at)
+    (first_fault version start said all left number words reading none)
+at_first_fault version start said all left number words (faults.Config error) reading none at = tt
+at_first_fault version start said all left number words faults.CannotWrite reading none at = tt
 
 -- all statements were read
 pub reading_all : (version : Version) (start said : Said) (all : List (ℕ × List (List ℕ)))
     → IsReading version start said all [] → SayOnly version start all said
 unfolding Says
 reading_all version start said all reading =
-    record { says = reading.whole said refl; only = λ other h. sym (reading.only other h) }
+    record {
+      says = reading_whole version start said all [] said reading refl;
+      only = λ other h. sym (reading_only version start said all [] other reading h);
+    }
 
 -- a fault that is no want of memory comes also where less is refused
 pub IsNoMemoryOr-weaker : (P Q : Type 0) (fault : TextFault) → (P → Q) → IsNoMemoryOr P fault → IsNoMemoryOr Q fault
@@ -179,14 +254,50 @@ no_unchecked_line version said (word ∷ words) begins none unchecked (forbid cl
 pub say_behind : (version : Version) (start said : Said) (all left : List (ℕ × List (List ℕ))) (whole : Said)
     → IsReading version start said all left → SayOnly version said left whole → SayOnly version start all whole
 say_behind version start said all left whole reading only = record {
-  says = reading.whole whole only.says;
-  only = λ other h. only.only other (reading.only other h);
+  says = reading_whole version start said all left whole reading only.says;
+  only = λ other h. only.only other (reading_only version start said all left other reading h);
 }
 
 pub nothing_behind : (version : Version) (start said : Said) (all left : List (ℕ × List (List ℕ)))
     → IsReading version start said all left → SayNothing version said left → SayNothing version start all
 nothing_behind version start said all left reading nothing whole h checked =
-    nothing whole (reading.only whole h) checked
+    nothing whole (reading_only version start said all left whole reading h) checked
+
+-- .. and the first of them at fault is the first of all
+pub fault_behind : (version : Version) (start said : Said) (all left : List (ℕ × List (List ℕ))) (number : ℕ)
+    → IsReading version start said all left → IsFirstFault (AreLines version said) left number
+    → IsFirstFault (AreLines version start) all number
+fault_behind version start said all left number reading fault =
+    let s : ℕ × List (List ℕ) = (number, fault.words) in
+    let to : IsReading version start said (reading.done ++ (fault.before ++ s ∷ [])) (fault.before ++ s ∷ []) =
+    record { done = reading.done; split = refl; says = reading.says; only = reading.only } in
+    record {
+      before = reading.done ++ fault.before;
+      words = fault.words;
+      behind = fault.behind;
+      stands = sym reading.split ∙ (ap (λ ss. reading.done ++ ss) fault.stands
+          ∙ sym (append_assoc reading.done fault.before (s ∷ fault.behind)));
+      sound = (
+        fault.sound.0,
+        says_append version start said fault.sound.0 reading.done fault.before reading.says
+            fault.sound.1,
+      );
+      refused = λ h.
+          fault.refused (
+            h.0,
+            reading_only version start said _ _ h.0 to
+                (subst (λ ss. Says version start ss h.0) (append_assoc reading.done fault.before (s ∷ [])) h.1),
+          );
+    }
+
+pub at_fault_behind : (version : Version) (start said : Said) (all left : List (ℕ × List (List ℕ))) (fault : TextFault)
+    → IsReading version start said all left → IsAtLine (IsFirstFault (AreLines version said) left) fault
+    → IsAtLine (IsFirstFault (AreLines version start) all) fault
+at_fault_behind version start said all left faults.NoMemory reading at = tt
+at_fault_behind version start said all left (faults.Line n fault) reading at =
+    fault_behind version start said all left n reading at
+at_fault_behind version start said all left (faults.Config error) reading at = tt
+at_fault_behind version start said all left faults.CannotWrite reading at = tt
 
 pub says_nothing : (version : Version) (start said : Said) (all left : List (ℕ × List (List ℕ)))
     (s : ℕ × List (List ℕ))
@@ -243,3 +354,20 @@ other_test text number first rest version whole statements only test =
     only test.version (subst (λ ws. Writes ws (parts_of_first test.version)) same_first test.begins) in
     subst (λ v. Says v said_nothing rest whole) one
     (subst (λ ss. Says test.version said_nothing ss whole) same_rest test.says)
+
+-- a line at fault behind the first is the text's
+pub at_fault : (statements rest : List (ℕ × List (List ℕ))) (number : ℕ) (first : List (List ℕ)) (version : Version)
+    (fault : TextFault) → statements ≡ (number, first) ∷ rest → Writes first (parts_of_first version)
+    → IsAtLine (IsFirstFault (AreLines version said_nothing) rest) fault → IsAtLine (IsFaultAt statements) fault
+at_fault statements rest number first version faults.NoMemory is begins at = tt
+at_fault statements rest number first version (faults.Line n fault) is begins at =
+    subst (λ ss. IsFaultAt ss n) (sym is) (inr (version, begins, at))
+at_fault statements rest number first version (faults.Config error) is begins at = tt
+at_fault statements rest number first version faults.CannotWrite is begins at = tt
+
+-- a fault that names no line names no wrong one
+pub at_no_line : (holds : ℕ → Type 0) (fault : TextFault) → IsAtLine (λ number. ⊥) fault → IsAtLine holds fault
+at_no_line holds faults.NoMemory at = tt
+at_no_line holds (faults.Line n fault) at = absurd at
+at_no_line holds (faults.Config error) at = tt
+at_no_line holds faults.CannotWrite at = tt

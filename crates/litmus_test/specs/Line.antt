@@ -32,6 +32,10 @@ number_of versions.Two = codes "2"
 abbrev pub parts_of_first : Version → List Part
 parts_of_first version = key (codes "lockup-litmus") ∷ key (number_of version) ∷ []
 
+-- the words are the first line of no version
+abbrev pub IsNoFirstLine : List (List ℕ) → Type 0
+IsNoFirstLine words = (version : Version) → ¬ Writes words (parts_of_first version)
+
 -- version 1 has no words for a compare-exchange
 abbrev pub has_cas : Version → Bool
 has_cas versions.One = false

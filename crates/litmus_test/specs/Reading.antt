@@ -1,5 +1,5 @@
 -- What a reader of a litmus test knows on its way.
-use Rattle.std.specs.Prelude.{◌≡◌, ℕ, ◌+◌, ◌≤◌, List, [], length, Result, IfOk, IfErr, IsTrue}
+use Rattle.std.specs.Prelude.{◌≡◌, ℕ, ◌+◌, ◌≤◌, List, [], ◌++◌, length, Result, IfOk, IfErr, IsTrue}
 use Rattle.litmus_text.specs.declared.fault.LineFault.{LineFault}
 use Rattle.litmus_text.specs.declared.fault.TextFault.{TextFault}
 use Rattle.litmus_text.specs.declared.fault.TextFault.TheVariants as faults
@@ -31,8 +31,10 @@ IsNoNextLine version said words = (line : Line) → WritesLine version words lin
 
 -- where `start` was said before all statements, so much was said before those that are left
 pub record IsReading (version : Version) (start said : Said) (all left : List (ℕ × List (List ℕ))) : Type 0 where
-  pub whole : (whole : Said) → Says version said left whole → Says version start all whole
-  pub only : (whole : Said) → Says version start all whole → Says version said left whole
+  pub done : List (ℕ × List (List ℕ))
+  pub split : done ++ left ≡ all
+  pub says : Says version start done said
+  pub only : (other : Said) → Says version start done other → other ≡ said
 
 -- a thread or an outcome was said
 abbrev pub IsBegun : Said → Type 0

@@ -1,11 +1,12 @@
 -- What the text of a litmus test says.
-use Rattle.std.specs.Prelude.{◌≡◌, ℕ, Bool, true, false, ◌-◌, ◌<◌, ◌≤◌, ◌/◌, ◌==◌, List, [], ◌∷◌, ◌++◌, length, map, Contains, unwrap_or}
+use Rattle.std.specs.Prelude.{◌≡◌, ◌⊎◌, ℕ, Bool, true, false, ◌-◌, ◌<◌, ◌≤◌, ◌/◌, ◌==◌, List, [], ◌∷◌, ◌++◌, length, map, Contains, unwrap_or}
 use Rattle.std.specs.List.{list_all, list_any, position}
 use Rattle.std.specs.Str.{bytes_eq}
 use Rattle.std.specs.Str.Lines.{lines}
 use Rattle.address_map.specs.declared.address.CoreId.{CoreId}
 use Rattle.address_map.specs.declared.request.Op.TheVariants as ops
 use Rattle.litmus_text.specs.ConfigLine.{configured}
+use Rattle.litmus_text.specs.Fault.{IsFirstFault}
 use Rattle.litmus_text.specs.Form.{Writes}
 use Rattle.litmus_text.specs.Settings.{default_settings}
 use Rattle.litmus_text.specs.Statement.{statements_from}
@@ -22,7 +23,7 @@ use Rattle.litmus_test.specs.declared.test.LitmusTest.{LitmusTest}
 use Rattle.litmus_test.specs.declared.test.TheConstants.{MOST_ROUNDS, MOST_MOVERS, MOST_STEPS, MOST_NAMES}
 use Rattle.litmus_test.specs.declared.version.Version.{Version}
 use Rattle.litmus_test.specs.Sound.{IsChecked}
-use Rattle.litmus_test.specs.Line.{Line, setting, thread, load, store, add, cas, settle, evict, forbid, WritesLine, parts_of_first}
+use Rattle.litmus_test.specs.Line.{Line, setting, thread, load, store, add, cas, settle, evict, forbid, IsNoFirstLine, WritesLine, parts_of_first}
 
 -- a name, and the step whose reply it stands for: the thread and the step, from 0
 pub record Reply : Type 0 where
@@ -164,6 +165,19 @@ Says version said [] whole = said ≡ whole
 Says version said (statement ∷ statements) whole =
     (line : Line) × (WritesLine version statement.1 line × MayFollow said line
     × Says version (said_line said line) statements whole)
+
+-- where so much was said before, the statements are lines of a litmus test
+abbrev pub AreLines : Version → Said → List (ℕ × List (List ℕ)) → Type 0
+AreLines version said statements = (whole : Said) × Says version said statements whole
+
+-- The line at fault of a text, by its statements: line 1 where there are none, the first of them where it begins no
+-- litmus test, and else the first at fault behind it.
+abbrev pub IsFaultAt : List (ℕ × List (List ℕ)) → ℕ → Type 0
+IsFaultAt [] number = number ≡ 1
+IsFaultAt (first ∷ rest) number =
+    ((number ≡ first.0) × IsNoFirstLine first.1)
+    ⊎ ((version : Version) × Writes first.1 (parts_of_first version)
+    × IsFirstFault (AreLines version said_nothing) rest number)
 
 -- the text is a litmus test that says this: its first line, and the others
 pub record IsLitmusTest (text : List ℕ) (whole : Said) : Type 0 where

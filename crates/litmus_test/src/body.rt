@@ -1,6 +1,7 @@
 ghost use Rattle.std.specs.Prelude.{◌≡◌, ◌==◌, ◌<◌, ◌≤◌, ◌/◌, ◌↔◌, IfErr, IfSome, IsTrue, OnErr, OnOk, length, unwrap_or, vec_len};
 ghost use Rattle.std.specs.List.{list_all, list_any, position};
 ghost use Rattle.std.specs.Str.{bytes_eq};
+ghost use Rattle.litmus_text.specs.Fault.{IsAtLine};
 ghost use Rattle.litmus_test.specs.declared.claim.Claim.{Claim};
 ghost use Rattle.litmus_test.specs.declared.test.NamedReply.{NamedReply};
 ghost use Rattle.litmus_test.specs.declared.test.Thread.{Thread};
@@ -33,6 +34,7 @@ impl<'a> LitmusTest<'a> {
         ensures may { OnOk result (MayFollow (said_by self.old) (line_of line.entry)) }
         ensures said { OnOk result (said_by self.new ≡ said_line (said_by self.old) (line_of line.entry)) }
         ensures refused { IfErr result (IsNoMemoryOr (¬ MayFollow (said_by self.old) (line_of line.entry))) }
+        ensures line { IfErr result (IsAtLine (λ n. n ≡ number)) }
     {
         if let Err(fault) = self.judge(&line) {
             return Err(fault.at(number));

@@ -5,7 +5,8 @@
 //! test keeps to (specs/Sound.antt).
 //!
 //! [`LitmusTest::read`] reads a text. At Ok its lines say this test and no other, and a text is refused only where it
-//! says none; want of memory is a fault of its own (specs/Text.antt).
+//! says none. The line that a fault names is the first with which it can say none (`IsFaultAt`); want of memory is a
+//! fault of its own (specs/Text.antt).
 #![tactic(auto)]
 
 pub use progress::{Progress, Silent};

@@ -19,6 +19,7 @@ pub(super) struct Preamble {
 
 impl Preamble {
     ghost use Rattle.std.specs.Prelude.{◌≡◌, IfErr, IfOk, OnOk};
+    ghost use Rattle.litmus_text.specs.Fault.{IsAtLine};
     ghost use Rattle.litmus_test.specs.declared.setting.Setting.{Setting};
     ghost use Rattle.litmus_test.specs.Reading.{IsNoMemoryOr, said_first};
     ghost use Rattle.litmus_test.specs.Sound.{IsChecked};
@@ -41,6 +42,7 @@ impl Preamble {
         ensures may { OnOk result (MaySet (said_first self.old) setting) }
         ensures said { OnOk result (said_first self.new ≡ said_setting (said_first self.old) setting) }
         ensures refused { IfErr result (IsNoMemoryOr (¬ MaySet (said_first self.old) setting)) }
+        ensures line { IfErr result (IsAtLine (λ n. n ≡ number)) }
     {
         match setting {
             Setting::Config(line) => self.configure(line),
@@ -73,6 +75,7 @@ impl Preamble {
         ensures said { IfOk result (λ test. said_by test ≡ said_first self) }
         ensures checked { OnOk result (IsChecked self.settings.config) }
         ensures refused { IfErr result (IsNoMemoryOr (¬ IsChecked self.settings.config)) }
+        ensures line { IfErr result (IsAtLine (λ number. ⊥)) }
     {
         let settings = self.settings;
         let misses = settings.misses;

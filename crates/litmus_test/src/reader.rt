@@ -1,9 +1,12 @@
 ghost use Rattle.std.specs.Prelude.{◌≡◌, ℕ, List, ◌∷◌, IfErr, IfOk, IsTrue, ◌↔◌, OnOk, map};
+ghost use Rattle.std.specs.Str.Lines.{lines};
+ghost use Rattle.litmus_text.specs.Fault.{IsAtLine, IsFirstFault};
+ghost use Rattle.litmus_text.specs.Statement.{statements_from};
 ghost use Rattle.litmus_test.specs.declared.version.Version.{Version};
 ghost use Rattle.litmus_test.specs.Line.{BeginsAsSetting};
 ghost use Rattle.litmus_test.specs.Reading.{IsBegun, IsNoMemoryOr, IsNoNextLine, IsReading, SayNothing, SayOnly, said_first};
 ghost use Rattle.litmus_test.specs.Sound.{IsChecked};
-ghost use Rattle.litmus_test.specs.Text.{IsLitmusTest, Said, Says, said_by, said_nothing};
+ghost use Rattle.litmus_test.specs.Text.{AreLines, IsFaultAt, IsLitmusTest, Said, Says, said_by, said_nothing};
 
 use super::keyword::Keyword;
 use super::line::Line;
@@ -20,6 +23,7 @@ impl<'a> LitmusTest<'a> {
         ensures written { IfOk result (λ test. IsLitmusTest input.now (said_by test)) }
         ensures only { IfOk result (λ test. (other : Said) → IsLitmusTest input.now other → other ≡ said_by test) }
         ensures refused { IfErr result (IsNoMemoryOr ((whole : Said) → ¬ IsLitmusTest input.now whole)) }
+        ensures line { IfErr result (IsAtLine (IsFaultAt (statements_from 0 (lines input.now)))) }
     {
         let mut statements = Statements::of(input);
         let Some(first) = statements.next() else {
@@ -46,6 +50,7 @@ impl<'a> LitmusTest<'a> {
         ensures begun { OnOk result (IsBegun (said_by self.new)) }
         ensures refused { IfErr result (IsNoMemoryOr
             (IsNoNextLine version (said_by self.old) (map (λ w. w.now) statement.now.words.items))) }
+        ensures line { IfErr result (IsAtLine (λ number. number ≡ statement.now.number)) }
     {
         let words = statement.words.as_slice();
         match Line::parse(version, words) {
@@ -86,6 +91,7 @@ impl<'a> LitmusTest<'a> {
         ensures begun { OnOk result (IsBegun (said_by self.new)) }
         ensures refused { IfErr result (IsNoMemoryOr
             (IsNoNextLine version (said_by self.old) (map (λ w. w.now) statement.now.words.items))) }
+        ensures line { IfErr result (IsAtLine (λ number. number ≡ statement.now.number)) }
     {
         let words = statement.words.as_slice();
         if begins_as_setting(words) {
@@ -125,6 +131,7 @@ impl Preamble {
             → IsReading version start (said_first self.new) all left) }
         ensures refused { (version : Version) → IfErr result (IsNoMemoryOr
             (IsNoNextLine version (said_first self.old) (map (λ w. w.now) statement.now.words.items))) }
+        ensures line { IfErr result (IsAtLine (λ number. number ≡ statement.now.number)) }
     {
         match Setting::parse(statement.words.as_slice()) {
             Ok(setting) => self.take(statement.number, setting),
@@ -141,6 +148,7 @@ fn read_statements<'a>(
 ) -> Result<LitmusTest<'a>, TextFault>
     ensures says { IfOk result (λ test. SayOnly version said_nothing statements.entry (said_by test)) }
     ensures refused { IfErr result (IsNoMemoryOr (SayNothing version said_nothing statements.entry)) }
+    ensures line { IfErr result (IsAtLine (IsFirstFault (AreLines version said_nothing) statements.entry)) }
 {
     let mut preamble = Preamble::new(alloc);
     while let Some(statement) = statements.next() {
@@ -165,6 +173,8 @@ fn read_threads<'a>(
     ensures says { IfOk result (λ whole. SayOnly version (said_by test.entry)
         ((first.entry.number, map (λ w. w.now) first.entry.words.items) ∷ statements.entry) (said_by whole)) }
     ensures refused { IfErr result (IsNoMemoryOr (SayNothing version (said_by test.entry)
+        ((first.entry.number, map (λ w. w.now) first.entry.words.items) ∷ statements.entry))) }
+    ensures line { IfErr result (IsAtLine (IsFirstFault (AreLines version (said_by test.entry))
         ((first.entry.number, map (λ w. w.now) first.entry.words.items) ∷ statements.entry))) }
 {
     test.read_line(alloc, version, &first)?;

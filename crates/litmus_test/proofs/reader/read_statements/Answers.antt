@@ -1,8 +1,13 @@
 use Rattle.std.proofs.Common.{map, rules}
 use Rattle.std.proofs.lemmas.Result.{err_from_is_err_and, IfErr-weaker, IfOk-weaker}
 use Rattle.litmus_test.specs.Line.{BeginsAsSetting}
-use Rattle.litmus_test.proofs.ReadingLemmas.{IsNoMemoryOr-weaker, nothing_behind, reading_all, say_behind, says_nothing, unchecked_all, unchecked_first}
+use Rattle.litmus_test.specs.Text.{said_nothing}
+use Rattle.litmus_test.proofs.ReadingLemmas.{IsNoMemoryOr-weaker, at_fault_behind, at_first_fault, at_no_line, nothing_behind, reading_all, reading_none, say_behind, says_nothing, unchecked_all, unchecked_first}
 use Rattle.litmus_test.proofs.reader.read_statements.Goals as goal
+
+pub loop-statement-init : goal.loop-statement-init
+loop-statement-init c =
+    rw c.new-preamble.ensures (reading_none c.args.version said_nothing c.args.statements)
 
 pub returns-in_err-test-clause-refused : goal.returns-in_err-test-clause-refused
 returns-in_err-test-clause-refused c =
@@ -52,3 +57,27 @@ returns-clause-refused c =
     (unchecked_all c.loop-statement.preamble c.args.version _ _
     (rw c.in_default.ensures.steps.0 at c.loop-statement.invariant)))
     c.test-2.ensures.refused
+
+pub returns-in_err-test-clause-line : goal.returns-in_err-test-clause-line
+returns-in_err-test-clause-line c =
+    let p = err_from_is_err_and c.from_residual.result c.from_residual.ensures.1 in
+    rw (p.1, p.2) (at_no_line _ _ c.in_err-test.ensures.line)
+
+pub returns-then-not-begins_as_setting-clause-line : goal.returns-then-not-begins_as_setting-clause-line
+returns-then-not-begins_as_setting-clause-line c =
+    IfErr-weaker c.read_threads.result _ _
+    (λ fault at. at_fault_behind c.args.version _ _ _ _ fault
+    (rw c.in-Some.ensures.steps at c.loop-statement.invariant) (rw c.in_ok-test.ensures.said at at))
+    c.read_threads.ensures.line
+
+pub returns-in_err-read_setting-clause-line : goal.returns-in_err-read_setting-clause-line
+returns-in_err-read_setting-clause-line c =
+    let p = err_from_is_err_and c.from_residual-in_err-read_setting.result
+    c.from_residual-in_err-read_setting.ensures.1 in
+    rw (p.1, p.2)
+    (at_first_fault c.args.version _ _ _ _ _ _ _ (rw c.in-Some.ensures.steps at c.loop-statement.invariant)
+    (c.in_err-read_setting.ensures.refused c.args.version) c.in_err-read_setting.ensures.line)
+
+pub returns-clause-line : goal.returns-clause-line
+returns-clause-line c =
+    IfErr-weaker c.test-2.result _ _ (λ fault. at_no_line _ fault) c.test-2.ensures.line

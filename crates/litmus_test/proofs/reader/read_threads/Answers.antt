@@ -1,6 +1,6 @@
 use Rattle.std.proofs.lemmas.Result.{err_from_is_err_and}
 use Rattle.litmus_test.specs.Text.{said_by}
-use Rattle.litmus_test.proofs.ReadingLemmas.{IsNoMemoryOr-weaker, reading_all, reading_none, says_nothing}
+use Rattle.litmus_test.proofs.ReadingLemmas.{IsNoMemoryOr-weaker, at_first_fault, reading_all, reading_none, says_nothing}
 use Rattle.litmus_test.proofs.reader.read_threads.Goals as goal
 
 pub returns-in_err-read_line-clause-refused : goal.returns-in_err-read_line-clause-refused
@@ -35,3 +35,18 @@ returns-in_err-read_next-clause-refused c =
 pub returns-clause-says : goal.returns-clause-says
 returns-clause-says c =
     reading_all c.args.version _ _ _ (rw c.in-None.ensures.steps.0 at c.loop-statement.invariant.reading)
+
+pub returns-in_err-read_line-clause-line : goal.returns-in_err-read_line-clause-line
+returns-in_err-read_line-clause-line c =
+    let p = err_from_is_err_and c.from_residual.result c.from_residual.ensures.1 in
+    rw (p.1, p.2)
+    (at_first_fault c.args.version _ _ _ _ _ _ _ (reading_none c.args.version (said_by c.args.test) _)
+    c.in_err-read_line.ensures.refused c.in_err-read_line.ensures.line)
+
+pub returns-in_err-read_next-clause-line : goal.returns-in_err-read_next-clause-line
+returns-in_err-read_next-clause-line c =
+    let p = err_from_is_err_and c.from_residual-in_err-read_next.result c.from_residual-in_err-read_next.ensures.1 in
+    rw (p.1, p.2)
+    (at_first_fault c.args.version _ _ _ _ _ _ _
+    (rw c.in-Some.ensures.steps at c.loop-statement.invariant.reading)
+    c.in_err-read_next.ensures.refused c.in_err-read_next.ensures.line)

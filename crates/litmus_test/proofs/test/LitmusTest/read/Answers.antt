@@ -1,6 +1,6 @@
 use Rattle.std.proofs.Common.{map, sym, ◌∙◌}
 use Rattle.std.proofs.lemmas.Result.{IfErr-weaker, IfOk-weaker}
-use Rattle.litmus_test.proofs.ReadingLemmas.{IsNoMemoryOr-weaker, is_test, other_test}
+use Rattle.litmus_test.proofs.ReadingLemmas.{IsNoMemoryOr-weaker, at_fault, is_test, other_test}
 use Rattle.litmus_test.proofs.test.LitmusTest.read.Goals as goal
 
 pub returns-in-Ok-clause-written : goal.returns-in-Ok-clause-written
@@ -30,3 +30,11 @@ returns-in-Ok-clause-refused c =
     (rw c.as_slice.ensures.value at c.in-Ok.ensures.only) is)
     is.checked))
     c.read_statements.ensures.refused
+
+pub returns-in-Ok-clause-line : goal.returns-in-Ok-clause-line
+returns-in-Ok-clause-line c =
+    IfErr-weaker c.read_statements.result _ _
+    (λ fault. at_fault _ _ c.in-Some.first.number (map (λ w. w.now) c.in-Some.first.words.items) c.in-Ok.version fault
+    (sym c.of-statements.ensures ∙ c.in-Some.ensures.steps)
+    (rw c.as_slice.ensures.value at c.in-Ok.ensures.written))
+    c.read_statements.ensures.line

@@ -1,5 +1,5 @@
 use Rattle.std.specs.Prelude.{slice_index_or}
-use Rattle.slice_bench.proofs.lock.hits.configured_locked.Given as goal
+use Rattle.slice_bench.proofs.lock.asked.configured_locked.Given as goal
 
 abbrev pub ghosts-named_locked : goal.ghosts-named_locked
 ghosts-named_locked g a = record {

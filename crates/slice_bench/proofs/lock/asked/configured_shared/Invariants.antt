@@ -1,5 +1,5 @@
 use Rattle.std.specs.Prelude.{slice_index_or}
-use Rattle.slice_bench.proofs.lock.hits.configured_shared.Given as goal
+use Rattle.slice_bench.proofs.lock.asked.configured_shared.Given as goal
 
 abbrev pub ghosts-named_shared : goal.ghosts-named_shared
 ghosts-named_shared g a = record {

@@ -14,7 +14,7 @@ use Rattle.slice_core_answer.specs.declared.answer.Delivered.{Delivered}
 use Rattle.slice_core_answer.specs.declared.answer.DeliveredNext.{DeliveredNext}
 use Rattle.slice_core_answer.specs.declared.answer.DeliveredNext.TheVariants as delivered_next
 use Rattle.slice_core_answer.specs.declared.answer.Delivered.TheVariants as delivered
-use Rattle.slice_core_plan.specs.Parts.{PartsView, core_of, filled_by, AfterDeliverNext, AfterDelivery, AfterPlan, Settles, local_in}
+use Rattle.slice_core_plan.specs.Parts.{PartsView, core_of, filled_by, AfterDeliverNext, AfterDelivery, AfterPlan, Settles, local_in, IsDone, Moves}
 use Rattle.slice_core_plan.specs.Plan.{plan_of, planned_in}
 use Rattle.slice_core_plan.specs.Sends.{cache_sent, directory_sent}
 use Rattle.slice_core_plan.specs.Steps.{asked_by, after_directory, after_forwarded, after_home, after_settling}
@@ -27,7 +27,7 @@ use Rattle.slice_core_side.specs.Side.{SideView, array_copy, copy_of}
 use Rattle.slice_core_side.specs.Steps as sides
 use Rattle.slice_core_side.specs.Steps.{acknowledged}
 use Rattle.slice_core_side.specs.declared.copy.CacheCopy.{CacheCopy}
-use Rattle.slice_core.proofs.AccountsKept.{HasSame, Keeps, counts-before, keeps-from_sound, keeps-posted, keeps-settled, keeps-side}
+use Rattle.slice_core.proofs.AccountsKept.{HasSame, Keeps, counts-before, keeps-from_sound, keeps-posted, keeps-settled, keeps-side, keeps-ring}
 use Rattle.slice_core_machine.proofs.Planned.{held-at_place, is_for_copy, place_in, planned-core, planned-place}
 use Rattle.slice_core.proofs.CountedLines.{cores-asked, cores-cache, cores-directory, cores-taken}
 use Rattle.slice_core.proofs.CountedStats.{counts-same, same-message}
@@ -67,19 +67,16 @@ module _ (old : PartsView) (local : Local) (channel : Channel) (new : PartsView)
   -- ---- the directory's rows
 
   moved : (view : View) → view.lines ≡ old.view.lines → view.sides ≡ old.view.sides → view.log ≡ old.view.log
-      → IsShaped view → new ≡ record old { view = view; stats = after_message old.stats channel } → Keeps new
+      → IsShaped view → Moves old local channel view new → Keeps new
   moved view lines sides log shaped is =
       subst Keeps (sym is)
-      (keeps-posted old view (after_message old.stats channel) lines sides log (same-message old channel) shaped keeps)
+      (keeps-ring _ _
+      (keeps-posted old view (after_message old.stats channel) lines sides log (same-message old channel) shaped keeps))
 
   -- ---- a core's copy
 
   forwarded : (core requester : CoreId) (next : CopyState) (sent : CacheSends) → core.0 < length old.view.sides
-      → new ≡ record old {
-        view = after_forwarded old.view local core next sent requester;
-        stats = after_message old.stats channel;
-      }
-      → Keeps new
+      → Moves old local channel (after_forwarded old.view local core next sent requester) new → Keeps new
   forwarded core requester next sent known is =
       let side = sides.after_advance (side_at old.view core) local next in
       let before = counts-before old core keeps.counted known in
@@ -88,12 +85,13 @@ module _ (old : PartsView) (local : Local) (channel : Channel) (new : PartsView)
       let went = keeps-side old core side old.stats known (same-advance (side_at old.view core) local next)
       (counts-same old core before.0 (side_at old.view core).accepted before.1) keeps in
       subst Keeps (sym is)
+      (keeps-ring _ _
       (keeps-posted (record old { view = with_side old.view core side })
       (after_forwarded old.view local core next sent requester) (after_message old.stats channel) refl refl refl
       (same-message (record old { view = with_side old.view core side }) channel)
       (shaped-channels (with_side old.view core side) local (cache_sent line core requester block sent)
       (cores-cache line core requester block sent ∙ cores-taken (channels_at old.view local) (channels.Fwd core))
-      went.counted.shaped) went)
+      went.counted.shaped) went))
 
   settled : (core : CoreId) (copy : CacheCopy) → core.0 < length old.view.sides
       → IsArray (side_at old.view core).array → IsSome (array_at (side_at old.view core).array local)
@@ -114,11 +112,12 @@ module _ (old : PartsView) (local : Local) (channel : Channel) (new : PartsView)
       (ap (λ (c : CacheCopy). tags_after side.tags (length old.view.log) (performed_in c.state targets))
       (put-there side local copy sound held)) refl keeps in
       subst Keeps (sym after.3)
+      (keeps-ring _ _
       (keeps-posted step (after_settling old.view local core channel copy misses) (after_message old.stats channel) refl
       refl refl (same-message step channel)
       (shaped-channels step.view local (asked_by (asks_to_write copy.state targets) line core)
       (cores-asked (asks_to_write copy.state targets) line core ∙ cores-taken (channels_at old.view local) channel)
-      went.counted.shaped) went)
+      went.counted.shaped) went))
     where
       first : (line : ℕ) → 8 * line + 0 ≡ 8 * line
       first line = omega arith
@@ -198,8 +197,13 @@ module _ (old : PartsView) (sound : IsSound old) (new : PartsView) where
   pub keeps-delivery : (pick : Pick) (answer : Delivered) → AfterDelivery old pick answer new → Keeps new
   keeps-delivery pick answer after = placed pick answer (local_at old.view.lines (line_of pick).0) after
 
-  pub keeps-deliver_next : (class : Class) (answer : DeliveredNext) → AfterDeliverNext old class answer new → Keeps new
-  keeps-deliver_next class (delivered_next.Moved pick) after = keeps-delivery pick delivered.Moved after.1
-  keeps-deliver_next class delivered_next.Nothing after = keeps-same after.0
-  keeps-deliver_next class delivered_next.Blocked after = keeps-same after.0
-  keeps-deliver_next class (delivered_next.Broken cell) after = keeps-same after.0
+  pub keeps-done : (answer : DeliveredNext) → IsDone old answer new → Keeps new
+  keeps-done (delivered_next.Moved pick) done = keeps-delivery pick delivered.Moved done
+  keeps-done delivered_next.Nothing done = keeps-same done
+  keeps-done delivered_next.Blocked done = keeps-same done
+  keeps-done (delivered_next.Broken cell) done = keeps-same done
+
+pub keeps-deliver_next : (old : PartsView) → IsSound old → (new : PartsView) (class : Class) (answer : DeliveredNext)
+    → AfterDeliverNext old class answer new → Keeps new
+keeps-deliver_next old sound new class answer after =
+    subst Keeps (sym after.turns) (keeps-ring _ _ (keeps-done old sound after.done answer after.made))

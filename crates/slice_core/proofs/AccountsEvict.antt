@@ -14,14 +14,20 @@ use Rattle.slice_core_side.specs.Access.{evicted_of}
 use Rattle.slice_core_side.specs.Side.{array_copy}
 use Rattle.slice_core_side.specs.Steps as sides
 use Rattle.slice_core.proofs.AccountsIssue.{keeps-leaving}
-use Rattle.slice_core.proofs.AccountsKept.{Keeps}
+use Rattle.slice_core.proofs.AccountsKept.{Keeps, keeps-ring}
+use Rattle.slice_queues.specs.Ring.{with_listed}
 
 module _ (old : PartsView) (core : CoreId) (line : LineAddr) (answer : Evicted) (new : PartsView)
     (keeps : Keeps old) (known : core.0 < length old.view.sides) where
   -- what is left of the slice, by the answer
   abbrev by_answer : Local → Evicted → Type 0
   by_answer local evictions.Evicting =
-      new ≡ record old { view = after_evict old.view core local; stats = after_eviction old.stats core }
+      new
+      ≡ record old {
+        view = after_evict old.view core local;
+        stats = after_eviction old.stats core;
+        ring = with_listed old.ring local.0;
+      }
   by_answer local _ = new ≡ old
 
   -- what an eviction answers and leaves, by the line's place
@@ -33,8 +39,9 @@ module _ (old : PartsView) (core : CoreId) (line : LineAddr) (answer : Evicted) 
   answered local evictions.Evicting after =
       let side = side_at old.view core in
       subst Keeps (sym after)
+      (keeps-ring _ _
       (keeps-leaving old core (sides.after_evict side local) local (sides.put_of (array_copy side local)) known
-      (record { misses = refl; tags = refl; accepted = refl }) keeps)
+      (record { misses = refl; tags = refl; accepted = refl }) keeps))
   answered local evictions.Busy after = subst Keeps (sym after) keeps
   answered local evictions.NotHeld after = subst Keeps (sym after) keeps
   answered local evictions.WriteBackFull after = subst Keeps (sym after) keeps

@@ -27,7 +27,7 @@ use Rattle.slice_core_side.specs.declared.access.Way.{Way}
 use Rattle.slice_core_side.specs.declared.access.Way.TheVariants as ways
 use Rattle.slice_core_side.specs.declared.tags.TagState.TheVariants as tags
 use Rattle.slice_core_machine.proofs.Judged.{hit-alone, judged, IsJudged}
-use Rattle.slice_core.proofs.AccountsKept.{HasSame, Keeps, counts-before, keeps-added, keeps-hit, keeps-posted, keeps-side}
+use Rattle.slice_core.proofs.AccountsKept.{HasSame, Keeps, counts-before, keeps-added, keeps-hit, keeps-posted, keeps-side, keeps-ring}
 use Rattle.slice_core.proofs.CountedLines.{cores-sent}
 use Rattle.slice_core.proofs.CountedStats.{accepted-within, counts-eviction, counts-hit, counts-primary, counts-secondary, same-none, same-stall}
 use Rattle.slice_core.proofs.CountedSteps.{after_step, shaped-channels, side-here}
@@ -211,8 +211,9 @@ module _ (old : PartsView) (core : CoreId) (request : Request) (answer : Result 
   accepted local (accesses.Open next ask way) judged room issue fits after =
       let small = ap (λ (p : PartsView). p.room) after.3.1 in
       subst Keeps (sym after.3.1)
+      (keeps-ring _ _
       (opened old core request local room way next ask after.0 keeps known fits (omega (arith, bound, small)) after.1
-      after.2 judged.tag judged.free)
+      after.2 judged.tag judged.free))
 
   with_memory : (local : Local) (access : Access) → IsJudged old.view core request local access
       → LacksMemory old answer new ⊎ IsAccepted access old core request local answer new → Keeps new

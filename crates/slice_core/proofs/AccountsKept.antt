@@ -44,6 +44,23 @@ sound-from_keeps p keeps links faithful =
 
 -- ---- steps that change no request
 
+-- Neither is about the ring.
+pub keeps-ring : (p : PartsView) (ring : List ℕ) → Keeps p → Keeps (record p { ring = ring })
+keeps-ring p ring keeps = record {
+  counted = record {
+    shaped = keeps.counted.shaped;
+    machine = keeps.counted.machine;
+    some_core = keeps.counted.some_core;
+    cores = keeps.counted.cores;
+    stats = keeps.counted.stats;
+    pending = keeps.counted.pending;
+    room = keeps.counted.room;
+    bounded = keeps.counted.bounded;
+    accepted = keeps.counted.accepted;
+  };
+  accounts = keeps.accounts;
+}
+
 -- Sides, log and lines are as they were, and no accepted request was counted.
 pub keeps-posted : (p : PartsView) (view : View) (stats : StatsView)
     → view.lines ≡ p.view.lines → view.sides ≡ p.view.sides → view.log ≡ p.view.log

@@ -124,4 +124,4 @@ module _ (old : PartsView) (sound : IsSound old) (new : PartsView) where
   unbroken_next class delivered_next.Nothing after = tt
   unbroken_next class delivered_next.Blocked after = tt
   unbroken_next class (delivered_next.Broken cell) after =
-      let some = after.1.1 in absurd (unbroken old sound some.0 some.1 cell some.2 some.4)
+      let some = after.found.1 in absurd (unbroken old sound some.0 some.1 cell some.2 some.4)

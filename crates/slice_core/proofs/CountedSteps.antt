@@ -33,7 +33,7 @@ module _ (v : View) (core : CoreId) (side : SideView) (known : core.0 < length v
 
 -- the slice after a step of one core: its side, what was performed, and what is counted of it
 abbrev pub after_step : PartsView → CoreId → SideView → List Entry → StatsView → ℕ → ℕ → PartsView
-after_step p core side log stats pending room = record {
+after_step p core side log stats pending room = record p {
   view = record (with_side p.view core side) { log = log };
   stats = stats;
   pending = pending;

@@ -33,7 +33,7 @@ use Rattle.slice_core_side.specs.declared.access.Way.{Way}
 use Rattle.slice_core_side.specs.declared.access.Way.TheVariants as ways
 use Rattle.slice_core_side.specs.declared.copy.CacheCopy.{CacheCopy}
 use Rattle.slice_core_plan.specs.Decision.{decision_of}
-use Rattle.slice_core_plan.specs.Parts.{PartsView, AfterAccepting, AfterAccess, AfterDeliverNext, AfterDelivery, AfterEvict, AfterHand, AfterIssue, AfterPlan, IsAccepted, LacksMemory, Settles, core_of, opened_stats, local_in}
+use Rattle.slice_core_plan.specs.Parts.{PartsView, AfterAccepting, AfterAccess, AfterDeliverNext, AfterDelivery, AfterEvict, AfterHand, AfterIssue, AfterPlan, IsAccepted, LacksMemory, Settles, core_of, opened_stats, local_in, IsDone}
 use Rattle.slice_core_plan.specs.Plan.{plan_of, planned_in}
 use Rattle.slice_core_plan.specs.Steps.{after_evict, after_open, is_held, with_way}
 use Rattle.slice_core_plan.specs.View.{side_at, with_side}
@@ -42,6 +42,7 @@ use Rattle.slice_core_plan.specs.declared.decide.Decision.TheVariants as decisio
 use Rattle.slice_core_plan.specs.declared.decide.Plan.{Plan}
 use Rattle.slice_core_plan.specs.declared.decide.Plan.TheVariants as plans
 use Rattle.slice_queues.specs.Line.{LineChannels}
+use Rattle.slice_queues.specs.Ring.{with_listed}
 use Rattle.slice_queues_message.specs.Pick.{channel_of, line_of}
 use Rattle.slice_queues_message.specs.declared.channel.Channel.{Channel}
 use Rattle.slice_queues_message.specs.declared.channel.Class.{Class}
@@ -72,15 +73,17 @@ same-then old middle new one other = record {
   reported = other.reported ∙ one.reported;
 }
 
--- A slice stays the one that it was where its entries, its channels, its counts and the room of its log change, ..
+-- A slice stays the one that it was where its entries, its channels, its counts, the room of its log and its ring
+-- change, ..
 lines-changed : (old : PartsView) (entries : List DirEntry) (channels : List LineChannels) (stats : StatsView)
-    (room : ℕ) → stats.exclusive ≡ old.stats.exclusive
+    (room : ℕ) (ring : List ℕ) → stats.exclusive ≡ old.stats.exclusive
     → IsSameSlice old (record old {
       view = record old.view { entries = entries; channels = channels };
       stats = stats;
       room = room;
+      ring = ring;
     })
-lines-changed old entries channels stats room reported = record {
+lines-changed old entries channels stats room ring reported = record {
   lines = refl;
   init = refl;
   counters = refl;
@@ -92,14 +95,15 @@ lines-changed old entries channels stats room reported = record {
 
 -- .. and where one core has another part of the shape that it had, whatever was sent, performed and counted.
 part-changed : (old : PartsView) (core : CoreId) (side : SideView) (channels : List LineChannels) (log : List Entry)
-    (stats : StatsView) (pending : ℕ)
+    (stats : StatsView) (pending : ℕ) (ring : List ℕ)
     → shape_of side ≡ shape_of (side_at old.view core) → stats.exclusive ≡ old.stats.exclusive
     → IsSameSlice old (record old {
       view = record (with_side old.view core side) { channels = channels; log = log };
       stats = stats;
       pending = pending;
+      ring = ring;
     })
-part-changed old core side channels log stats pending shape reported = record {
+part-changed old core side channels log stats pending ring shape reported = record {
   lines = refl;
   init = refl;
   counters = refl;
@@ -120,7 +124,7 @@ opened-reported stats core ways.Free = refl
 with-way : (old : PartsView) (core : CoreId) (local : Local) (way : Way)
     → IsSameSlice old (record old { view = with_way old.view core local way })
 with-way old core local ways.Victim =
-    part-changed old core _ _ _ _ _ (shape-replace (side_at old.view core) local) refl
+    part-changed old core _ _ _ _ _ _ (shape-replace (side_at old.view core) local) refl
 with-way old core local ways.Held = same-is old old refl
 with-way old core local ways.Free = same-is old old refl
 
@@ -130,7 +134,7 @@ opened : (old : PartsView) (core : CoreId) (request : Request) (local : Local) (
 opened old core request local way next ask misses =
     let middle = record old { view = with_way old.view core local way } in
     same-then old middle _ (with-way old core local way)
-    (part-changed middle core _ _ _ _ _
+    (part-changed middle core _ _ _ _ _ _
     (shape-open (side_at middle.view core) local (is_held way) next request misses) refl)
 
 accepted : (access : Access) (old : PartsView) (core : CoreId) (request : Request) (local : Local) (answer : Issue)
@@ -138,11 +142,11 @@ accepted : (access : Access) (old : PartsView) (core : CoreId) (request : Reques
 accepted (accesses.Stall stall) old core request local answer new after = same-is old new after.1
 accepted (accesses.Hit place next silent) old core request local answer new after =
     subst (IsSameSlice old) (sym after.1)
-    (part-changed old core _ _ _ _ _
+    (part-changed old core _ _ _ _ _ _
     (shape-hit (side_at old.view core) local (offset_of request.word).0 request.op next) refl)
 accepted accesses.Join old core request local answer new after =
     subst (IsSameSlice old) (sym after.3.1)
-    (part-changed old core _ _ _ _ _ refl refl)
+    (part-changed old core _ _ _ _ _ _ refl refl)
 accepted (accesses.Open next ask way) old core request local answer new after =
     let same = opened old core request local way next ask after.0 in
     subst (IsSameSlice old) (sym after.3.1)
@@ -165,7 +169,7 @@ module _ (old : PartsView) (core : CoreId) (request : Request) (answer : Result 
       (λ is.
       let roomy = record old { room = is.0 } in
       same-then old roomy new
-      (lines-changed old _ _ _ _ refl)
+      (lines-changed old _ _ _ _ _ refl)
       (accepted access roomy core request local is.1 new is.5))
       after
 
@@ -173,7 +177,7 @@ module _ (old : PartsView) (core : CoreId) (request : Request) (answer : Result 
       → IsSameSlice old new
   accessed local (accesses.Stall stall) after =
       subst (IsSameSlice old) (sym after.1)
-      (lines-changed old _ _ _ _ refl)
+      (lines-changed old _ _ _ _ _ refl)
   accessed local (accesses.Hit place next silent) after = let_in local (accesses.Hit place next silent) after
   accessed local accesses.Join after = let_in local accesses.Join after
   accessed local (accesses.Open next ask way) after = let_in local (accesses.Open next ask way) after
@@ -196,7 +200,12 @@ module _ (old : PartsView) (core : CoreId) (line : LineAddr) (answer : Evicted) 
   -- what is left of the slice, by the answer to an eviction
   abbrev by_answer : Local → Evicted → Type 0
   by_answer local evictions.Evicting =
-      new ≡ record old { view = after_evict old.view core local; stats = after_eviction old.stats core }
+      new
+      ≡ record old {
+        view = after_evict old.view core local;
+        stats = after_eviction old.stats core;
+        ring = with_listed old.ring local.0;
+      }
   by_answer local _ = new ≡ old
 
   -- what an eviction answers and leaves, by the line's place
@@ -207,7 +216,7 @@ module _ (old : PartsView) (core : CoreId) (line : LineAddr) (answer : Evicted) 
   answered : (local : Local) (given : Evicted) → by_answer local given → IsSameSlice old new
   answered local evictions.Evicting after =
       subst (IsSameSlice old) (sym after)
-      (part-changed old core _ _ _ _ _ (shape-evict (side_at old.view core) local) refl)
+      (part-changed old core _ _ _ _ _ _ (shape-evict (side_at old.view core) local) refl)
   answered local evictions.Busy after = same-is old new after
   answered local evictions.NotHeld after = same-is old new after
   answered local evictions.WriteBackFull after = same-is old new after
@@ -225,7 +234,7 @@ settled : (old : PartsView) (local : Local) (core : CoreId) (channel : Channel) 
     → Settles old local core channel copy new → IsSameSlice old new
 settled old local core channel copy new after =
     subst (IsSameSlice old) (sym after.3)
-    (part-changed old core _ _ _ _ _
+    (part-changed old core _ _ _ _ _ _
     (shape-settle (side_at old.view core) local copy (length old.view.log) after.0) refl)
 
 planned : (plan : Plan) (old : PartsView) (local : Local) (channel : Channel) (answer : Delivered) (new : PartsView)
@@ -235,13 +244,13 @@ planned plans.Blocked old local channel answer new after = same-is old new after
 planned (plans.Broken cell) old local channel answer new after = same-is old new after.1
 planned (plans.Directory state owner sharers sent writes) old local channel answer new after =
     subst (IsSameSlice old) (sym after.1)
-    (lines-changed old _ _ _ _ refl)
+    (lines-changed old _ _ _ _ _ refl)
 planned (plans.Home state owner sharers) old local channel answer new after =
     subst (IsSameSlice old) (sym after.1)
-    (lines-changed old _ _ _ _ refl)
+    (lines-changed old _ _ _ _ _ refl)
 planned (plans.Forwarded next sent requester) old local channel answer new after =
     subst (IsSameSlice old) (sym after.1)
-    (part-changed old (core_of channel) _ _ _ _ _ (shape-advance (side_at old.view (core_of channel)) local next) refl)
+    (part-changed old (core_of channel) _ _ _ _ _ _ (shape-advance (side_at old.view (core_of channel)) local next) refl)
 planned (plans.Fill place next) old local channel answer new after = settled old local _ channel _ new after.1
 planned (plans.Acknowledge place next) old local channel answer new after = settled old local _ channel _ new after.1
 
@@ -259,12 +268,18 @@ module _ (old : PartsView) (pick : Pick) (answer : Delivered) (new : PartsView) 
   pub same-deliver : AfterDelivery old pick answer new → IsSameSlice old new
   same-deliver after = found (local_at old.view.lines (line_of pick).0) after
 
+same-done : (old : PartsView) (answer : DeliveredNext) (new : PartsView) → IsDone old answer new → IsSameSlice old new
+same-done old (delivered_next.Moved pick) new done = same-deliver old pick delivered.Moved new done
+same-done old delivered_next.Nothing new done = same-is old new done
+same-done old delivered_next.Blocked new done = same-is old new done
+same-done old (delivered_next.Broken cell) new done = same-is old new done
+
 pub same-next : (old : PartsView) (class : Class) (answer : DeliveredNext) (new : PartsView)
     → AfterDeliverNext old class answer new → IsSameSlice old new
-same-next old class (delivered_next.Moved pick) new after = same-deliver old pick delivered.Moved new after.1
-same-next old class delivered_next.Nothing new after = same-is old new after.0
-same-next old class delivered_next.Blocked new after = same-is old new after.0
-same-next old class (delivered_next.Broken cell) new after = same-is old new after.0
+same-next old class answer new after =
+    subst (IsSameSlice old) (sym after.turns)
+    (same-then old after.done _ (same-done old answer after.done after.made)
+    (lines-changed after.done _ _ _ _ _ refl))
 
 -- ---- hand
 
@@ -273,4 +288,4 @@ pub same-hand : (old : PartsView) (core : CoreId) (answer : Option Numbered) (ne
 same-hand old core None new after = same-is old new after.1
 same-hand old core (Some given) new after =
     subst (IsSameSlice old) (sym after.3)
-    (part-changed old core _ _ _ _ _ refl refl)
+    (part-changed old core _ _ _ _ _ _ refl refl)

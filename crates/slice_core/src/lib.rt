@@ -11,8 +11,9 @@
 //!
 //! What a call would do can be asked before it is made, and that changes nothing and takes no memory:
 //! [`SliceState::decide`] says what an access would be, [`SliceState::plan`] what a delivery would do,
-//! [`SliceState::next`] which pick of a class can be delivered, [`SliceState::waiting`] goes through the picks with a
-//! message, and [`SliceState::waiting_at`] through the channels of one line that have one. A call does what was decided: its contract is by the same definitions (`decision_of`, `planned_at`).
+//! [`SliceState::next`] which pick of a class [`SliceState::deliver_next`] would deliver, [`SliceState::waiting`] goes
+//! through the picks with a message, and [`SliceState::waiting_at`] through the channels of one line that have one. A
+//! call does what was decided: its contract is by the same definitions (`decision_of`, `planned_at`, `next_pick`).
 #![tactic(auto)]
 
 pub use address_map::{Block, CoreId, CoreSet, LineAddr, Local, Op, Request, SliceId, WordAddr};

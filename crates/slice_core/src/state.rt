@@ -6,8 +6,9 @@ ghost use Rattle.slice_core.specs.Run.{AfterCall, HasCore, HasCores, IsOneRun, I
 ghost use Rattle.slice_core_machine.specs.Machine.{IsSame, new_machine};
 ghost use Rattle.slice_core_machine.specs.Shows.{Leads, Performs, hand_steps, issue_steps, next_of, shown};
 ghost use Rattle.slice_core_plan.specs.Decision.{decision_of};
-ghost use Rattle.slice_core_plan.specs.Parts.{PartsView, AfterDeliverNext, AfterDelivery, AfterEvict, AfterHand, AfterIssue, IsNew, IsNextPick};
+ghost use Rattle.slice_core_plan.specs.Parts.{PartsView, AfterDeliverNext, AfterDelivery, AfterEvict, AfterHand, AfterIssue, IsNew, IsNextPick, next_pick};
 ghost use Rattle.slice_core_plan.specs.Plan.{planned_at};
+ghost use Rattle.slice_core_plan.specs.Turn.{ServesInTurn};
 ghost use Rattle.slice_core_plan.specs.View.{View, IsQuiet};
 ghost use Rattle.slice_queues.specs.Waiting.{lines_waiting};
 ghost use Rattle.slice_queues_message.specs.Pick.{channel_of, line_of as line_of_pick};
@@ -91,9 +92,12 @@ impl<F: MissFile> SliceState<F> {
         self.parts.deliver(pick)
     }
 
-    /// Makes one delivery of the class, where one can be made.
+    /// Makes the delivery of the class that [`SliceState::next`] names, where one can be made. Lines are served in turn: one
+    /// with messages that can be moved is passed over by no more such calls than lines stand in front of it in the ring
+    /// (`lines_are_served_in_turn` of `slice_core_plan`).
     pub fn deliver_next(&mut self, class: Class) -> DeliveredNext
         ensures step { AfterDeliverNext self.old class result self.new }
+        ensures turn { ServesInTurn self.old class result self.new }
         ensures machine { Performs self.old.view self.new.view }
         ensures unbroken { IsNotBrokenNext result }
         ensures same { IsSameSlice self.old self.new }
@@ -223,10 +227,10 @@ impl<F: MissFile> SliceState<F> {
         self.parts.plan_at(pick)
     }
 
-    /// A pick of the class whose message can be moved, if there is one. [`SliceState::deliver_next`] looks in the same
-    /// order.
+    /// The pick of the class that [`SliceState::deliver_next`] would deliver, or why it would deliver none.
     pub fn next(&self, class: Class) -> NextPick
-        ensures { IsNextPick self.now.view class result }
+        ensures next { result ≡ next_pick self.now class }
+        ensures found { IsNextPick self.now.view class result }
     {
         self.parts.next(class)
     }

@@ -35,6 +35,7 @@ use Rattle.slice_core_side.specs.Tags.{is_free}
 use Rattle.slice_core_side.specs.declared.access.Access.{Access}
 use Rattle.slice_core_side.specs.declared.access.Access.TheVariants as accesses
 use Rattle.slice_core_side.specs.declared.copy.CacheCopy.{CacheCopy}
+use Rattle.slice_queues.specs.Ring.{with_listed}
 
 -- A line that has a place among the slice's own is one of them.
 pub located : (own : Lines) (line : ℕ) (local : Local) → local_at own line ≡ Some local → local.0 < own.lines
@@ -162,7 +163,12 @@ module _ (Whole Fact : View → Type 0) (steps : KeepsAccesses Whole Fact) (old 
   -- what is left of the slice, by the answer
   abbrev by_answer : Local → Evicted → Type 0
   by_answer local evictions.Evicting =
-      new ≡ record old { view = after_evict old.view core local; stats = after_eviction old.stats core }
+      new
+      ≡ record old {
+        view = after_evict old.view core local;
+        stats = after_eviction old.stats core;
+        ring = with_listed old.ring local.0;
+      }
   by_answer local _ = new ≡ old
 
   -- what an eviction answers and leaves, by the line's place

@@ -15,7 +15,7 @@ use Rattle.slice_core_coherence.proofs.KeptByCalls.{located}
 use Rattle.slice_core_coherence.proofs.Planned.{IsFor, is_for}
 use Rattle.slice_core_coherence.proofs.Steps.{KeepsMessages}
 use Rattle.slice_core_coherence.specs.Whole.{IsWhole}
-use Rattle.slice_core_plan.specs.Parts.{PartsView, AfterDeliverNext, AfterDelivery, AfterPlan, local_in}
+use Rattle.slice_core_plan.specs.Parts.{AfterDeliverNext, AfterDelivery, AfterPlan, IsDone, PartsView, local_in}
 use Rattle.slice_core_plan.specs.Plan.{plan_of, planned_in}
 use Rattle.slice_core_plan.specs.View.{View}
 use Rattle.slice_core_plan.specs.declared.decide.Plan.{Plan}
@@ -137,10 +137,17 @@ module _ (Whole Fact : View → Type 0) (steps : KeepsMessages Whole Fact) (old 
   pub delivery_keeps : (pick : Pick) (answer : Delivered) → AfterDelivery old pick answer new → Fact new.view
   delivery_keeps pick answer after = at_place pick answer (local_at old.view.lines (line_of pick).0) refl after
 
-  -- So does one of the next message of a class.
-  pub deliver_next_keeps : (class : Class) (answer : DeliveredNext) → AfterDeliverNext old class answer new
-      → Fact new.view
-  deliver_next_keeps class (delivered_next.Moved pick) after = delivery_keeps pick delivered.Moved after.1
-  deliver_next_keeps class delivered_next.Nothing after = unchanged after.0
-  deliver_next_keeps class delivered_next.Blocked after = unchanged after.0
-  deliver_next_keeps class (delivered_next.Broken cell) after = unchanged after.0
+  -- So does what is done of the next message of a class, ..
+  pub done_keeps : (answer : DeliveredNext) → IsDone old answer new → Fact new.view
+  done_keeps (delivered_next.Moved pick) done = delivery_keeps pick delivered.Moved done
+  done_keeps delivered_next.Nothing done = unchanged done
+  done_keeps delivered_next.Blocked done = unchanged done
+  done_keeps (delivered_next.Broken cell) done = unchanged done
+
+-- .. and the turn of the ring behind it.
+pub deliver_next_keeps : (Whole Fact : View → Type 0) (steps : KeepsMessages Whole Fact) (old new : PartsView)
+    → IsWhole old.view → Whole old.view → Fact old.view → (class : Class) (answer : DeliveredNext)
+    → AfterDeliverNext old class answer new → Fact new.view
+deliver_next_keeps Whole Fact steps old new whole more all class answer after =
+    subst (λ (p : PartsView). Fact p.view) (sym after.turns)
+    (done_keeps Whole Fact steps old after.done whole more all answer after.made)

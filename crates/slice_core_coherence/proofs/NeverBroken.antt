@@ -59,4 +59,4 @@ module _ (old new : PartsView) (unbroken : NothingIsBroken old.view) (cell : Cel
   next_unbroken class delivered_next.Nothing after is = absurd (cc is)
   next_unbroken class delivered_next.Blocked after is = absurd (cc is)
   next_unbroken class (delivered_next.Broken other) after is =
-      let some = after.1.1 in unbroken some.0 some.1 other some.2 some.4
+      let some = after.found.1 in unbroken some.0 some.1 other some.2 some.4

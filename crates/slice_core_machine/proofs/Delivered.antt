@@ -17,7 +17,7 @@ use Rattle.slice_core_machine.proofs.Kept.{ShowsSame, kept-of, leads-same, same-
 use Rattle.slice_core_machine.proofs.Planned.{held-at_place, is_for_copy, place_in, planned-core, planned-place}
 use Rattle.slice_core_machine.proofs.Settled.{settled_performs}
 use Rattle.slice_core_machine.specs.Shows.{IsAccounted, Performs}
-use Rattle.slice_core_plan.specs.Parts.{PartsView, core_of, AfterDeliverNext, AfterDelivery, AfterPlan, Settles, local_in}
+use Rattle.slice_core_plan.specs.Parts.{AfterDeliverNext, AfterDelivery, AfterPlan, IsDone, PartsView, Settles, core_of, local_in}
 use Rattle.slice_core_plan.specs.Plan.{plan_of, planned_in}
 use Rattle.slice_core_plan.specs.Steps.{after_forwarded, after_settling}
 use Rattle.slice_core_plan.specs.View.{View, side_at}
@@ -183,10 +183,19 @@ module _ (old new : PartsView) (accounted : IsAccounted old.view) (whole : IsWho
       → Performs old.view new.view
   delivery_performs pick answer done = at_place pick answer (local_at old.view.lines (line_of pick).0) done
 
-  -- So does one of the next message of a class.
-  pub deliver_next_performs : (class : Class) (answer : DeliveredNext) → AfterDeliverNext old class answer new
-      → Performs old.view new.view
-  deliver_next_performs class (delivered_next.Moved pick) done = delivery_performs pick delivered.Moved done.1
-  deliver_next_performs class delivered_next.Nothing done = unchanged done.0
-  deliver_next_performs class delivered_next.Blocked done = unchanged done.0
-  deliver_next_performs class (delivered_next.Broken cell) done = unchanged done.0
+  -- So does what is done of the next message of a class, ..
+  pub done_performs : (answer : DeliveredNext) → IsDone old answer new → Performs old.view new.view
+  done_performs (delivered_next.Moved pick) done = delivery_performs pick delivered.Moved done
+  done_performs delivered_next.Nothing done = unchanged done
+  done_performs delivered_next.Blocked done = unchanged done
+  done_performs (delivered_next.Broken cell) done = unchanged done
+
+-- .. and the turn of the ring behind it shows nothing.
+pub deliver_next_performs : (old new : PartsView) → IsAccounted old.view → IsWhole old.view
+    → IsLegal (initially old.view.init) new.view.log → (class : Class) (answer : DeliveredNext)
+    → AfterDeliverNext old class answer new → Performs old.view new.view
+deliver_next_performs old new accounted whole legal class answer after =
+    let same = after.turns in
+    subst (λ (p : PartsView). Performs old.view p.view) (sym same)
+    (done_performs old after.done accounted whole
+    (subst (λ (p : PartsView). IsLegal (initially old.view.init) p.view.log) same legal) answer after.made)

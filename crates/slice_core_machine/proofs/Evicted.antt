@@ -15,6 +15,7 @@ use Rattle.slice_core_plan.specs.View.{side_at}
 use Rattle.slice_core_side.specs.Access.{evicted_of}
 use Rattle.slice_core_side.specs.Side.{SideView}
 use Rattle.slice_core_side.specs.Steps as sides
+use Rattle.slice_queues.specs.Ring.{with_listed}
 
 module _ (old : PartsView) (core : CoreId) (line : LineAddr) (answer : Evicted) (new : PartsView)
     (known : core.0 < length old.view.sides) where
@@ -26,7 +27,12 @@ module _ (old : PartsView) (core : CoreId) (line : LineAddr) (answer : Evicted) 
   -- what is left of the slice, by the answer
   abbrev by_answer : Local → Evicted → Type 0
   by_answer local evictions.Evicting =
-      new ≡ record old { view = after_evict old.view core local; stats = after_eviction old.stats core }
+      new
+      ≡ record old {
+        view = after_evict old.view core local;
+        stats = after_eviction old.stats core;
+        ring = with_listed old.ring local.0;
+      }
   by_answer local _ = new ≡ old
 
   -- what an eviction answers and leaves, by the line's place

@@ -4,6 +4,8 @@ pub mod Sends
 pub mod Plan
 pub mod Within
 pub mod Next
+pub mod Ring
 pub mod Steps
 pub mod Initial
 pub mod Parts
+pub mod Turn

@@ -29,7 +29,7 @@ use Rattle.slice_core_side.specs.Access.{evicted_of, is_idle, IsWithin}
 use Rattle.slice_core_side.specs.Perform.{performed_in}
 use Rattle.slice_core_side.specs.Side.{array_copy, state_of, tag_at}
 use Rattle.slice_core_side.specs.Targets.{IsPerformable}
-use Rattle.slice_core_side.specs.Steps.{acknowledged, filled, target_of}
+use Rattle.slice_core_side.specs.Steps.{acknowledged, filled, target_of, victim_for}
 use Rattle.slice_core_side.specs.Tags.{IsLeastReply}
 use Rattle.slice_core_side.specs.declared.access.Access.{Access}
 use Rattle.slice_core_side.specs.declared.access.Access.TheVariants as accesses
@@ -40,6 +40,7 @@ use Rattle.slice_core_side.specs.declared.tags.TagState.TheVariants as tags
 use Rattle.slice_core_plan.specs.Decision.{decision_of}
 use Rattle.slice_core_plan.specs.Initial.{AreInitialEntries, AreNewSides, is_of_slice}
 use Rattle.slice_core_plan.specs.Plan.{plan_of, planned_at}
+use Rattle.slice_core_plan.specs.Ring.{looked_at, next_in, pick_of, turned}
 use Rattle.slice_core_plan.specs.Steps.{after_directory, after_evict, after_forwarded, after_hand, after_hit, after_home, after_join, after_open, after_settling}
 use Rattle.slice_core_plan.specs.View.{View, channels_at, side_at, IsShaped}
 use Rattle.slice_core_plan.specs.declared.decide.Decision.{Decision}
@@ -49,6 +50,7 @@ use Rattle.slice_core_plan.specs.declared.decide.NextPick.TheVariants as next_pi
 use Rattle.slice_core_plan.specs.declared.decide.Plan.{Plan}
 use Rattle.slice_core_plan.specs.declared.decide.Plan.TheVariants as plans
 use Rattle.slice_queues.specs.Line.{core_at, empty_line}
+use Rattle.slice_queues.specs.Ring.{with_listed}
 use Rattle.slice_queues_message.specs.Class.{is_of_class}
 use Rattle.slice_queues_message.specs.Pick.{channel_of, line_of}
 use Rattle.slice_queues_message.specs.declared.channel.Channel.{Channel}
@@ -68,6 +70,9 @@ pub record PartsView : Type 0 where
   pub pending : ℕ
   -- how many entries the log can hold before it has to grow
   pub room : ℕ
+  -- the ring of the lines with mail, by their places in the slice, the front first: a next delivery looks at them in
+  -- this order
+  pub ring : List ℕ
 
 -- A slice of the configured machine, with miss files bounded like this, in which nothing was asked for yet.
 pub record IsNew (c : Config) (bound : Bound) (slice : SliceId) (p : PartsView) : Type 0 where
@@ -83,6 +88,7 @@ pub record IsNew (c : Config) (bound : Bound) (slice : SliceId) (p : PartsView) 
   pub stats : p.stats ≡ no_stats c.cores c.exclusive
   pub pending : p.pending ≡ 0
   pub room : p.room < 2 ^ 63
+  pub ring : p.ring ≡ []
 
 -- ---- what a call relies on
 
@@ -128,29 +134,35 @@ abbrev pub opened_stats : StatsView → CoreId → Way → StatsView
 opened_stats stats core ways.Victim = after_primary (after_eviction stats core) core
 opened_stats stats core _ = after_primary stats core
 
--- the slice after an accepted access: another view, with what is counted and how many targets wait
-abbrev pub Accepts : PartsView → View → StatsView → ℕ → Issue → Issue → PartsView → Type 0
-Accepts old view stats pending issue answer new =
-    (answer ≡ issue) × (new ≡ record old { view = view; stats = stats; pending = pending })
+-- the ring once a register was opened: a victim's line was sent to where one had to leave, and then the line itself
+abbrev pub opened_ring : PartsView → CoreId → Local → Way → List ℕ
+opened_ring p core local ways.Victim =
+    with_listed (with_listed p.ring (victim_for (side_at p.view core) local).0) local.0
+opened_ring p core local _ = with_listed p.ring local.0
+
+-- the slice after an accepted access: another view, with what is counted, how many targets wait and the ring
+abbrev pub Accepts : PartsView → View → StatsView → ℕ → List ℕ → Issue → Issue → PartsView → Type 0
+Accepts old view stats pending ring issue answer new =
+    (answer ≡ issue) × (new ≡ record old { view = view; stats = stats; pending = pending; ring = ring })
 
 -- What an access that is accepted answers and leaves, where the log has room: a hit, a join or an opened register.
 abbrev pub AfterAccepting : Access → PartsView → CoreId → Request → Local → Issue → PartsView → Type 0
 AfterAccepting (accesses.Stall stall) old core request local answer new = (answer ≡ issues.Stall stall) × (new ≡ old)
 AfterAccepting (accesses.Hit place next silent) old core request local answer new =
     Accepts old (after_hit old.view core request local next) (hit_counted old.stats core silent) old.pending
-    (issues.Done (length old.view.log)) answer new
+    old.ring (issues.Done (length old.view.log)) answer new
 AfterAccepting accesses.Join old core request local answer new =
     (misses : List Register)
     × AddsTarget (side_at old.view core).misses misses local.0 (target_for old core request)
     × IsMissFile misses
     × Accepts old (after_join old.view core request misses) (after_secondary old.stats core) (old.pending + 1)
-    (issues.Pending (side_at old.view core).accepted) answer new
+    old.ring (issues.Pending (side_at old.view core).accepted) answer new
 AfterAccepting (accesses.Open next ask way) old core request local answer new =
     (misses : List Register)
     × AddsTarget (side_at old.view core).misses misses local.0 (target_for old core request)
     × IsMissFile misses
     × Accepts old (after_open old.view core request local way next ask misses) (opened_stats old.stats core way)
-    (old.pending + 1)
+    (old.pending + 1) (opened_ring old core local way)
     (issues.Pending (side_at old.view core).accepted) answer new
 
 -- The access is accepted: the log first got room for all that waits and this request, and then the access was done.
@@ -185,13 +197,19 @@ AfterIssue old core request answer new = by_decision (decision_of old.view core 
 
 -- ---- evict
 
--- What an eviction of a line answers and leaves: a line that isn't the slice's is not held.
+-- What an eviction of a line answers and leaves: a line that isn't the slice's is not held. The directory is told, so
+-- the line comes into the ring.
 abbrev pub AfterEvict : PartsView → CoreId → LineAddr → Evicted → PartsView → Type 0
 AfterEvict old core line answer new = by_line (local_at old.view.lines line.0)
   where
     by_answer : Local → Evicted → Type 0
     by_answer local evictions.Evicting =
-        new ≡ record old { view = after_evict old.view core local; stats = after_eviction old.stats core }
+        new
+        ≡ record old {
+          view = after_evict old.view core local;
+          stats = after_eviction old.stats core;
+          ring = with_listed old.ring local.0;
+        }
     by_answer local _ = new ≡ old
 
     by_line : Option Local → Type 0
@@ -200,9 +218,16 @@ AfterEvict old core line answer new = by_line (local_at old.view.lines line.0)
 
 -- ---- deliver
 
--- a message of this channel was taken: the view is another, and the message is counted
-abbrev pub Moves : PartsView → Channel → View → PartsView → Type 0
-Moves old channel view new = new ≡ record old { view = view; stats = after_message old.stats channel }
+-- a message of this channel of a line was taken: the view is another, the message is counted, and the line stands in
+-- the ring
+abbrev pub Moves : PartsView → Local → Channel → View → PartsView → Type 0
+Moves old local channel view new =
+    new
+    ≡ record old {
+      view = view;
+      stats = after_message old.stats channel;
+      ring = with_listed old.ring local.0;
+    }
 
 -- A message changed the core's copy: the targets that it allows are performed, and wait no more.
 abbrev pub Settles : PartsView → Local → CoreId → Channel → CacheCopy → PartsView → Type 0
@@ -216,6 +241,7 @@ Settles old local core channel copy new =
       view = after_settling old.view local core channel copy misses;
       stats = after_message old.stats channel;
       pending = old.pending - length taken;
+      ring = with_listed old.ring local.0;
     })
 
 -- the copy with the data that wait for the core
@@ -239,12 +265,12 @@ AfterPlan plans.Blocked old local channel answer new = (answer ≡ delivered.Blo
 AfterPlan (plans.Broken cell) old local channel answer new = (answer ≡ delivered.Broken cell) × (new ≡ old)
 AfterPlan (plans.Directory state owner sharers sent writes) old local channel answer new =
     (answer ≡ delivered.Moved)
-    × Moves old channel (after_directory old.view local (core_of channel) state owner sharers sent writes) new
+    × Moves old local channel (after_directory old.view local (core_of channel) state owner sharers sent writes) new
 AfterPlan (plans.Home state owner sharers) old local channel answer new =
-    (answer ≡ delivered.Moved) × Moves old channel (after_home old.view local state owner sharers) new
+    (answer ≡ delivered.Moved) × Moves old local channel (after_home old.view local state owner sharers) new
 AfterPlan (plans.Forwarded next sent requester) old local channel answer new =
     (answer ≡ delivered.Moved)
-    × Moves old channel (after_forwarded old.view local (core_of channel) next sent requester) new
+    × Moves old local channel (after_forwarded old.view local (core_of channel) next sent requester) new
 AfterPlan (plans.Fill place next) old local channel answer new =
     let core = core_of channel in
     (answer ≡ delivered.Moved)
@@ -301,15 +327,31 @@ IsNextPick v class next_picks.Blocked =
     AllPlans v class (λ plan. (plan ≡ plans.Nothing) ⊎ (plan ≡ plans.Blocked)) × SomePlan v class plans.Blocked
 IsNextPick v class (next_picks.Broken cell) = AllPlans v class IsStuck × SomePlan v class (plans.Broken cell)
 
--- What the next delivery of a class answers and leaves: one that can be made is made, and where none can be made it says
--- what is to be done instead, and nothing has changed.
-abbrev pub AfterDeliverNext : PartsView → Class → DeliveredNext → PartsView → Type 0
-AfterDeliverNext old class (delivered_next.Moved pick) new =
-    IsTrue (is_of_class class (channel_of pick)) × AfterDelivery old pick delivered.Moved new
-AfterDeliverNext old class delivered_next.Nothing new = (new ≡ old) × IsNextPick old.view class next_picks.Nothing
-AfterDeliverNext old class delivered_next.Blocked new = (new ≡ old) × IsNextPick old.view class next_picks.Blocked
-AfterDeliverNext old class (delivered_next.Broken cell) new =
-    (new ≡ old) × IsNextPick old.view class (next_picks.Broken cell)
+-- the next delivery that an answer tells of
+abbrev pub told : DeliveredNext → NextPick
+told (delivered_next.Moved pick) = next_picks.Move pick
+told delivered_next.Nothing = next_picks.Nothing
+told delivered_next.Blocked = next_picks.Blocked
+told (delivered_next.Broken cell) = next_picks.Broken cell
+
+-- what is next of a class, in the order of the ring
+abbrev pub next_pick : PartsView → Class → NextPick
+next_pick p class = pick_of p.view.lines (next_in p.view class p.ring)
+
+-- what was told is done: where a pick can be moved it is delivered, and else nothing changes
+abbrev pub IsDone : PartsView → DeliveredNext → PartsView → Type 0
+IsDone old (delivered_next.Moved pick) new = AfterDelivery old pick delivered.Moved new
+IsDone old _ new = new ≡ old
+
+-- What the next delivery of a class answers and leaves: the one that is next in the order of the ring is made, where one
+-- can be made, and the lines that were looked at for it go behind the others.
+pub record AfterDeliverNext (old : PartsView) (class : Class) (answer : DeliveredNext) (new : PartsView) : Type 0 where
+  pub next : told answer ≡ next_pick old class
+  pub found : IsNextPick old.view class (told answer)
+  -- the slice once that is done, before the ring turns
+  pub done : PartsView
+  pub made : IsDone old answer done
+  pub turns : new ≡ record done { ring = turned done.view (looked_at old.view class old.ring) done.ring }
 
 -- ---- hand
 

@@ -4,7 +4,8 @@
 //! core's side, and the log. A request is judged by `decision_of` (specs/Decision.antt), and the message in front of
 //! a channel by `plan_of` (specs/Plan.antt), which ask the two tables; specs/Steps.antt says what each step leaves,
 //! and specs/Parts.antt what each call of a slice answers: a delivery does what is planned for its pick (`planned_at`),
-//! and [`NextPick`] is which pick is next. [`Decision`], [`Plan`] and [`Next`] are what is decided,
+//! and [`NextPick`] is which pick is next. Which one that is, and how the ring of lines with mail turns, is in
+//! specs/Ring.antt, and what that gives each line in specs/Turn.antt ([`lines_are_served_in_turn`]). [`Decision`], [`Plan`] and [`Next`] are what is decided,
 //! [`directory_room`] and [`cache_room`] test the channels that a row sends to, and [`send_from_directory`] and
 //! [`send_from_core`] fill them.
 #![tactic(auto)]
@@ -15,7 +16,9 @@ pub use decide::{
 };
 pub use room::{cache_room, directory_room};
 pub use send::{send_from_core, send_from_directory};
+pub use turn::lines_are_served_in_turn;
 
 mod decide;
 mod room;
 mod send;
+mod turn;

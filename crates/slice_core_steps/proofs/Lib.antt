@@ -3,8 +3,10 @@ pub mod Handed
 pub mod Issued
 pub mod Quiet
 pub mod StandsLaws
+pub mod ShapedLaws
 pub mod PlannedLaws
 pub mod ChangedLaws
 pub mod SettledLaws
 pub mod NextLaws
 pub mod NextAnswers
+pub mod TurnLaws

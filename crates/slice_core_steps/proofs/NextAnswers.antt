@@ -1,26 +1,31 @@
 -- What the next delivery of a class answers, by what is best to be done.
 use Rattle.std.proofs.Common.{◌≡◌, ◌<◌, ◌⊎◌, refl, sym, ap, subst, inl, inr}
 use Rattle.std.specs.Prelude.{IsTrue, Some}
-use Rattle.address_map.specs.Locator.{local_at}
+use Rattle.address_map.specs.Locator.{line_at, local_at}
 use Rattle.address_map.specs.declared.address.LineAddr.{LineAddr}
 use Rattle.address_map.specs.declared.address.Local.{Local}
 use Rattle.slice_core_answer.specs.declared.answer.Cell.{Cell}
 use Rattle.slice_core_answer.specs.declared.answer.Delivered.{Delivered}
 use Rattle.slice_core_answer.specs.declared.answer.Delivered.TheVariants as delivered
+use Rattle.slice_core_answer.specs.declared.answer.DeliveredNext.{DeliveredNext}
 use Rattle.slice_core_answer.specs.declared.answer.DeliveredNext.TheVariants as delivered_next
 use Rattle.slice_core_plan.specs.Next.{next_by, IsNextIn, IsNoBetter}
-use Rattle.slice_core_plan.specs.Parts.{PartsView, AfterDeliverNext, AfterPlan, IsMove, IsNextPick, IsStuck, SomePlan}
+use Rattle.slice_core_plan.specs.Parts.{PartsView, AfterDelivery, AfterPlan, IsDone, IsMove, IsNextPick, IsStuck, SomePlan, told}
 use Rattle.slice_core_plan.specs.Plan.{plan_of, planned_at}
+use Rattle.slice_core_plan.specs.Ring.{pick_of}
 use Rattle.slice_core_plan.specs.View.{View}
+use Rattle.slice_core_plan.specs.declared.decide.Next.{Next}
 use Rattle.slice_core_plan.specs.declared.decide.Next.TheVariants as nexts
 use Rattle.slice_core_plan.specs.declared.decide.NextPick.TheVariants as next_picks
 use Rattle.slice_core_plan.specs.declared.decide.Plan.{Plan}
 use Rattle.slice_core_plan.specs.declared.decide.Plan.TheVariants as plans
+use Rattle.slice_core_steps.specs.Found.{IsMovable}
 use Rattle.slice_queues_message.specs.Class.{is_of_class}
 use Rattle.slice_queues_message.specs.Pick.{channel_of, pick_at}
 use Rattle.slice_queues_message.specs.declared.channel.Channel.{Channel}
 use Rattle.slice_queues_message.specs.declared.channel.Channel.TheVariants as channels
 use Rattle.slice_queues_message.specs.declared.channel.Class.{Class}
+use Rattle.slice_queues_message.specs.declared.channel.Pick.{Pick}
 
 -- where nothing is best, nothing is planned
 none-planned : (local : Local) (channel : Channel) (plan : Plan) → IsNoBetter nexts.Nothing (next_by local channel plan)
@@ -96,56 +101,34 @@ moved-there local at channel other (plans.Forwarded a b c) h = (cc, cc)
 moved-there local at channel other (plans.Fill a b) h = (cc, cc)
 moved-there local at channel other (plans.Acknowledge a b) h = (cc, cc)
 
--- what can be moved is moved by its delivery
-moved-by : (local at : Local) (channel other : Channel) (plan : Plan) (old new : PartsView) (answer : Delivered)
-    → nexts.Move local channel ≡ next_by at other plan → AfterPlan plan old local channel answer new
-    → AfterPlan plan old local channel delivered.Moved new
-moved-by local at channel other plans.Nothing old new answer h after = cc
-moved-by local at channel other plans.Blocked old new answer h after = cc
-moved-by local at channel other (plans.Broken cell) old new answer h after = cc
-moved-by local at channel other (plans.Directory a b c d e) old new answer h after = (refl, after.1)
-moved-by local at channel other (plans.Home a b c) old new answer h after = (refl, after.1)
-moved-by local at channel other (plans.Forwarded a b c) old new answer h after = (refl, after.1)
-moved-by local at channel other (plans.Fill a b) old new answer h after = (refl, after.1)
-moved-by local at channel other (plans.Acknowledge a b) old new answer h after = (refl, after.1)
+-- where nothing, or a blocked or a broken message is best, so it is of all channels of the class
+pub pick-nothing : (v : View) (class : Class) → IsNextIn v class nexts.Nothing → IsNextPick v class next_picks.Nothing
+pick-nothing v class next local channel there of_class = none-planned local channel _ (next.0 local channel there of_class)
 
-pub next-nothing : (old new : PartsView) (class : Class) → new ≡ old → IsNextIn old.view class nexts.Nothing
-    → AfterDeliverNext old class delivered_next.Nothing new
-next-nothing old new class same next =
-    (same, λ local channel there of_class. none-planned local channel _ (next.0 local channel there of_class))
-
-pub next-blocked : (old new : PartsView) (class : Class) → new ≡ old → IsNextIn old.view class nexts.Blocked
-    → AfterDeliverNext old class delivered_next.Blocked new
-next-blocked old new class same next = (
-  same,
-  (
-    (λ local channel there of_class. blocked-planned local channel _ (next.0 local channel there of_class)),
-    met next.1,
-  ),
+pub pick-blocked : (v : View) (class : Class) → IsNextIn v class nexts.Blocked → IsNextPick v class next_picks.Blocked
+pick-blocked v class next = (
+  (λ local channel there of_class. blocked-planned local channel _ (next.0 local channel there of_class)),
+  met next.1,
 )
   where
     met : (nexts.Blocked ≡ nexts.Nothing)
-        ⊎ ((local : Local) × (channel : Channel) × (local.0 < old.view.lines.lines) × IsTrue (is_of_class class channel)
-        × (nexts.Blocked ≡ next_by local channel (plan_of old.view local channel)))
-        → SomePlan old.view class plans.Blocked
+        ⊎ ((local : Local) × (channel : Channel) × (local.0 < v.lines.lines) × IsTrue (is_of_class class channel)
+        × (nexts.Blocked ≡ next_by local channel (plan_of v local channel)))
+        → SomePlan v class plans.Blocked
     met (inl none) = cc
     met (inr some) = (some.0, some.1, some.2, some.3, blocked-met some.0 some.1 _ some.4)
 
-pub next-broken : (old new : PartsView) (class : Class) (cell : Cell) → new ≡ old
-    → IsNextIn old.view class (nexts.Broken cell)
-    → AfterDeliverNext old class (delivered_next.Broken cell) new
-next-broken old new class cell same next = (
-  same,
-  (
-    (λ local channel there of_class. stuck-planned local channel cell _ (next.0 local channel there of_class)),
-    met next.1,
-  ),
+pub pick-broken : (v : View) (class : Class) (cell : Cell) → IsNextIn v class (nexts.Broken cell)
+    → IsNextPick v class (next_picks.Broken cell)
+pick-broken v class cell next = (
+  (λ local channel there of_class. stuck-planned local channel cell _ (next.0 local channel there of_class)),
+  met next.1,
 )
   where
     met : (nexts.Broken cell ≡ nexts.Nothing)
-        ⊎ ((local : Local) × (channel : Channel) × (local.0 < old.view.lines.lines) × IsTrue (is_of_class class channel)
-        × (nexts.Broken cell ≡ next_by local channel (plan_of old.view local channel)))
-        → SomePlan old.view class (plans.Broken cell)
+        ⊎ ((local : Local) × (channel : Channel) × (local.0 < v.lines.lines) × IsTrue (is_of_class class channel)
+        × (nexts.Broken cell ≡ next_by local channel (plan_of v local channel)))
+        → SomePlan v class (plans.Broken cell)
     met (inl none) = cc
     met (inr some) = (some.0, some.1, some.2, some.3, broken-met some.0 some.1 cell _ some.4)
 
@@ -182,29 +165,38 @@ can-move v class local channel next = met next.1
         let same = moved-there local some.0 channel some.1 (plan_of v some.0 some.1) some.4 in
         at_same some.0 some.1 same.0 same.1 some.2 some.3 some.4
 
--- a message that was moved was delivered
-moved-at : (old new : PartsView) (class : Class) (local : Local) (channel : Channel) (line : LineAddr)
-    → IsTrue (is_of_class class channel) → local_at old.view.lines line.0 ≡ Some local
-    → AfterPlan (plan_of old.view local channel) old local channel delivered.Moved new
-    → AfterDeliverNext old class (delivered_next.Moved (pick_at line channel)) new
-moved-at old new class local (channels.Req core) line of_class found after = (of_class, rw found after)
-moved-at old new class local (channels.Fwd core) line of_class found after = (of_class, rw found after)
-moved-at old new class local (channels.Data core) line of_class found after = (of_class, rw found after)
-moved-at old new class local (channels.Ack to from) line of_class found after = (of_class, rw found after)
-moved-at old new class local channels.Home line of_class found after = (of_class, rw found after)
+-- what can be moved is moved by its delivery
+moved-by : (plan : Plan) (old new : PartsView) (local : Local) (channel : Channel) (answer : Delivered)
+    → IsMove plan → AfterPlan plan old local channel answer new → AfterPlan plan old local channel delivered.Moved new
+moved-by plans.Nothing old new local channel answer move after = absurd move
+moved-by plans.Blocked old new local channel answer move after = absurd move
+moved-by (plans.Broken cell) old new local channel answer move after = absurd move
+moved-by (plans.Directory a b c d e) old new local channel answer move after = (refl, after.1)
+moved-by (plans.Home a b c) old new local channel answer move after = (refl, after.1)
+moved-by (plans.Forwarded a b c) old new local channel answer move after = (refl, after.1)
+moved-by (plans.Fill a b) old new local channel answer move after = (refl, after.1)
+moved-by (plans.Acknowledge a b) old new local channel answer move after = (refl, after.1)
 
--- a message that could be moved was moved
-pub next-moved : (old new : PartsView) (class : Class) (local : Local) (channel : Channel) (line : LineAddr)
-    (answer : Delivered) (plan : Plan)
-    → CanMove old.view class local channel → local_at old.view.lines line.0 ≡ Some local
-    → plan ≡ plan_of old.view local channel
-    → AfterPlan plan old local channel answer new
-    → AfterDeliverNext old class (delivered_next.Moved (pick_at line channel)) new
-next-moved old new class local channel line answer plan can found planned after =
+-- what is done at a channel of a line's place is done at the pick of both
+delivered-at : (old new : PartsView) (local : Local) (channel : Channel) (line : LineAddr) (answer : Delivered)
+    → local_at old.view.lines line.0 ≡ Some local
+    → AfterPlan (plan_of old.view local channel) old local channel answer new
+    → AfterDelivery old (pick_at line channel) answer new
+delivered-at old new local (channels.Req core) line answer found after = rw found after
+delivered-at old new local (channels.Fwd core) line answer found after = rw found after
+delivered-at old new local (channels.Data core) line answer found after = rw found after
+delivered-at old new local (channels.Ack to from) line answer found after = rw found after
+delivered-at old new local channels.Home line answer found after = rw found after
+
+-- a message that could be moved was delivered
+pub next-moved : (old new : PartsView) (local : Local) (channel : Channel) (line : LineAddr) (answer : Delivered)
+    (plan : Plan) → IsMove (plan_of old.view local channel) → local_at old.view.lines line.0 ≡ Some local
+    → plan ≡ plan_of old.view local channel → AfterPlan plan old local channel answer new
+    → AfterDelivery old (pick_at line channel) delivered.Moved new
+next-moved old new local channel line answer plan move found planned after =
     let P : Plan → Type 0 = λ p. AfterPlan p old local channel answer new in
-    moved-at old new class local channel line can.of_class found
-    (moved-by local local channel channel (plan_of old.view local channel) old new answer can.planned
-    (subst P planned after))
+    delivered-at old new local channel line delivered.Moved found
+    (moved-by (plan_of old.view local channel) old new local channel answer move (subst P planned after))
 
 -- what can be moved is a move
 is-move : (local at : Local) (channel other : Channel) (plan : Plan) → nexts.Move local channel ≡ next_by at other plan
@@ -244,3 +236,48 @@ pick-moved v class local channel line next found =
       of-class-at class channel line can.of_class,
       move-at v local channel line found (is-move local local channel channel _ can.planned),
     )
+
+-- ---- a next delivery
+
+-- what was found to be next is one of a line of the slice, and what is planned for it moves it
+pub movable : (v : View) (class : Class) (next : Next) → IsNextIn v class next → IsMovable v next
+movable v class nexts.Nothing next = tt
+movable v class nexts.Blocked next = tt
+movable v class (nexts.Broken cell) next = tt
+movable v class (nexts.Move local channel) next =
+    let can = can-move v class local channel next in (
+      can.there,
+      is-move local local channel channel _ can.planned,
+    )
+
+-- what was moved was planned to be
+moves-planned : (plan : Plan) (old new : PartsView) (local : Local) (channel : Channel)
+    → AfterPlan plan old local channel delivered.Moved new → IsMove plan
+moves-planned plans.Nothing old new local channel after = cc
+moves-planned plans.Blocked old new local channel after = cc
+moves-planned (plans.Broken cell) old new local channel after = cc
+moves-planned (plans.Directory a b c d e) old new local channel after = tt
+moves-planned (plans.Home a b c) old new local channel after = tt
+moves-planned (plans.Forwarded a b c) old new local channel after = tt
+moves-planned (plans.Fill a b) old new local channel after = tt
+moves-planned (plans.Acknowledge a b) old new local channel after = tt
+
+-- what was told and done is what is next of the class
+pub found-told : (old new : PartsView) (class : Class) (next : Next) (answer : DeliveredNext)
+    → IsNextIn old.view class next → told answer ≡ pick_of old.view.lines next → IsDone old answer new
+    → IsNextPick old.view class (told answer)
+found-told old new class nexts.Nothing answer next is done =
+    subst (IsNextPick old.view class) (sym is) (pick-nothing old.view class next)
+found-told old new class nexts.Blocked answer next is done =
+    subst (IsNextPick old.view class) (sym is) (pick-blocked old.view class next)
+found-told old new class (nexts.Broken cell) answer next is done =
+    subst (IsNextPick old.view class) (sym is) (pick-broken old.view class cell next)
+found-told old new class (nexts.Move local channel) (delivered_next.Moved pick) next is done =
+    let same : pick ≡ pick_at (line_at old.view.lines local) channel = cc in (
+      subst (λ (p : Pick). IsTrue (is_of_class class (channel_of p))) (sym same)
+          (of-class-at class channel (line_at old.view.lines local) (can-move old.view class local channel next).of_class),
+      moves-planned (planned_at old.view pick) old new _ _ done,
+    )
+found-told old new class (nexts.Move local channel) delivered_next.Nothing next is done = cc
+found-told old new class (nexts.Move local channel) delivered_next.Blocked next is done = cc
+found-told old new class (nexts.Move local channel) (delivered_next.Broken cell) next is done = cc

@@ -1,10 +1,10 @@
 -- What is delivered next: nothing that was looked at is better, and what wasn't looked at has no message.
-use Rattle.std.proofs.Common.{◌≡◌, ◌≢◌, ℕ, suc, ◌+◌, ◌<◌, ◌≤◌, ◌⊎◌, Bool, true, false, ◌&&◌, if◌then◌else◌, List, [], ◌∷◌, length, drop, get_or, eqb, refl, sym, ◌∙◌, ap, subst, inl, inr, arith}
+use Rattle.std.proofs.Common.{◌≡◌, ◌≢◌, ℕ, suc, ◌+◌, ◌<◌, ◌≤◌, ◌⊎◌, Bool, true, false, ◌&&◌, ◌||◌, if◌then◌else◌, List, [], ◌∷◌, length, drop, get_or, eqb, refl, sym, ◌∙◌, ap, subst, inl, inr, arith}
 use Rattle.std.specs.Prelude.{IsTrue, Option, Some, None, is_some, slice_get, map, nat_lt}
 use Rattle.std.specs.List.{count_by}
 use Rattle.std.proofs.Common.{add-one, drop-cons}
 use Rattle.std.proofs.lemmas.Bool.{eqb-true, ltb-false}
-use Rattle.slice_queues.specs.Ring.{QueuesView, has_mail_at, is_listed, IsRing}
+use Rattle.slice_queues.specs.Ring.{QueuesView, has_mail_at as queues_mail, is_listed, IsRing}
 use Rattle.std.proofs.lemmas.List.Sums.{sum_by-cons}
 use Rattle.slice_queues.proofs.LineLaws.{same_itself, same-from_name}
 use Rattle.slice_queues.proofs.MailLaws.{IsEmptyLine-from_no_mail}
@@ -17,6 +17,9 @@ use Rattle.directory_table.specs.Row.{row_of as dir_row_of}
 use Rattle.directory_table.specs.declared.row.DirEvent.TheVariants as dir_events
 use Rattle.slice_core_side.specs.Side.{copy_of}
 use Rattle.slice_core_plan.specs.Plan.{by_ack_row, by_home_row, data_by, forwarded_by, plan_of, request_by}
+use Rattle.slice_core_plan.specs.Parts.{IsMove, PartsView}
+use Rattle.slice_core_plan.specs.Ring.{has_mail_at}
+use Rattle.slice_core_plan.specs.Turn.{CanMove, StandsAt}
 use Rattle.slice_core_steps.specs.Found.{IsPlanFor}
 use Rattle.slice_core_plan.specs.View.{View, channels_at, entry_at, side_at, IsShaped}
 use Rattle.slice_core_plan.specs.declared.decide.Next.{Next}
@@ -322,10 +325,10 @@ pub record IsNextSoFar (v : View) (class : Class) (next : Next) (left : List ℕ
       × (next ≡ next_by local channel (plan_of v local channel)))
 
 no-mail : (queues : QueuesView) → IsRing queues → (local : ℕ) → is_listed queues.ring local ≡ false
-    → has_mail_at queues.channels local ≡ false
-no-mail queues ring local unlisted = by_mail (has_mail_at queues.channels local) refl
+    → queues_mail queues.channels local ≡ false
+no-mail queues ring local unlisted = by_mail (queues_mail queues.channels local) refl
   where
-    by_mail : (mail : Bool) → has_mail_at queues.channels local ≡ mail → mail ≡ false
+    by_mail : (mail : Bool) → queues_mail queues.channels local ≡ mail → mail ≡ false
     by_mail false e = refl
     by_mail true e = let listed = ring.mail local e in cc
 
@@ -411,3 +414,33 @@ line-there v lines local shaped same within =
     let many = ap length same in
     let are = shaped.lines in
     omega (arith, many, are, within)
+
+-- ---- a line with a message that can be moved stands in the ring
+
+listed-place : (ring : List ℕ) (line : ℕ) → is_listed ring line ≡ true → (place : ℕ) × (slice_get ring place ≡ Some line)
+listed-place [] line listed = cc
+listed-place (first ∷ rest) line listed =
+    by_first (eqb line first) refl listed (listed-place rest line)
+  where
+    by_first : (same : Bool) → eqb line first ≡ same → (same || is_listed rest line) ≡ true
+        → (is_listed rest line ≡ true → (place : ℕ) × (slice_get rest place ≡ Some line))
+        → (place : ℕ) × (slice_get (first ∷ rest) place ≡ Some line)
+    by_first true e listed later = (0, ap (λ (n : ℕ). Some n) (sym (eqb-true line first e)))
+    by_first false e listed later = let found = later listed in (suc found.0, found.1)
+
+-- a message that can be moved is mail
+mail-moves : (v : View) (local : Local) (channel : Channel) → IsMove (plan_of v local channel)
+    → has_mail_at v local.0 ≡ true
+mail-moves v local channel moves = by_mail (has_mail_at v local.0) refl
+  where
+    by_mail : (mail : Bool) → has_mail_at v local.0 ≡ mail → mail ≡ true
+    by_mail true e = refl
+    by_mail false e =
+        let idle = plan-idle v local channel (IsEmptyLine-from_no_mail (channels_at v local) e channel) in
+        absurd (subst IsMove idle moves)
+
+pub mover-stands : (p : PartsView) (class : Class) (local : Local)
+    → ((line : ℕ) → has_mail_at p.view line ≡ true → is_listed p.ring line ≡ true) → CanMove p.view class local
+    → (place : ℕ) × StandsAt p local place
+mover-stands p class local listed can =
+    listed-place p.ring local.0 (listed local.0 (mail-moves p.view local can.1 can.3))

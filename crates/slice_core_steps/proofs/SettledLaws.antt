@@ -22,6 +22,7 @@ use Rattle.slice_core_side.specs.Steps.{after_change, after_settle}
 use Rattle.slice_core_side.specs.declared.copy.CacheCopy.{CacheCopy}
 use Rattle.slice_core_steps.proofs.ChangedLaws.{changed_copy}
 use Rattle.slice_queues.specs.Line.{LineChannels, after_take}
+use Rattle.slice_queues.specs.Ring.{with_listed}
 use Rattle.slice_queues_message.specs.declared.channel.Channel.{Channel}
 use Rattle.target_list.specs.Target.{front_loads}
 use Rattle.target_list.specs.declared.target.Target.{Target}
@@ -88,6 +89,7 @@ pub settles : (old new : PartsView) (local : Local) (core : CoreId) (channel : C
       view = record (with_channels (with_side old.view core side) local line) { log = log };
       stats = stats;
       pending = pending;
+      ring = with_listed old.ring local.0;
     } →
     Settles old local core channel copy new
 settles old new local core channel place copy changed side asks line log stats pending stands is asked taken sound after
@@ -117,11 +119,13 @@ settles old new local core channel place copy changed side asks line log stats p
           { log = l };
       stats = after_message old.stats channel;
       pending = p;
+      ring = with_listed old.ring local.0;
     } in
     let plain : LineChannels → StatsView → PartsView = λ l st. record old {
       view = record (with_channels (with_side old.view core side) local l) { log = log };
       stats = st;
       pending = pending;
+      ring = with_listed old.ring local.0;
     } in
     let asked_now = both_in (λ k m. asks ≡ asks_to_write k.state (targets m)) asked in
     let logged_now = both_in

@@ -46,6 +46,7 @@ impl<F: MissFile> Model for Parts<F> {
       stats = p.stats;
       pending = p.pending;
       room = vec_capacity p.log;
+      ring = p.queues.ring;
     } };
 }
 

@@ -95,7 +95,7 @@ impl<F: MissFile> Parts<F> {
         requires core { core.0 < length self.old.view.sides }
         requires shaped { IsShaped self.old.view }
         requires room { directory_room (channels_at self.old.view local) core sends ≡ true }
-        ensures { Moves self.old (channels.Req core)
+        ensures { Moves self.old local (channels.Req core)
             (after_directory self.old.view local core state owner sharers sends writes_home) self.new }
     {
         self.stats.count_message(Channel::Req(core));
@@ -112,7 +112,7 @@ impl<F: MissFile> Parts<F> {
         requires line { local.0 < self.old.view.lines.lines }
         requires shaped { IsShaped self.old.view }
         requires comes { IsSome (channels_at self.old.view local).home }
-        ensures { Moves self.old channels.Home (after_home self.old.view local state owner sharers) self.new }
+        ensures { Moves self.old local channels.Home (after_home self.old.view local state owner sharers) self.new }
     {
         self.stats.count_message(Channel::Home);
         let entry = &mut self.entries[local.0];
@@ -140,7 +140,7 @@ impl<F: MissFile> Parts<F> {
         requires shaped { IsShaped self.old.view }
         requires stands { Stands (side_at self.old.view core) local }
         requires room { cache_room (channels_at self.old.view local) core requester sends ≡ true }
-        ensures { Moves self.old (channels.Fwd core)
+        ensures { Moves self.old local (channels.Fwd core)
             (after_forwarded self.old.view local core next sends requester) self.new }
     {
         self.stats.count_message(Channel::Fwd(core));

@@ -5,6 +5,7 @@ ghost use Rattle.slice_core_plan.specs.Steps.{after_evict};
 ghost use Rattle.slice_core_plan.specs.View.{View, channels_at, side_at, IsShaped};
 ghost use Rattle.slice_core_side.specs.Access.{CanLeave};
 ghost use Rattle.slice_queues.specs.Line.{core_at};
+ghost use Rattle.slice_queues.specs.Ring.{with_listed};
 
 use super::Parts;
 use address_map::{CoreId, LineAddr, Local};
@@ -39,6 +40,7 @@ impl<F: MissFile> Parts<F> {
           view = after_evict self.old.view core local;
           stats =
               after_eviction self.old.stats core;
+          ring = with_listed self.old.ring local.0;
         } }
     {
         self.stats.count_eviction(core);

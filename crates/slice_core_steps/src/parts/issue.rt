@@ -3,11 +3,13 @@ ghost use Rattle.mshr_file.specs.Miss.{has_miss, can_open, can_join, AddsTarget,
 ghost use Rattle.slice_core_answer.specs.Stats.{after_hit as hit_counted, after_eviction, after_primary, after_secondary};
 ghost use Rattle.slice_core_side.specs.Access.{CanReplace, CanStand, IsWithin};
 ghost use Rattle.slice_core_plan.specs.Decision.{decision_of};
-ghost use Rattle.slice_core_plan.specs.Parts.{PartsView, AfterAccepting, AfterIssue, CanIssue, IsDecided, opened_stats, target_for};
+ghost use Rattle.slice_core_plan.specs.Parts.{PartsView, AfterAccepting, AfterIssue, CanIssue, IsDecided, opened_ring, opened_stats, target_for};
 ghost use Rattle.slice_core_plan.specs.Steps.{after_hit, after_join, after_open, after_opening, with_way};
 ghost use Rattle.slice_core_plan.specs.View.{View, channels_at, side_at, IsShaped};
 ghost use Rattle.slice_core_plan.specs.Within.{StandsAt};
+ghost use Rattle.slice_core_side.specs.Steps.{victim_for};
 ghost use Rattle.slice_queues.specs.Line.{core_at};
+ghost use Rattle.slice_queues.specs.Ring.{with_listed};
 
 use super::Parts;
 use address_map::{CoreId, Local, Request};
@@ -195,6 +197,7 @@ impl<F: MissFile> Parts<F> {
               stats =
                   opened_stats self.old.stats core way;
               pending = self.old.pending + 1;
+              ring = opened_ring self.old core local way;
             } }
     {
         match way {
@@ -216,6 +219,7 @@ impl<F: MissFile> Parts<F> {
           view = with_way self.old.view core local Way.Victim;
           stats =
               after_eviction self.old.stats core;
+          ring = with_listed self.old.ring (victim_for (side_at self.old.view core) local).0;
         } }
         ensures stands { CanStand (side_at self.new.view core) local false }
         ensures idle { (core_at (channels_at self.new.view local) core.0).request ≡ None }
@@ -260,6 +264,7 @@ impl<F: MissFile> Parts<F> {
               stats =
                   after_primary self.old.stats core;
               pending = self.old.pending + 1;
+              ring = with_listed self.old.ring local.0;
             } }
     {
         let since = self.log.len() as u64;

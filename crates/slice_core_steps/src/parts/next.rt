@@ -1,8 +1,11 @@
-ghost use Rattle.std.specs.Prelude.{◌≡◌, ◌<◌, ◌≤◌, length};
+ghost use Rattle.std.specs.Prelude.{◌≡◌, ℕ, ◌<◌, true};
 ghost use Rattle.slice_core_plan.specs.Next.{next_by, IsNextAt, IsNextIn};
-ghost use Rattle.slice_core_plan.specs.Parts.{PartsView, AfterDeliverNext, CanDeliver, IsNextPick};
+ghost use Rattle.slice_core_plan.specs.Parts.{PartsView, AfterDeliverNext, CanDeliver, IsDone, IsNextPick, next_pick, told};
+ghost use Rattle.slice_core_plan.specs.Ring.{has_mail_at, looked_at, next_at, next_in, pick_of};
+ghost use Rattle.slice_core_plan.specs.Turn.{ServesInTurn};
 ghost use Rattle.slice_core_plan.specs.View.{View, IsShaped};
-ghost use Rattle.slice_core_steps.specs.Found.{IsPlanFor};
+ghost use Rattle.slice_queues.specs.Ring.{is_listed};
+ghost use Rattle.slice_core_steps.specs.Found.{IsMovable, IsPlanFor};
 
 use super::Parts;
 use address_map::Local;
@@ -32,31 +35,25 @@ impl Found {
 }
 
 impl<F: MissFile> Parts<F> {
-    /// Makes one delivery of the class, if one can be made. It looks at the lines with mail, those first that have
-    /// waited longest; the lines that it looked at go behind the others.
+    /// Makes the delivery that is next of the class, if one can be made. It looks at the lines with mail from the front of
+    /// their ring on; the lines that it looked at go behind the others.
     pub fn deliver_next(&mut self, class: Class) -> DeliveredNext
         requires { CanDeliver self.old }
-        ensures { AfterDeliverNext self.old class result self.new }
+        ensures step { AfterDeliverNext self.old class result self.new }
+        ensures turn { ServesInTurn self.old class result self.new }
     {
         let (found, looked) = self.find_next(class);
-        let answer = match found.next {
-            Next::Nothing => DeliveredNext::Nothing,
-            Next::Blocked => DeliveredNext::Blocked,
-            Next::Broken(cell) => DeliveredNext::Broken(cell),
-            Next::Move(local, channel) => {
-                let pick = channel.at(self.lines.line_at(local));
-                let _ = self.carry_out(local, channel, found.plan);
-                DeliveredNext::Moved(pick)
-            }
-        };
-        self.queues.rotate(looked.min(self.queues.ring_len()));
+        let answer = self.deliver_found(found);
+        self.queues.rotate(looked);
         answer
     }
 
-    /// What is to be delivered next of the class. It looks at the lines with mail, as a delivery does, and turns none.
+    /// What is to be delivered next of the class: [`Parts::deliver_next`] delivers it. It looks at the same lines, and
+    /// turns none.
     pub fn next(&self, class: Class) -> NextPick
         requires { IsShaped self.now.view }
-        ensures { IsNextPick self.now.view class result }
+        ensures next { result ≡ next_pick self.now class }
+        ensures found { IsNextPick self.now.view class result }
     {
         let (found, _) = self.find_next(class);
         match found.next {
@@ -67,11 +64,34 @@ impl<F: MissFile> Parts<F> {
         }
     }
 
-    // What is to be delivered next, and how many lines of the ring were looked at for it.
+    // Makes the delivery that was found, where there is one.
+    fn deliver_found(&mut self, found: Found) -> DeliveredNext
+        requires delivers { CanDeliver self.old }
+        requires movable { IsMovable self.old.view found.next }
+        requires planned { IsPlanFor self.old.view found.next found.plan }
+        ensures told { told result ≡ pick_of self.old.view.lines found.next }
+        ensures done { IsDone self.old result self.new }
+    {
+        match found.next {
+            Next::Nothing => DeliveredNext::Nothing,
+            Next::Blocked => DeliveredNext::Blocked,
+            Next::Broken(cell) => DeliveredNext::Broken(cell),
+            Next::Move(local, channel) => {
+                let pick = channel.at(self.lines.line_at(local));
+                let _ = self.carry_out(local, channel, found.plan);
+                DeliveredNext::Moved(pick)
+            }
+        }
+    }
+
+    // What is to be delivered next of the class, and how many lines of the ring were looked at for it.
     fn find_next(&self, class: Class) -> (Found, usize)
         requires shaped { IsShaped self.now.view }
-        ensures next { IsNextIn self.now.view class result.0.next }
+        ensures next { result.0.next ≡ next_in self.now.view class self.now.ring }
+        ensures looked { result.1 ≡ looked_at self.now.view class self.now.ring }
+        ensures found { IsNextIn self.now.view class result.0.next }
         ensures plan { IsPlanFor self.now.view result.0.next result.0.plan }
+        ensures listed { (local : ℕ) → has_mail_at self.now.view local ≡ true → is_listed self.now.ring local ≡ true }
     {
         let mut next = Next::Nothing;
         for index in 0..self.queues.ring_len() {
@@ -92,7 +112,8 @@ impl<F: MissFile> Parts<F> {
     fn next_at(&self, local: Local, class: Class) -> Found
         requires line { local.0 < self.now.view.lines.lines }
         requires shaped { IsShaped self.now.view }
-        ensures next { IsNextAt self.now.view local class result.next }
+        ensures next { result.next ≡ next_at self.now.view class local }
+        ensures found { IsNextAt self.now.view local class result.next }
         ensures plan { IsPlanFor self.now.view result.next result.plan }
     {
         let mut next = Next::Nothing;

@@ -1,34 +1,48 @@
-use Rattle.std.proofs.Common.{◌≡◌, subst}
-use Rattle.std.specs.Prelude.{Some}
-use Rattle.address_map.specs.Locator.{local_at}
+use Rattle.std.proofs.Common.{◌∙◌, ap, arith, length}
+use Rattle.slice_core_plan.proofs.TurnLaws.{comes-nearer, extends-done, longer, looked-within}
 use Rattle.slice_core_plan.specs.Parts.{PartsView}
-use Rattle.slice_core_plan.specs.Next.{IsNextIn}
-use Rattle.slice_core_plan.specs.declared.decide.Next.{Next}
-use Rattle.slice_core_steps.specs.Found.{IsPlanFor}
-use Rattle.slice_core_steps.proofs.NextAnswers.{can-move, next-blocked, next-broken, next-moved, next-nothing}
+use Rattle.slice_core_plan.specs.Ring.{pick_of, turned}
+use Rattle.slice_core_steps.proofs.NextAnswers.{found-told, movable}
+use Rattle.slice_core_steps.proofs.NextLaws.{mover-stands}
 use Rattle.slice_core_steps.proofs.parts.Parts.deliver_next.Goals as goal
-use Rattle.slice_core_steps.proofs.parts.Parts.deliver_next.Goals.{in-Nothing, in-Blocked, in-Broken, in-Move}
 
--- src/parts/next.rt:16:5
-pub returns : goal.returns
-returns g c =
+pub deliver_found-answer-requires-clause-movable : goal.deliver_found-answer-requires-clause-movable
+deliver_found-answer-requires-clause-movable g c =
+    movable c.args.self.now.view c.args.class _ c.find_next-found.ensures.found
+
+pub rotate-requires : goal.rotate-requires
+rotate-requires g c =
     let old = c.args.self.now in
-    let class = c.args.class in
-    let found = λ (n : Next). IsNextIn old.view class n in
-    rw (c.rotate.ensures.channels, c.self-2.view_is)
-    (elim c.match-found.branch [
-      | in-Nothing w ↦ rw w.answer-is
-          (next-nothing old _ class w.self-is (subst found w.in-Nothing.is c.find_next-found.ensures.next))
-      | in-Blocked w ↦ rw w.answer-is
-          (next-blocked old _ class w.self-is (subst found w.in-Blocked.is c.find_next-found.ensures.next))
-      | in-Broken w ↦ rw w.answer-is
-          (next-broken old _ class _ w.self-is (subst found w.in-Broken.is c.find_next-found.ensures.next))
-      | in-Move w ↦
-          let at_local = λ (p : PartsView). local_at p.view.lines w.line_at.result.0 ≡ Some w.in-Move.local in
-          let can = can-move old.view class _ _ (subst found w.in-Move.is c.find_next-found.ensures.next) in
-          let plan_for = λ (n : Next). IsPlanFor old.view n c.find_next-found.result.0.plan in
-          let planned = subst plan_for w.in-Move.is c.find_next-found.ensures.plan in
-          rw (w.answer-is, w.self-is, w.at-pick.ensures)
-          (next-moved old _ class _ _ _ _ _ can (subst at_local c.self.view_is w.line_at.ensures.local) planned.0
-          w.carry_out.ensures)
-    ])
+    let looked = c.find_next-found.ensures.looked in
+    let few = looked-within old.view c.args.class old.ring in
+    let now = ap (λ (p : PartsView). length p.ring) c.self.view_is in
+    let more =
+    longer old.ring _ (extends-done old c.deliver_found-answer.new.self _ c.deliver_found-answer.ensures.done) in
+    omega (arith, looked, few, now, more)
+
+pub returns-clause-step : goal.returns-clause-step
+returns-clause-step g c =
+    let old = c.args.self.now in
+    let told = c.deliver_found-answer.ensures.told in
+    record {
+      next = told ∙ ap (pick_of old.view.lines) c.find_next-found.ensures.next;
+      found = found-told old c.deliver_found-answer.new.self c.args.class _ _ c.find_next-found.ensures.found told
+          c.deliver_found-answer.ensures.done;
+      done = c.deliver_found-answer.new.self;
+      made = c.deliver_found-answer.ensures.done;
+      turns =
+          rw (c.rotate.ensures.ring, c.rotate.ensures.channels)
+          (ap (λ (p : PartsView). record p { ring = turned p.view c.find_next-found.result.1 p.ring }) c.self.view_is)
+          ∙ ap (λ n. record c.deliver_found-answer.new.self {
+            ring = turned c.deliver_found-answer.new.self.view n c.deliver_found-answer.new.self.ring;
+          }) c.find_next-found.ensures.looked;
+    }
+
+pub returns-clause-turn : goal.returns-clause-turn
+returns-clause-turn g c =
+    let old = c.args.self.now in
+    record {
+      stands = λ local there moves. mover-stands old c.args.class local c.find_next-found.ensures.listed moves;
+      nearer = λ local place stands moves.
+          comes-nearer old c.args.class _ _ (returns-clause-step g c) local place stands moves;
+    }

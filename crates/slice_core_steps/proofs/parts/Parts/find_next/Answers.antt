@@ -1,6 +1,8 @@
-use Rattle.std.proofs.Common.{ap, arith}
+use Rattle.std.proofs.Common.{◌∙◌, ap, arith}
 use Rattle.slice_core_plan.specs.Parts.{PartsView}
+use Rattle.slice_core_plan.specs.Ring.{looked_at, next_in}
 use Rattle.slice_core_steps.proofs.NextLaws.{line-there, plan-for_stuck, ring-begins, ring-more_at, ring-moves}
+use Rattle.slice_core_steps.proofs.TurnLaws.{turn-begins, turn-looked, turn-more, turn-moves}
 use Rattle.slice_core_steps.proofs.parts.Parts.find_next.Goals as goal
 
 pub loop-index-init : goal.loop-index-init
@@ -8,15 +10,30 @@ loop-index-init g c = (
   ring-begins _ _ c.self.inside.queues c.ring_len-index-end.ensures.ring
       (ap (λ (p : PartsView). p.view.channels) c.self.view_is),
   tt,
+  turn-begins _ _ _,
 )
 
-pub returns-in-Move-clause-next : goal.returns-in-Move-clause-next
-returns-in-Move-clause-next g c =
+pub returns-in-Move-clause-found : goal.returns-in-Move-clause-found
+returns-in-Move-clause-found g c =
     let same = ap (λ (p : PartsView). p.view.channels) c.self.view_is in
     ring-moves c.args.self.now.view _ _ c.ring_at.result _ _
     (line-there c.args.self.now.view c.self.inside.queues.channels.lines c.ring_at.result.0 c.requires.shaped same
     c.ring_at.ensures.there)
-    c.in-Move.is c.next_at-found.ensures.next
+    c.in-Move.is c.next_at-found.ensures.found
+
+pub returns-in-Move-clause-next : goal.returns-in-Move-clause-next
+returns-in-Move-clause-next g c =
+    turn-moves _ _ _ _ _ _ _ c.loop-index.invariant.2
+    (omega (arith, c.loop-index-test.true, c.ring_len-index-end.ensures.len)) c.ring_at.ensures.line
+    c.next_at-found.ensures.next _ _ c.in-Move.is
+    ∙ ap (λ (p : PartsView). next_in c.args.self.now.view c.args.class p.ring) c.self.view_is
+
+pub returns-in-Move-clause-looked : goal.returns-in-Move-clause-looked
+returns-in-Move-clause-looked g c =
+    turn-looked _ _ _ _ _ _ _ c.loop-index.invariant.2
+    (omega (arith, c.loop-index-test.true, c.ring_len-index-end.ensures.len)) c.ring_at.ensures.line
+    c.next_at-found.ensures.next _ _ c.in-Move.is
+    ∙ ap (λ (p : PartsView). looked_at c.args.self.now.view c.args.class p.ring) c.self.view_is
 
 pub loop-index-preserved : goal.loop-index-preserved
 loop-index-preserved g c =
@@ -25,6 +42,9 @@ loop-index-preserved g c =
           (omega (arith, c.loop-index-test.true, c.ring_len-index-end.ensures.len)) c.ring_at.ensures.line
           (line-there c.args.self.now.view c.self.inside.queues.channels.lines c.ring_at.result.0 c.requires.shaped same
           c.ring_at.ensures.there)
-          c.loop-index.invariant.0 c.next_at-found.ensures.next c.or-next.ensures,
+          c.loop-index.invariant.0 c.next_at-found.ensures.found c.or-next.ensures,
       plan-for_stuck c.args.self.now.view _ _ _ c.loop-index.invariant.1 c.in_default.not-Move c.or-next.ensures,
+      turn-more _ _ _ _ _ _ _ c.loop-index.invariant.2
+          (omega (arith, c.loop-index-test.true, c.ring_len-index-end.ensures.len)) c.ring_at.ensures.line
+          c.next_at-found.ensures.next _ c.in_default.not-Move c.or-next.ensures,
     )

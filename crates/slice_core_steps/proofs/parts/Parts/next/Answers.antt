@@ -7,12 +7,12 @@ use Rattle.slice_core_plan.specs.declared.decide.Next.{Next}
 use Rattle.slice_core_steps.proofs.NextAnswers.{pick-moved}
 use Rattle.slice_core_steps.proofs.parts.Parts.next.Goals as goal
 
-pub returns-in-Move : goal.returns-in-Move
-returns-in-Move g c =
+pub returns-in-Move-clause-found : goal.returns-in-Move-clause-found
+returns-in-Move-clause-found g c =
     let p = c.args.self.now in
     let class = c.args.class in
     let found = λ (n : Next). IsNextIn p.view class n in
     let at_local = λ (p : PartsView). local_at p.view.lines c.line_at.result.0 ≡ Some c.in-Move.local in
     rw c.at.ensures
     (pick-moved p.view class c.in-Move.local c.in-Move.channel c.line_at.result
-    (subst found c.in-Move.is c.find_next-found.ensures.next) (subst at_local c.self.view_is c.line_at.ensures.local))
+    (subst found c.in-Move.is c.find_next-found.ensures.found) (subst at_local c.self.view_is c.line_at.ensures.local))

@@ -2,19 +2,26 @@ use Rattle.std.proofs.Common.{ap, ◌∙◌}
 use Rattle.slice_core_plan.specs.Parts.{PartsView}
 use Rattle.slice_core_plan.specs.View.{channels_at}
 use Rattle.slice_core_steps.proofs.NextLaws.{next-begins_at, next-more_taken, next-moves, plan-for_stuck}
+use Rattle.slice_core_steps.proofs.TurnLaws.{first-begins, first-more, first-moves}
 use Rattle.slice_core_steps.proofs.parts.Parts.next_at.Goals as goal
 
 pub loop-next-init : goal.loop-next-init
-loop-next-init g c = (
-  next-begins_at _ _ _ _ _ (c.line.ensures ∙ ap (λ (p : PartsView). channels_at p.view c.args.local) c.self.view_is)
-      c.waiting_in-waiting.ensures.once,
-  tt,
-)
+loop-next-init g c =
+    let line = c.line.ensures ∙ ap (λ (p : PartsView). channels_at p.view c.args.local) c.self.view_is in (
+      next-begins_at _ _ _ _ _ line c.waiting_in-waiting.ensures.once,
+      tt,
+      first-begins _ _ _ _ _ line c.waiting_in-waiting.ensures.order,
+    )
+
+pub returns-in-Move-clause-found : goal.returns-in-Move-clause-found
+returns-in-Move-clause-found g c =
+    next-moves _ _ _ _ _ _ _ _ _ _ c.loop-next.invariant.0 c.in-Some.ensures.first c.plan.ensures.planned
+    c.of-one.ensures.next c.in-Move.is
 
 pub returns-in-Move-clause-next : goal.returns-in-Move-clause-next
 returns-in-Move-clause-next g c =
-    next-moves _ _ _ _ _ _ _ _ _ _ c.loop-next.invariant.0 c.in-Some.ensures.first c.plan.ensures.planned
-    c.of-one.ensures.next c.in-Move.is
+    first-moves _ _ _ _ _ _ _ _ c.loop-next.invariant.2 c.in-Some.ensures.first c.plan.ensures.planned
+    c.of-one.ensures.next _ _ c.in-Move.is
 
 pub loop-next-preserved : goal.loop-next-preserved
 loop-next-preserved g c = (
@@ -22,4 +29,6 @@ loop-next-preserved g c = (
       c.plan.ensures.planned
       c.of-one.ensures.next c.or-next.ensures,
   plan-for_stuck c.args.self.now.view _ _ _ c.loop-next.invariant.1 c.in_default-next.not-Move c.or-next.ensures,
+  first-more _ _ _ _ _ _ _ _ c.loop-next.invariant.2 c.in-Some.ensures.first c.plan.ensures.planned
+      c.of-one.ensures.next _ _ c.in_default-next.not-Move c.or-next.ensures c.in-Some.ensures.rest,
 )

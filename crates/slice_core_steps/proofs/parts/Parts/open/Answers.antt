@@ -1,0 +1,10 @@
+use Rattle.std.proofs.Common.{subst, sym}
+use Rattle.slice_core_plan.specs.Parts.{PartsView}
+use Rattle.slice_core_plan.specs.View.{IsShaped}
+use Rattle.slice_core_steps.proofs.ShapedLaws.{shaped-request}
+use Rattle.slice_core_steps.proofs.parts.Parts.open.Goals as goal
+
+pub open_way-requires-in-Victim-clause-shaped : goal.open_way-requires-in-Victim-clause-shaped
+open_way-requires-in-Victim-clause-shaped g c =
+    subst (λ (p : PartsView). IsShaped p.view) (sym c.replace.ensures.after)
+    (shaped-request c.args.self.now.view c.args.core _ _ _ c.requires.can.shaped)

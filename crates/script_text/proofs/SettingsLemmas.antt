@@ -1,6 +1,7 @@
 -- The text of all that there is to say of a machine, in the pieces in which it is written.
-use Rattle.std.proofs.Common.{◌≡◌, ℕ, List, ◌∷◌, ◌++◌, map, ap, ◌∙◌}
+use Rattle.std.proofs.Common.{◌≡◌, ℕ, List, ◌∷◌, ◌++◌, map, ap, append_assoc, codes, decimal, ◌∙◌}
 use Rattle.std.proofs.lemmas.Grind.{flat_map-append}
+use Rattle.address_map.specs.declared.address.WordAddr.{WordAddr}
 use Rattle.address_map.specs.declared.config.Config.{Config}
 use Rattle.litmus_text.specs.ConfigLine.{parts_of_config_line}
 use Rattle.litmus_text.specs.declared.config_line.ConfigLine.{ConfigLine}
@@ -28,3 +29,10 @@ settings_text c misses =
     first
     ∙ ap (λ (rest : List ℕ). text_of_lines (counts_of c) ++ (line_of (lines.Policy c.policy) ++ (line_of (lines.Misses misses)
     ++ (line_of (lines.Exclusive c.exclusive) ++ rest)))) last
+
+-- the line of an initial value, in the pieces in which it is written
+pub init_text : (pair : WordAddr × ℕ) (rest : List ℕ) → line_of (init_line pair) ++ rest ≡
+    (codes "init " ++ (decimal pair.0.0 ++ (codes " " ++ (decimal pair.1 ++ codes "\n")))) ++ rest
+init_text pair rest =
+    ap (λ (text : List ℕ). (codes "init " ++ text) ++ rest)
+    (append_assoc (decimal pair.0.0) (codes " " ++ decimal pair.1) (codes "\n"))

@@ -7,12 +7,12 @@ abbrev pub text_of_part : Part → List ℕ
 text_of_part (key text) = text
 text_of_part (num n) = decimal n
 
--- further parts, each behind a blank, and the line's end
-abbrev pub rest_of_line : List Part → List ℕ
-rest_of_line [] = codes "\n"
-rest_of_line (part ∷ parts) = codes " " ++ text_of_part part ++ rest_of_line parts
+-- the parts with a blank between each two
+abbrev pub text_of_parts : List Part → List ℕ
+text_of_parts [] = []
+text_of_parts (part ∷ []) = text_of_part part
+text_of_parts (part ∷ next ∷ more) = text_of_part part ++ (codes " " ++ text_of_parts (next ∷ more))
 
--- the parts with a blank between each two, and the line's end
+-- .. and the line's end
 abbrev pub line_of_parts : List Part → List ℕ
-line_of_parts [] = codes "\n"
-line_of_parts (part ∷ parts) = text_of_part part ++ rest_of_line parts
+line_of_parts parts = text_of_parts parts ++ codes "\n"

@@ -1,12 +1,12 @@
 ghost use Rattle.std.specs.Prelude.{◌∷◌, OnOk, codes};
 ghost use Rattle.std.specs.Fmt.{WritesInCalls};
-ghost use Rattle.litmus_text.specs.Command.{parts_of, parts_of_op, parts_of_pick};
+ghost use Rattle.litmus_text.specs.Command.{parts_of, parts_of_op};
 ghost use Rattle.litmus_text.specs.Form.{key, num};
 ghost use Rattle.script_text.specs.Line.{line_of_parts};
 
+use super::delivery::Delivery;
 use address_map::{CoreId, LineAddr, Op, Request};
 use litmus_text::Command;
-use slice_queues_message::Pick;
 use std::fmt;
 use std::fmt::Write;
 
@@ -17,7 +17,10 @@ pub fn write_command<W: Write>(command: Command, out: &mut W) -> fmt::Result
     match command {
         Command::Issue { core, request } => write_issue(core, request, out),
         Command::Evict { core, line } => write_evict(core, line, out),
-        Command::Deliver(pick) => write_deliver(pick, out),
+        Command::Deliver(pick) => {
+            let delivery = Delivery(pick);
+            writeln!(out, "{delivery}")
+        }
         Command::Hand { core, slice } => {
             let core = core.0;
             let slice = slice.0;
@@ -62,23 +65,4 @@ fn write_evict<W: Write>(core: CoreId, line: LineAddr, out: &mut W) -> fmt::Resu
     let core = core.0;
     let line = line.0;
     writeln!(out, "evict {core} {line}")
-}
-
-#[tactic(auto, unfolding(litmus_text::specs::Command::parts_of_pick))]
-fn write_deliver<W: Write>(pick: Pick, out: &mut W) -> fmt::Result
-    ensures { OnOk result (WritesInCalls W.write_str_gives out.old
-        (line_of_parts (key (codes "deliver") ∷ parts_of_pick pick)) out.new) }
-{
-    let line = pick.line().0;
-    match pick {
-        Pick::Req(_, CoreId(core)) => writeln!(out, "deliver req {line} {core}"),
-        Pick::Fwd(_, CoreId(core)) => writeln!(out, "deliver fwd {line} {core}"),
-        Pick::Data(_, CoreId(core)) => writeln!(out, "deliver data {line} {core}"),
-        Pick::Ack { to, from, .. } => {
-            let to = to.0;
-            let from = from.0;
-            writeln!(out, "deliver ack {line} {to} {from}")
-        }
-        Pick::Home(_) => writeln!(out, "deliver home {line}"),
-    }
 }

@@ -4,11 +4,13 @@
 //! parts are those by which `litmus_text` reads a line.
 //!
 //! - [`write_settings`] writes all that there is to say of a machine, each thing once.
-//! - [`write_command`] writes one command.
+//! - [`write_command`] writes one command. [`Delivery`] is the command that delivers a message, without its line's end.
 #![tactic(auto)]
 
 pub use command::write_command;
+pub use delivery::Delivery;
 pub use settings::write_settings;
 
 mod command;
+mod delivery;
 mod settings;

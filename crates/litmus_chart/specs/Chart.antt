@@ -6,38 +6,15 @@ use Rattle.litmus_chart.specs.declared.arrow.Fate.{Fate}
 use Rattle.litmus_chart.specs.declared.arrow.Fate.TheVariants as fates
 use Rattle.litmus_chart.specs.declared.arrow.Participant.{Participant}
 use Rattle.litmus_chart.specs.declared.arrow.Participant.TheVariants.{Directory, Core}
+use Rattle.litmus_script.specs.Message.{text_of_message}
 use Rattle.slice_core_answer.specs.Text.{text_of_cell}
 use Rattle.slice_queues_message.specs.declared.channel.Pick.{Pick}
 use Rattle.slice_queues_message.specs.declared.channel.Pick.TheVariants as picks
-use Rattle.slice_queues_message.specs.declared.message.DataMessage.TheVariants as replies
-use Rattle.slice_queues_message.specs.declared.message.ForwardedMessage.TheVariants as forwards
-use Rattle.slice_queues_message.specs.declared.message.Message.{Message}
-use Rattle.slice_queues_message.specs.declared.message.Message.TheVariants as messages
-use Rattle.slice_queues_message.specs.declared.message.RequestMessage.{RequestMessage}
-use Rattle.slice_queues_message.specs.declared.message.RequestMessage.TheVariants as requests
 
 -- the name under which a participant is declared
 abbrev pub text_of_participant : Participant → List ℕ
 text_of_participant (Directory slice) = codes "dir" ++ decimal slice
 text_of_participant (Core core) = codes "core" ++ decimal core.0
-
--- messages under their names in the tables, with the requester that they name, or the acknowledgements to await
-abbrev pub text_of_request : RequestMessage → List ℕ
-text_of_request requests.GetS = codes "GetS"
-text_of_request requests.GetM = codes "GetM"
-text_of_request requests.PutS = codes "PutS"
-text_of_request (requests.PutM block) = codes "PutM"
-
-abbrev pub text_of_message : Message → List ℕ
-text_of_message (messages.Request request) = text_of_request request
-text_of_message (messages.Forwarded (forwards.FwdGetS requester)) = codes "Fwd-GetS for core " ++ decimal requester.0
-text_of_message (messages.Forwarded (forwards.FwdGetM requester)) = codes "Fwd-GetM for core " ++ decimal requester.0
-text_of_message (messages.Forwarded (forwards.Inv requester)) = codes "Inv for core " ++ decimal requester.0
-text_of_message (messages.Forwarded forwards.PutAck) = codes "Put-Ack"
-text_of_message (messages.Data (replies.Data block acks)) = codes "Data(" ++ decimal acks ++ codes ")"
-text_of_message (messages.Data (replies.DataE block)) = codes "Data-E"
-text_of_message messages.InvAck = codes "Inv-Ack"
-text_of_message (messages.Home block) = codes "Data home"
 
 -- an arrow that was delivered has a head, and any other a cross
 abbrev pub head_of : Fate → List ℕ

@@ -1,8 +1,9 @@
 ghost use Rattle.std.specs.Prelude.{◌≡◌};
-ghost use Rattle.litmus_chart.specs.Chart.{receiver_of, sender_of, text_of_request};
+ghost use Rattle.litmus_chart.specs.Chart.{receiver_of, sender_of};
 
 use address_map::{CoreId, LineAddr};
-use slice_core::{Cell, DataMessage, ForwardedMessage, Message, Pick, RequestMessage};
+use litmus_script::MessageName;
+use slice_core::{Cell, Message, Pick};
 use std::fmt;
 
 /// Who takes part in a chart.
@@ -24,48 +25,6 @@ impl fmt::Display for Participant {
             Participant::Directory(slice) => write!(f, "dir{slice}"),
             Participant::Core(CoreId(core)) => write!(f, "core{core}"),
         }
-    }
-}
-
-/// A message under its name in the tables, with the core that it names or the acknowledgements to await.
-#[derive(Drop)]
-pub struct Name(pub Message);
-
-impl fmt::Display for Name {
-    ghost use Rattle.std.specs.Prelude.{Some};
-    ghost use Rattle.litmus_chart.specs.Chart.{text_of_message};
-
-    ghost output = { λ name. Some (text_of_message name.0) };
-
-    fn fmt<W: fmt::Write>(&self, f: &mut fmt::Formatter<W>) -> fmt::Result {
-        match self.0 {
-            Message::Request(request) => f.write_str(request_name(request)),
-            Message::Forwarded(ForwardedMessage::FwdGetS(CoreId(core))) => {
-                write!(f, "Fwd-GetS for core {core}")
-            }
-            Message::Forwarded(ForwardedMessage::FwdGetM(CoreId(core))) => {
-                write!(f, "Fwd-GetM for core {core}")
-            }
-            Message::Forwarded(ForwardedMessage::Inv(CoreId(core))) => {
-                write!(f, "Inv for core {core}")
-            }
-            Message::Forwarded(ForwardedMessage::PutAck) => f.write_str("Put-Ack"),
-            Message::Data(DataMessage::Data { acks, .. }) => write!(f, "Data({acks})"),
-            Message::Data(DataMessage::DataE(_)) => f.write_str("Data-E"),
-            Message::InvAck => f.write_str("Inv-Ack"),
-            Message::Home(_) => f.write_str("Data home"),
-        }
-    }
-}
-
-fn request_name(request: RequestMessage) -> &'static str
-    ensures { result.now ≡ text_of_request request }
-{
-    match request {
-        RequestMessage::GetS => "GetS",
-        RequestMessage::GetM => "GetM",
-        RequestMessage::PutS => "PutS",
-        RequestMessage::PutM(_) => "PutM",
     }
 }
 
@@ -96,7 +55,7 @@ impl fmt::Display for Arrow {
     fn fmt<W: fmt::Write>(&self, f: &mut fmt::Formatter<W>) -> fmt::Result {
         let from = self.from;
         let to = self.to;
-        let name = Name(self.message);
+        let name = MessageName(self.message);
         let line = self.line.0;
         match self.fate {
             Fate::Delivered => write!(f, "{from}->>{to}: {name}, line {line}"),

@@ -1,4 +1,5 @@
 pub mod Answer
 pub mod Issued
 pub mod Machine
+pub mod Message
 pub mod Prints

@@ -6,6 +6,7 @@
 //!   [`Machine`] itself, or another on it.
 //! - [`Answers`] is where answers go, and the functions beside it write the text of each.
 //! - [`copy_of`] makes an equal configuration, for another machine.
+//! - [`MessageName`] is a message under its name in the tables.
 //! - A [`Watcher`] is told of each message that [`Machine::pump`] delivers.
 #![tactic(auto)]
 
@@ -16,6 +17,7 @@ pub use answers::{
 pub use copy::copy_of;
 pub use line::write_sharers;
 pub use machine::Machine;
+pub use message::MessageName;
 pub use player::Player;
 pub use script::{Commands, Script, run_script};
 pub use watcher::Watcher;
@@ -26,6 +28,7 @@ mod copy;
 mod echo;
 mod line;
 mod machine;
+mod message;
 mod player;
 mod run;
 mod script;

@@ -1,3 +1,4 @@
 pub mod CallLemmas
 pub mod MachineLemmas
+pub mod WaitingLemmas
 pub mod WriteLemmas

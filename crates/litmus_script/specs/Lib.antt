@@ -3,3 +3,4 @@ pub mod Issued
 pub mod Machine
 pub mod Message
 pub mod Prints
+pub mod Waiting

@@ -6,6 +6,7 @@ use Rattle.address_map.specs.declared.config.Config.{Config}
 use Rattle.litmus_script.specs.Answer.{text_of_delivered, text_of_handed, text_of_issued, text_of_word}
 use Rattle.litmus_script.specs.Issued.{IsIssued}
 use Rattle.litmus_script.specs.Machine.{IsAnswered, IsShownWord}
+use Rattle.litmus_script.specs.Waiting.{text_of_waiting}
 use Rattle.litmus_script.specs.declared.answers.Issued.{Issued}
 use Rattle.litmus_text.specs.declared.command.Command.{Command}
 use Rattle.litmus_text.specs.declared.command.Command.TheVariants as commands
@@ -44,6 +45,7 @@ Prints config (commands.Word word) old new before after =
 Prints config (commands.State line) old new before after = new ≡ old
 Prints config (commands.Log slice) old new before after = new ≡ old
 Prints config commands.Stats old new before after = new ≡ old
+Prints config commands.Waiting old new before after = (new ≡ old) × Appends before after (text_of_waiting old)
 Prints config (commands.Pump calls) old new before after = Unit {0}
 
 -- The command's answer is printed. As a record it isn't unfolded where it is handed on.

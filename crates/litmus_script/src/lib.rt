@@ -33,4 +33,5 @@ mod player;
 mod run;
 mod script;
 mod trace;
+mod waiting;
 mod watcher;

@@ -36,6 +36,7 @@ impl<F: MissFile> Machine<F> {
             Command::State(line) => self.run_state(line, out),
             Command::Log(slice) => self.run_log(slice, out),
             Command::Stats => self.run_stats(out),
+            Command::Waiting => self.run_waiting(out),
             Command::Pump(calls) => self.run_pump(calls, out),
         }
     }

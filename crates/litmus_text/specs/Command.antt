@@ -39,6 +39,7 @@ parts_of (commands.Word word) = key (codes "word") ∷ num word.0 ∷ []
 parts_of (commands.State line) = key (codes "state") ∷ num line.0 ∷ []
 parts_of (commands.Log slice) = key (codes "log") ∷ num slice.0 ∷ []
 parts_of commands.Stats = key (codes "stats") ∷ []
+parts_of commands.Waiting = key (codes "waiting") ∷ []
 parts_of (commands.Pump calls) = key (codes "pump") ∷ num calls ∷ []
 
 -- the machine has this core, and this line
@@ -75,6 +76,7 @@ IsInRange config (commands.Word word) = word.0 / 8 < config.lines
 IsInRange config (commands.State line) = HasLine config line
 IsInRange config (commands.Log slice) = slice.0 < config.slices
 IsInRange config commands.Stats = Unit {0}
+IsInRange config commands.Waiting = Unit {0}
 IsInRange config (commands.Pump calls) = Unit {0}
 
 -- a tag is a number below 256

@@ -20,6 +20,8 @@ pub enum Command {
     Log(SliceId),
     /// Shows what the slices have counted.
     Stats,
+    /// Shows the messages in flight.
+    Waiting,
     /// Delivers messages, by so many calls at most.
     Pump(u64),
 }

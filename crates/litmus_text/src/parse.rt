@@ -46,6 +46,7 @@ fn parse_called(config: &Checked, verb: Verb, words: &[&[u8]]) -> Result<Command
         Verb::State => parse_state(config, words),
         Verb::Log => parse_log(config, words),
         Verb::Stats => parse_stats(words),
+        Verb::Waiting => parse_waiting(words),
         Verb::Pump => parse_pump(words),
     }
 }
@@ -118,6 +119,13 @@ fn parse_stats(words: &[&[u8]]) -> Result<Command, LineFault>
 {
     no_numbers(words)?;
     Ok(Command::Stats)
+}
+
+fn parse_waiting(words: &[&[u8]]) -> Result<Command, LineFault>
+    ensures { (config : Config) → ReadsAs config (codes "waiting" ∷ map (λ w. w.now) words.now) result }
+{
+    no_numbers(words)?;
+    Ok(Command::Waiting)
 }
 
 fn parse_pump(words: &[&[u8]]) -> Result<Command, LineFault>

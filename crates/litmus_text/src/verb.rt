@@ -15,11 +15,12 @@ pub(super) enum Verb {
     State,
     Log,
     Stats,
+    Waiting,
     Pump,
 }
 
 /// Each verb, by its name.
-static VERBS: [(&[u8], Verb); 9] = [
+static VERBS: [(&[u8], Verb); 10] = [
     (b"issue", Verb::Issue),
     (b"evict", Verb::Evict),
     (b"deliver", Verb::Deliver),
@@ -28,6 +29,7 @@ static VERBS: [(&[u8], Verb); 9] = [
     (b"state", Verb::State),
     (b"log", Verb::Log),
     (b"stats", Verb::Stats),
+    (b"waiting", Verb::Waiting),
     (b"pump", Verb::Pump),
 ];
 

@@ -39,6 +39,7 @@ pub fn write_command<W: Write>(command: Command, out: &mut W) -> fmt::Result
             writeln!(out, "log {slice}")
         }
         Command::Stats => writeln!(out, "stats"),
+        Command::Waiting => writeln!(out, "waiting"),
         Command::Pump(calls) => writeln!(out, "pump {calls}"),
     }
 }

@@ -130,6 +130,7 @@ fn reads_commands(rt: HostRuntime) -> Result<(), Fail> {
         (b"state 15", Ok(Command::State(line))),
         (b"log 0", Ok(Command::Log(SliceId(0)))),
         (b"stats", Ok(Command::Stats)),
+        (b"waiting", Ok(Command::Waiting)),
         (b"pump 18446744073709551615", Ok(Command::Pump(u64::MAX))),
     ] {
         assert!(rt; is_command(&config, text, want));
@@ -145,6 +146,7 @@ fn judges_words_then_numbers_then_ranges(rt: HostRuntime) -> Result<(), Fail> {
         (b"deliver ack 16 0", LineFault::NotACommand),
         (b"deliver back 0 0", LineFault::NotACommand),
         (b"stats 0", LineFault::NotACommand),
+        (b"waiting 0", LineFault::NotACommand),
         (b"evict 2 x", LineFault::BadNumber),
         (b"deliver home 18446744073709551616", LineFault::BadNumber),
         (b"pump -1", LineFault::BadNumber),

@@ -12,6 +12,7 @@ Commands:
   hand 0 0            hands out core 0's next reply of slice 0, and frees its tag
   word 8              shows word 8, once its slice is quiet
   state 1             shows the directory's entry of line 1, and each core's copy
+  waiting             shows the messages in flight, and whether each can be delivered
   stats               shows what was counted
   log 0               shows what slice 0 performed, as a trace for 'lockup check'
 

@@ -1,0 +1,131 @@
+//! The command `waiting`.
+ghost use Rattle.std.specs.Prelude.{◌≡◌, ◌↔◌, ◌++◌, [], codes, map, IsTrue, OnOk, Some};
+ghost use Rattle.std.specs.Fmt.{WritesInCalls};
+ghost use Rattle.address_map.specs.Locator.{local_at};
+ghost use Rattle.address_map.specs.declared.address.Local.{Local};
+ghost use Rattle.litmus_script.specs.Answer.{WritesLine};
+ghost use Rattle.litmus_script.specs.Prints.{IsPrinted};
+ghost use Rattle.litmus_script.specs.Waiting.{flights_of, in_flight, lines_of, picks_of, receiver_state, text_at, text_of_waiting};
+ghost use Rattle.litmus_text.specs.declared.command.Command.TheVariants as commands;
+ghost use Rattle.slice_core_side.specs.Side.{state_of};
+ghost use Rattle.slice_core_plan.specs.View.{View, side_at};
+ghost use Rattle.slice_queues_message.specs.Pick.{channel_of, line_of};
+
+use super::answers::{Answers, written};
+use super::machine::Machine;
+use super::message::MessageName;
+use address_map::CoreId;
+use arrayvec::ArrayVec;
+use litmus_text::TextFault;
+use mshr_file::MissFile;
+use script_text::Delivery;
+use slice_core::{CopyState, Pick, Plan, SliceState};
+use std::fmt::Write;
+use std::{fmt, io};
+
+impl<F: MissFile> Machine<F> {
+    /// Shows the messages in flight.
+    pub(crate) fn run_waiting<W: io::Write>(&self, out: &mut W) -> Result<(), TextFault>
+        ensures { OnOk result (IsPrinted self.now.config commands.Waiting self.now.slices.items self.now.slices.items
+            (W.contents out.old) (W.contents out.new)) }
+    {
+        let mut answers = Answers { out };
+        written(write_waiting(self.slices.as_slice(), &mut answers))
+    }
+}
+
+/// Writes a line for each channel in which a message waits, or that none is in flight.
+#[tactic(auto, using(crate::proofs::WaitingLemmas::text_of_some))]
+fn write_waiting<F: MissFile, W: Write>(slices: &[SliceState<F>], out: &mut W) -> fmt::Result
+    ensures { OnOk result (WritesInCalls W.write_str_gives out.old (text_of_waiting slices.now) out.new) }
+{
+    if is_nothing_in_flight(slices) {
+        return writeln!(out, "none");
+    }
+    write_slices(slices, out)
+}
+
+fn is_nothing_in_flight<F: MissFile>(slices: &[SliceState<F>]) -> bool
+    ensures { IsTrue result ↔ (in_flight slices.now ≡ []) }
+{
+    for state in slices {
+        if state.waiting().next().is_some() {
+            return false;
+        }
+    }
+    true
+}
+
+fn write_slices<F: MissFile, W: Write>(slices: &[SliceState<F>], out: &mut W) -> fmt::Result
+    ensures { OnOk result (WritesInCalls W.write_str_gives out.old (lines_of (in_flight slices.now)) out.new) }
+{
+    for state in slices {
+        write_slice(state, out)?;
+    }
+    Ok(())
+}
+
+fn write_slice<F: MissFile, W: Write>(state: &SliceState<F>, out: &mut W) -> fmt::Result
+    ensures { OnOk result (WritesInCalls W.write_str_gives out.old
+        (lines_of (flights_of state.now.view (picks_of state.now.view))) out.new) }
+{
+    let mut left = state.waiting();
+    while let Some(pick) = left.next() {
+        write_front(state, pick, out)?;
+    }
+    Ok(())
+}
+
+/// Writes the line of the message in front of a channel, if one waits there.
+fn write_front<F: MissFile, W: Write>(state: &SliceState<F>, pick: Pick, out: &mut W) -> fmt::Result
+    ensures { OnOk result (WritesInCalls W.write_str_gives out.old (text_at state.now.view pick) out.new) }
+{
+    let Some(message) = state.front(pick) else {
+        return Ok(());
+    };
+    let delivery = Delivery(pick);
+    let name = MessageName(message);
+    write!(out, "{delivery}   {name}   ")?;
+    match state.plan(pick) {
+        Plan::Nothing => writeln!(out, "nothing"),
+        Plan::Blocked => write_blocked(state, pick, out),
+        Plan::Broken(cell) => writeln!(out, "broken {cell}"),
+        _ => writeln!(out, "moves"),
+    }
+}
+
+/// Writes in which state the receiver is that a message has to wait for.
+fn write_blocked<F: MissFile, W: Write>(
+    state: &SliceState<F>,
+    pick: Pick,
+    out: &mut W,
+) -> fmt::Result
+    ensures { OnOk result ((local : Local) → local_at state.now.view.lines (line_of pick).0 ≡ Some local
+        → WritesLine W.write_str_gives out.old (codes "blocked: " ++ receiver_state state.now.view local (channel_of pick)) out.new) }
+{
+    let Some(view) = state.line_view(pick.line()) else {
+        // A line with a message is the slice's own, so this isn't met.
+        return Ok(());
+    };
+    match pick {
+        Pick::Req(..) | Pick::Home(_) => {
+            let dir = view.dir;
+            writeln!(out, "blocked: {dir}")
+        }
+        Pick::Fwd(_, core) | Pick::Data(_, core) | Pick::Ack { to: core, .. } => {
+            let copy = state_in(&view.copies, core);
+            writeln!(out, "blocked: {copy}")
+        }
+    }
+}
+
+/// The state of a core's copy.
+fn state_in(copies: &ArrayVec<CopyState, 64>, core: CoreId) -> CopyState
+    ensures { (v : View) (local : Local) → copies.now.items ≡ map (λ side. state_of side local) v.sides
+        → result ≡ state_of (side_at v core) local }
+{
+    match copies.get(core.0 as usize) {
+        Some(copy) => *copy,
+        None => CopyState::I,
+    }
+}

@@ -1,10 +1,12 @@
 -- A machine is one slice's state for each slice of its configuration.
-use Rattle.std.specs.Prelude.{◌≡◌, ℕ, ◌<◌, List, length, slice_get, slice_index_or, slice_set, [], Option, None, Some}
+use Rattle.std.specs.Prelude.{◌≡◌, ℕ, ◌<◌, List, length, map, slice_get, slice_index_or, slice_set, [], Option, None, Some}
 use Rattle.std.specs.Option.{option_map_or}
-use Rattle.address_map.specs.Locator.{lines_of}
+use Rattle.address_map.specs.Locator.{lines_of, local_at}
+use Rattle.address_map.specs.declared.address.LineAddr.{LineAddr}
 use Rattle.address_map.specs.declared.address.WordAddr.{WordAddr}
 use Rattle.address_map.specs.declared.config.Config.{Config}
 use Rattle.mshr_file.specs.Miss.{Bound}
+use Rattle.slice_core.specs.Facts.{ShowsLine}
 use Rattle.slice_core.specs.Run.{AfterCall}
 use Rattle.slice_core.specs.declared.run.Call.{Call}
 use Rattle.slice_core.specs.declared.run.CallAnswer.{CallAnswer}
@@ -13,6 +15,7 @@ use Rattle.slice_core_log.specs.Log.{initially, value}
 use Rattle.slice_core_log.specs.declared.entry.Entry.{Entry}
 use Rattle.slice_core_plan.specs.Parts.{PartsView, IsNew}
 use Rattle.slice_core_plan.specs.View.{View, IsQuiet}
+use Rattle.slice_core_steps.specs.declared.line_view.LineView.{LineView}
 
 -- the state is of this slice, with the configured cores, its share of the lines, and the configured setting
 pub record IsSliceOf (config : Config) (id : ℕ) (p : PartsView) : Type 0 where
@@ -64,6 +67,14 @@ pub record IsMade (slice : ℕ) (call : Call) (old new : List PartsView) : Type 
 abbrev pub log_at : List PartsView → ℕ → List Entry
 log_at slices slice = option_map_or (λ state. state.view.log) (slice_get slices slice) []
 
+-- the values that words of the slice begin with, where they begin with one of their own
+abbrev pub init_at : List PartsView → ℕ → List (WordAddr × ℕ)
+init_at slices slice = option_map_or (λ state. state.view.init) (slice_get slices slice) []
+
+-- what the slices have counted, in order
+abbrev pub counts_in : List PartsView → List StatsView
+counts_in slices = map (λ state. state.stats) slices
+
 -- what a slice shows of its word: where it is quiet, the word's value after the whole log, and else nothing
 abbrev pub ShowsWord : View → WordAddr → Option ℕ → Type 0
 ShowsWord v word (Some shown) = IsQuiet v × (shown ≡ value (initially v.init word.0) v.log word.0)
@@ -78,6 +89,11 @@ pub record HasAt (slices : List PartsView) (slice : ℕ) (Holds : PartsView → 
 -- what the slice shows of its word
 abbrev pub IsShownWord : List PartsView → ℕ → WordAddr → Option ℕ → Type 0
 IsShownWord slices slice word shown = HasAt slices slice (λ state. ShowsWord state.view word shown)
+
+-- what the slice shows of its line
+abbrev pub IsShownLine : List PartsView → ℕ → LineAddr → LineView → Type 0
+IsShownLine slices slice line shown =
+    HasAt slices slice (λ state. ShowsLine state.view (local_at state.view.lines line.0) (Some shown))
 
 -- the slice is quiet, and this is its word's value after the whole log
 abbrev pub IsQuietWord : List PartsView → ℕ → WordAddr → ℕ → Type 0

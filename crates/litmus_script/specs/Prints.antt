@@ -3,11 +3,14 @@ use Rattle.std.specs.Prelude.{◌≡◌, ℕ, ◌/◌, ◌%◌, List, ◌++◌, 
 use Rattle.std.specs.Io.KnownBytes.{Appends}
 use Rattle.address_map.specs.Place.{line_of as line_of_word}
 use Rattle.address_map.specs.declared.config.Config.{Config}
-use Rattle.litmus_script.specs.Answer.{text_of_delivered, text_of_handed, text_of_issued, text_of_word}
+use Rattle.litmus_script.specs.Answer.{text_of_delivered, text_of_handed, text_of_issued, text_of_pumped, text_of_word}
 use Rattle.litmus_script.specs.Issued.{IsIssued}
-use Rattle.litmus_script.specs.Machine.{IsAnswered, IsShownWord}
+use Rattle.litmus_script.specs.Machine.{IsAnswered, IsShownLine, IsShownWord, counts_in, init_at, log_at}
+use Rattle.litmus_script.specs.Pump.{Pumps}
+use Rattle.litmus_script.specs.Shown.{text_of_line, text_of_trace}
 use Rattle.litmus_script.specs.Waiting.{text_of_waiting}
 use Rattle.litmus_script.specs.declared.answers.Issued.{Issued}
+use Rattle.litmus_script.specs.declared.answers.Pumped.{Pumped}
 use Rattle.litmus_text.specs.declared.command.Command.{Command}
 use Rattle.litmus_text.specs.declared.command.Command.TheVariants as commands
 use Rattle.slice_core.specs.declared.run.Call.TheVariants as calls
@@ -17,15 +20,16 @@ use Rattle.slice_core_answer.specs.declared.answer.Delivered.{Delivered}
 use Rattle.slice_core_answer.specs.declared.answer.Evicted.{Evicted}
 use Rattle.slice_core_log.specs.declared.entry.Numbered.{Numbered}
 use Rattle.slice_core_plan.specs.Parts.{PartsView}
+use Rattle.slice_core_steps.specs.declared.line_view.LineView.{LineView}
 use Rattle.slice_queues_message.specs.Pick.{line_of}
+use Rattle.stats_report.specs.Report.{report_of}
 
 -- what is written grows by this text and the end of its line
 abbrev pub Adds : Option (List ℕ) → Option (List ℕ) → List ℕ → Type 0
 Adds before after text = Appends before after (text ++ codes "\n")
 
 -- The command's call of its slice, and what is written of the slice's answer behind what was written before. What only
--- shows something leaves the machine as it was. The text of a line's state, of a log, of the counts and of a pump isn't
--- said.
+-- shows something leaves the machine as it was, and its text is that of what the machine has.
 abbrev pub Prints : Config → Command → List PartsView → List PartsView → Option (List ℕ) → Option (List ℕ) → Type 0
 Prints config (commands.Issue core request) old new before after =
     (issued : Issued) × IsIssued ((line_of_word request.word).0 % config.slices) core request issued old new
@@ -42,11 +46,15 @@ Prints config (commands.Hand core slice) old new before after =
 Prints config (commands.Word word) old new before after =
     (new ≡ old) × (shown : Option ℕ) × IsShownWord old (word.0 / 8 % config.slices) word shown
     × Adds before after (text_of_word shown)
-Prints config (commands.State line) old new before after = new ≡ old
-Prints config (commands.Log slice) old new before after = new ≡ old
-Prints config commands.Stats old new before after = new ≡ old
+Prints config (commands.State line) old new before after =
+    (new ≡ old) × (shown : LineView) × IsShownLine old (line.0 % config.slices) line shown
+    × Appends before after (text_of_line line shown)
+Prints config (commands.Log slice) old new before after =
+    (new ≡ old) × Appends before after (text_of_trace config.cores (init_at old slice.0) (log_at old slice.0))
+Prints config commands.Stats old new before after = (new ≡ old) × Appends before after (report_of (counts_in old))
 Prints config commands.Waiting old new before after = (new ≡ old) × Appends before after (text_of_waiting old)
-Prints config (commands.Pump calls) old new before after = Unit {0}
+Prints config (commands.Pump calls) old new before after =
+    (pumped : Pumped) × Pumps config.slices calls pumped old new × Adds before after (text_of_pumped pumped)
 
 -- The command's answer is printed. As a record it isn't unfolded where it is handed on.
 pub record IsPrinted (config : Config) (command : Command) (old new : List PartsView) (before after : Option (List ℕ)) : Type 0 where

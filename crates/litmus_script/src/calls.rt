@@ -1,12 +1,13 @@
 //! The calls that a machine makes of one of its slices. What a slice promises of a call is long, and a machine needs
 //! little of it: that the slice stays the one that it was.
-ghost use Rattle.std.specs.Prelude.{◌<◌, length, IfErr, IfOk, IsSome};
+ghost use Rattle.std.specs.Prelude.{◌<◌, length, IfErr, IfOk, IsSome, Some};
 ghost use Rattle.address_map.specs.Locator.{local_at};
 ghost use Rattle.address_map.specs.Place.{line_of};
-ghost use Rattle.slice_core.specs.Facts.{IsSameSlice};
+ghost use Rattle.slice_core.specs.Facts.{IsSameSlice, ShowsLine};
 ghost use Rattle.slice_core.specs.declared.run.Call.TheVariants as of_slice;
 ghost use Rattle.slice_core.specs.declared.run.CallAnswer.TheVariants as answers;
 ghost use Rattle.slice_core_plan.specs.Parts.{IsNew};
+ghost use Rattle.slice_queues_message.specs.declared.channel.Class.TheVariants as classes;
 ghost use Rattle.litmus_script.specs.Issued.{Issues, LacksMemory};
 ghost use Rattle.litmus_script.specs.Machine.{Answers, IsSliceOf, ShowsWord};
 
@@ -15,7 +16,7 @@ use address_map::{Checked, CoreId, LineAddr, Request, SliceId, WordAddr};
 use litmus_text::TextFault;
 use mshr_file::MissFile;
 use slice_core::{
-    Class, Delivered, DeliveredNext, Evicted, Issue, Numbered, Pick, Refused, SliceState,
+    Class, Delivered, DeliveredNext, Evicted, Issue, LineView, Numbered, Pick, Refused, SliceState,
 };
 use std::alloc::Global;
 
@@ -77,7 +78,8 @@ pub(crate) fn deliver<F: MissFile>(state: &mut SliceState<F>, pick: Pick) -> Del
 
 #[inline(always)]
 pub(crate) fn deliver_next<F: MissFile>(state: &mut SliceState<F>) -> DeliveredNext
-    ensures { IsSameSlice state.old state.new }
+    ensures same { IsSameSlice state.old state.new }
+    ensures made { Answers (of_slice.DeliverNext classes.Any) (answers.DeliverNext result) state.old state.new }
 {
     state.deliver_next(Class::Any)
 }
@@ -89,6 +91,17 @@ pub(crate) fn hand<F: MissFile>(state: &mut SliceState<F>, core: CoreId) -> Opti
     ensures made { Answers (of_slice.Hand core) (answers.Hand result) state.old state.new }
 {
     state.hand(core)
+}
+
+/// What a slice has of a line of its own.
+pub(crate) fn line<F: MissFile>(state: &SliceState<F>, line: LineAddr) -> LineView
+    requires { IsSome (local_at state.now.view.lines line.0) }
+    ensures { ShowsLine state.now.view (local_at state.now.view.lines line.0) (Some result) }
+{
+    match state.line_view(line) {
+        Some(shown) => shown,
+        None => unreachable!(),
+    }
 }
 
 /// The value of a word, where the slice is quiet.

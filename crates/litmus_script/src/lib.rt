@@ -30,6 +30,7 @@ mod line;
 mod machine;
 mod message;
 mod player;
+mod pump;
 mod run;
 mod script;
 mod trace;

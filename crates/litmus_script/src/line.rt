@@ -1,36 +1,42 @@
-ghost use Rattle.std.specs.Prelude.{OnOk};
+ghost use Rattle.std.specs.Prelude.{◌++◌, OnOk, codes};
 ghost use Rattle.std.specs.Fmt.{WritesInCalls};
 ghost use Rattle.address_map.specs.CoreSet.{members};
 ghost use Rattle.litmus_script.specs.Answer.{text_of_cores};
+ghost use Rattle.litmus_script.specs.Shown.{text_of_entry, text_of_line, text_of_owner, text_of_states, text_of_words};
 
 use address_map::{CoreId, CoreSet, LineAddr};
-use arrayvec::ArrayVec;
 use cache_table::CopyState;
+use directory_table::DirState;
 use slice_core::LineView;
 use std::fmt;
 use std::fmt::Write;
 
 /// Writes what a slice has of a line, as one line of text.
-pub fn write_line<W: Write>(line: LineAddr, view: &LineView, out: &mut W) -> fmt::Result {
-    write_directory(line, view, out)?;
+pub fn write_line<W: Write>(line: LineAddr, view: &LineView, out: &mut W) -> fmt::Result
+    ensures { OnOk result (WritesInCalls W.write_str_gives out.old (text_of_line line view.now) out.new) }
+{
+    write_entry(line, view.dir, out)?;
+    write_owner(view.owner, out)?;
+    write!(out, " sharers ")?;
+    write_sharers(CoreSet::from_bits(view.sharers), out)?;
     write_home(&view.home, out)?;
-    write_copies(&view.copies, out)?;
+    write_copies(view.copies.as_slice(), out)?;
     writeln!(out)
 }
 
-fn write_directory<W: Write>(line: LineAddr, view: &LineView, out: &mut W) -> fmt::Result {
+fn write_entry<W: Write>(line: LineAddr, dir: DirState, out: &mut W) -> fmt::Result
+    ensures { OnOk result (WritesInCalls W.write_str_gives out.old (text_of_entry line dir) out.new) }
+{
     let number = line.0;
-    let dir = view.dir;
-    write!(out, "line {number} dir {dir} owner ")?;
-    write_owner(view.owner, out)?;
-    write!(out, " sharers ")?;
-    write_sharers(CoreSet::from_bits(view.sharers), out)
+    write!(out, "line {number} dir {dir}")
 }
 
-fn write_owner<W: Write>(owner: Option<CoreId>, out: &mut W) -> fmt::Result {
+fn write_owner<W: Write>(owner: Option<CoreId>, out: &mut W) -> fmt::Result
+    ensures { OnOk result (WritesInCalls W.write_str_gives out.old (text_of_owner owner) out.new) }
+{
     match owner {
-        Some(CoreId(owner)) => write!(out, "{owner}"),
-        None => write!(out, "-"),
+        Some(CoreId(owner)) => write!(out, " owner {owner}"),
+        None => write!(out, " owner -"),
     }
 }
 
@@ -49,7 +55,9 @@ pub fn write_sharers<W: Write>(sharers: CoreSet, out: &mut W) -> fmt::Result
     Ok(())
 }
 
-fn write_home<W: Write>(home: &[u64; 8], out: &mut W) -> fmt::Result {
+fn write_home<W: Write>(home: &[u64], out: &mut W) -> fmt::Result
+    ensures { OnOk result (WritesInCalls W.write_str_gives out.old (codes " home" ++ text_of_words home.now) out.new) }
+{
     write!(out, " home")?;
     for word in home {
         write!(out, " {word}")?;
@@ -57,7 +65,9 @@ fn write_home<W: Write>(home: &[u64; 8], out: &mut W) -> fmt::Result {
     Ok(())
 }
 
-fn write_copies<W: Write>(copies: &ArrayVec<CopyState, 64>, out: &mut W) -> fmt::Result {
+fn write_copies<W: Write>(copies: &[CopyState], out: &mut W) -> fmt::Result
+    ensures { OnOk result (WritesInCalls W.write_str_gives out.old (codes " cores" ++ text_of_states copies.now) out.new) }
+{
     write!(out, " cores")?;
     for state in copies {
         write!(out, " {state}")?;

@@ -1,4 +1,4 @@
-ghost use Rattle.std.specs.Prelude.{◌≡◌, ◌/◌, ◌%◌, ◌<◌, ◌≤◌, ◌↔◌, length, All, IfErr, IfOk, IfSome, IsTrue};
+ghost use Rattle.std.specs.Prelude.{◌≡◌, ◌/◌, ◌%◌, ◌<◌, ◌↔◌, length, All, IfErr, IfOk, IfSome, IsTrue};
 ghost use Rattle.litmus_text.specs.Command.{IsInRange, HasCore, HasLine};
 ghost use Rattle.address_map.specs.Config.{IsAllowed};
 ghost use Rattle.stats_report.specs.Report.{AreAlike, views_of};
@@ -8,18 +8,16 @@ ghost use Rattle.slice_core.specs.declared.run.CallAnswer.TheVariants as answers
 ghost use Rattle.slice_core_plan.specs.View.{IsQuiet};
 ghost use Rattle.slice_queues_message.specs.Pick.{line_of};
 ghost use Rattle.litmus_script.specs.Issued.{IsIssued, IsOutOfMemory};
-ghost use Rattle.litmus_script.specs.Machine.{IsAnswered, IsMachine, IsNewMachine, IsQuietWord, IsShownWord, log_at};
+ghost use Rattle.litmus_script.specs.Machine.{IsAnswered, IsMachine, IsNewMachine, IsQuietWord, IsShownLine, IsShownWord, counts_in, init_at, log_at};
 
-use super::answers::{Answers, Issued, Pumped};
+use super::answers::{Answers, Issued};
 use super::calls;
 use super::player::Player;
-use super::watcher::Watcher;
 use address_map::{Checked, CoreId, LineAddr, Request, SliceId, WordAddr};
 use litmus_text::{Command, Statement, TextFault};
 use mshr_file::MissFile;
 use slice_core::{
-    Delivered, DeliveredNext, Entry, Evicted, LineView, LineWaiting, Message, Numbered, Pick,
-    SliceState, Stats,
+    Delivered, Entry, Evicted, LineView, LineWaiting, Message, Numbered, Pick, SliceState, Stats,
 };
 use std::alloc::{AllocError, Global};
 use std::io::Write;
@@ -31,27 +29,6 @@ pub struct Machine<F: MissFile> {
     pub slices: Vec<SliceState<F>>,
     pub(crate) alloc: Global,
     ghost shaped: { IsMachine config slices.items },
-}
-
-/// What a round of deliveries over the slices came to.
-#[derive(Clone, Copy)]
-enum Round {
-    /// No message waited in any slice.
-    Empty,
-    /// A message was delivered.
-    Moved,
-    /// Messages waited, and none could be delivered.
-    Stuck,
-}
-
-impl Round {
-    /// The same round, where the messages of one more slice wait and none of them can be delivered.
-    fn held_up(self) -> Self {
-        match self {
-            Round::Empty => Round::Stuck,
-            other => other,
-        }
-    }
 }
 
 impl<F: MissFile> Player for Machine<F> {
@@ -159,6 +136,16 @@ impl<F: MissFile> Machine<F> {
         }
     }
 
+    /// The values that words of a slice begin with.
+    pub(crate) fn init_of(&self, slice: SliceId) -> &[(WordAddr, u64)]
+        ensures { result.now ≡ init_at self.now.slices.items slice.0 }
+    {
+        match self.slices.get(slice.0 as usize) {
+            Some(state) => state.init(),
+            None => &[],
+        }
+    }
+
     /// Whether nothing is in flight, and each reply is handed out.
     pub fn is_quiet(&self) -> bool
         ensures { IsTrue result ↔ All (λ state. IsQuiet state.view) self.now.slices.items }
@@ -180,65 +167,24 @@ impl<F: MissFile> Machine<F> {
         calls::word(&self.slices[self.slice_of(word.line())], word)
     }
 
-    /// What each slice has counted.
+    /// What its slice has of a line of the memory, of which there is none without a slice.
+    pub(crate) fn line_now(&self, line: LineAddr) -> LineView
+        requires { HasLine self.now.config line }
+        ensures { IsShownLine self.now.slices.items (line.0 % self.now.config.slices) line result }
+    {
+        calls::line(&self.slices[self.slice_of(line)], line)
+    }
+
+    /// What each slice has counted, in order.
     pub(crate) fn stats(&self) -> Result<Vec<&Stats>, AllocError>
-        ensures { IfOk result (λ stats. AreAlike (views_of stats.items)) }
+        ensures alike { IfOk result (λ stats. AreAlike (views_of stats.items)) }
+        ensures counts { IfOk result (λ stats. views_of stats.items ≡ counts_in self.now.slices.items) }
     {
         let mut stats = Vec::with_capacity(self.alloc, self.slices.len())?;
         for slice in 0..self.config.slices() {
             stats.push(self.slices[slice].stats())?;
         }
         Ok(stats)
-    }
-
-    /// Delivers messages, by so many calls at most, round and round over the slices.
-    pub fn pump<T: Watcher>(&mut self, calls: u64, watcher: &mut T) -> Result<Pumped, AllocError>
-        ensures { self.new.config ≡ self.old.config }
-    {
-        let slices = self.config.slices();
-        let round = self.rounds(calls / slices as u64, watcher)?;
-        match round {
-            Round::Empty => return Ok(Pumped::Empty),
-            Round::Stuck => {}
-            // the calls that are left make no whole round
-            Round::Moved => {
-                self.round((calls % slices as u64) as usize, watcher)?;
-            }
-        }
-        Ok(Pumped::Left)
-    }
-
-    /// Makes so many rounds over all slices, up to one that moves nothing. Answers what the last came to.
-    fn rounds<T: Watcher>(&mut self, count: u64, watcher: &mut T) -> Result<Round, AllocError>
-        ensures { self.new.config ≡ self.old.config }
-    {
-        let slices = self.config.slices();
-        for _ in 0..count {
-            match self.round(slices, watcher)? {
-                Round::Moved => {}
-                last => return Ok(last),
-            }
-        }
-        Ok(Round::Moved)
-    }
-
-    /// Makes a delivery in each of the first slices, where one can be made.
-    fn round<T: Watcher>(&mut self, count: usize, watcher: &mut T) -> Result<Round, AllocError>
-        requires { count ≤ self.old.config.slices }
-        ensures { self.new.config ≡ self.old.config }
-    {
-        let mut round = Round::Empty;
-        for slice in 0..count {
-            match calls::deliver_next(&mut self.slices[slice]) {
-                DeliveredNext::Moved(pick) => {
-                    watcher.moved(pick)?;
-                    round = Round::Moved;
-                }
-                DeliveredNext::Nothing => {}
-                _ => round = round.held_up(),
-            }
-        }
-        Ok(round)
     }
 
     /// The slice of a line. Lines go to the slices in turn.

@@ -112,24 +112,28 @@ impl<F: MissFile> Machine<F> {
 
     fn run_state<W: Write>(&self, line: LineAddr, out: &mut W) -> Result<(), TextFault>
         requires { HasLine self.now.config line }
+        ensures { OnOk result (IsPrinted self.now.config (commands.State line) self.now.slices.items self.now.slices.items
+            (W.contents out.old) (W.contents out.new)) }
     {
+        let shown = self.line_now(line);
         let mut answers = Answers { out };
-        match self.view(line) {
-            Some(view) => written(write_line(line, &view, &mut answers)),
-            // Each line of the memory is its slice's, so this isn't met.
-            None => Ok(()),
-        }
+        written(write_line(line, &shown, &mut answers))
     }
 
     fn run_log<W: Write>(&self, slice: SliceId, out: &mut W) -> Result<(), TextFault>
-        requires { slice.0 < self.now.config.slices }
+        ensures { OnOk result (IsPrinted self.now.config (commands.Log slice) self.now.slices.items self.now.slices.items
+            (W.contents out.old) (W.contents out.new)) }
     {
+        let init = self.init_of(slice);
+        let log = self.log_of(slice);
         let mut answers = Answers { out };
-        let state = &self.slices[slice.0 as usize];
-        written(write_trace(&self.config, state.init(), state.log(), &mut answers))
+        written(write_trace(&self.config, init, log, &mut answers))
     }
 
-    fn run_stats<W: Write>(&self, out: &mut W) -> Result<(), TextFault> {
+    fn run_stats<W: Write>(&self, out: &mut W) -> Result<(), TextFault>
+        ensures { OnOk result (IsPrinted self.now.config commands.Stats self.now.slices.items self.now.slices.items
+            (W.contents out.old) (W.contents out.new)) }
+    {
         let Ok(stats) = self.stats() else {
             return Err(TextFault::NoMemory);
         };
@@ -141,7 +145,9 @@ impl<F: MissFile> Machine<F> {
     }
 
     fn run_pump<W: Write>(&mut self, calls: u64, out: &mut W) -> Result<(), TextFault>
-        ensures { self.new.config ≡ self.old.config }
+        ensures config { self.new.config ≡ self.old.config }
+        ensures printed { OnOk result (IsPrinted self.old.config (commands.Pump calls)
+            self.old.slices.items self.new.slices.items (W.contents out.old) (W.contents out.new)) }
     {
         let Ok(pumped) = self.pump(calls, &mut Nobody) else {
             return Err(TextFault::NoMemory);

@@ -1,3 +1,10 @@
+ghost use Rattle.std.specs.Prelude.{◌≡◌, OnOk, map};
+ghost use Rattle.std.specs.Fmt.{WritesInCalls};
+ghost use Rattle.script_text.specs.Line.{line_of_parts};
+ghost use Rattle.trace_check.specs.TraceLine.{parts_of_first, parts_of_line};
+ghost use Rattle.trace_check.specs.declared.trace_line.TraceLine.TheVariants as lines;
+ghost use Rattle.litmus_script.specs.Shown.{has_compare_exchange, text_of_lines, text_of_trace, version_for};
+
 use address_map::{Checked, Op, WordAddr};
 use slice_core::Entry;
 use std::fmt;
@@ -13,26 +20,35 @@ pub fn write_trace<W: Write>(
     init: &[(WordAddr, u64)],
     log: &[Entry],
     out: &mut W,
-) -> fmt::Result {
-    let version = version_of(config, log);
-    writeln!(out, "lockup-trace {version}")?;
+) -> fmt::Result
+    ensures { OnOk result (WritesInCalls W.write_str_gives out.old (text_of_trace config.now.cores init.now log.now) out.new) }
+{
+    write_first(config, log, out)?;
     write_init(init, out)?;
-    for entry in log {
-        write_entry(entry, out)?;
-    }
-    Ok(())
+    write_entries(log, out)
 }
 
-fn version_of(config: &Checked, log: &[Entry]) -> u8 {
-    let has_cas = log.iter().any(|entry| matches!(entry.op, Op::Cas { .. }));
-    if has_cas || config.cores() > VERSION_1_CORES {
-        2
+fn write_first<W: Write>(config: &Checked, log: &[Entry], out: &mut W) -> fmt::Result
+    ensures { OnOk result (WritesInCalls W.write_str_gives out.old
+        (line_of_parts (parts_of_first (version_for config.now.cores log.now))) out.new) }
+{
+    if has_cas(log) || config.cores() > VERSION_1_CORES {
+        writeln!(out, "lockup-trace 2")
     } else {
-        1
+        writeln!(out, "lockup-trace 1")
     }
 }
 
-fn write_init<W: Write>(init: &[(WordAddr, u64)], out: &mut W) -> fmt::Result {
+fn has_cas(log: &[Entry]) -> bool
+    ensures { result ≡ has_compare_exchange log.now }
+{
+    log.iter().any(|entry| matches!(entry.op, Op::Cas { .. }))
+}
+
+fn write_init<W: Write>(init: &[(WordAddr, u64)], out: &mut W) -> fmt::Result
+    ensures { OnOk result (WritesInCalls W.write_str_gives out.old
+        (text_of_lines (map (λ pair. lines.Init pair.0 pair.1) init.now)) out.new) }
+{
     for (word, value) in init {
         let word = word.0;
         writeln!(out, "init {word} {value}")?;
@@ -40,23 +56,42 @@ fn write_init<W: Write>(init: &[(WordAddr, u64)], out: &mut W) -> fmt::Result {
     Ok(())
 }
 
-fn write_entry<W: Write>(entry: &Entry, out: &mut W) -> fmt::Result {
+fn write_entries<W: Write>(log: &[Entry], out: &mut W) -> fmt::Result
+    ensures { OnOk result (WritesInCalls W.write_str_gives out.old (text_of_lines (map lines.Entry log.now)) out.new) }
+{
+    for entry in log {
+        write_entry(entry, out)?;
+    }
+    Ok(())
+}
+
+#[tactic(auto, unfolding(litmus_text::specs::Command::parts_of_op))]
+fn write_entry<W: Write>(entry: &Entry, out: &mut W) -> fmt::Result
+    ensures { OnOk result (WritesInCalls W.write_str_gives out.old (line_of_parts (parts_of_line (lines.Entry entry.now))) out.new) }
+{
     let core = entry.core.0;
     let seq = entry.seq;
     let tag = entry.tag;
-    write!(out, "entry {core} {seq} {tag} ")?;
-    write_op(entry.op, entry.word, out)?;
+    let word = entry.word.0;
     let reply = entry.reply;
     let since = entry.since;
-    writeln!(out, " {reply} {since}")
-}
-
-fn write_op<W: Write>(op: Op, word: WordAddr, out: &mut W) -> fmt::Result {
-    let word = word.0;
-    match op {
-        Op::Load => write!(out, "load {word}"),
-        Op::Store(value) => write!(out, "store {word} {value}"),
-        Op::Add(delta) => write!(out, "add {word} {delta}"),
-        Op::Cas { expect, new } => write!(out, "cas {word} {expect} {new}"),
+    match entry.op {
+        Op::Load => writeln!(out, "entry {core} {seq} {tag} load {word} {reply} {since}"),
+        Op::Store(value) => {
+            writeln!(
+                out,
+                "entry {core} {seq} {tag} store {word} {value} {reply} {since}"
+            )
+        }
+        Op::Add(delta) => {
+            writeln!(
+                out,
+                "entry {core} {seq} {tag} add {word} {delta} {reply} {since}"
+            )
+        }
+        Op::Cas { expect, new } => writeln!(
+            out,
+            "entry {core} {seq} {tag} cas {word} {expect} {new} {reply} {since}"
+        ),
     }
 }

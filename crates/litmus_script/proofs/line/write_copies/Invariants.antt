@@ -1,0 +1,12 @@
+use Rattle.std.proofs.Common.{◌++◌, drop}
+use Rattle.std.specs.Prelude.{codes}
+use Rattle.std.specs.Fmt.{WritesInCalls}
+use Rattle.litmus_script.specs.Shown.{text_of_states}
+use Rattle.litmus_script.proofs.line.write_copies.Given as goal
+
+-- who writes those that are left has written all
+abbrev pub invariant-loop-state : goal.invariant-loop-state
+invariant-loop-state g l =
+    let took = g.W.Write.write_str_gives in
+    (new : g.row.W.Denot) → WritesInCalls took l.out (text_of_states (drop l.state-index l.copies)) new
+    → WritesInCalls took l.fn.out (codes " cores" ++ text_of_states l.copies) new

@@ -1,4 +1,5 @@
-ghost use Rattle.std.specs.Prelude.{◌≡◌, ◌<◌, IfOk};
+ghost use Rattle.std.specs.Prelude.{◌≡◌, ◌<◌, IfErr, IfOk};
+ghost use Rattle.litmus_script.specs.Play.{IsOfRun};
 ghost use Rattle.litmus_text.specs.Command.{HasCore, IsInRange};
 
 use super::arrow::{Fate, Participant};
@@ -60,7 +61,7 @@ fn chart_on<F: MissFile, W: Write>(
     } = script;
     let mut chart: Chart<F> = Chart::new(alloc, config)?;
     written(write_participants(chart.config(), out))?;
-    commands.play(&mut chart, out)
+    commands.play(&mut chart, out.out)
 }
 
 /// An access that isn't accepted is drawn as an arrow of the core to itself, which ends in a cross.
@@ -92,6 +93,9 @@ struct Chart<F: MissFile> {
 impl<F: MissFile> Player for Chart<F> {
     ghost config_of = { λ chart. chart.ahead.config };
 
+    // What is drawn isn't said.
+    ghost plays = { λ old line command before after new. Unit {0} };
+
     fn config(&self) -> &Checked {
         &self.ahead.config
     }
@@ -100,8 +104,9 @@ impl<F: MissFile> Player for Chart<F> {
         &mut self,
         statement: &Statement<'_>,
         command: Command,
-        out: &mut Answers<'_, W>,
+        out: &mut W,
     ) -> Result<(), TextFault> {
+        let out = &mut Answers { out };
         match command {
             Command::Issue { core, request } => self.issue(statement, core, request, out),
             Command::Evict { core, line } => self.evict(statement, core, line, out),
@@ -134,7 +139,8 @@ impl<F: MissFile> Chart<F> {
         out: &mut Answers<'_, W>,
     ) -> Result<(), TextFault>
         requires { IsInRange self.old.ahead.config command }
-        ensures { self.new.ahead.config ≡ self.old.ahead.config }
+        ensures config { self.new.ahead.config ≡ self.old.ahead.config }
+        ensures fault { IfErr result IsOfRun }
     {
         let directory = Participant::Directory(self.ahead.slice_of(line));
         written(begin_note(directory, statement, out))?;
@@ -149,7 +155,8 @@ impl<F: MissFile> Chart<F> {
         out: &mut Answers<'_, W>,
     ) -> Result<(), TextFault>
         requires { HasCore self.old.ahead.config core }
-        ensures { self.new.ahead.config ≡ self.old.ahead.config }
+        ensures config { self.new.ahead.config ≡ self.old.ahead.config }
+        ensures fault { IfErr result IsOfRun }
     {
         let issued = self.ahead.issue(core, request)?;
         written(note_issued(core, statement, issued, out))?;
@@ -172,7 +179,8 @@ impl<F: MissFile> Chart<F> {
         out: &mut Answers<'_, W>,
     ) -> Result<(), TextFault>
         requires { HasCore self.old.ahead.config core }
-        ensures { self.new.ahead.config ≡ self.old.ahead.config }
+        ensures config { self.new.ahead.config ≡ self.old.ahead.config }
+        ensures fault { IfErr result IsOfRun }
     {
         let evicted = self.ahead.evict(core, line);
         written(begin_note(Participant::Core(core), statement, out))?;
@@ -189,7 +197,8 @@ impl<F: MissFile> Chart<F> {
         pick: Pick,
         out: &mut Answers<'_, W>,
     ) -> Result<(), TextFault>
-        ensures { self.new.ahead.config ≡ self.old.ahead.config }
+        ensures config { self.new.ahead.config ≡ self.old.ahead.config }
+        ensures fault { IfErr result IsOfRun }
     {
         let delivered = self.ahead.deliver(pick);
         match delivered {
@@ -214,7 +223,8 @@ impl<F: MissFile> Chart<F> {
     ) -> Result<(), TextFault>
         requires core { HasCore self.old.ahead.config core }
         requires slice { slice.0 < self.old.ahead.config.slices }
-        ensures { self.new.ahead.config ≡ self.old.ahead.config }
+        ensures config { self.new.ahead.config ≡ self.old.ahead.config }
+        ensures fault { IfErr result IsOfRun }
     {
         let handed = self.ahead.hand(core, slice);
         written(begin_note(Participant::Core(core), statement, out))?;
@@ -230,7 +240,8 @@ impl<F: MissFile> Chart<F> {
         calls: u64,
         out: &mut Answers<'_, W>,
     ) -> Result<(), TextFault>
-        ensures { self.new.ahead.config ≡ self.old.ahead.config }
+        ensures config { self.new.ahead.config ≡ self.old.ahead.config }
+        ensures fault { IfErr result IsOfRun }
     {
         let mut moved = Vec::new(self.alloc);
         let Ok(pumped) = self.ahead.pump(calls, &mut moved) else {

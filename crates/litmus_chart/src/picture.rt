@@ -1,4 +1,5 @@
-ghost use Rattle.std.specs.Prelude.{◌≡◌, IfOk};
+ghost use Rattle.std.specs.Prelude.{◌≡◌, IfErr, IfOk};
+ghost use Rattle.litmus_script.specs.Play.{IsOfRun};
 
 use super::arrow::{Arrow, Fate, Participant, receiver, sender};
 use super::note::write_changes;
@@ -41,7 +42,8 @@ impl<F: MissFile> Picture<F> {
 
     /// A core has asked for the line.
     pub fn name(&mut self, line: LineAddr) -> Result<(), TextFault>
-        ensures { self.new.behind ≡ self.old.behind }
+        ensures same { self.new.behind ≡ self.old.behind }
+        ensures fault { IfErr result IsOfRun }
     {
         if self.named.contains(&line) {
             return Ok(());
@@ -94,7 +96,8 @@ impl<F: MissFile> Picture<F> {
         pick: Pick,
         out: &mut Answers<'_, W>,
     ) -> Result<(), TextFault>
-        ensures { self.new.behind.config ≡ self.old.behind.config }
+        ensures config { self.new.behind.config ≡ self.old.behind.config }
+        ensures fault { IfErr result IsOfRun }
     {
         let line = pick.line();
         written(self.write_arrow(pick, Fate::Delivered, out))?;
@@ -111,7 +114,8 @@ impl<F: MissFile> Picture<F> {
 
     /// Notes who will have sent the data that a message asks its receiver for.
     fn expect(&mut self, pick: Pick) -> Result<(), TextFault>
-        ensures { self.new.behind ≡ self.old.behind }
+        ensures same { self.new.behind ≡ self.old.behind }
+        ensures fault { IfErr result IsOfRun }
     {
         let line = pick.line();
         match (pick, self.behind.front(pick)) {
@@ -126,7 +130,8 @@ impl<F: MissFile> Picture<F> {
     }
 
     fn send(&mut self, pick: Pick, by: CoreId) -> Result<(), TextFault>
-        ensures { self.new.behind ≡ self.old.behind }
+        ensures same { self.new.behind ≡ self.old.behind }
+        ensures fault { IfErr result IsOfRun }
     {
         self.sent
             .push(Sent { pick, by })

@@ -1,6 +1,9 @@
 pub mod CallLemmas
 pub mod MachineLemmas
+pub mod PlayLemmas
 pub mod PumpLemmas
+pub mod RunLemmas
+pub mod ScriptLemmas
 pub mod ShownLemmas
 pub mod WaitingLemmas
 pub mod WriteLemmas

@@ -2,7 +2,9 @@ pub mod Answer
 pub mod Issued
 pub mod Machine
 pub mod Message
+pub mod Play
 pub mod Prints
 pub mod Pump
+pub mod Script
 pub mod Shown
 pub mod Waiting

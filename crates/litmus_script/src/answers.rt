@@ -33,14 +33,14 @@ impl<W: Write> Answers<'_, W> {
     {
         write_text(self.out, bytes).map_err(|_| fmt::Error)
     }
+}
 
-    /// Writes a line of any bytes, and its end.
-    pub(crate) fn write_line(&mut self, line: &[u8]) -> Result<(), Cut>
-        ensures { OnOk result (Appends (W.contents self.old.out.now) (W.contents self.new.out.now) (line.now ++ codes "\n")) }
-    {
-        write_text(self.out, line)?;
-        write_text(self.out, b"\n")
-    }
+/// Writes a line of any bytes, and its end.
+pub(crate) fn write_line<W: Write>(line: &[u8], out: &mut W) -> Result<(), Cut>
+    ensures { OnOk result (Appends (W.contents out.old) (W.contents out.new) (line.now ++ codes "\n")) }
+{
+    write_text(out, line)?;
+    write_text(out, b"\n")
 }
 
 /// What a write came to, as what it comes to for a text.

@@ -1,6 +1,6 @@
 //! The calls that a machine makes of one of its slices. What a slice promises of a call is long, and a machine needs
 //! little of it: that the slice stays the one that it was.
-ghost use Rattle.std.specs.Prelude.{◌<◌, length, IfErr, IfOk, IsSome, Some};
+ghost use Rattle.std.specs.Prelude.{◌≡◌, ◌<◌, length, IfErr, IfOk, IsSome, Some};
 ghost use Rattle.address_map.specs.Locator.{local_at};
 ghost use Rattle.address_map.specs.Place.{line_of};
 ghost use Rattle.slice_core.specs.Facts.{IsSameSlice, ShowsLine};
@@ -28,6 +28,7 @@ pub(crate) fn build<F: MissFile>(
     requires { slice.0 < config.now.slices }
     ensures slice { IfOk result (IsSliceOf config.now slice.0) }
     ensures new { IfOk result (IsNew config.now (F.bound_by config.now) slice) }
+    ensures fault { IfErr result (λ fault. fault ≡ TextFault.NoMemory) }
 {
     let Ok(state) = SliceState::build(alloc, config, slice) else {
         return Err(TextFault::NoMemory);
@@ -46,6 +47,7 @@ pub(crate) fn issue<F: MissFile>(
     ensures same { IsSameSlice state.old state.new }
     ensures issued { IfOk result (λ issued. Issues core request issued state.old state.new) }
     ensures memory { IfErr result (λ fault. LacksMemory core request state.old state.new) }
+    ensures fault { IfErr result (λ fault. fault ≡ TextFault.NoMemory) }
 {
     match state.issue(core, request) {
         Ok(Issue::Done(number)) => {

@@ -1,4 +1,4 @@
-use super::answers::Answers;
+use super::answers::write_line;
 use super::player::Player;
 use address_map::Checked;
 use litmus_text::{Command, Statement, TextFault};
@@ -11,7 +11,13 @@ pub struct Echo<P: Player> {
 }
 
 impl<P: Player> Player for Echo<P> {
+    ghost use Rattle.std.specs.Prelude.{ℕ, List, Option};
+    ghost use Rattle.litmus_script.specs.Prints.{Adds};
+
     ghost config_of = { λ echo. P.config_of echo.player };
+
+    ghost plays = { λ old line command before after new. (middle : Option (List ℕ)) × Adds before middle line
+        × P.plays old.player line command middle after new.player };
 
     fn config(&self) -> &Checked {
         self.player.config()
@@ -21,9 +27,9 @@ impl<P: Player> Player for Echo<P> {
         &mut self,
         statement: &Statement<'_>,
         command: Command,
-        out: &mut Answers<'_, W>,
+        out: &mut W,
     ) -> Result<(), TextFault> {
-        let Ok(()) = out.write_line(statement.line) else {
+        let Ok(()) = write_line(statement.line, out) else {
             return Err(TextFault::CannotWrite);
         };
         self.player.play(statement, command, out)

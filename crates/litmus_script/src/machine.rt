@@ -10,7 +10,7 @@ ghost use Rattle.slice_queues_message.specs.Pick.{line_of};
 ghost use Rattle.litmus_script.specs.Issued.{IsIssued, IsOutOfMemory};
 ghost use Rattle.litmus_script.specs.Machine.{IsAnswered, IsMachine, IsNewMachine, IsQuietWord, IsShownLine, IsShownWord, counts_in, init_at, log_at};
 
-use super::answers::{Answers, Issued};
+use super::answers::Issued;
 use super::calls;
 use super::player::Player;
 use address_map::{Checked, CoreId, LineAddr, Request, SliceId, WordAddr};
@@ -32,7 +32,13 @@ pub struct Machine<F: MissFile> {
 }
 
 impl<F: MissFile> Player for Machine<F> {
+    ghost use Rattle.std.specs.Prelude.{◌≡◌};
+    ghost use Rattle.litmus_script.specs.Prints.{IsPrinted};
+
     ghost config_of = { λ machine. machine.config };
+
+    ghost plays = { λ old line command before after new. (new.config ≡ old.config)
+        × IsPrinted old.config command old.slices.items new.slices.items before after };
 
     fn config(&self) -> &Checked {
         &self.config
@@ -42,15 +48,16 @@ impl<F: MissFile> Player for Machine<F> {
         &mut self,
         _statement: &Statement<'_>,
         command: Command,
-        out: &mut Answers<'_, W>,
+        out: &mut W,
     ) -> Result<(), TextFault> {
-        self.run(command, out.out)
+        self.run(command, out)
     }
 }
 
 impl<F: MissFile> Machine<F> {
     pub fn build(alloc: Global, config: Checked) -> Result<Self, TextFault>
         ensures config { IfOk result (λ machine. machine.config ≡ config) }
+        ensures fault { IfErr result (λ fault. fault ≡ TextFault.NoMemory) }
         ensures new { IfOk result (λ machine. IsNewMachine config (F.bound_by config) machine.slices.items) }
     {
         let mut slices = Vec::new(alloc);
@@ -77,6 +84,7 @@ impl<F: MissFile> Machine<F> {
             core request issued self.old.slices.items self.new.slices.items) }
         ensures memory { IfErr result (λ fault. IsOutOfMemory ((line_of_word request.word).0 % self.old.config.slices)
             core request self.old.slices.items self.new.slices.items) }
+        ensures fault { IfErr result (λ fault. fault ≡ TextFault.NoMemory) }
     {
         let slice = self.slice_of(request.word.line());
         calls::issue(&mut self.slices[slice], core, request)

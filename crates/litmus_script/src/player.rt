@@ -1,8 +1,9 @@
-ghost use Rattle.std.specs.Prelude.{◌≡◌};
-ghost use Rattle.litmus_text.specs.Command.{IsInRange};
+ghost use Rattle.std.specs.Prelude.{◌≡◌, ℕ, List, Option, IfErr, OnOk};
 ghost use Rattle.address_map.specs.declared.config.Config.{Config};
+ghost use Rattle.litmus_script.specs.Play.{IsOfRun};
+ghost use Rattle.litmus_text.specs.Command.{IsInRange};
+ghost use Rattle.litmus_text.specs.declared.command.Command.{Command};
 
-use super::answers::Answers;
 use address_map::Checked;
 use litmus_text::{Command, Statement, TextFault};
 use std::io::Write;
@@ -10,6 +11,9 @@ use std::io::Write;
 /// What plays the commands of a script, one at a time.
 pub trait Player: Sized + Drop {
     ghost config_of: { Self → Config };
+
+    /// What a command on a line of this text does: from a player, and what was written before, to those behind it.
+    ghost plays: { Self → List ℕ → Command → Option (List ℕ) → Option (List ℕ) → Self → Type 0 };
 
     /// The shape of the machine that is played on. It stays.
     fn config(&self) -> &Checked
@@ -20,8 +24,11 @@ pub trait Player: Sized + Drop {
         &mut self,
         statement: &Statement<'_>,
         command: Command,
-        out: &mut Answers<'_, W>,
+        out: &mut W,
     ) -> Result<(), TextFault>
         requires { IsInRange (config_of self.old) command }
-        ensures { config_of self.new ≡ config_of self.old };
+        ensures config { config_of self.new ≡ config_of self.old }
+        ensures plays { OnOk result (plays self.old statement.now.line.now command
+            (W.contents out.old) (W.contents out.new) self.new) }
+        ensures fault { IfErr result IsOfRun };
 }

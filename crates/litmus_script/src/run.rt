@@ -1,5 +1,6 @@
 //! What a machine does and prints for each command.
-ghost use Rattle.std.specs.Prelude.{◌≡◌, ◌/◌, ◌<◌, OnOk};
+ghost use Rattle.std.specs.Prelude.{◌≡◌, ◌/◌, ◌<◌, IfErr, OnOk};
+ghost use Rattle.litmus_script.specs.Play.{IsOfRun};
 ghost use Rattle.litmus_script.specs.Prints.{IsPrinted};
 ghost use Rattle.litmus_text.specs.Command.{IsInRange, HasCore, HasLine};
 ghost use Rattle.litmus_text.specs.declared.command.Command.TheVariants as commands;
@@ -24,6 +25,7 @@ impl<F: MissFile> Machine<F> {
     pub fn run<W: Write>(&mut self, command: Command, out: &mut W) -> Result<(), TextFault>
         requires { IsInRange self.old.config command }
         ensures config { self.new.config ≡ self.old.config }
+        ensures fault { IfErr result IsOfRun }
         ensures printed { OnOk result (IsPrinted self.old.config command self.old.slices.items self.new.slices.items
             (W.contents out.old) (W.contents out.new)) }
     {
@@ -49,6 +51,7 @@ impl<F: MissFile> Machine<F> {
     ) -> Result<(), TextFault>
         requires { HasCore self.old.config core }
         ensures config { self.new.config ≡ self.old.config }
+        ensures fault { IfErr result IsOfRun }
         ensures printed { OnOk result (IsPrinted self.old.config (commands.Issue core request)
             self.old.slices.items self.new.slices.items (W.contents out.old) (W.contents out.new)) }
     {
@@ -65,6 +68,7 @@ impl<F: MissFile> Machine<F> {
     ) -> Result<(), TextFault>
         requires { HasCore self.old.config core }
         ensures config { self.new.config ≡ self.old.config }
+        ensures fault { IfErr result IsOfRun }
         ensures printed { OnOk result (IsPrinted self.old.config (commands.Evict core line)
             self.old.slices.items self.new.slices.items (W.contents out.old) (W.contents out.new)) }
     {
@@ -75,6 +79,7 @@ impl<F: MissFile> Machine<F> {
 
     fn run_deliver<W: Write>(&mut self, pick: Pick, out: &mut W) -> Result<(), TextFault>
         ensures config { self.new.config ≡ self.old.config }
+        ensures fault { IfErr result IsOfRun }
         ensures printed { OnOk result (IsPrinted self.old.config (commands.Deliver pick)
             self.old.slices.items self.new.slices.items (W.contents out.old) (W.contents out.new)) }
     {
@@ -92,6 +97,7 @@ impl<F: MissFile> Machine<F> {
         requires core { HasCore self.old.config core }
         requires slice { slice.0 < self.old.config.slices }
         ensures config { self.new.config ≡ self.old.config }
+        ensures fault { IfErr result IsOfRun }
         ensures printed { OnOk result (IsPrinted self.old.config (commands.Hand core slice)
             self.old.slices.items self.new.slices.items (W.contents out.old) (W.contents out.new)) }
     {
@@ -102,7 +108,8 @@ impl<F: MissFile> Machine<F> {
 
     fn run_word<W: Write>(&self, word: WordAddr, out: &mut W) -> Result<(), TextFault>
         requires { word.0 / 8 < self.now.config.lines }
-        ensures { OnOk result (IsPrinted self.now.config (commands.Word word) self.now.slices.items self.now.slices.items
+        ensures fault { IfErr result IsOfRun }
+        ensures printed { OnOk result (IsPrinted self.now.config (commands.Word word) self.now.slices.items self.now.slices.items
             (W.contents out.old) (W.contents out.new)) }
     {
         let shown = self.word_now(word);
@@ -112,7 +119,8 @@ impl<F: MissFile> Machine<F> {
 
     fn run_state<W: Write>(&self, line: LineAddr, out: &mut W) -> Result<(), TextFault>
         requires { HasLine self.now.config line }
-        ensures { OnOk result (IsPrinted self.now.config (commands.State line) self.now.slices.items self.now.slices.items
+        ensures fault { IfErr result IsOfRun }
+        ensures printed { OnOk result (IsPrinted self.now.config (commands.State line) self.now.slices.items self.now.slices.items
             (W.contents out.old) (W.contents out.new)) }
     {
         let shown = self.line_now(line);
@@ -121,7 +129,8 @@ impl<F: MissFile> Machine<F> {
     }
 
     fn run_log<W: Write>(&self, slice: SliceId, out: &mut W) -> Result<(), TextFault>
-        ensures { OnOk result (IsPrinted self.now.config (commands.Log slice) self.now.slices.items self.now.slices.items
+        ensures fault { IfErr result IsOfRun }
+        ensures printed { OnOk result (IsPrinted self.now.config (commands.Log slice) self.now.slices.items self.now.slices.items
             (W.contents out.old) (W.contents out.new)) }
     {
         let init = self.init_of(slice);
@@ -131,7 +140,8 @@ impl<F: MissFile> Machine<F> {
     }
 
     fn run_stats<W: Write>(&self, out: &mut W) -> Result<(), TextFault>
-        ensures { OnOk result (IsPrinted self.now.config commands.Stats self.now.slices.items self.now.slices.items
+        ensures fault { IfErr result IsOfRun }
+        ensures printed { OnOk result (IsPrinted self.now.config commands.Stats self.now.slices.items self.now.slices.items
             (W.contents out.old) (W.contents out.new)) }
     {
         let Ok(stats) = self.stats() else {
@@ -146,6 +156,7 @@ impl<F: MissFile> Machine<F> {
 
     fn run_pump<W: Write>(&mut self, calls: u64, out: &mut W) -> Result<(), TextFault>
         ensures config { self.new.config ≡ self.old.config }
+        ensures fault { IfErr result IsOfRun }
         ensures printed { OnOk result (IsPrinted self.old.config (commands.Pump calls)
             self.old.slices.items self.new.slices.items (W.contents out.old) (W.contents out.new)) }
     {

@@ -1,6 +1,11 @@
-ghost use Rattle.std.specs.Prelude.{◌≡◌, IfOk};
+ghost use Rattle.std.specs.Prelude.{◌≡◌, ◌↔◌, ◌∷◌, IfErr, IfOk, IsTrue, Ok, OnOk, false, map, true};
+ghost use Rattle.std.specs.Str.Lines.{lines};
+ghost use Rattle.address_map.specs.Config.{checked_of};
+ghost use Rattle.litmus_script.specs.Machine.{bound_of};
+ghost use Rattle.litmus_script.specs.Play.{IsCommandFault, PlaysAll, PlaysOne, PlaysUpTo};
+ghost use Rattle.litmus_script.specs.Script.{BeginOtherwise, BeginsAsConfig, IsConfigured, IsLineFault, IsNotConfigured, HasPlayed, IsPlayedOn, IsPlayedUpTo, IsReadAs, IsRefused, IsRun, IsRunUpTo, IsScript, Plays, TakesLine, commands_of, left_of, said_by};
+ghost use Rattle.litmus_text.specs.Statement.{statements_from};
 
-use super::answers::Answers;
 use super::echo::Echo;
 use super::machine::Machine;
 use super::player::Player;
@@ -20,13 +25,14 @@ pub fn run_script<W: Write>(
     echo: bool,
     out: &mut W,
 ) -> Result<u8, TextFault>
-    ensures { IfOk result (λ status. status ≡ 0) }
+    ensures status { IfOk result (λ status. status ≡ 0) }
+    ensures printed { OnOk result (IsRun echo (statements_from 0 (lines input.now)) (W.contents out.old) (W.contents out.new)) }
+    ensures fault { IfErr result (IsRunUpTo echo (statements_from 0 (lines input.now)) (W.contents out.old) (W.contents out.new)) }
 {
     let Some(script) = Script::read(alloc, input)? else {
         return Ok(0);
     };
-    let mut answers = Answers { out };
-    run_read(alloc, script, echo, &mut answers)?;
+    run_read(alloc, script, echo, out)?;
     Ok(0)
 }
 
@@ -34,33 +40,73 @@ fn run_read<W: Write>(
     alloc: Global,
     script: Script<'_>,
     echo: bool,
-    out: &mut Answers<'_, W>,
-) -> Result<(), TextFault> {
-    match script.misses {
-        MissKind::Explicit => run_on::<ExplicitFile, W>(alloc, script, echo, out),
-        MissKind::Inverted => run_on::<InvertedFile, W>(alloc, script, echo, out),
+    out: &mut W,
+) -> Result<(), TextFault>
+    ensures played { OnOk result (IsPlayedOn echo script.entry.config (bound_of script.entry.misses script.entry.config)
+        (commands_of script.entry.commands) (W.contents out.old) (W.contents out.new)) }
+    ensures fault { IfErr result (IsPlayedUpTo echo script.entry.config (bound_of script.entry.misses script.entry.config)
+        (commands_of script.entry.commands) (W.contents out.old) (W.contents out.new)) }
+{
+    let Script {
+        config,
+        misses,
+        commands,
+    } = script;
+    match misses {
+        MissKind::Explicit => run_on::<ExplicitFile, W>(alloc, config, commands, echo, out),
+        MissKind::Inverted => run_on::<InvertedFile, W>(alloc, config, commands, echo, out),
     }
 }
 
-/// Runs a script on a machine with miss registers of type `F`.
+/// Plays commands on a new machine with miss registers of type `F`.
 fn run_on<F: MissFile, W: Write>(
     alloc: Global,
-    script: Script<'_>,
+    config: Checked,
+    commands: Commands<'_>,
     echo: bool,
-    out: &mut Answers<'_, W>,
-) -> Result<(), TextFault> {
-    let Script {
-        config,
-        commands,
-        ..
-    } = script;
-    let mut machine: Machine<F> = Machine::build(alloc, config)?;
+    out: &mut W,
+) -> Result<(), TextFault>
+    ensures played { OnOk result (IsPlayedOn echo config (F.bound_by config) (commands_of commands.entry)
+        (W.contents out.old) (W.contents out.new)) }
+    ensures fault { IfErr result (IsPlayedUpTo echo config (F.bound_by config) (commands_of commands.entry)
+        (W.contents out.old) (W.contents out.new)) }
+{
+    let machine: Machine<F> = Machine::build(alloc, config)?;
     if echo {
-        let mut echo = Echo { player: machine };
-        commands.play(&mut echo, out)
+        play_echoed(machine, commands, out)
     } else {
-        commands.play(&mut machine, out)
+        play_alone(machine, commands, out)
     }
+}
+
+/// Plays commands on a machine, each behind its own line.
+fn play_echoed<F: MissFile, W: Write>(
+    machine: Machine<F>,
+    commands: Commands<'_>,
+    out: &mut W,
+) -> Result<(), TextFault>
+    ensures played { OnOk result (HasPlayed true machine.config (commands_of commands.entry) machine.slices.items
+        (W.contents out.old) (W.contents out.new)) }
+    ensures fault { IfErr result (PlaysUpTo (Plays true machine.config) machine.config (commands_of commands.entry)
+        machine.slices.items (W.contents out.old) (W.contents out.new)) }
+{
+    let mut echo = Echo { player: machine };
+    commands.play(&mut echo, out)
+}
+
+/// Plays commands on a machine.
+fn play_alone<F: MissFile, W: Write>(
+    machine: Machine<F>,
+    commands: Commands<'_>,
+    out: &mut W,
+) -> Result<(), TextFault>
+    ensures played { OnOk result (HasPlayed false machine.config (commands_of commands.entry) machine.slices.items
+        (W.contents out.old) (W.contents out.new)) }
+    ensures fault { IfErr result (PlaysUpTo (Plays false machine.config) machine.config (commands_of commands.entry)
+        machine.slices.items (W.contents out.old) (W.contents out.new)) }
+{
+    let mut player = machine;
+    commands.play(&mut player, out)
 }
 
 /// A script whose configuration was read.
@@ -73,7 +119,10 @@ pub struct Script<'a> {
 
 impl<'a> Script<'a> {
     /// Reads the configuration of a script, which has none where it says nothing at all.
-    pub fn read(alloc: Global, input: &'a [u8]) -> Result<Option<Self>, TextFault> {
+    pub fn read(alloc: Global, input: &'a [u8]) -> Result<Option<Self>, TextFault>
+        ensures read { IfOk result (IsReadAs (statements_from 0 (lines input.now))) }
+        ensures fault { IfErr result (IsNotConfigured (statements_from 0 (lines input.now))) }
+    {
         let mut statements = Statements::of(input);
         let Some(first) = statements.next() else {
             return Ok(None);
@@ -85,7 +134,10 @@ impl<'a> Script<'a> {
         alloc: Global,
         first: Statement<'a>,
         statements: Statements<'a>,
-    ) -> Result<Self, TextFault> {
+    ) -> Result<Self, TextFault>
+        ensures read { IfOk result (IsScript (said_by first.entry ∷ statements.entry)) }
+        ensures fault { IfErr result (IsNotConfigured (said_by first.entry ∷ statements.entry)) }
+    {
         let mut rest = statements;
         let (settings, first) = read_settings(alloc, first, &mut rest)?;
         let Settings { config, misses } = settings;
@@ -106,24 +158,35 @@ pub struct Commands<'a> {
 
 impl Commands<'_> {
     /// Plays the commands in order, up to the first fault.
-    pub fn play<P: Player, W: Write>(
-        self,
-        player: &mut P,
-        out: &mut Answers<'_, W>,
-    ) -> Result<(), TextFault> {
+    pub fn play<P: Player, W: Write>(self, player: &mut P, out: &mut W) -> Result<(), TextFault>
+        ensures config { P.config_of player.new ≡ P.config_of player.old }
+        ensures played { OnOk result (PlaysAll P.plays (P.config_of player.old) (commands_of self.entry) player.old player.new
+            (W.contents out.old) (W.contents out.new)) }
+        ensures fault { IfErr result (PlaysUpTo P.plays (P.config_of player.old) (commands_of self.entry) player.old
+            (W.contents out.old) (W.contents out.new)) }
+    {
         let Commands { first, rest } = self;
-        if let Some(statement) = first {
-            play_statement(player, &statement, out)?;
+        match first {
+            Some(statement) => {
+                play_statement(player, &statement, out)?;
+                play_all(rest, player, out)
+            }
+            None => play_all(rest, player, out),
         }
-        play_all(rest, player, out)
     }
 }
 
 fn play_all<P: Player, W: Write>(
     statements: Statements<'_>,
     player: &mut P,
-    out: &mut Answers<'_, W>,
-) -> Result<(), TextFault> {
+    out: &mut W,
+) -> Result<(), TextFault>
+    ensures config { P.config_of player.new ≡ P.config_of player.old }
+    ensures played { OnOk result (PlaysAll P.plays (P.config_of player.old) statements.entry player.old player.new
+        (W.contents out.old) (W.contents out.new)) }
+    ensures fault { IfErr result (PlaysUpTo P.plays (P.config_of player.old) statements.entry player.old
+        (W.contents out.old) (W.contents out.new)) }
+{
     for statement in statements {
         play_statement(player, &statement, out)?;
     }
@@ -133,8 +196,14 @@ fn play_all<P: Player, W: Write>(
 fn play_statement<P: Player, W: Write>(
     player: &mut P,
     statement: &Statement<'_>,
-    out: &mut Answers<'_, W>,
-) -> Result<(), TextFault> {
+    out: &mut W,
+) -> Result<(), TextFault>
+    ensures config { P.config_of player.new ≡ P.config_of player.old }
+    ensures played { OnOk result (PlaysOne P.plays (P.config_of player.old) (said_by statement.now).1 player.old player.new
+        (W.contents out.old) (W.contents out.new)) }
+    ensures fault { IfErr result (IsCommandFault (P.config_of player.old) (said_by statement.now)
+        (W.contents out.old) (W.contents out.new)) }
+{
     let words = statement.words.as_slice();
     match parse_command(player.config(), words) {
         Ok(command) => player.play(statement, command, out),
@@ -142,8 +211,14 @@ fn play_statement<P: Player, W: Write>(
     }
 }
 
-fn checked(config: Config) -> Result<Checked, TextFault> {
-    config.check().map_err(TextFault::Config)
+fn checked(config: Config) -> Result<Checked, TextFault>
+    ensures checked { IfOk result (λ checked. checked_of config ≡ Ok checked) }
+    ensures refused { IfErr result (IsRefused config) }
+{
+    match config.check() {
+        Ok(checked) => Ok(checked),
+        Err(error) => Err(TextFault::Config(error)),
+    }
 }
 
 /// Reads the lines that configure the machine. Answers also the first statement that isn't one of them, where
@@ -152,7 +227,11 @@ fn read_settings<'a>(
     alloc: Global,
     first: Statement<'a>,
     statements: &mut Statements<'a>,
-) -> Result<(Settings, Option<Statement<'a>>), TextFault> {
+) -> Result<(Settings, Option<Statement<'a>>), TextFault>
+    ensures read { IfOk result (λ read. IsConfigured (said_by first.entry ∷ statements.old) read.0 (left_of read.1 statements.new)) }
+    ensures last { IfOk result (λ read. BeginOtherwise (left_of read.1 statements.new)) }
+    ensures fault { IfErr result (IsNotConfigured (said_by first.entry ∷ statements.old)) }
+{
     let mut settings = Settings::new(alloc);
     let mut statement = first;
     'lines: loop {
@@ -168,16 +247,24 @@ fn read_settings<'a>(
 }
 
 /// Whether a line of these words configures the machine.
-fn is_config(words: &[&[u8]]) -> bool {
-    match words.first() {
-        Some(name) => ConfigLine::is_named(name),
+fn is_config(words: &[&[u8]]) -> bool
+    ensures { IsTrue result ↔ BeginsAsConfig (map (λ w. w.now) words.now) }
+{
+    match words.split_first() {
+        Some((name, _)) => ConfigLine::is_named(name),
         None => false,
     }
 }
 
-fn configure(settings: &mut Settings, statement: &Statement<'_>) -> Result<(), TextFault> {
+fn configure(settings: &mut Settings, statement: &Statement<'_>) -> Result<(), TextFault>
+    ensures taken { OnOk result (TakesLine (said_by statement.now).1 settings.old settings.new) }
+    ensures fault { IfErr result (IsLineFault (said_by statement.now)) }
+{
     match ConfigLine::parse(statement.words.as_slice()) {
-        Ok(line) => line.set(settings).map_err(|_| TextFault::NoMemory),
+        Ok(line) => match line.set(settings) {
+            Ok(()) => Ok(()),
+            Err(_) => Err(TextFault::NoMemory),
+        },
         Err(fault) => Err(fault.at(statement.number)),
     }
 }

@@ -1,9 +1,10 @@
 //! The command `waiting`.
-ghost use Rattle.std.specs.Prelude.{◌≡◌, ◌↔◌, ◌++◌, [], codes, map, IsTrue, OnOk, Some};
+ghost use Rattle.std.specs.Prelude.{◌≡◌, ◌↔◌, ◌++◌, [], codes, map, IfErr, IsTrue, OnOk, Some};
 ghost use Rattle.std.specs.Fmt.{WritesInCalls};
 ghost use Rattle.address_map.specs.Locator.{local_at};
 ghost use Rattle.address_map.specs.declared.address.Local.{Local};
 ghost use Rattle.litmus_script.specs.Answer.{WritesLine};
+ghost use Rattle.litmus_script.specs.Play.{IsOfRun};
 ghost use Rattle.litmus_script.specs.Prints.{IsPrinted};
 ghost use Rattle.litmus_script.specs.Waiting.{flights_of, in_flight, lines_of, picks_of, receiver_state, text_at, text_of_waiting};
 ghost use Rattle.litmus_text.specs.declared.command.Command.TheVariants as commands;
@@ -26,7 +27,8 @@ use std::{fmt, io};
 impl<F: MissFile> Machine<F> {
     /// Shows the messages in flight.
     pub(crate) fn run_waiting<W: io::Write>(&self, out: &mut W) -> Result<(), TextFault>
-        ensures { OnOk result (IsPrinted self.now.config commands.Waiting self.now.slices.items self.now.slices.items
+        ensures fault { IfErr result IsOfRun }
+        ensures printed { OnOk result (IsPrinted self.now.config commands.Waiting self.now.slices.items self.now.slices.items
             (W.contents out.old) (W.contents out.new)) }
     {
         let mut answers = Answers { out };

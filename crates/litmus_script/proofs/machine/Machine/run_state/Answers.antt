@@ -3,8 +3,8 @@ use Rattle.std.proofs.KnownBytes.{Appends-of_writes}
 use Rattle.litmus_script.proofs.WriteLemmas.{on_written}
 use Rattle.litmus_script.proofs.machine.Machine.run_state.Goals as goal
 
-pub returns : goal.returns
-returns g c =
+pub returns-clause-printed : goal.returns-clause-printed
+returns-clause-printed g c =
     let contents = g.W.Write.contents in
     on_written c.write_line.result c.written.result c.written.ensures.fine
     (λ wrote.

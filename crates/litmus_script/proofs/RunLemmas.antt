@@ -1,0 +1,29 @@
+-- A script that was read is run.
+use Rattle.std.proofs.Common.{ℕ, List, Option, ap, inr}
+use Rattle.std.specs.Prelude.{Bool}
+use Rattle.litmus_text.specs.declared.fault.TextFault.{TextFault}
+use Rattle.litmus_script.specs.Machine.{bound_of}
+use Rattle.litmus_script.specs.Script.{IsPlayedOn, IsPlayedUpTo, IsRun, IsRunUpTo, IsScript, IsSetUp, commands_of}
+use Rattle.litmus_script.specs.declared.script.Script.{Script}
+
+set_up : (all : List (ℕ × List (List ℕ))) (script : Script) → IsScript all script
+    → IsSetUp all script.config (bound_of script.misses script.config) (commands_of script.commands)
+set_up all script read = record {
+  settings = read.settings;
+  configured = read.configured;
+  checked = read.checked;
+  bounded = ap (λ misses. bound_of misses script.config) read.misses;
+}
+
+-- a fault ends the run of what was read
+pub run_up_to : (echo : Bool) (all : List (ℕ × List (List ℕ))) (script : Script) (before after : Option (List ℕ)) (fault : TextFault)
+    → IsScript all script
+    → IsPlayedUpTo echo script.config (bound_of script.misses script.config) (commands_of script.commands) before after fault
+    → IsRunUpTo echo all before after fault
+run_up_to echo all script before after fault read played = inr (script.config, _, _, set_up all script read, played)
+
+-- it is run to its end
+pub run_of : (echo : Bool) (all : List (ℕ × List (List ℕ))) (script : Script) (before after : Option (List ℕ)) → IsScript all script
+    → IsPlayedOn echo script.config (bound_of script.misses script.config) (commands_of script.commands) before after
+    → IsRun echo all before after
+run_of echo all script before after read played = inr (script.config, _, _, set_up all script read, played)

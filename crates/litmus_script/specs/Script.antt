@@ -1,0 +1,159 @@
+-- What a script says: lines that configure a machine, and then commands, which are played on it one after another.
+use Rattle.std.specs.Prelude.{◌≡◌, ◌⊎◌, ℕ, Bool, true, false, List, [], ◌∷◌, ◌++◌, Option, Some, None, Ok, map}
+use Rattle.address_map.specs.Config.{checked_of, first_fault}
+use Rattle.address_map.specs.declared.config.Config.{Config}
+use Rattle.litmus_text.specs.ConfigLine.{configured, parts_of_config_line}
+use Rattle.litmus_text.specs.Field.{IsFieldName}
+use Rattle.litmus_text.specs.Form.{Writes}
+use Rattle.litmus_text.specs.Settings.{default_settings}
+use Rattle.litmus_text.specs.declared.command.Command.{Command}
+use Rattle.litmus_text.specs.declared.config_line.ConfigLine.{ConfigLine}
+use Rattle.litmus_text.specs.declared.fault.TextFault.{TextFault}
+use Rattle.litmus_text.specs.declared.fault.TextFault.TheVariants as faults
+use Rattle.litmus_text.specs.declared.settings.Settings.{Settings}
+use Rattle.litmus_text.specs.declared.statement.Statement.{Statement}
+use Rattle.mshr_file.specs.Miss.{Bound}
+use Rattle.slice_core_plan.specs.Parts.{PartsView}
+use Rattle.litmus_script.specs.Machine.{IsNewMachine, bound_of}
+use Rattle.litmus_script.specs.Play.{PlaysAll, PlaysUpTo}
+use Rattle.litmus_script.specs.Prints.{Adds, IsPrinted}
+use Rattle.litmus_script.specs.declared.script.Commands.{Commands}
+use Rattle.litmus_script.specs.declared.script.Script.{Script}
+
+-- ---- the configuration
+
+-- the words write a line that configures, which makes these settings of those
+pub record TakesLine (words : List (List ℕ)) (old new : Settings) : Type 0 where
+  pub line : ConfigLine
+  pub written : Writes words (parts_of_config_line line)
+  pub makes : new ≡ configured old line
+
+-- the statements, each a number and words, are such lines, one after another
+abbrev pub Configures : Settings → List (ℕ × List (List ℕ)) → Settings → Type 0
+Configures old [] new = new ≡ old
+Configures old (statement ∷ more) new = (mid : Settings) × TakesLine statement.1 old mid × Configures mid more new
+
+-- the words begin as a line that configures
+abbrev pub BeginsAsConfig : List (List ℕ) → Type 0
+BeginsAsConfig [] = ⊥
+BeginsAsConfig (name ∷ words) = IsFieldName name
+
+-- the first of the statements doesn't
+abbrev pub BeginOtherwise : List (ℕ × List (List ℕ)) → Type 0
+BeginOtherwise [] = Unit {0}
+BeginOtherwise (statement ∷ more) = ¬ BeginsAsConfig statement.1
+
+-- the first statements make these settings, and those are left
+pub record IsConfigured (all : List (ℕ × List (List ℕ))) (settings : Settings) (left : List (ℕ × List (List ℕ))) : Type 0 where
+  pub done : List (ℕ × List (List ℕ))
+  pub split : all ≡ done ++ left
+  pub configured : Configures default_settings done settings
+
+-- why a line wasn't taken: its words write none that configures, or there was no memory
+abbrev pub IsLineFault : ℕ × List (List ℕ) → TextFault → Type 0
+IsLineFault statement (faults.Line number fault) =
+    (number ≡ statement.0) × ((line : ConfigLine) → ¬ Writes statement.1 (parts_of_config_line line))
+IsLineFault statement (faults.Config error) = ⊥
+IsLineFault statement faults.NoMemory = Unit {0}
+IsLineFault statement faults.CannotWrite = ⊥
+
+-- the machine has a field at fault
+abbrev pub IsRefused : Config → TextFault → Type 0
+IsRefused config (faults.Config error) = first_fault config ≡ Some error
+IsRefused config fault = ⊥
+
+-- What is wrong with the first of the statements that are left, where it begins as a line that configures; or, where it
+-- doesn't, with the machine that was configured.
+abbrev pub IsConfigFault : Settings → List (ℕ × List (List ℕ)) → TextFault → Type 0
+IsConfigFault settings [] fault = IsRefused settings.config fault
+IsConfigFault settings (statement ∷ more) fault =
+    (BeginsAsConfig statement.1 × IsLineFault statement fault)
+    ⊎ ((¬ BeginsAsConfig statement.1) × IsRefused settings.config fault)
+
+-- why no machine was configured
+pub record IsNotConfigured (all : List (ℕ × List (List ℕ))) (fault : TextFault) : Type 0 where
+  pub settings : Settings
+  pub left : List (ℕ × List (List ℕ))
+  pub read : IsConfigured all settings left
+  pub wrong : IsConfigFault settings left fault
+
+-- ---- what was read
+
+-- a statement's number and its words
+abbrev pub said_by : Statement → ℕ × List (List ℕ)
+said_by statement = (statement.number, map (λ w. w.now) statement.words.items)
+
+-- the statements that are left, of which the first may have been read already
+abbrev pub left_of : Option Statement → List (ℕ × List (List ℕ)) → List (ℕ × List (List ℕ))
+left_of None rest = rest
+left_of (Some first) rest = said_by first ∷ rest
+
+-- the statements behind the configuration
+abbrev pub commands_of : Commands → List (ℕ × List (List ℕ))
+commands_of commands = left_of commands.first commands.rest
+
+-- the statements are this script
+pub record IsScript (all : List (ℕ × List (List ℕ))) (script : Script) : Type 0 where
+  pub settings : Settings
+  pub configured : IsConfigured all settings (commands_of script.commands)
+  pub checked : checked_of settings.config ≡ Ok script.config
+  pub misses : script.misses ≡ settings.misses
+
+-- .. or there is none where nothing is said
+abbrev pub IsReadAs : List (ℕ × List (List ℕ)) → Option Script → Type 0
+IsReadAs all None = all ≡ []
+IsReadAs all (Some script) = IsScript all script
+
+-- ---- a run
+
+-- A command on this line is played on the machine's slices: its answer is printed, behind the line where lines are echoed.
+abbrev pub Plays : Bool → Config → List PartsView → List ℕ → Command → Option (List ℕ) → Option (List ℕ) → List PartsView → Type 0
+Plays false config old line command before after new = IsPrinted config command old new before after
+Plays true config old line command before after new =
+    (middle : Option (List ℕ)) × Adds before middle line × IsPrinted config command old new middle after
+
+-- the commands are played on these slices, up to the last
+abbrev pub HasPlayed : Bool → Config → List (ℕ × List (List ℕ)) → List PartsView → Option (List ℕ) → Option (List ℕ) → Type 0
+HasPlayed echo config commands start before after =
+    (end : List PartsView) × PlaysAll (Plays echo config) config commands start end before after
+
+-- .. on those of a new machine
+pub record IsPlayedOn (echo : Bool) (config : Config) (bound : Bound) (commands : List (ℕ × List (List ℕ)))
+    (before after : Option (List ℕ)) : Type 0 where
+  pub start : List PartsView
+  pub fresh : IsNewMachine config bound start
+  pub played : HasPlayed echo config commands start before after
+
+-- .. up to a fault
+pub record IsStoppedOn (echo : Bool) (config : Config) (bound : Bound) (commands : List (ℕ × List (List ℕ)))
+    (before after : Option (List ℕ)) (fault : TextFault) : Type 0 where
+  pub start : List PartsView
+  pub fresh : IsNewMachine config bound start
+  pub plays : PlaysUpTo (Plays echo config) config commands start before after fault
+
+-- .. or there was no memory for a new machine
+abbrev pub IsPlayedUpTo : Bool → Config → Bound → List (ℕ × List (List ℕ)) → Option (List ℕ) → Option (List ℕ) → TextFault → Type 0
+IsPlayedUpTo echo config bound commands before after fault =
+    ((fault ≡ faults.NoMemory) × (after ≡ before)) ⊎ IsStoppedOn echo config bound commands before after fault
+
+-- the machine that the first statements configure, and the commands behind them
+pub record IsSetUp (all : List (ℕ × List (List ℕ))) (config : Config) (bound : Bound) (commands : List (ℕ × List (List ℕ))) : Type 0 where
+  pub settings : Settings
+  pub configured : IsConfigured all settings commands
+  pub checked : checked_of settings.config ≡ Ok config
+  pub bounded : bound ≡ bound_of settings.misses config
+
+-- A script is run: what its commands print is written, in order. One that says nothing writes nothing.
+abbrev pub IsRun : Bool → List (ℕ × List (List ℕ)) → Option (List ℕ) → Option (List ℕ) → Type 0
+IsRun echo all before after =
+    ((all ≡ []) × (after ≡ before))
+    ⊎ ((config : Config) × (bound : Bound) × (commands : List (ℕ × List (List ℕ)))
+    × IsSetUp all config bound commands × IsPlayedOn echo config bound commands before after)
+
+-- A fault ends the run of a script: before the first command, where nothing is written; or at a command, where what the
+-- ones before it print is written.
+abbrev pub IsRunUpTo : Bool → List (ℕ × List (List ℕ)) → Option (List ℕ) → Option (List ℕ) → TextFault → Type 0
+IsRunUpTo echo all before after fault =
+    (IsNotConfigured all fault × (after ≡ before))
+    ⊎ ((config : Config) × (bound : Bound) × (commands : List (ℕ × List (List ℕ)))
+    × IsSetUp all config bound commands × IsPlayedUpTo echo config bound commands before after fault)

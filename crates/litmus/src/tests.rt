@@ -3,7 +3,7 @@ ghost use Rattle.litmus.specs.Tests.{IsOfTest};
 ghost use Rattle.litmus_rounds.specs.Run.{PrintsRounds, PrintsStuck};
 ghost use Rattle.litmus_threads.specs.Run.{IsEndOf};
 ghost use Rattle.litmus_walk.specs.Script.{PrintsWalk};
-ghost use Rattle.litmus_walk.specs.Walk.{bound_of};
+ghost use Rattle.litmus_script.specs.Machine.{bound_of};
 ghost use Rattle.std.specs.Io.KnownBytes.{Appends};
 
 use litmus_test::{LitmusTest, Progress};

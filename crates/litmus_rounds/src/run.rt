@@ -6,7 +6,8 @@ ghost use Rattle.litmus_outcomes.specs.Table.{IsTableOf};
 ghost use Rattle.litmus_outcomes.specs.Text.{text_of};
 ghost use Rattle.litmus_rounds.specs.Outcome.{all_sought};
 ghost use Rattle.litmus_rounds.specs.Run.{AreRounds, IsRound, PrintsRounds, PrintsStuck};
-ghost use Rattle.litmus_walk.specs.Walk.{IsWalkOf, bound_of};
+ghost use Rattle.litmus_script.specs.Machine.{bound_of};
+ghost use Rattle.litmus_walk.specs.Walk.{IsWalkOf};
 ghost use Rattle.slice_core_plan.specs.View.{IsQuiet};
 
 use super::outcome::read_outcome;

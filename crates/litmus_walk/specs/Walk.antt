@@ -7,9 +7,7 @@ use Rattle.litmus_text.specs.declared.command.Command.{Command}
 use Rattle.litmus_text.specs.declared.command.Command.TheVariants as commands
 use Rattle.litmus_walk.specs.declared.place.StepPlace.{StepPlace}
 use Rattle.litmus_walk.specs.declared.recorded.Made.{Made}
-use Rattle.litmus_text.specs.declared.settings.MissKind.{MissKind}
-use Rattle.litmus_text.specs.declared.settings.MissKind.TheVariants as kinds
-use Rattle.mshr_file.specs.Miss.{Bound, registers_of}
+use Rattle.mshr_file.specs.Miss.{Bound}
 use Rattle.slice_core.specs.declared.run.Call.TheVariants as calls
 use Rattle.slice_core_plan.specs.Parts.{PartsView}
 use Rattle.slice_queues_message.specs.Pick.{line_of}
@@ -28,11 +26,6 @@ abbrev pub Plays : Config → List Made → List PartsView → List PartsView �
 Plays config [] old new = new ≡ old
 Plays config (made ∷ calls) old new =
     (next : List PartsView) × IsPlayed config made.command old next × Plays config calls next new
-
--- what bounds the miss files that a test asks for: the configured registers and targets, or a core's tags
-abbrev pub bound_of : MissKind → Config → Bound
-bound_of kinds.Explicit config = registers_of config
-bound_of kinds.Inverted config = Bound.tags
 
 -- a machine, and the calls that were made of it
 pub record WalkView : Type 0 where

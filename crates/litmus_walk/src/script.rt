@@ -2,7 +2,7 @@ ghost use Rattle.std.specs.Prelude.{IfOk, OnOk};
 ghost use Rattle.std.specs.Fmt.{WritesInCalls};
 ghost use Rattle.std.specs.Io.KnownBytes.{Appends};
 ghost use Rattle.litmus_walk.specs.Script.{PrintsWalk, text_of_call, text_of_calls, text_of_script, text_of_step};
-ghost use Rattle.litmus_walk.specs.Walk.{bound_of};
+ghost use Rattle.litmus_script.specs.Machine.{bound_of};
 
 use super::moves::named_lines;
 use super::place::StepPlace;

@@ -14,6 +14,8 @@ pub fn is_found(alloc: Global, audit: &Audit, row: Row) -> Result<bool, AllocErr
         Row::Faults => Ok(audit.receipts.len() == 1 && audit.counters.is_empty()),
         Row::TwoSlices => Ok(has(audit, 1, [0, 0])),
         Row::TwoCores => Ok(has(audit, 2, [0, 0])),
+        Row::Turns => Ok(has(audit, 5, [3, 1])),
+        Row::Movers => Ok(has(audit, 2, [1, 0])),
         Row::InWant => Ok(has(audit, 40, [30, 30])),
     }
 }

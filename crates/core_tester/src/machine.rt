@@ -5,8 +5,10 @@ use super::adding::{LIMIT, all_add};
 use super::faults::{faults_come, stores_and_leaves};
 use super::found::is_found;
 use super::meeting::{both_meet, other_slice_answers};
+use super::moving::messages_move;
 use super::programs::{large_sum, programs_end};
 use super::row::Row;
+use super::turns::{rounds_count, turns_count};
 use super::want::{add_in_want, is_found_again};
 use address_map::Config;
 use core_thread::Job;
@@ -121,6 +123,8 @@ fn run<
         Row::Faults => Ok(stores_and_leaves(rt, jobs)),
         Row::TwoSlices => Ok(other_slice_answers(rt, system, jobs)),
         Row::TwoCores => both_meet(rt, system, jobs),
+        Row::Turns => Ok(turns_count(rt, jobs)),
+        Row::Movers => messages_move(rt, system, jobs),
         Row::InWant => add_in_want(rt, system, jobs),
     }
 }
@@ -136,9 +140,10 @@ fn end<F: MissFile, M: SystemKeys, R: AllocGlobal + Print + Wait>(
         Row::Faults => faults_come(rt, system, cores),
         _ => (true, cores),
     };
+    let counted = row != Row::Turns || rounds_count(rt, system, &mut cores);
     let drained = drain(rt, system, &mut cores, LIMIT) == Drain::Drained;
     let found = finds(rt, system, cores, row);
-    Ok(found? && failed && drained)
+    Ok(found? && failed && counted && drained)
 }
 
 /// Whether an audit finds what the row wants.

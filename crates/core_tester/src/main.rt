@@ -24,9 +24,11 @@ mod flags;
 mod found;
 mod machine;
 mod meeting;
+mod moving;
 mod programs;
 mod row;
 mod setting;
+mod turns;
 mod want;
 
 use again::{RUNS, first_difference};

@@ -19,11 +19,15 @@ pub enum Row {
     TwoSlices,
     /// Two cores are both in their first request's gate.
     TwoCores,
+    /// Runs and drains make the turns and rounds that they are allowed.
+    Turns,
+    /// A message that only a mover moves.
+    Movers,
     /// Two threads add to two counters. What memory or a thread was wanting for is made again.
     InWant,
 }
 
-pub const ROWS: [Row; 7] = [
+pub const ROWS: [Row; 9] = [
     Row::Programs,
     Row::LargeSum,
     Row::FourThreads,
@@ -31,6 +35,8 @@ pub const ROWS: [Row; 7] = [
     Row::Faults,
     Row::TwoSlices,
     Row::TwoCores,
+    Row::Turns,
+    Row::Movers,
 ];
 
 impl fmt::Display for Row {
@@ -43,6 +49,8 @@ impl fmt::Display for Row {
             Row::Faults => "audits that fail",
             Row::TwoSlices => "two slices at once",
             Row::TwoCores => "two cores at once",
+            Row::Turns => "turns of a run and rounds of a drain",
+            Row::Movers => "a message that a mover moves",
             Row::InWant => "two threads in want of memory",
         })
     }
@@ -55,7 +63,7 @@ impl Row {
     /// How many cores the row's machine has.
     const fn cores(self) -> u64 {
         match self {
-            Row::Programs | Row::LargeSum => 1,
+            Row::Programs | Row::LargeSum | Row::Turns | Row::Movers => 1,
             Row::TwoSlices | Row::TwoCores | Row::InWant => 2,
             Row::Faults => 3,
             Row::FourThreads => 4,

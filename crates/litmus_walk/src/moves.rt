@@ -17,7 +17,8 @@ pub(crate) enum Move {
 }
 
 impl<F: MissFile> Walker<F> {
-    /// Lists what may be done next: steps in the order of the threads, deliveries line by line, and hand-outs.
+    /// Lists the steps that may be made next, in the order of the threads, and then the deliveries, line by line. Behind
+    /// them come the hand-outs, one for each reply that waits, which aren't listed.
     pub fn list_moves(
         &self,
         test: &LitmusTest<'_>,
@@ -32,9 +33,6 @@ impl<F: MissFile> Walker<F> {
         }
         for line in lines {
             self.list_deliveries(*line, moves)?;
-        }
-        for reply in 0..self.replies.len() {
-            moves.push(Move::Hand(reply))?;
         }
         Ok(())
     }

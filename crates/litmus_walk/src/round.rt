@@ -62,7 +62,7 @@ fn walk_on<F: MissFile>(
         let Ok(()) = walker.list_moves(test, lines, &mut moves) else {
             return Err(TextFault::NoMemory);
         };
-        let Some(to) = draw(&mut generator, &moves) else {
+        let Some(to) = draw(&mut generator, &moves, walker.replies.len()) else {
             break;
         };
         walker.go(test, to)?;
@@ -70,11 +70,15 @@ fn walk_on<F: MissFile>(
     Ok(())
 }
 
-// One of the moves, each as likely as the others.
-fn draw(generator: &mut Xoshiro256PlusPlus, moves: &[Move]) -> Option<Move> {
-    if moves.is_empty() {
+// One of the listed moves, or the hand-out of one of the replies that wait behind them, each as likely as the others.
+fn draw(generator: &mut Xoshiro256PlusPlus, moves: &[Move], replies: usize) -> Option<Move> {
+    let count = moves.len().saturating_add(replies);
+    if count == 0 {
         return None;
     }
-    let place = generator.next_u64() % moves.len() as u64;
-    Some(moves[place as usize])
+    let place = (generator.next_u64() % count as u64) as usize;
+    match moves.get(place) {
+        Some(to) => Some(*to),
+        None => Some(Move::Hand(place.saturating_sub(moves.len()))),
+    }
 }

@@ -11,7 +11,7 @@ use litmus_script::Issued;
 use litmus_test::{Action, LitmusTest, Thread};
 use litmus_text::TextFault;
 use mshr_file::MissFile;
-use slice_core::Pick;
+use slice_core::{Entry, Pick};
 use std::alloc::{AllocError, Global};
 
 /// A reply that waits for a thread's core, to an access to a word of the line.
@@ -132,7 +132,7 @@ impl<F: MissFile> Walker<F> {
         let slice = self.recorded.slice_of(pick.line());
         let before = self.recorded.log_of(slice).len();
         self.recorded.deliver(pick)?;
-        for entry in self.recorded.log_of(slice).iter().skip(before) {
+        for entry in behind(self.recorded.log_of(slice), before) {
             let Some(thread) = test
                 .threads
                 .iter()
@@ -173,5 +173,14 @@ impl<F: MissFile> Walker<F> {
     {
         let mut threads = test.threads.iter().zip(self.places.iter());
         threads.all(|(thread, place)| place.step == thread.steps.len()) && self.recorded.is_quiet()
+    }
+}
+
+// What was performed behind so many entries.
+fn behind(log: &[Entry], before: usize) -> &[Entry] {
+    if before < log.len() {
+        &log[before..]
+    } else {
+        &[]
     }
 }

@@ -24,7 +24,7 @@ use Rattle.slice_core_protocol.proofs.Each.{all_words, each_fit, each_fit-at, if
 use Rattle.slice_core_protocol.proofs.Frame.{by_test}
 use Rattle.slice_core_protocol.proofs.Steps.{reached_coherent}
 use Rattle.slice_core_protocol.specs.Coherent.{debts}
-use Rattle.slice_core_protocol.specs.Fit.{awaits, is_counting, is_no_data, owes}
+use Rattle.slice_core_protocol.specs.Fit.{awaits, is_counting, is_no_data, is_no_forward, owes}
 use Rattle.slice_core_protocol.specs.Line.{Line, Look, Part, near_of}
 use Rattle.slice_core_protocol.specs.Machine.{Reached, acknowledged, acted, answered, beginning, change_if, count, entry_of, forwarded, further, given, invalidated_by, serve, stands_ack, turn, who}
 
@@ -33,6 +33,10 @@ use Rattle.slice_core_protocol.specs.Machine.{Reached, acknowledged, acted, answ
 no_inv_with_ack : each_fit (λ n l. if_so l.inv (λ _. not l.sent)) ≡ true
 unfolding all_words
 no_inv_with_ack = refl
+
+inv_with_one : each_fit (λ n l. if_so l.inv (λ _. is_no_forward l.forward || not l.put_ack)) ≡ true
+unfolding all_words
+inv_with_one = refl
 
 data_not_counting : each_fit (λ n l. if_so (not (is_no_data l.incoming)) (λ _. not (is_counting l.state))) ≡ true
 unfolding all_words
@@ -62,6 +66,11 @@ module _ (exclusive : Bool) (cores : ℕ) (line : Line) (some : 0 < cores) (most
   -- An Inv waits only for a core whose last acknowledgement was taken.
   pub inv_without_ack : (line.part c).look.inv ≡ true → (line.part c).look.sent ≡ false
   inv_without_ack waits = not-at _ (passes (λ l. l.inv) (λ l. not l.sent) no_inv_with_ack waits)
+
+  -- Behind an Inv waits a forwarded request or a Put-Ack, and never both.
+  pub inv_before_one : (line.part c).look.inv ≡ true
+      → (is_no_forward (line.part c).look.forward || not (line.part c).look.put_ack) ≡ true
+  inv_before_one waits = passes (λ l. l.inv) (λ l. is_no_forward l.forward || not l.put_ack) inv_with_one waits
 
   -- Data wait only for a core that waits for them, and has none.
   pub data_before_counting : is_no_data (line.part c).look.incoming ≡ false

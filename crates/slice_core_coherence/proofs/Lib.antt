@@ -42,3 +42,4 @@ pub mod BlocksCalls
 pub mod BlocksDeliveries
 pub mod Current
 pub mod QuietNewest
+pub mod Bounded

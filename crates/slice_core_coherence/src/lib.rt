@@ -29,7 +29,7 @@ ghost use Rattle.slice_core_answer.specs.declared.answer.Evicted.{Evicted};
 ghost use Rattle.slice_core_answer.specs.declared.answer.Issue.{Issue};
 ghost use Rattle.slice_core_answer.specs.declared.answer.Refused.{Refused};
 ghost use Rattle.slice_core_coherence.specs.Blocks.{IsNewest};
-ghost use Rattle.slice_core_coherence.specs.Coherent.{HasOneWriter, NothingIsBroken, WaitsForMisses};
+ghost use Rattle.slice_core_coherence.specs.Coherent.{HasBoundedChannels, HasOneWriter, NothingIsBroken, WaitsForMisses};
 ghost use Rattle.slice_core_coherence.specs.Newest.{HasNewest, IsFaithful};
 ghost use Rattle.slice_core_coherence.specs.Stands.{AreReached};
 ghost use Rattle.slice_core_coherence.specs.Whole.{IsAddressed, IsWhole};
@@ -100,6 +100,12 @@ pub fn no_message_is_broken()
         → AfterDelivery old pick answer new → answer ≢ delivered.Broken cell }
     ensures next { (old new : PartsView) (class : Class) (answer : DeliveredNext) (cell : Cell)
         → NothingIsBroken old.view → AfterDeliverNext old class answer new → answer ≢ delivered_next.Broken cell }
+{}
+
+/// Where each line is one that the machine reaches, no channel has more messages than it takes, and what waits there is
+/// of the slice's cores.
+pub fn no_channel_is_overfull()
+    ensures { (v : View) → IsWhole v → 0 < length v.sides → AreReached v → HasBoundedChannels v }
 {}
 
 /// Each copy that may be read, and the home copy while nobody has the only one, has what was last performed. Once the

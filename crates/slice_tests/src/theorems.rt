@@ -18,6 +18,7 @@ fn theorems_of_coherence_are_calls() {
     slice_core_coherence::accesses_keep_slice_faithful();
     slice_core_coherence::deliveries_keep_slice_faithful();
     slice_core_coherence::no_message_is_broken();
+    slice_core_coherence::no_channel_is_overfull();
     slice_core_coherence::each_block_is_newest();
 }
 

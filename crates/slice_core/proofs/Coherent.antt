@@ -10,9 +10,10 @@ use Rattle.slice_core_answer.specs.declared.answer.DeliveredNext.{DeliveredNext}
 use Rattle.slice_core_answer.specs.declared.answer.DeliveredNext.TheVariants as delivered_next
 use Rattle.slice_core_coherence.proofs.KeptByCalls.{located}
 use Rattle.slice_core_coherence.specs.Whole.{IsAddressed, IsWhole}
+use Rattle.slice_core_coherence.proofs.Bounded as bounds
 use Rattle.slice_core_coherence.proofs.Consequences.{one_writer}
 use Rattle.slice_core_coherence.proofs.Unbroken.{whole_is_unbroken}
-use Rattle.slice_core_coherence.specs.Coherent.{HasOneWriter, NothingIsBroken}
+use Rattle.slice_core_coherence.specs.Coherent.{HasBoundedChannels, HasOneWriter, NothingIsBroken}
 use Rattle.slice_core_plan.specs.Parts.{PartsView, AfterDeliverNext, AfterDelivery, AfterPlan, local_in}
 use Rattle.slice_core_plan.specs.Plan.{plan_of, planned_in}
 use Rattle.slice_core_plan.specs.View.{IsQuiet, first_word}
@@ -54,6 +55,11 @@ pub unbroken : (p : PartsView) → IsSound p → NothingIsBroken p.view
 unbroken p sound =
     whole_is_unbroken p.view (whole p sound) sound.counted.some_core (reached_without p.view sound.faithful.reached)
 
+-- No channel has more messages than it takes.
+pub bounded : (p : PartsView) → IsSound p → HasBoundedChannels p.view
+bounded p sound =
+    bounds.bounded p.view (whole p sound) sound.counted.some_core (reached_without p.view sound.faithful.reached)
+
 -- All that callers may rely on.
 pub holds : (p : PartsView) → IsSound p → Holds p
 holds p sound = record {
@@ -65,7 +71,13 @@ holds p sound = record {
   one_writer = coherent p sound;
   newest = newest p.view sound.counted.some_core sound.counted.cores sound.faithful.reached;
   unbroken = unbroken p sound;
+  bounded = bounded p sound;
   counted = facts.counted p sound;
+  some_core = sound.counted.some_core;
+  whole = whole p sound;
+  addressed = addressed p sound;
+  accounted = record { machine = sound.counted.machine; accounts = sound.accounts.accounts };
+  reached = sound.faithful.reached;
 }
 
 -- ---- a quiet slice

@@ -7,6 +7,7 @@ use slice_core_answer::Stats;
 use slice_core_log::Entry;
 use slice_core_side::Side;
 use slice_queues::Queues;
+use std::boxed::BoxedSlice;
 use std::marker::Model;
 
 mod build;
@@ -18,17 +19,17 @@ mod look;
 mod next;
 mod plan;
 
-/// One slice: its directory, its channels, each core's side and the log.
+/// One slice: its directory, its channels, each core's side and the log. What is in a boxed slice can't grow.
 #[derive(Drop)]
 pub struct Parts<F: MissFile> {
-    entries: Vec<DirEntry>,
+    entries: BoxedSlice<DirEntry>,
     queues: Queues,
-    sides: Vec<Side<F>>,
+    sides: BoxedSlice<Side<F>>,
     log: Vec<Entry>,
     stats: Stats,
     /// The configured initial values and counters of this slice.
-    init: Vec<(WordAddr, u64)>,
-    counters: Vec<WordAddr>,
+    init: BoxedSlice<(WordAddr, u64)>,
+    counters: BoxedSlice<WordAddr>,
     lines: Locator,
     /// How many targets wait.
     pending: usize,
@@ -36,13 +37,14 @@ pub struct Parts<F: MissFile> {
 }
 
 impl<F: MissFile> Model for Parts<F> {
+    ghost use Rattle.std.specs.Box.{boxed_slice_items};
     ghost use Rattle.std.specs.Prelude.{vec_capacity};
     ghost use Rattle.slice_core_plan.specs.Parts.{PartsView};
 
     ghost Value = { PartsView };
 
     ghost view = { λ p. record {
-      view = record { entries = p.entries.items; channels = p.queues.channels.lines; sides = p.sides.items; log = p.log.items; init = p.init.items; counters = p.counters.items; lines = p.lines; exclusive = p.exclusive };
+      view = record { entries = boxed_slice_items p.entries; channels = p.queues.channels.lines; sides = boxed_slice_items p.sides; log = p.log.items; init = boxed_slice_items p.init; counters = boxed_slice_items p.counters; lines = p.lines; exclusive = p.exclusive };
       stats = p.stats;
       pending = p.pending;
       room = vec_capacity p.log;

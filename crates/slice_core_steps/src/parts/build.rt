@@ -1,3 +1,4 @@
+ghost use Rattle.std.specs.Box.{boxed_slice_items};
 ghost use Rattle.std.specs.Prelude.{◌≡◌, ◌%◌, ◌/◌, ◌<◌, ◌==◌, IfOk, filter};
 ghost use Rattle.slice_core_plan.specs.Initial.{IsInitialBlock, AreInitialEntries, AreNewSides, is_of_slice};
 ghost use Rattle.slice_core_plan.specs.Parts.{PartsView, IsNew};
@@ -10,6 +11,7 @@ use slice_core_answer::Stats;
 use slice_core_side::Side;
 use slice_queues::Queues;
 use std::alloc::{AllocError, Global};
+use std::boxed::BoxedSlice;
 
 impl<F: MissFile> Parts<F> {
     /// A slice of the configured machine in which nothing was asked for yet.
@@ -33,8 +35,12 @@ impl<F: MissFile> Parts<F> {
     }
 }
 
-fn new_entries(alloc: Global, config: &Checked, lines: Locator) -> Result<Vec<DirEntry>, AllocError>
-    ensures { IfOk result (λ v. AreInitialEntries config.now lines lines.lines v.items) }
+fn new_entries(
+    alloc: Global,
+    config: &Checked,
+    lines: Locator,
+) -> Result<BoxedSlice<DirEntry>, AllocError>
+    ensures { IfOk result (λ v. AreInitialEntries config.now lines lines.lines (boxed_slice_items v)) }
 {
     let mut all = Vec::with_capacity(alloc, lines.lines())?;
     for local in 0..lines.lines() {
@@ -45,7 +51,7 @@ fn new_entries(alloc: Global, config: &Checked, lines: Locator) -> Result<Vec<Di
             state: DirState::I,
         })?;
     }
-    Ok(all)
+    Ok(all.into_boxed_slice())
 }
 
 // The home copy that a line begins with.
@@ -64,24 +70,24 @@ fn new_sides<F: MissFile>(
     alloc: Global,
     config: &Checked,
     slice: SliceId,
-) -> Result<Vec<Side<F>>, AllocError>
+) -> Result<BoxedSlice<Side<F>>, AllocError>
     requires { slice.0 < config.now.slices }
-    ensures { IfOk result (λ v. AreNewSides config.now (F.bound_by config.now) slice.0 config.now.cores v.items) }
+    ensures { IfOk result (λ v. AreNewSides config.now (F.bound_by config.now) slice.0 config.now.cores (boxed_slice_items v)) }
 {
     let mut all = Vec::with_capacity(alloc, config.cores())?;
     for core in 0..config.cores() {
         all.push(Side::make(alloc, config, slice, CoreId(core as u8))?)?;
     }
-    Ok(all)
+    Ok(all.into_boxed_slice())
 }
 
 fn init_of_slice(
     alloc: Global,
     config: &Checked,
     slice: SliceId,
-) -> Result<Vec<(WordAddr, u64)>, AllocError>
+) -> Result<BoxedSlice<(WordAddr, u64)>, AllocError>
     requires { slice.0 < config.now.slices }
-    ensures { IfOk result (λ v. v.items ≡ filter (λ pair. is_of_slice config.now slice.0 pair.0) config.now.init) }
+    ensures { IfOk result (λ v. boxed_slice_items v ≡ filter (λ pair. is_of_slice config.now slice.0 pair.0) config.now.init) }
 {
     let slices = config.slices() as u64;
     config
@@ -96,9 +102,9 @@ fn counters_of_slice(
     alloc: Global,
     config: &Checked,
     slice: SliceId,
-) -> Result<Vec<WordAddr>, AllocError>
+) -> Result<BoxedSlice<WordAddr>, AllocError>
     requires { slice.0 < config.now.slices }
-    ensures { IfOk result (λ v. v.items ≡ filter (is_of_slice config.now slice.0) config.now.counters) }
+    ensures { IfOk result (λ v. boxed_slice_items v ≡ filter (is_of_slice config.now slice.0) config.now.counters) }
 {
     let slices = config.slices() as u64;
     config

@@ -12,7 +12,7 @@ use std::thread;
 use std::thread::Threads;
 
 /// The most times that a core looks whether a mover has brought its data.
-const MOST_LOOKS: u32 = 10_000_000;
+const MOST_LOOKS: u32 = 1_000_000;
 
 /// Keeps a core's second request until slice 0 has performed the first.
 #[derive(Drop)]

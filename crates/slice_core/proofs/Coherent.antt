@@ -21,7 +21,7 @@ use Rattle.slice_core_plan.specs.declared.decide.Plan.{Plan}
 use Rattle.slice_core_plan.specs.declared.decide.Plan.TheVariants as plans
 use Rattle.slice_core.proofs.AccountsCan.{can-deliver}
 use Rattle.slice_core.proofs.AccountsFacts as facts
-use Rattle.slice_core.specs.Facts.{Holds, IsNotBroken, IsNotBrokenNext, ShowsLast, ShowsWord}
+use Rattle.slice_core.specs.Facts.{Holds, IsReached, IsNotBroken, IsNotBrokenNext, ShowsLast, ShowsWord}
 use Rattle.slice_core_coherence.proofs.BlocksAccesses.{word_of_line}
 use Rattle.slice_core_coherence.proofs.BlocksCalls.{line_located}
 use Rattle.slice_core_coherence.proofs.Current.{newest, reached_without}
@@ -60,6 +60,17 @@ pub bounded : (p : PartsView) → IsSound p → HasBoundedChannels p.view
 bounded p sound =
     bounds.bounded p.view (whole p sound) sound.counted.some_core (reached_without p.view sound.faithful.reached)
 
+-- It is a slice of which the theorems speak.
+is_reached : (p : PartsView) → IsSound p → IsReached p.view
+unfolding IsReached
+is_reached p sound = record {
+  some_core = sound.counted.some_core;
+  whole = whole p sound;
+  addressed = addressed p sound;
+  accounted = record { machine = sound.counted.machine; accounts = sound.accounts.accounts };
+  lines = sound.faithful.reached;
+}
+
 -- All that callers may rely on.
 pub holds : (p : PartsView) → IsSound p → Holds p
 holds p sound = record {
@@ -73,11 +84,7 @@ holds p sound = record {
   unbroken = unbroken p sound;
   bounded = bounded p sound;
   counted = facts.counted p sound;
-  some_core = sound.counted.some_core;
-  whole = whole p sound;
-  addressed = addressed p sound;
-  accounted = record { machine = sound.counted.machine; accounts = sound.accounts.accounts };
-  reached = sound.faithful.reached;
+  reached = is_reached p sound;
 }
 
 -- ---- a quiet slice

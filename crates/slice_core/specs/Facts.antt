@@ -64,6 +64,21 @@ pub record HasOneRegister (v : View) : Type 0 where
 abbrev pub CountsAccepted : PartsView → Type 0
 CountsAccepted p = (core : CoreId) → core.0 < length p.view.sides → accepted_of (counts_of p.stats core) ≡ (side_at p.view core).accepted
 
+-- A slice of which the theorems of the crates below speak. It is of one size in all its parts, with one core at least and
+-- 64 at most; a core's copies stand where they belong, none twice; its lines are some of a machine's, each target names a
+-- word of its line, and each core's registers, tags and entries account for its requests; and each line stands, with its
+-- blocks, as one that the protocol's machine can come to: so what is proved of such a line is true of it.
+pub record IsReachedSlice (v : View) : Type 0 where
+  pub some_core : 0 < length v.sides
+  pub whole : IsWhole v
+  pub addressed : IsAddressed v
+  pub accounted : IsAccounted v
+  pub lines : AreReachedWith v
+
+-- The same, as callers carry it: few look into it.
+unfoldable pub IsReached : View → Type 0
+IsReached v = IsReachedSlice v
+
 -- What holds of a slice after every call.
 pub record Holds (p : PartsView) : Type 0 where
   -- no request is lost, doubled or made up, and each tag names what was asked for under it
@@ -85,16 +100,8 @@ pub record Holds (p : PartsView) : Type 0 where
   pub bounded : HasBoundedChannels p.view
   -- what is counted of a core's requests adds up
   pub counted : CountsAccepted p
-  -- the slice is of one size in all its parts, with one core at least and 64 at most; a core's copies stand where they
-  -- belong, none twice; its lines are some of a machine's, each target names a word of its line, and each core's
-  -- registers, tags and entries account for its requests
-  pub some_core : 0 < length p.view.sides
-  pub whole : IsWhole p.view
-  pub addressed : IsAddressed p.view
-  pub accounted : IsAccounted p.view
-  -- each line stands, with its blocks, as one that the protocol's machine can come to: so what is proved of such a line
-  -- is true of it
-  pub reached : AreReachedWith p.view
+  -- what the theorems on slices and on the protocol's lines suppose
+  pub reached : IsReached p.view
 
 -- The two are states of one slice: which slice it is stays as it was built.
 pub record IsSameSlice (old new : PartsView) : Type 0 where

@@ -10,6 +10,7 @@ use super::waiting::LineWaiting;
 use address_map::{Block, CoreId, CoreSet};
 use slice_queues_message::{Channel, Class, DataMessage, ForwardedMessage, RequestMessage};
 use std::alloc::{AllocError, Global};
+use std::boxed::BoxedSlice;
 use std::marker::Model;
 
 /// The channels of one line.
@@ -17,19 +18,20 @@ use std::marker::Model;
 pub struct LineQueues {
     // What says whether and where messages wait stands in front.
     mail: Mail,
-    cores: Vec<CoreQueues>,
+    cores: BoxedSlice<CoreQueues>,
     home: Option<Block>,
 }
 
 impl Model for LineQueues {
+    ghost use Rattle.std.specs.Box.{boxed_slice_items};
     ghost use Rattle.slice_queues.specs.Line.{LineChannels};
     ghost use Rattle.slice_queues.specs.Mail.{IsLine};
 
     ghost Value = { LineChannels };
 
-    ghost view = { λ line. record { cores = line.cores.items; home = line.home } };
+    ghost view = { λ line. record { cores = boxed_slice_items line.cores; home = line.home } };
 
-    ghost invariant = { λ line. IsLine line.cores.items line.mail };
+    ghost invariant = { λ line. IsLine (boxed_slice_items line.cores) line.mail };
 }
 
 /// The channels one kind at a time: nothing is copied to look at a message.
@@ -49,7 +51,7 @@ impl LineQueues {
         }
         Ok(LineQueues {
             mail: Mail::none(),
-            cores: queues,
+            cores: queues.into_boxed_slice(),
             home: None,
         })
     }

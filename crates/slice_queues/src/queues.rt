@@ -8,17 +8,19 @@ use super::ring::LineRing;
 use address_map::{LineAddr, Local, Locator};
 use slice_queues_message::{Channel, Message, Pick};
 use std::alloc::{AllocError, Global};
+use std::boxed::BoxedSlice;
 use std::marker::Model;
 
 /// The channels of one slice, by line, and a ring of the lines that may have messages.
 #[derive(Drop)]
 pub struct Queues {
-    lines: Vec<LineQueues>,
+    lines: BoxedSlice<LineQueues>,
     ring: LineRing,
     locator: Locator,
 }
 
 impl Model for Queues {
+    ghost use Rattle.std.specs.Box.{boxed_slice_items};
     ghost use Rattle.slice_queues.specs.Ring.{QueuesView, IsQueues};
 
     ghost Value = { QueuesView };
@@ -26,12 +28,12 @@ impl Model for Queues {
     ghost view = { λ queues.
         record {
           channels =
-              record { lines = queues.lines.items; slice = queues.locator.slice; slices = queues.locator.slices };
+              record { lines = boxed_slice_items queues.lines; slice = queues.locator.slice; slices = queues.locator.slices };
           ring =
               queues.ring.order;
         } };
 
-    ghost invariant = { λ queues. IsQueues queues.lines.items queues.ring queues.locator };
+    ghost invariant = { λ queues. IsQueues (boxed_slice_items queues.lines) queues.ring queues.locator };
 }
 
 /// The lines by their places in the slice, and the ring.
@@ -58,7 +60,7 @@ impl Queues {
         }
         let ring = LineRing::build(alloc, count)?;
         Ok(Queues {
-            lines,
+            lines: lines.into_boxed_slice(),
             ring,
             locator,
         })

@@ -3,6 +3,7 @@ ghost use Rattle.std.specs.Prelude.{◌≡◌, ◌<◌, ◌++◌, [], ◌∷◌,
 use address_map::Local;
 use circular_buffer::HeapCircularBuffer;
 use std::alloc::{AllocError, Global};
+use std::boxed::BoxedSlice;
 use std::marker::Model;
 
 /// Lines of a slice in a round, none of them twice.
@@ -10,18 +11,19 @@ use std::marker::Model;
 pub struct LineRing {
     order: HeapCircularBuffer<usize>,
     // whether a line stands in the round, by its place
-    listed: Vec<bool>,
+    listed: BoxedSlice<bool>,
 }
 
 impl Model for LineRing {
+    ghost use Rattle.std.specs.Box.{boxed_slice_items};
     ghost use Rattle.std.specs.Prelude.{length};
     ghost use Rattle.slice_queues.specs.Ring.{LineOrder, IsRound};
 
     ghost Value = { LineOrder };
 
-    ghost view = { λ ring. record { order = ring.order.items; lines = length ring.listed.items } };
+    ghost view = { λ ring. record { order = ring.order.items; lines = length (boxed_slice_items ring.listed) } };
 
-    ghost invariant = { λ ring. IsRound ring.order.items ring.listed.items ring.order.capacity };
+    ghost invariant = { λ ring. IsRound ring.order.items (boxed_slice_items ring.listed) ring.order.capacity };
 }
 
 impl LineRing {
@@ -33,7 +35,7 @@ impl LineRing {
     {
         Ok(LineRing {
             order: HeapCircularBuffer::with_capacity(alloc, lines)?,
-            listed: vec![in alloc; false; lines]?,
+            listed: vec![in alloc; false; lines]?.into_boxed_slice(),
         })
     }
 

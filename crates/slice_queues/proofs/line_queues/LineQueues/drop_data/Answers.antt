@@ -4,7 +4,7 @@ use Rattle.slice_queues.proofs.line_queues.LineQueues.drop_data.Goals as goal
 
 pub invariant_of-self : goal.invariant_of-self
 invariant_of-self c =
-    let there : c.args.core.0 < length c.self.inside.cores.items =
+    let there : c.args.core.0 < length c.self.inside.cores.items.items =
     omega (arith, ap (λ l. length l.cores) c.self.view_is, c.requires) in
     IsLine-taken_data _ _ c.args.core.0 c.index_mut.result.now _ _ there c.index_mut.ensures.value c.drop_data.ensures
     c.remove.ensures c.self.invariant

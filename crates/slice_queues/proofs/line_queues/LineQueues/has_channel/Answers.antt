@@ -7,7 +7,7 @@ use Rattle.slice_queues.proofs.line_queues.LineQueues.has_channel.Goals as goal
 
 pub returns-then-to-cores-clause-unchanged : goal.returns-then-to-cores-clause-unchanged
 returns-then-to-cores-clause-unchanged c = λ absent.
-    let past : length c.self.inside.cores.items ≤ c.in-Ack.from.0 =
+    let past : length c.self.inside.cores.items.items ≤ c.in-Ack.from.0 =
     omega (arith, c.len-cores.ensures, ltb-false c.in-Ack.from.0 c.len-cores.result absent) in
     let P : LineChannels → Type 0 = λ line. has (core_at line c.in-Ack.to.0).acks c.in-Ack.from.0 ≡ false in
     let none : has (core_at c.args.self.now c.in-Ack.to.0).acks c.in-Ack.from.0 ≡ false =

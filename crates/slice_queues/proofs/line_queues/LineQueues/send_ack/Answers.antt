@@ -9,9 +9,9 @@ use Rattle.slice_queues.proofs.line_queues.LineQueues.send_ack.Goals as goal
 
 pub invariant_of-self : goal.invariant_of-self
 invariant_of-self c =
-    let there : c.args.to.0 < length c.self.inside.cores.items =
+    let there : c.args.to.0 < length c.self.inside.cores.items.items =
     omega (arith, ap (λ l. length l.cores) c.self.view_is, c.requires.there.0) in
-    let from_there : c.args.from.0 < length c.self.inside.cores.items =
+    let from_there : c.args.from.0 < length c.self.inside.cores.items.items =
     omega (arith, ap (λ l. length l.cores) c.self.view_is, c.requires.there.1) in
     IsLine-sent_ack _ _ c.args.to.0 c.args.from.0 c.index_mut.result.now _ _ there from_there
     c.index_mut.ensures.value c.put_ack.ensures c.insert.ensures c.self.invariant

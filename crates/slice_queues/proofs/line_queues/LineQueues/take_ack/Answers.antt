@@ -6,7 +6,7 @@ use Rattle.slice_queues.proofs.line_queues.LineQueues.take_ack.Goals as goal
 
 pub invariant_of-self : goal.invariant_of-self
 invariant_of-self c =
-    let there : c.args.to.0 < length c.self.inside.cores.items =
+    let there : c.args.to.0 < length c.self.inside.cores.items.items =
     omega (arith, ap (λ l. length l.cores) c.self.view_is, c.requires.0) in
     let marks : c.without_unless-self-inside.result
     ≡ (if has_acks c.take_ack.new.self then c.self.inside.mail.acks else without c.self.inside.mail.acks

@@ -25,7 +25,7 @@ returns-clause-order c =
     ∙ rw
     (c.of_class.ensures, c.deref.ensures.value)
     (line_left-of_class
-    c.args.class (record { cores = c.self.inside.cores.items; home = c.self.inside.home }) c.self.inside.mail _
+    c.args.class (record { cores = c.self.inside.cores.items.items; home = c.self.inside.home }) c.self.inside.mail _
     c.self.invariant.within.at_most_64 c.self.invariant.marked home))
 
 pub returns-clause-once : goal.returns-clause-once

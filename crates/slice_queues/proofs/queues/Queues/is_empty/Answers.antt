@@ -14,10 +14,10 @@ returns-then-has_mail-clause-lines c =
     let place = c.at-line.result.0 in
     let P : QueuesView → Type 0 =
     λ queues. ((local : ℕ) → IsEmptyLine (at_local queues.channels local)) → IsTrue false in
-    let there : place < length c.self.inside.lines.items =
+    let there : place < length c.self.inside.lines.items.items =
     omega (arith, c.at-line.ensures.there, c.self.invariant.ring_for_all) in
-    let line : c.index.result.now ≡ get_or c.self.inside.lines.items place (empty_line 0) =
-    c.index.ensures ∙ read_default c.self.inside.lines.items place c.index.result.now (empty_line 0) there in (
+    let line : c.index.result.now ≡ get_or c.self.inside.lines.items.items place (empty_line 0) =
+    c.index.ensures ∙ read_default c.self.inside.lines.items.items place c.index.result.now (empty_line 0) there in (
       (λ t. absurd (search rules)),
       subst P c.self.view_is
           (λ empty.

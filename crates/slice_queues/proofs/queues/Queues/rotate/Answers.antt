@@ -9,16 +9,16 @@ loop-turn-preserved c =
     let now = c.loop-turn.self-inside in
     let queues = c.loop-turn.invariant.3 in
     let place = c.at-first.result.0 in
-    let there : place < length now.lines.items = omega (arith, c.at-first.ensures.there, queues.ring_for_all) in
-    let line : c.index.result.now ≡ get_or now.lines.items (get_or now.ring.order 0 0) (empty_line 0) =
+    let there : place < length now.lines.items.items = omega (arith, c.at-first.ensures.there, queues.ring_for_all) in
+    let line : c.index.result.now ≡ get_or now.lines.items.items (get_or now.ring.order 0 0) (empty_line 0) =
     c.index.ensures
-    ∙ read_default now.lines.items place c.index.result.now (empty_line 0) there
-    ∙ ap (λ (l : ℕ). get_or now.lines.items l (empty_line 0)) c.at-first.ensures.line in
-    let mail : ℕ → Bool = λ local. has_mail (get_or c.self.inside.lines.items local (empty_line 0)) in
+    ∙ read_default now.lines.items.items place c.index.result.now (empty_line 0) there
+    ∙ ap (λ (l : ℕ). get_or now.lines.items.items l (empty_line 0)) c.at-first.ensures.line in
+    let mail : ℕ → Bool = λ local. has_mail (get_or c.self.inside.lines.items.items local (empty_line 0)) in
     let says : c.has_mail-has_mail.result ≡ mail (get_or now.ring.order 0 0) =
     c.has_mail-has_mail.ensures
     ∙ ap has_mail line
-    ∙ ap (λ lines. has_mail (get_or lines.items (get_or now.ring.order 0 0) (empty_line 0))) c.loop-turn.invariant.1 in
+    ∙ ap (λ lines. has_mail (get_or lines.items.items (get_or now.ring.order 0 0) (empty_line 0))) c.loop-turn.invariant.1 in
     let within : c.loop-turn.turn < length c.self.inside.ring.order =
     omega (arith, ap (λ v. length v.ring) c.self.view_is, c.requires, c.loop-turn-test.true) in (
       ap (λ r. r.order) c.turn.ensures
@@ -28,6 +28,6 @@ loop-turn-preserved c =
       c.loop-turn.invariant.1,
       c.loop-turn.invariant.2,
       IsQueues-turn
-          now.lines.items now.ring _ now.locator c.index.result.now c.has_mail-has_mail.result line
+          now.lines.items.items now.ring _ now.locator c.index.result.now c.has_mail-has_mail.result line
           c.has_mail-has_mail.ensures c.turn.ensures queues,
     )

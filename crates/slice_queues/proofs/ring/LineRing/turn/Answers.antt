@@ -24,16 +24,16 @@ invariant_of-self-else-stays c =
 pub returns-then-stays : goal.returns-then-stays
 returns-then-stays c =
     let front : slice_get c.self.inside.order.items 0 ≡ Some c.in-Some.first = search rules in
-    let after : LineOrder = record { order = c.push_back.new.self.items; lines = length c.self.inside.listed.items } in
+    let after : LineOrder = record { order = c.push_back.new.self.items; lines = length c.self.inside.listed.items.items } in
     let P : LineOrder → Type 0 = λ now.
     after ≡ record { order = drop 1 now.order ++ (if c.args.stays then take 1 now.order else []); lines = now.lines } in
     subst
     P
     c.self.view_is
     (turned-view
-    c.self.inside.order.items (length c.self.inside.listed.items) c.self.inside.order.capacity c.in-Some.first
+    c.self.inside.order.items (length c.self.inside.listed.items.items) c.self.inside.order.capacity c.in-Some.first
     c.push_back.new.self c.args.stays front
     (turned-buffer
-    _ c.self.inside.listed.items _ c.in-Some.first _ _ front c.self.invariant c.pop_front.ensures.items
+    _ c.self.inside.listed.items.items _ c.in-Some.first _ _ front c.self.invariant c.pop_front.ensures.items
     c.push_back.ensures.items)
     c.if-stays.true)

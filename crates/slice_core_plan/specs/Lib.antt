@@ -5,6 +5,12 @@ pub mod Plan
 pub mod Within
 pub mod Next
 pub mod Ring
+pub mod Slice
+pub mod Hit
+pub mod Join
+pub mod Eviction
+pub mod PrimaryMiss
+pub mod Delivery
 pub mod Steps
 pub mod Initial
 pub mod Parts

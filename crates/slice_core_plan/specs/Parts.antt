@@ -1,78 +1,57 @@
--- A slice with what its view leaves out, and what each call answers and leaves of it.
-use Rattle.std.specs.Prelude.{◌≡◌, ℕ, ◌+◌, ◌-◌, ◌^◌, ◌<◌, ◌≤◌, ◌⊎◌, true, [], List, length, replicate, filter, All, IsSome, IsTrue, slice_get, Option, Some, None, Result, Ok, Err}
+-- What each call of a slice relies on, answers and leaves. What is done of a request stands in Hit.antt, Join.antt and
+-- PrimaryMiss.antt, what an eviction does in Eviction.antt, and what a delivery does in Delivery.antt.
+use Rattle.std.specs.Prelude.{◌≡◌, ℕ, ◌+◌, ◌^◌, ◌<◌, ◌≤◌, ◌⊎◌, true, [], length, replicate, filter, All, IsSome, IsTrue, slice_get, Option, Some, None, Result, Ok, Err}
 use Rattle.address_map.specs.Config.{IsAllowed, slice_lines}
-use Rattle.address_map.specs.Locator.{lines_of, local_at}
-use Rattle.address_map.specs.Place.{offset_of}
+use Rattle.address_map.specs.Locator.{lines_of}
 use Rattle.address_map.specs.declared.address.CoreId.{CoreId}
-use Rattle.address_map.specs.declared.address.LineAddr.{LineAddr}
 use Rattle.address_map.specs.declared.address.Local.{Local}
 use Rattle.address_map.specs.declared.address.SliceId.{SliceId}
 use Rattle.address_map.specs.declared.config.Config.{Config}
 use Rattle.address_map.specs.declared.request.Request.{Request}
 use Rattle.cache_array.specs.Array.{held_at as array_at}
-use Rattle.cache_table.specs.declared.state.CopyState.{CopyState}
-use Rattle.mshr_file.specs.Miss.{Bound, targets_of, AddsTarget, IsMissFile, TakesTargets}
-use Rattle.mshr_file.specs.declared.registers.Register.{Register}
-use Rattle.slice_core_answer.specs.Stats.{StatsView, no_stats, after_eviction, after_hit as hit_counted, after_message, after_primary, after_secondary, after_stall}
-use Rattle.slice_core_answer.specs.declared.answer.Delivered.{Delivered}
+use Rattle.mshr_file.specs.Miss.{Bound, targets_of}
+use Rattle.slice_core_answer.specs.Stats.{no_stats, after_stall}
 use Rattle.slice_core_answer.specs.declared.answer.Delivered.TheVariants as delivered
-use Rattle.slice_core_answer.specs.declared.answer.DeliveredNext.{DeliveredNext}
 use Rattle.slice_core_answer.specs.declared.answer.DeliveredNext.TheVariants as delivered_next
-use Rattle.slice_core_answer.specs.declared.answer.Evicted.{Evicted}
-use Rattle.slice_core_answer.specs.declared.answer.Evicted.TheVariants as evictions
-use Rattle.slice_core_answer.specs.declared.answer.Issue.{Issue}
+use Rattle.slice_core_answer.specs.declared.answer.DeliveredNext.{DeliveredNext}
 use Rattle.slice_core_answer.specs.declared.answer.Issue.TheVariants as issues
-use Rattle.slice_core_answer.specs.declared.answer.Refused.{Refused}
+use Rattle.slice_core_answer.specs.declared.answer.Issue.{Issue}
 use Rattle.slice_core_answer.specs.declared.answer.Refused.TheVariants as refusals
+use Rattle.slice_core_answer.specs.declared.answer.Refused.{Refused}
 use Rattle.slice_core_log.specs.declared.entry.Numbered.{Numbered}
-use Rattle.slice_core_side.specs.Access.{evicted_of, is_idle, IsWithin}
-use Rattle.slice_core_side.specs.Perform.{performed_in}
-use Rattle.slice_core_side.specs.Side.{array_copy, state_of, tag_at}
-use Rattle.slice_core_side.specs.Targets.{IsPerformable}
-use Rattle.slice_core_side.specs.Steps.{acknowledged, filled, target_of, victim_for}
-use Rattle.slice_core_side.specs.Tags.{IsLeastReply}
-use Rattle.slice_core_side.specs.declared.access.Access.{Access}
-use Rattle.slice_core_side.specs.declared.access.Access.TheVariants as accesses
-use Rattle.slice_core_side.specs.declared.access.Way.{Way}
-use Rattle.slice_core_side.specs.declared.access.Way.TheVariants as ways
-use Rattle.slice_core_side.specs.declared.copy.CacheCopy.{CacheCopy}
-use Rattle.slice_core_side.specs.declared.tags.TagState.TheVariants as tags
 use Rattle.slice_core_plan.specs.Decision.{decision_of}
+pub use Rattle.slice_core_plan.specs.Delivery.{Moves, Settles, filled_by, core_of, AfterPlan, local_in, AfterDelivery}
+pub use Rattle.slice_core_plan.specs.Eviction.{AfterEvict}
+use Rattle.slice_core_plan.specs.Hit.{AfterHit}
 use Rattle.slice_core_plan.specs.Initial.{AreInitialEntries, AreNewSides, is_of_slice}
+use Rattle.slice_core_plan.specs.Join.{AfterJoin}
+pub use Rattle.slice_core_plan.specs.Join.{target_for}
 use Rattle.slice_core_plan.specs.Plan.{plan_of, planned_at}
+use Rattle.slice_core_plan.specs.PrimaryMiss.{AfterPrimaryMiss}
+pub use Rattle.slice_core_plan.specs.PrimaryMiss.{opened_stats, opened_ring}
 use Rattle.slice_core_plan.specs.Ring.{looked_at, next_in, pick_of, turned}
-use Rattle.slice_core_plan.specs.Steps.{after_directory, after_evict, after_forwarded, after_hand, after_hit, after_home, after_join, after_open, after_settling}
+pub use Rattle.slice_core_plan.specs.Slice.{PartsView, Accepts}
+use Rattle.slice_core_plan.specs.Steps.{after_hand}
 use Rattle.slice_core_plan.specs.View.{View, channels_at, side_at, IsShaped}
-use Rattle.slice_core_plan.specs.declared.decide.Decision.{Decision}
 use Rattle.slice_core_plan.specs.declared.decide.Decision.TheVariants as decisions
-use Rattle.slice_core_plan.specs.declared.decide.NextPick.{NextPick}
+use Rattle.slice_core_plan.specs.declared.decide.Decision.{Decision}
 use Rattle.slice_core_plan.specs.declared.decide.NextPick.TheVariants as next_picks
-use Rattle.slice_core_plan.specs.declared.decide.Plan.{Plan}
+use Rattle.slice_core_plan.specs.declared.decide.NextPick.{NextPick}
 use Rattle.slice_core_plan.specs.declared.decide.Plan.TheVariants as plans
+use Rattle.slice_core_plan.specs.declared.decide.Plan.{Plan}
+use Rattle.slice_core_side.specs.Access.{is_idle, IsWithin}
+use Rattle.slice_core_side.specs.Side.{state_of, tag_at}
+use Rattle.slice_core_side.specs.Tags.{IsLeastReply}
+use Rattle.slice_core_side.specs.Targets.{IsPerformable}
+use Rattle.slice_core_side.specs.declared.access.Access.TheVariants as accesses
+use Rattle.slice_core_side.specs.declared.access.Access.{Access}
+use Rattle.slice_core_side.specs.declared.tags.TagState.TheVariants as tags
 use Rattle.slice_queues.specs.Line.{core_at, empty_line}
-use Rattle.slice_queues.specs.Ring.{with_listed}
 use Rattle.slice_queues_message.specs.Class.{is_of_class}
-use Rattle.slice_queues_message.specs.Pick.{channel_of, line_of}
+use Rattle.slice_queues_message.specs.Pick.{channel_of}
 use Rattle.slice_queues_message.specs.declared.channel.Channel.{Channel}
-use Rattle.slice_queues_message.specs.declared.channel.Channel.TheVariants as channels
 use Rattle.slice_queues_message.specs.declared.channel.Class.{Class}
-use Rattle.slice_queues_message.specs.declared.channel.Pick.{Pick}
-use Rattle.slice_queues_message.specs.declared.message.DataMessage.{DataMessage}
-use Rattle.slice_queues_message.specs.declared.message.DataMessage.TheVariants as replies
-use Rattle.target_list.specs.declared.target.Target.{Target}
 use Rattle.writeback_buffer.specs.Buffer.{held_at as buffer_at}
-
-pub record PartsView : Type 0 where
-  pub view : View
-  -- what was counted; a stall changes nothing else
-  pub stats : StatsView
-  -- how many targets wait
-  pub pending : ℕ
-  -- how many entries the log can hold before it has to grow
-  pub room : ℕ
-  -- the ring of the lines with mail, by their places in the slice, the front first: a next delivery looks at them in
-  -- this order
-  pub ring : List ℕ
 
 -- A slice of the configured machine, with miss files bounded like this, in which nothing was asked for yet.
 pub record IsNew (c : Config) (bound : Bound) (slice : SliceId) (p : PartsView) : Type 0 where
@@ -125,45 +104,14 @@ pub record LacksMemory (old : PartsView) (answer : Result Issue Refused) (new : 
   pub full : old.room < length old.view.log + old.pending + 1
   pub unchanged : new ≡ old
 
--- the target that an access of a core is
-abbrev pub target_for : PartsView → CoreId → Request → Target
-target_for p core request = target_of (side_at p.view core) request (offset_of request.word) (length p.view.log)
-
--- what is counted of a miss that opened a register: its victim is an eviction
-abbrev pub opened_stats : StatsView → CoreId → Way → StatsView
-opened_stats stats core ways.Victim = after_primary (after_eviction stats core) core
-opened_stats stats core _ = after_primary stats core
-
--- the ring once a register was opened: a victim's line was sent to where one had to leave, and then the line itself
-abbrev pub opened_ring : PartsView → CoreId → Local → Way → List ℕ
-opened_ring p core local ways.Victim =
-    with_listed (with_listed p.ring (victim_for (side_at p.view core) local).0) local.0
-opened_ring p core local _ = with_listed p.ring local.0
-
--- the slice after an accepted access: another view, with what is counted, how many targets wait and the ring
-abbrev pub Accepts : PartsView → View → StatsView → ℕ → List ℕ → Issue → Issue → PartsView → Type 0
-Accepts old view stats pending ring issue answer new =
-    (answer ≡ issue) × (new ≡ record old { view = view; stats = stats; pending = pending; ring = ring })
-
--- What an access that is accepted answers and leaves, where the log has room: a hit, a join or an opened register.
+-- What an access that is accepted answers and leaves, where the log has room: a hit, a join or a primary miss.
 abbrev pub AfterAccepting : Access → PartsView → CoreId → Request → Local → Issue → PartsView → Type 0
 AfterAccepting (accesses.Stall stall) old core request local answer new = (answer ≡ issues.Stall stall) × (new ≡ old)
 AfterAccepting (accesses.Hit place next silent) old core request local answer new =
-    Accepts old (after_hit old.view core request local next) (hit_counted old.stats core silent) old.pending
-    old.ring (issues.Done (length old.view.log)) answer new
-AfterAccepting accesses.Join old core request local answer new =
-    (misses : List Register)
-    × AddsTarget (side_at old.view core).misses misses local.0 (target_for old core request)
-    × IsMissFile misses
-    × Accepts old (after_join old.view core request misses) (after_secondary old.stats core) (old.pending + 1)
-    old.ring (issues.Pending (side_at old.view core).accepted) answer new
+    AfterHit old core request local next silent answer new
+AfterAccepting accesses.Join old core request local answer new = AfterJoin old core request local answer new
 AfterAccepting (accesses.Open next ask way) old core request local answer new =
-    (misses : List Register)
-    × AddsTarget (side_at old.view core).misses misses local.0 (target_for old core request)
-    × IsMissFile misses
-    × Accepts old (after_open old.view core request local way next ask misses) (opened_stats old.stats core way)
-    (old.pending + 1) (opened_ring old core local way)
-    (issues.Pending (side_at old.view core).accepted) answer new
+    AfterPrimaryMiss old core request local way next ask answer new
 
 -- The access is accepted: the log first got room for all that waits and this request, and then the access was done.
 abbrev pub IsAccepted : Access → PartsView → CoreId → Request → Local → Result Issue Refused → PartsView → Type 0
@@ -195,102 +143,7 @@ AfterIssue old core request answer new = by_decision (decision_of old.view core 
     by_decision (decisions.Refuse refused) = (answer ≡ Err refused) × (new ≡ old)
     by_decision (decisions.Access local access) = AfterAccess access old core request local answer new
 
--- ---- evict
-
--- What an eviction of a line answers and leaves: a line that isn't the slice's is not held. The directory is told, so
--- the line comes into the ring.
-abbrev pub AfterEvict : PartsView → CoreId → LineAddr → Evicted → PartsView → Type 0
-AfterEvict old core line answer new = by_line (local_at old.view.lines line.0)
-  where
-    by_answer : Local → Evicted → Type 0
-    by_answer local evictions.Evicting =
-        new
-        ≡ record old {
-          view = after_evict old.view core local;
-          stats = after_eviction old.stats core;
-          ring = with_listed old.ring local.0;
-        }
-    by_answer local _ = new ≡ old
-
-    by_line : Option Local → Type 0
-    by_line None = (answer ≡ evictions.NotHeld) × (new ≡ old)
-    by_line (Some local) = (answer ≡ evicted_of (side_at old.view core) local) × by_answer local answer
-
--- ---- deliver
-
--- a message of this channel of a line was taken: the view is another, the message is counted, and the line stands in
--- the ring
-abbrev pub Moves : PartsView → Local → Channel → View → PartsView → Type 0
-Moves old local channel view new =
-    new
-    ≡ record old {
-      view = view;
-      stats = after_message old.stats channel;
-      ring = with_listed old.ring local.0;
-    }
-
--- A message changed the core's copy: the targets that it allows are performed, and wait no more.
-abbrev pub Settles : PartsView → Local → CoreId → Channel → CacheCopy → PartsView → Type 0
-Settles old local core channel copy new =
-    let targets = targets_of (side_at old.view core).misses local.0 in
-    let taken = performed_in copy.state targets in
-    (misses : List Register)
-    × TakesTargets (side_at old.view core).misses misses local.0 taken
-    × (IsMissFile (side_at old.view core).misses → IsMissFile misses)
-    × (new ≡ record old {
-      view = after_settling old.view local core channel copy misses;
-      stats = after_message old.stats channel;
-      pending = old.pending - length taken;
-      ring = with_listed old.ring local.0;
-    })
-
--- the copy with the data that wait for the core
-abbrev pub filled_by : CacheCopy → Option DataMessage → CopyState → CacheCopy
-filled_by copy None next = record copy { state = next }
-filled_by copy (Some (replies.Data block acks)) next = filled copy block acks next
-filled_by copy (Some (replies.DataE block)) next = filled copy block 0 next
-
--- the core at a channel of a core
-abbrev pub core_of : Channel → CoreId
-core_of (channels.Req core) = core
-core_of (channels.Fwd core) = core
-core_of (channels.Data core) = core
-core_of (channels.Ack to from) = to
-core_of channels.Home = record { 0 = 0 }
-
--- What a delivery at a channel of a line answers and leaves, by what is planned.
-abbrev pub AfterPlan : Plan → PartsView → Local → Channel → Delivered → PartsView → Type 0
-AfterPlan plans.Nothing old local channel answer new = (answer ≡ delivered.Nothing) × (new ≡ old)
-AfterPlan plans.Blocked old local channel answer new = (answer ≡ delivered.Blocked) × (new ≡ old)
-AfterPlan (plans.Broken cell) old local channel answer new = (answer ≡ delivered.Broken cell) × (new ≡ old)
-AfterPlan (plans.Directory state owner sharers sent writes) old local channel answer new =
-    (answer ≡ delivered.Moved)
-    × Moves old local channel (after_directory old.view local (core_of channel) state owner sharers sent writes) new
-AfterPlan (plans.Home state owner sharers) old local channel answer new =
-    (answer ≡ delivered.Moved) × Moves old local channel (after_home old.view local state owner sharers) new
-AfterPlan (plans.Forwarded next sent requester) old local channel answer new =
-    (answer ≡ delivered.Moved)
-    × Moves old local channel (after_forwarded old.view local (core_of channel) next sent requester) new
-AfterPlan (plans.Fill place next) old local channel answer new =
-    let core = core_of channel in
-    (answer ≡ delivered.Moved)
-    × Settles old local core channel
-    (filled_by (array_copy (side_at old.view core) local) (core_at (channels_at old.view local) core.0).data next) new
-AfterPlan (plans.Acknowledge place next) old local channel answer new =
-    let core = core_of channel in
-    (answer ≡ delivered.Moved)
-    × Settles old local core channel (acknowledged (array_copy (side_at old.view core) local) next) new
-
--- the place of a line; where the slice hasn't the line nothing is planned, and nobody looks at the place
-abbrev pub local_in : Option Local → Local
-local_in None = record { 0 = 0 }
-local_in (Some local) = local
-
--- What a delivery answers and leaves: what is planned for the message in front of the pick is done.
-abbrev pub AfterDelivery : PartsView → Pick → Delivered → PartsView → Type 0
-AfterDelivery old pick answer new =
-    AfterPlan (planned_at old.view pick) old (local_in (local_at old.view.lines (line_of pick).0)) (channel_of pick) answer
-    new
+-- ---- the next delivery
 
 -- nothing is moved by this plan
 abbrev pub IsStuck : Plan → Type 0

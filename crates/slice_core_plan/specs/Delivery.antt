@@ -1,0 +1,170 @@
+-- A delivery: the message in front of a channel is taken, and the row of its table is done, the directory's or a cache's.
+-- The core's own parts in it are `after_advance`, `filled`, `acknowledged` and `after_settle` of `slice_core_side`
+-- (specs/Steps.antt).
+use Rattle.std.specs.Prelude.{◌≡◌, ℕ, ◌-◌, true, List, length, Option, Some, None, Bool, false, ◌++◌, unwrap_or, if◌then◌else◌}
+use Rattle.address_map.specs.Locator.{local_at}
+use Rattle.address_map.specs.declared.address.CoreId.{CoreId}
+use Rattle.address_map.specs.declared.address.Local.{Local}
+use Rattle.address_map.specs.declared.block.Block.{Block}
+use Rattle.cache_table.specs.declared.row.CacheSends.{CacheSends}
+use Rattle.cache_table.specs.declared.state.CopyState.{CopyState}
+use Rattle.directory_table.specs.declared.row.DirSends.{DirSends}
+use Rattle.directory_table.specs.declared.state.DirState.{DirState}
+use Rattle.mshr_file.specs.Miss.{targets_of, IsMissFile, TakesTargets}
+use Rattle.mshr_file.specs.declared.registers.Register.{Register}
+use Rattle.slice_core_answer.specs.Stats.{after_message}
+use Rattle.slice_core_answer.specs.declared.answer.Delivered.TheVariants as delivered
+use Rattle.slice_core_answer.specs.declared.answer.Delivered.{Delivered}
+use Rattle.slice_core_plan.specs.Plan.{planned_at}
+use Rattle.slice_core_plan.specs.Sends.{cache_sent, directory_sent}
+use Rattle.slice_core_plan.specs.Slice.{PartsView}
+use Rattle.slice_core_plan.specs.View.{View, channels_at, side_at, entry_at, first_word, with_channels, with_entry, with_side}
+use Rattle.slice_core_plan.specs.declared.decide.Plan.TheVariants as plans
+use Rattle.slice_core_plan.specs.declared.decide.Plan.{Plan}
+use Rattle.slice_core_side.specs.Perform.{performed_in, asks_to_write, entries_of}
+use Rattle.slice_core_side.specs.Side.{array_copy, copy_of}
+use Rattle.slice_core_side.specs.Steps as sides
+use Rattle.slice_core_side.specs.Steps.{acknowledged, filled}
+use Rattle.slice_core_side.specs.declared.copy.CacheCopy.{CacheCopy}
+use Rattle.slice_queues.specs.Line.{core_at, LineChannels, after_send, after_take}
+use Rattle.slice_queues.specs.Ring.{with_listed}
+use Rattle.slice_queues_message.specs.Pick.{channel_of, line_of}
+use Rattle.slice_queues_message.specs.declared.channel.Channel.TheVariants as channels
+use Rattle.slice_queues_message.specs.declared.channel.Channel.{Channel}
+use Rattle.slice_queues_message.specs.declared.channel.Pick.{Pick}
+use Rattle.slice_queues_message.specs.declared.message.DataMessage.TheVariants as replies
+use Rattle.slice_queues_message.specs.declared.message.DataMessage.{DataMessage}
+use Rattle.slice_queues_message.specs.declared.message.Message.TheVariants as messages
+use Rattle.slice_queues_message.specs.declared.message.RequestMessage.TheVariants as requests
+use Rattle.slice_queues_message.specs.declared.message.RequestMessage.{RequestMessage}
+
+-- ---- the directory
+
+-- the block that goes along with a request, which PutM alone has
+abbrev pub block_in : Block → Option RequestMessage → Block
+block_in home (Some (requests.PutM block)) = block
+block_in home _ = home
+
+-- The directory did its row for a core's request: the entry, the home copy where the row writes it, and what is sent.
+abbrev pub after_directory : View → Local → CoreId → DirState → Option CoreId → ℕ → DirSends → Bool → View
+after_directory v local core state owner sharers sent writes =
+    let entry = entry_at v local in
+    let line = channels_at v local in
+    let home = if writes then block_in entry.home (core_at line core.0).request else entry.home in
+    with_channels
+    (with_entry v local (record { home = home; sharers = sharers; owner = owner; state = state }))
+    local (directory_sent (after_take line (channels.Req core)) core entry.home sent)
+
+-- The block that came home is the home copy.
+abbrev pub after_home : View → Local → DirState → Option CoreId → ℕ → View
+after_home v local state owner sharers =
+    let entry = entry_at v local in
+    let line = channels_at v local in
+    with_channels
+    (with_entry v local
+    (record { home = unwrap_or line.home entry.home; sharers = sharers; owner = owner; state = state }))
+    local (after_take line channels.Home)
+
+-- ---- the caches
+
+-- The core did its row for a forwarded message: its copy went on, and what the row sends carries the copy's block.
+abbrev pub after_forwarded : View → Local → CoreId → CopyState → CacheSends → CoreId → View
+after_forwarded v local core next sent requester =
+    with_channels
+    (with_side v core (sides.after_advance (side_at v core) local next))
+    local
+    (cache_sent (after_take (channels_at v local) (channels.Fwd core)) core requester
+    (copy_of (side_at v core) local).block sent)
+
+-- the right to write is asked for, where a write is left
+abbrev pub asked_by : Bool → LineChannels → CoreId → LineChannels
+asked_by true line core = after_send line (channels.Req core) (messages.Request requests.GetM)
+asked_by false line core = line
+
+-- The core's copy has changed by a message of a channel: the targets that it allows now are performed and logged, and
+-- the right to write is asked for where a write is left.
+abbrev pub after_settling : View → Local → CoreId → Channel → CacheCopy → List Register → View
+after_settling v local core channel copy misses =
+    let side = sides.after_change (side_at v core) local copy in
+    let targets = targets_of side.misses local.0 in
+    let line = after_take (channels_at v local) channel in
+    record (with_channels (with_side v core (sides.after_settle side local (length v.log) misses)) local
+    (asked_by (asks_to_write copy.state targets) line core)) {
+      log = v.log ++ entries_of core (first_word v local) copy.block (performed_in copy.state targets);
+    }
+
+-- ---- what is counted, and what is answered
+
+-- a message of this channel of a line was taken: the view is another, the message is counted, and the line stands in
+-- the ring
+abbrev pub Moves : PartsView → Local → Channel → View → PartsView → Type 0
+Moves old local channel view new =
+    new
+    ≡ record old {
+      view = view;
+      stats = after_message old.stats channel;
+      ring = with_listed old.ring local.0;
+    }
+
+-- A message changed the core's copy: the targets that it allows are performed, and wait no more.
+abbrev pub Settles : PartsView → Local → CoreId → Channel → CacheCopy → PartsView → Type 0
+Settles old local core channel copy new =
+    let targets = targets_of (side_at old.view core).misses local.0 in
+    let taken = performed_in copy.state targets in
+    (misses : List Register)
+    × TakesTargets (side_at old.view core).misses misses local.0 taken
+    × (IsMissFile (side_at old.view core).misses → IsMissFile misses)
+    × (new ≡ record old {
+      view = after_settling old.view local core channel copy misses;
+      stats = after_message old.stats channel;
+      pending = old.pending - length taken;
+      ring = with_listed old.ring local.0;
+    })
+
+-- the copy with the data that wait for the core
+abbrev pub filled_by : CacheCopy → Option DataMessage → CopyState → CacheCopy
+filled_by copy None next = record copy { state = next }
+filled_by copy (Some (replies.Data block acks)) next = filled copy block acks next
+filled_by copy (Some (replies.DataE block)) next = filled copy block 0 next
+
+-- the core at a channel of a core
+abbrev pub core_of : Channel → CoreId
+core_of (channels.Req core) = core
+core_of (channels.Fwd core) = core
+core_of (channels.Data core) = core
+core_of (channels.Ack to from) = to
+core_of channels.Home = record { 0 = 0 }
+
+-- What a delivery at a channel of a line answers and leaves, by what is planned.
+abbrev pub AfterPlan : Plan → PartsView → Local → Channel → Delivered → PartsView → Type 0
+AfterPlan plans.Nothing old local channel answer new = (answer ≡ delivered.Nothing) × (new ≡ old)
+AfterPlan plans.Blocked old local channel answer new = (answer ≡ delivered.Blocked) × (new ≡ old)
+AfterPlan (plans.Broken cell) old local channel answer new = (answer ≡ delivered.Broken cell) × (new ≡ old)
+AfterPlan (plans.Directory state owner sharers sent writes) old local channel answer new =
+    (answer ≡ delivered.Moved)
+    × Moves old local channel (after_directory old.view local (core_of channel) state owner sharers sent writes) new
+AfterPlan (plans.Home state owner sharers) old local channel answer new =
+    (answer ≡ delivered.Moved) × Moves old local channel (after_home old.view local state owner sharers) new
+AfterPlan (plans.Forwarded next sent requester) old local channel answer new =
+    (answer ≡ delivered.Moved)
+    × Moves old local channel (after_forwarded old.view local (core_of channel) next sent requester) new
+AfterPlan (plans.Fill place next) old local channel answer new =
+    let core = core_of channel in
+    (answer ≡ delivered.Moved)
+    × Settles old local core channel
+    (filled_by (array_copy (side_at old.view core) local) (core_at (channels_at old.view local) core.0).data next) new
+AfterPlan (plans.Acknowledge place next) old local channel answer new =
+    let core = core_of channel in
+    (answer ≡ delivered.Moved)
+    × Settles old local core channel (acknowledged (array_copy (side_at old.view core) local) next) new
+
+-- the place of a line; where the slice hasn't the line nothing is planned, and nobody looks at the place
+abbrev pub local_in : Option Local → Local
+local_in None = record { 0 = 0 }
+local_in (Some local) = local
+
+-- What a delivery answers and leaves: what is planned for the message in front of the pick is done.
+abbrev pub AfterDelivery : PartsView → Pick → Delivered → PartsView → Type 0
+AfterDelivery old pick answer new =
+    AfterPlan (planned_at old.view pick) old (local_in (local_at old.view.lines (line_of pick).0)) (channel_of pick) answer
+    new

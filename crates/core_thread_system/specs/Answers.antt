@@ -6,7 +6,7 @@ use Rattle.address_map.specs.Place.{line_of, slice_of}
 use Rattle.address_map.specs.declared.config.Config.{Config}
 use Rattle.address_map.specs.declared.request.Request.{Request}
 use Rattle.core_thread_system.specs.Core.{CoreView, port_at, with_port}
-use Rattle.receipt_ledger.specs.Answers.{AfterReply, AfterRequest}
+use Rattle.receipt_ledger.specs.Answers.{AfterReply, AfterRequest, IsJudged}
 use Rattle.receipt_ledger.specs.declared.receipt.Answer.{Answer}
 use Rattle.receipt_ledger.specs.declared.receipt.Answer.TheVariants as answers
 use Rattle.receipt_ledger.specs.declared.receipt.Receipt.{Receipt}
@@ -43,6 +43,10 @@ AfterIssue c old request answer new =
 abbrev pub IsAtItsSlice : Result Answer Refused → Type 0
 IsAtItsSlice (Err refusals.WrongSlice) = ⊥
 IsAtItsSlice answer = Unit {0}
+
+-- Word, tag and access were judged as the slice that has the word judges them.
+abbrev pub IsJudgedThere : Config → Request → Result Answer Refused → Type 0
+IsJudgedThere c request answer = IsJudged c (slice_of c (line_of request.word)).0 request answer
 
 -- A reply was handed out: it is the receipt's slice whose port has one more receipt, the receipt's tag is no longer in
 -- flight, and the slice after it is asked first the next time.

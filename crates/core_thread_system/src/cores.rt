@@ -1,7 +1,7 @@
 ghost use Rattle.std.specs.Prelude.{◌≡◌, ◌+◌, ◌<◌, ◌≤◌, ◌%◌, Err, None, IfSome, OnErr, OnOk};
-ghost use Rattle.core_thread_system.specs.Answers.{AfterCollect, AfterIssue, IsAtItsSlice, refusal_of, tags_after};
+ghost use Rattle.core_thread_system.specs.Answers.{AfterCollect, AfterIssue, IsAtItsSlice, IsJudgedThere, refusal_of, tags_after};
 ghost use Rattle.core_thread_system.specs.Core.{accepted_of, asked_of, core_of, port_at, receipts_of, with_port};
-ghost use Rattle.receipt_ledger.specs.Answers.{AfterReply, AfterRequest, PlacesWord};
+ghost use Rattle.receipt_ledger.specs.Answers.{AfterReply, AfterRequest, IsJudged};
 ghost use Rattle.receipt_ledger.specs.Port.{AreOwn, with_seen};
 ghost use Rattle.slice_core.specs.Facts.{IsNotBrokenNext};
 ghost use Rattle.slice_core_answer.specs.declared.answer.Evicted.TheVariants.{NotHeld};
@@ -163,6 +163,7 @@ impl<'a, F: MissFile, M: SystemNames> Core<'a, F, M> {
     /// slice are refused, in this order, and no slice is asked.
     pub fn issue<R: Wait>(&mut self, rt: &R, request: Request) -> Result<Answer, Refused>
         ensures core { AfterIssue M.setup self.old request result self.new }
+        ensures judged { IsJudgedThere M.setup request result }
         ensures slice { IsAtItsSlice result }
     {
         if let Some(refused) = self.refusal(request) {
@@ -180,6 +181,7 @@ impl<'a, F: MissFile, M: SystemNames> Core<'a, F, M> {
     #[tactic(auto, unfolding(crate::specs::Answers::refusal_of))]
     fn refusal(&self, request: Request) -> Option<Refused>
         ensures first { result ≡ refusal_of M.setup self.now.tags request }
+        ensures judged { IfSome result (λ refused. IsJudgedThere M.setup request (Err refused)) }
         ensures slice { IfSome result (λ refused. IsAtItsSlice (Err refused)) }
     {
         if request.word.0 >= self.system.words() {
@@ -197,7 +199,7 @@ impl<'a, F: MissFile, M: SystemNames> Core<'a, F, M> {
     fn ask<R: Wait>(&mut self, rt: &R, slice: SliceId, request: Request) -> Result<Answer, Refused>
         requires { slice.0 < M.setup.slices }
         ensures port { AfterRequest (port_at self.old slice.0) request result (port_at self.new slice.0) }
-        ensures word { PlacesWord M.setup slice.0 request.word result }
+        ensures judged { IsJudged M.setup slice.0 request result }
         ensures others { self.new ≡ with_port self.old slice.0 (port_at self.new slice.0) }
     {
         at_slice!(self, slice, |at, port| at.issue(rt, port, request))

@@ -1,7 +1,7 @@
--- Where the word of a request lies, by what a slice answers.
-use Rattle.std.proofs.Common.{◌≡◌, ◌≢◌, ℕ, ◌*◌, ◌/◌, ◌%◌, ◌<◌, ◌≤◌, Bool, true, false, not, if◌then◌else◌, Ok, Err, Result, Option, Some, None, inl, inr, refl, sym, subst, arith}
+-- What a slice answers says where the request's word lies, and of its tag and its access what configuration and request say.
+use Rattle.std.proofs.Common.{◌≡◌, ℕ, ◌*◌, ◌/◌, ◌%◌, ◌<◌, ◌≤◌, Bool, true, false, not, if◌then◌else◌, List, Ok, Err, Result, Option, Some, None, inl, inr, refl, sym, subst, arith}
 use Rattle.std.specs.Prelude.{◌==◌, ◌&&◌, nat_lt, IsSome}
-use Rattle.std.proofs.lemmas.Bool.{false_from_ne_true, leb-false, leb-true}
+use Rattle.std.proofs.lemmas.Bool.{false_from_ne_true, leb-false, leb-true, ltb-false, ltb-true}
 use Rattle.std.proofs.lemmas.Nat.{div-add-mod'}
 use Rattle.address_map.specs.Config.{IsAllowed, word_count}
 use Rattle.address_map.specs.Locator.{Lines, is_past, lines_of, local_at}
@@ -12,11 +12,12 @@ use Rattle.address_map.specs.declared.address.WordAddr.{WordAddr}
 use Rattle.address_map.specs.declared.config.Config.{Config}
 use Rattle.address_map.specs.declared.request.Request.{Request}
 use Rattle.receipt_ledger.proofs.Values.{word-here}
-use Rattle.receipt_ledger.specs.Answers.{PlacesWord}
+use Rattle.receipt_ledger.specs.Answers.{IsAtSlice, IsJudged}
+use Rattle.receipt_ledger.specs.Booked.{stores_to}
+use Rattle.receipt_shares.specs.Names.{counters_of}
 use Rattle.slice_core_answer.specs.declared.answer.Issue.{Issue}
 use Rattle.slice_core_answer.specs.declared.answer.Refused.{Refused}
 use Rattle.slice_core_answer.specs.declared.answer.Refused.TheVariants as refusals
-use Rattle.slice_core_plan.specs.Decision.{decision_at, is_counter, overwrites}
 use Rattle.slice_core_plan.specs.Initial.{is_of_slice}
 use Rattle.slice_core_plan.specs.Parts.{PartsView, AfterAccess, AfterIssue}
 use Rattle.slice_core_plan.specs.View.{side_at}
@@ -70,45 +71,40 @@ module _ (c : Config) (number : ℕ) where
         omega (arith, before, whole, even)
 
   -- What was judged in the slice is of a word of its own.
-  abbrev IsHere : WordAddr → Type 0
-  IsHere word = (word.0 < word_count c) × (is_of_slice c number word ≡ true)
+  abbrev IsHere : Request → Type 0
+  IsHere request = IsAtSlice c number request.word
 
-  judged : (word : WordAddr) (answer : Result Issue Refused) → IsHere word → answer ≢ Err refusals.OutOfRange
-      → answer ≢ Err refusals.WrongSlice → PlacesWord c number word answer
-  judged word (Ok issue) here range slice = here
-  judged word (Err refusals.OutOfRange) here range slice = absurd (range refl)
-  judged word (Err refusals.WrongSlice) here range slice = absurd (slice refl)
-  judged word (Err refusals.Memory) here range slice = tt
-  judged word (Err (refusals.Ahead length)) here range slice = tt
-  judged word (Err refusals.TagRange) here range slice = here
-  judged word (Err refusals.TagBusy) here range slice = here
-  judged word (Err refusals.CounterStore) here range slice = here
+  -- what configuration and request say of an answer
+  abbrev Says : Request → Result Issue Refused → Type 0
+  Says request answer = IsJudged c number request answer
 
-  module _ (old : PartsView) (core : CoreId) (request : Request) (answer : Result Issue Refused) (new : PartsView)
-      (here : IsHere request.word) where
-    refused : (why : Refused) → answer ≡ Err why → why ≢ refusals.OutOfRange → why ≢ refusals.WrongSlice
-        → PlacesWord c number request.word answer
-    refused why is range slice =
-        judged request.word answer here (λ other. range (cc (is, other))) (λ other. slice (cc (is, other)))
+  -- Where neither word nor tag nor access is refused, any answer may come but a refusal of these.
+  abbrev IsFit : Request → Type 0
+  IsFit request =
+      IsHere request × (request.tag < 64)
+      × (stores_to (counters_of c number) request.op request.word ≡ false)
 
-    accepted : (issue : Issue) → answer ≡ Ok issue → PlacesWord c number request.word answer
-    accepted issue is =
-        judged request.word answer here (λ other. absurd (cc (is, other))) (λ other. absurd (cc (is, other)))
+  module _ (old : PartsView) (core : CoreId) (request : Request) (answer : Result Issue Refused) (new : PartsView) where
+    accepted : IsFit request → (issue : Issue) → answer ≡ Ok issue → Says request answer
+    accepted fit issue is = subst (Says request) (sym is) fit
 
-    accessed : (local : Local) (access : Access) → AfterAccess access old core request local answer new
-        → PlacesWord c number request.word answer
-    accessed local (accesses.Stall stall) after = accepted _ after.0
-    accessed local (accesses.Hit place next silent) after = elim after [
-      | inl lacks ↦ refused refusals.Memory lacks.refused (λ is. absurd (cc)) (λ is. absurd (cc))
-      | inr is ↦ accepted _ is.4
+    lacking : answer ≡ Err refusals.Memory → Says request answer
+    lacking is = subst (Says request) (sym is) tt
+
+    accessed : IsFit request → (local : Local) (access : Access) → AfterAccess access old core request local answer new
+        → Says request answer
+    accessed fit local (accesses.Stall stall) after = accepted fit _ after.0
+    accessed fit local (accesses.Hit place next silent) after = elim after [
+      | inl lacks ↦ lacking lacks.refused
+      | inr is ↦ accepted fit _ is.4
     ]
-    accessed local accesses.Join after = elim after [
-      | inl lacks ↦ refused refusals.Memory lacks.refused (λ is. absurd (cc)) (λ is. absurd (cc))
-      | inr is ↦ accepted _ is.4
+    accessed fit local accesses.Join after = elim after [
+      | inl lacks ↦ lacking lacks.refused
+      | inr is ↦ accepted fit _ is.4
     ]
-    accessed local (accesses.Open next ask way) after = elim after [
-      | inl lacks ↦ refused refusals.Memory lacks.refused (λ is. absurd (cc)) (λ is. absurd (cc))
-      | inr is ↦ accepted _ is.4
+    accessed fit local (accesses.Open next ask way) after = elim after [
+      | inl lacks ↦ lacking lacks.refused
+      | inr is ↦ accepted fit _ is.4
     ]
 
     -- what an issue answers and leaves, by what was decided
@@ -116,52 +112,60 @@ module _ (c : Config) (number : ℕ) where
     by_decision (decisions.Refuse why) = (answer ≡ Err why) × (new ≡ old)
     by_decision (decisions.Access local access) = AfterAccess access old core request local answer new
 
-    tested : (range busy counter : Bool) (local : Local) (access : Access)
-        → by_decision (if range then decisions.Refuse refusals.TagRange else if busy then decisions.Refuse refusals.TagBusy
+    -- In the slice the tag is judged, and then what is done to a counter.
+    tested : IsHere request → (small busy counter : Bool) → nat_lt request.tag 64 ≡ small
+        → stores_to (counters_of c number) request.op request.word ≡ counter → (local : Local) (access : Access)
+        → by_decision (if not small then decisions.Refuse refusals.TagRange
+        else if busy then decisions.Refuse refusals.TagBusy
         else if counter then decisions.Refuse refusals.CounterStore else decisions.Access local access)
-        → PlacesWord c number request.word answer
-    tested true busy counter local access after =
-        refused refusals.TagRange after.0 (λ is. absurd (cc)) (λ is. absurd (cc))
-    tested false true counter local access after =
-        refused refusals.TagBusy after.0 (λ is. absurd (cc)) (λ is. absurd (cc))
-    tested false false true local access after =
-        refused refusals.CounterStore after.0 (λ is. absurd (cc)) (λ is. absurd (cc))
-    tested false false false local access after = accessed local access after
+        → Says request answer
+    tested here false busy counter range stores local access after =
+        subst (Says request) (sym after.0) (here, ltb-false request.tag 64 range)
+    tested here true true counter range stores local access after =
+        subst (Says request) (sym after.0) (here, ltb-true request.tag 64 range)
+    tested here true false true range stores local access after =
+        subst (Says request) (sym after.0) (here, ltb-true request.tag 64 range, stores)
+    tested here true false false range stores local access after =
+        accessed (here, ltb-true request.tag 64 range, stores) local access after
 
-  module _ (old : PartsView) (core : CoreId) (request : Request) (answer : Result Issue Refused) (new : PartsView)
-      (allowed : IsAllowed c) where
     -- what is decided once the line's place was looked up
-    abbrev by_place : Option Local → Decision
-    by_place None = decisions.Refuse refusals.WrongSlice
-    by_place (Some local) = decision_at old.view core request local
+    abbrev by_place : List WordAddr → Option Local → Decision
+    by_place counters None = decisions.Refuse refusals.WrongSlice
+    by_place counters (Some local) =
+        if not (nat_lt request.tag 64) then decisions.Refuse refusals.TagRange
+        else if not (is_free (tag_at (side_at old.view core) request.tag)) then decisions.Refuse refusals.TagBusy
+        else if stores_to counters request.op request.word then decisions.Refuse refusals.CounterStore
+        else decisions.Access local (access_of (side_at old.view core) local request.tag request.op)
 
-    abbrev by_decision_of : Decision → Type 0
-    by_decision_of (decisions.Refuse why) = (answer ≡ Err why) × (new ≡ old)
-    by_decision_of (decisions.Access local access) = AfterAccess access old core request local answer new
-
-    placed : (past : Bool) (found : Option Local) → is_past own request.word ≡ past
+    placed : IsAllowed c → (past : Bool) (found : Option Local) → is_past own request.word ≡ past
         → local_at own (line_of request.word).0 ≡ found
-        → by_decision_of (if past then decisions.Refuse refusals.OutOfRange else by_place found)
-        → PlacesWord c number request.word answer
-    placed true found out at after =
-        subst (PlacesWord c number request.word) (sym after.0) (past-out allowed request.word out)
-    placed false None inside at after =
+        → by_decision (if past then decisions.Refuse refusals.OutOfRange else by_place (counters_of c number) found)
+        → Says request answer
+    placed allowed true found out at after =
+        subst (Says request) (sym after.0) (past-out allowed request.word out)
+    placed allowed false None inside at after =
         let below = past-within allowed request.word inside in
-        subst (PlacesWord c number request.word) (sym after.0) (below, nowhere-own allowed request.word below at)
-    placed false (Some local) inside at after =
-        tested old core request answer new (past-within allowed request.word inside, here-own request.word local at)
-        (not (nat_lt request.tag 64)) (not (is_free (tag_at (side_at old.view core) request.tag)))
-        (overwrites request.op && is_counter old.view request.word) local
+        subst (Says request) (sym after.0) (below, nowhere-own allowed request.word below at)
+    placed allowed false (Some local) inside at after =
+        tested (record { within = past-within allowed request.word inside; own = here-own request.word local at })
+        (nat_lt request.tag 64) (not (is_free (tag_at (side_at old.view core) request.tag)))
+        (stores_to (counters_of c number) request.op request.word) refl refl local
         (access_of (side_at old.view core) local request.tag request.op) after
 
-    -- The answer says where the word lies.
-    pub issued-places : old.view.lines ≡ own → AfterIssue old core request answer new
-        → PlacesWord c number request.word answer
-    issued-places lines after =
-        placed (is_past own request.word) (local_at own (line_of request.word).0) refl refl
+    -- An answer is judged by its word, its tag and its access.
+    pub issued-judged : IsAllowed c → old.view.lines ≡ own → old.view.counters ≡ counters_of c number
+        → AfterIssue old core request answer new → Says request answer
+    issued-judged allowed lines counters after =
+        placed allowed (is_past own request.word) (local_at own (line_of request.word).0) refl refl
         (subst
         (λ (l : Lines).
-        by_decision_of
+        by_decision
         (if is_past l request.word then decisions.Refuse refusals.OutOfRange
-        else by_place (local_at l (line_of request.word).0)))
-        lines after)
+        else by_place (counters_of c number) (local_at l (line_of request.word).0)))
+        lines
+        (subst
+        (λ (words : List WordAddr).
+        by_decision
+        (if is_past old.view.lines request.word then decisions.Refuse refusals.OutOfRange
+        else by_place words (local_at old.view.lines (line_of request.word).0)))
+        counters after))

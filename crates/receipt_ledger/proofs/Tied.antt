@@ -8,8 +8,8 @@ use Rattle.address_map.specs.declared.address.CoreId.{CoreId}
 use Rattle.address_map.specs.declared.config.Config.{Config}
 use Rattle.address_map.specs.declared.request.Request.{Request}
 use Rattle.receipt_ledger.proofs.Booked.{accept-booked, hand-booked, perform-booked, performs-booked, same-booked}
-use Rattle.receipt_ledger.proofs.Issued.{issued-last, issued-spares}
-use Rattle.receipt_ledger.proofs.Placed.{issued-places}
+use Rattle.receipt_ledger.proofs.Issued.{issued-last}
+use Rattle.receipt_ledger.proofs.Placed.{issued-judged}
 use Rattle.receipt_ledger.specs.Booked.{IsServed, IsTied, stores_to}
 use Rattle.receipt_ledger.specs.Port.{IsEntryOf}
 use Rattle.receipt_ledger.specs.Slice.{IsBuiltAs, IsSliceOf}
@@ -94,12 +94,14 @@ module _ (c : Config) (number : ℕ) (t : Totals) (old new : PartsView) (tied : 
     -- It is to a word of the slice, and stores to none of the configured counters.
     pub served-by : (issue : Issue) → AfterIssue old core request (Ok issue) new
         → IsServed c number request.op request.word
-    served-by issue step = record {
-      own = (issued-places c number old core request (Ok issue) new tied.slice.allowed tied.slice.lines step).1;
-      spares =
-          subst (λ words. stores_to words request.op request.word ≡ false) tied.slice.counters
-          (issued-spares old core request issue new step);
-    }
+    served-by issue step =
+        let slice = tied.slice in
+        let fit =
+        issued-judged c number old core request (Ok issue) new slice.allowed slice.lines slice.counters step in
+        record {
+          own = fit.0.own;
+          spares = fit.2;
+        }
 
     -- A request that is pending is one more that was accepted.
     pub pending-tied : (seq : ℕ) → AfterIssue old core request (Ok (issues.Pending seq)) new → IsSameSlice old new

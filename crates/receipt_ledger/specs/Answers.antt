@@ -6,10 +6,12 @@ use Rattle.address_map.specs.declared.address.SliceId.{SliceId}
 use Rattle.address_map.specs.declared.address.WordAddr.{WordAddr}
 use Rattle.address_map.specs.declared.config.Config.{Config}
 use Rattle.address_map.specs.declared.request.Request.{Request}
+use Rattle.receipt_ledger.specs.Booked.{stores_to}
 use Rattle.receipt_ledger.specs.Port.{PortView, IsWithRoom, with_receipt, with_request}
 use Rattle.receipt_ledger.specs.declared.receipt.Answer.{Answer}
 use Rattle.receipt_ledger.specs.declared.receipt.Answer.TheVariants as answers
 use Rattle.receipt_ledger.specs.declared.receipt.Receipt.{Receipt}
+use Rattle.receipt_shares.specs.Names.{counters_of}
 use Rattle.receipt_shares.specs.Totals.{Totals, only_handed, together}
 use Rattle.slice_core_answer.specs.declared.answer.Issue.{Issue}
 use Rattle.slice_core_answer.specs.declared.answer.Issue.TheVariants as issues
@@ -77,14 +79,28 @@ abbrev pub IsShortOf : ℕ → Refused → Type 0
 IsShortOf seen (refusals.Ahead length) = length < seen
 IsShortOf seen refused = Unit {0}
 
--- What the answer says of where the word lies: past the memory, in another slice, or, where the slice judged it, in the
--- slice of this number.
-abbrev pub PlacesWord : {X : Type 0} → Config → ℕ → WordAddr → Result X Refused → Type 0
-PlacesWord {X} c number word (Err refusals.OutOfRange) = word_count c ≤ word.0
-PlacesWord {X} c number word (Err refusals.WrongSlice) = (word.0 < word_count c) × (is_of_slice c number word ≡ false)
-PlacesWord {X} c number word (Err refusals.Memory) = Unit {0}
-PlacesWord {X} c number word (Err (refusals.Ahead length)) = Unit {0}
-PlacesWord {X} c number word answer = (word.0 < word_count c) × (is_of_slice c number word ≡ true)
+-- The word is one of the memory, and in a line of the slice of this number.
+pub record IsAtSlice (c : Config) (number : ℕ) (word : WordAddr) : Type 0 where
+  pub within : word.0 < word_count c
+  pub own : is_of_slice c number word ≡ true
+
+-- What configuration and request alone say of an answer of the slice of this number. A request is judged in this order:
+-- whether its word lies past the memory, or in another slice; whether its tag is above 63, or in flight; and whether it
+-- stores to a counter. Want of memory, or a log that is too short, may be told in place of any of these.
+abbrev pub IsJudged : {X : Type 0} → Config → ℕ → Request → Result X Refused → Type 0
+IsJudged {X} c number request (Err refusals.OutOfRange) = word_count c ≤ request.word.0
+IsJudged {X} c number request (Err refusals.WrongSlice) =
+    (request.word.0 < word_count c) × (is_of_slice c number request.word ≡ false)
+IsJudged {X} c number request (Err refusals.TagRange) = IsAtSlice c number request.word × (64 ≤ request.tag)
+IsJudged {X} c number request (Err refusals.TagBusy) = IsAtSlice c number request.word × (request.tag < 64)
+IsJudged {X} c number request (Err refusals.CounterStore) =
+    IsAtSlice c number request.word × (request.tag < 64)
+    × (stores_to (counters_of c number) request.op request.word ≡ true)
+IsJudged {X} c number request (Err refusals.Memory) = Unit {0}
+IsJudged {X} c number request (Err (refusals.Ahead length)) = Unit {0}
+IsJudged {X} c number request (Ok answer) =
+    IsAtSlice c number request.word × (request.tag < 64)
+    × (stores_to (counters_of c number) request.op request.word ≡ false)
 
 -- What a port has after a request that was answered so: what is accepted is counted, and what is done at once is
 -- handed out.

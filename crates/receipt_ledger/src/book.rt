@@ -1,7 +1,7 @@
 ghost use Rattle.std.specs.Prelude.{◌≡◌, ◌<◌, ◌↔◌, length, slice_get, IfErr, IfSome, IsOk, IsTrue, OnErr, OnOk, Some};
 ghost use Rattle.receipt_ledger.specs.Answers.{AfterAsking, AfterReply, AfterRequest, AsksFor, AsksReply, AsksSlice};
-ghost use Rattle.receipt_ledger.specs.Answers.{IsGenuine, IsGenuineAnswer, IsGenuineLast, IsGiven, IsKnown, IsShortOf};
-ghost use Rattle.receipt_ledger.specs.Answers.{PlacesWord, answer_steps, reply_steps};
+ghost use Rattle.receipt_ledger.specs.Answers.{IsGenuine, IsGenuineAnswer, IsGenuineLast, IsGiven, IsJudged, IsKnown, IsShortOf};
+ghost use Rattle.receipt_ledger.specs.Answers.{answer_steps, reply_steps};
 ghost use Rattle.receipt_ledger.specs.Booked.{IsTied};
 ghost use Rattle.receipt_ledger.specs.Port.{HasRoom, IsEntryOf, with_request, with_seen};
 ghost use Rattle.receipt_shares.specs.Names.{counters_of};
@@ -55,7 +55,7 @@ impl<N: SliceNames> Book<N> {
         ensures slice { AsksSlice state.old port.old request result state.new }
         ensures port { AfterRequest port.old request result port.new }
         ensures ahead { IfErr result (IsShortOf port.old.seen) }
-        ensures word { PlacesWord N.setup N.number request.word result }
+        ensures judged { IsJudged N.setup N.number request result }
         ensures genuine { IsGenuineAnswer state.new.view.log result }
         ensures machine { Leads (answer_steps (next_of state.old.view port.old.core request) result) state.old.view state.new.view }
         ensures same { IsSameSlice state.old state.new }
@@ -79,7 +79,7 @@ impl<N: SliceNames> Book<N> {
         ensures slice { AsksFor state.old port.old request result state.new }
         ensures port { AfterAsking port.old request result port.new }
         ensures ahead { IfErr result (IsShortOf port.old.seen) }
-        ensures word { PlacesWord N.setup N.number request.word result }
+        ensures judged { IsJudged N.setup N.number request result }
         ensures genuine { IsGenuineLast state.new.view.log result port.new }
         ensures machine { Leads (issue_steps (next_of state.old.view port.old.core request) result) state.old.view state.new.view }
         ensures same { IsSameSlice state.old state.new }

@@ -1,5 +1,5 @@
 ghost use Rattle.std.specs.Prelude.{◌≡◌, ◌<◌, ◌↔◌, length, map, IfErr, IfOk, IsOk, IsTrue, OnErr, OnOk};
-ghost use Rattle.receipt_ledger.specs.Answers.{AfterAsking, AfterReply, AsksFor, AsksReply, IsKnown, IsShortOf, PlacesWord};
+ghost use Rattle.receipt_ledger.specs.Answers.{AfterAsking, AfterReply, AsksFor, AsksReply, IsJudged, IsKnown, IsShortOf};
 ghost use Rattle.receipt_ledger.specs.Port.{with_seen};
 ghost use Rattle.slice_core.specs.Facts.{IsNotBroken, IsNotBrokenNext};
 ghost use Rattle.slice_core_plan.specs.Parts.{AfterDeliverNext, AfterDelivery, AfterEvict};
@@ -41,7 +41,7 @@ impl<F: MissFile, N: SliceNames> Booked<F, N> {
         ensures slice { AsksFor self.old.state port.old request result self.new.state }
         ensures port { AfterAsking port.old request result port.new }
         ensures ahead { IfErr result (IsShortOf port.old.seen) }
-        ensures word { PlacesWord N.setup N.number request.word result }
+        ensures judged { IsJudged N.setup N.number request result }
     {
         self.book.ask(&mut self.state, port, request)
     }

@@ -1,5 +1,5 @@
 ghost use Rattle.std.specs.Prelude.{◌≡◌, ◌<◌, ◌≤◌, length, map, IfErr, IfOk, None, OnErr, OnOk};
-ghost use Rattle.receipt_ledger.specs.Answers.{AfterReply, AfterRequest, IsShortOf, PlacesWord};
+ghost use Rattle.receipt_ledger.specs.Answers.{AfterReply, AfterRequest, IsJudged, IsShortOf};
 ghost use Rattle.receipt_ledger.specs.Port.{AreFreshPorts, with_seen};
 ghost use Rattle.receipt_shares.specs.Names.{AreLedgersOf};
 ghost use Rattle.slice_core.specs.Facts.{Holds, IsNotBroken, IsNotBrokenNext};
@@ -72,7 +72,7 @@ impl<F: MissFile, N: SliceNames> Slice<F, N> {
     ) -> Result<Answer, Refused>
         ensures port { AfterRequest port.old request result port.new }
         ensures ahead { IfErr result (IsShortOf port.old.seen) }
-        ensures word { PlacesWord N.setup N.number request.word result }
+        ensures judged { IsJudged N.setup N.number request result }
     {
         let issue = self.booked.lock(rt).ask(port, request)?;
         // The lock is free here: the receipt is copied from the port alone.

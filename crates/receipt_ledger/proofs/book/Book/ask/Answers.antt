@@ -1,8 +1,9 @@
 use Rattle.std.proofs.Common.{ap, refl, subst, sym, ◌∙◌}
-use Rattle.receipt_ledger.proofs.Placed.{issued-places}
+use Rattle.receipt_ledger.proofs.Last.{last-pushed}
+use Rattle.receipt_ledger.proofs.Placed.{issued-judged}
 use Rattle.receipt_ledger.proofs.Ports.{with-room}
 use Rattle.receipt_ledger.proofs.Tied.{done-last, done-own, done-tied, pending-tied, same-tied}
-use Rattle.receipt_ledger.specs.Answers.{receipt_of}
+use Rattle.receipt_ledger.specs.Answers.{IsGenuine, IsLastOf, receipt_of}
 use Rattle.receipt_ledger.specs.Booked.{IsTied}
 use Rattle.receipt_ledger.specs.Port.{IsEntryOf, PortView, with_receipt, with_request}
 use Rattle.receipt_ledger.specs.declared.receipt.Receipt.{Receipt}
@@ -27,10 +28,25 @@ give-requires-clause-own g c e there =
     (done-own setup number c.args.self.now c.args.state.now c.issue.new.self c.requires c.core.result c.args.request
     c.in-Ok-Done.number told.step told.machine e there)
 
-pub returns-in-Err-clause-word : goal.returns-in-Err-clause-word
-returns-in-Err-clause-word g c =
-    issued-places g.N.SliceNames.setup g.N.SliceNames.number c.args.state.now c.core.result c.args.request _
-    c.issue.new.self c.requires.slice.allowed c.requires.slice.lines c.in-Err.ensures.step
+pub returns-in-Err-clause-judged : goal.returns-in-Err-clause-judged
+returns-in-Err-clause-judged g c =
+    issued-judged g.N.SliceNames.setup g.N.SliceNames.number c.args.state.now c.core.result c.args.request _
+    c.issue.new.self c.requires.slice.allowed c.requires.slice.lines c.requires.slice.counters c.in-Err.ensures.step
+
+pub returns-in-Ok-Done-clause-judged : goal.returns-in-Ok-Done-clause-judged
+returns-in-Ok-Done-clause-judged g c =
+    let told = rw c.in-Ok-Done.field-0-is at c.in-Ok-Done.ensures in
+    issued-judged g.N.SliceNames.setup g.N.SliceNames.number c.args.state.now c.core.result c.args.request _
+    c.issue.new.self c.requires.slice.allowed c.requires.slice.lines c.requires.slice.counters told.step
+
+pub returns-in-Ok-Done-clause-genuine : goal.returns-in-Ok-Done-clause-genuine
+returns-in-Ok-Done-clause-genuine g c last is =
+    let same =
+    last-pushed c.count.new.port.receipts
+    (receipt_of c.count.new.port.slice (record { number = c.in-Ok-Done.number; entry = c.give.ensures.entry })) last
+    (subst (λ (p : PortView). IsLastOf p.receipts last) c.give.ensures.port is)
+    in
+    subst (IsGenuine c.issue.new.self.view.log) (sym same) c.give.ensures.there
 
 pub returns-in-Ok-Done-clause-port : goal.returns-in-Ok-Done-clause-port
 returns-in-Ok-Done-clause-port g c =

@@ -113,7 +113,7 @@ const fn needs_exclusive(state: CopyState, event: CacheEvent) -> bool
 }
 
 /// What is done where a row goes on: an access that sends nothing is a hit, and an acknowledgement is counted.
-const fn text_of_deed(event: CacheEvent, sends: CacheSends) -> &'static str
+pub const fn text_of_deed(event: CacheEvent, sends: CacheSends) -> &'static str
     ensures { result.now ≡ text_of_deed event sends }
 {
     match (event, sends) {

@@ -1,7 +1,8 @@
 //! What the program `lockup` does: it reads its command line, and runs the texts that this names.
 //!
 //! - [`read_line`] reads what the program's own words ask for.
-//! - [`run_script`] runs a script, and [`run_chart`] draws its run as a sequence diagram.
+//! - [`run_script`] runs a script, [`run_explained`] tells what happened behind each answer, and [`run_chart`] draws its
+//!   run as a sequence diagram.
 //! - [`run_litmus`] runs a litmus test over threads, and [`run_walk`] on random schedules without any; each counts the
 //!   outcomes, and tells a [`Progress`] how far it is. [`write_walk`] prints a round of such a schedule as a script.
 //! - [`run_check`] judges a trace, and writes what it comes to.
@@ -15,6 +16,7 @@ pub use litmus_chart::run_chart;
 pub use litmus_command_line::{CommandLine, Table, read_line};
 pub use litmus_script::run_script;
 pub use litmus_test::Progress;
+pub use script_explained::run_explained;
 pub use table::run_table;
 pub use tests::{run_litmus, run_walk, write_walk};
 

@@ -2,9 +2,9 @@ ghost use Rattle.std.specs.Prelude.{◌≡◌};
 ghost use Rattle.litmus_chart.specs.Chart.{receiver_of, sender_of};
 
 use address_map::{CoreId, LineAddr};
-use litmus_script::MessageName;
 use slice_core::{Cell, Message, Pick};
 use std::fmt;
+use step_text::MessageName;
 
 /// Who takes part in a chart.
 #[derive(Clone, Copy, Debug, PartialEq, Eq)]

@@ -1,10 +1,11 @@
 use super::arrow::Participant;
 use address_map::{Checked, CoreId, CoreSet, LineAddr};
-use litmus_script::{Answers, write_sharers};
+use litmus_script::Answers;
 use litmus_text::Statement;
 use slice_core::LineView;
 use std::fmt::{Display, Write};
 use std::{fmt, io};
+use step_text::Cores;
 
 /// Writes who takes part: the directory of each slice, and then each core.
 pub fn write_participants<W: Write>(config: &Checked, out: &mut W) -> fmt::Result {
@@ -117,8 +118,7 @@ fn write_entry_change<W: Write>(
 
 fn end_with_sharers<W: Write>(sharers: CoreSet, out: &mut W) -> fmt::Result {
     if !sharers.is_empty() {
-        write!(out, ", sharers ")?;
-        write_sharers(sharers, out)?;
+        write!(out, ", sharers {}", Cores(sharers))?;
     }
     writeln!(out)
 }

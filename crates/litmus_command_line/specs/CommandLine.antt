@@ -29,7 +29,8 @@ flag_rule name = record (new_rule name) { long = Some name; action = Some SetTru
 
 -- the subcommand that runs a script
 abbrev pub script_app : App
-script_app = with_rule (with_rule (new_app (codes "script")) file_rule) (flag_rule (codes "echo"))
+script_app =
+    with_rule (with_rule (with_rule (new_app (codes "script")) file_rule) (flag_rule (codes "echo"))) (flag_rule (codes "explain"))
 
 -- the subcommand that draws the run of a script
 abbrev pub chart_app : App
@@ -128,8 +129,9 @@ IsNumberIfGiven name rows (Some n) = IsNumberOf name rows n
 
 -- the subcommand of this name, with these values, is what the line holds
 abbrev pub IsLine : Text → List Row → CommandLine → Type 0
-IsLine name rows (lines.Script file echo) =
+IsLine name rows (lines.Script file echo explain) =
     (name ≡ codes "script") × (first_of (codes "FILE") rows ≡ Some file.now) × (echo ≡ is_given (codes "echo") rows)
+    × (explain ≡ is_given (codes "explain") rows)
 IsLine name rows (lines.Chart file) = (name ≡ codes "chart") × (first_of (codes "FILE") rows ≡ Some file.now)
 IsLine name rows (lines.Litmus file seed limit) =
     (name ≡ codes "litmus") × (first_of (codes "FILE") rows ≡ Some file.now)

@@ -14,10 +14,12 @@ use std::alloc::{AllocError, Global};
 /// What the program's command line asks for.
 #[derive(Clone, Copy, Debug, PartialEq, Eq)]
 pub enum CommandLine<'a> {
-    /// Run the script in this file. With `echo`, print each command's line before its answer.
+    /// Run the script in this file. With `echo`, print each command's line before its answer; with `explain`, what
+    /// happened behind it.
     Script {
         file: &'a str,
         echo: bool,
+        explain: bool,
     },
     /// Draw the run of the script in this file.
     Chart {
@@ -91,7 +93,12 @@ fn script_line<'a>(given: &ArgMatches<'a>) -> Option<CommandLine<'a>>
 {
     let file = file_of(given)?;
     let echo = is_given(given, "echo");
-    Some(CommandLine::Script { file, echo })
+    let explain = is_given(given, "explain");
+    Some(CommandLine::Script {
+        file,
+        echo,
+        explain,
+    })
 }
 
 fn chart_line<'a>(given: &ArgMatches<'a>) -> Option<CommandLine<'a>>
@@ -214,7 +221,8 @@ fn script<'a>(alloc: Global) -> Result<Command<'a>, AllocError>
         .about("Runs a script on the state of each slice, without threads, and prints its answers")
         .after_help(help::SCRIPT)
         .arg(file(alloc, "The script: one command a line; - is standard input"))?
-        .arg(flag(alloc, "echo", "Print each command's line before its answer"))
+        .arg(flag(alloc, "echo", "Print each command's line before its answer"))?
+        .arg(flag(alloc, "explain", "Print behind each answer what happened"))
 }
 
 fn chart<'a>(alloc: Global) -> Result<Command<'a>, AllocError>

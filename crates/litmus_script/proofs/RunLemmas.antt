@@ -1,9 +1,8 @@
 -- A script that was read is run.
 use Rattle.std.proofs.Common.{ℕ, List, Option, ap, inr}
-use Rattle.std.specs.Prelude.{Bool}
 use Rattle.litmus_text.specs.declared.fault.TextFault.{TextFault}
 use Rattle.litmus_script.specs.Machine.{bound_of}
-use Rattle.litmus_script.specs.Script.{IsPlayedOn, IsPlayedUpTo, IsRun, IsRunUpTo, IsScript, IsSetUp, commands_of}
+use Rattle.litmus_script.specs.Script.{IsPlayedOn, IsPlayedUpTo, IsRun, IsRunUpTo, IsScript, IsSetUp, Playing, commands_of}
 use Rattle.litmus_script.specs.declared.script.Script.{Script}
 
 set_up : (all : List (ℕ × List (List ℕ))) (script : Script) → IsScript all script
@@ -16,14 +15,14 @@ set_up all script read = record {
 }
 
 -- a fault ends the run of what was read
-pub run_up_to : (echo : Bool) (all : List (ℕ × List (List ℕ))) (script : Script) (before after : Option (List ℕ)) (fault : TextFault)
+pub run_up_to : (plays : Playing) (all : List (ℕ × List (List ℕ))) (script : Script) (before after : Option (List ℕ)) (fault : TextFault)
     → IsScript all script
-    → IsPlayedUpTo echo script.config (bound_of script.misses script.config) (commands_of script.commands) before after fault
-    → IsRunUpTo echo all before after fault
-run_up_to echo all script before after fault read played = inr (script.config, _, _, set_up all script read, played)
+    → IsPlayedUpTo plays script.config (bound_of script.misses script.config) (commands_of script.commands) before after fault
+    → IsRunUpTo plays all before after fault
+run_up_to plays all script before after fault read played = inr (script.config, _, _, set_up all script read, played)
 
 -- it is run to its end
-pub run_of : (echo : Bool) (all : List (ℕ × List (List ℕ))) (script : Script) (before after : Option (List ℕ)) → IsScript all script
-    → IsPlayedOn echo script.config (bound_of script.misses script.config) (commands_of script.commands) before after
-    → IsRun echo all before after
-run_of echo all script before after read played = inr (script.config, _, _, set_up all script read, played)
+pub run_of : (plays : Playing) (all : List (ℕ × List (List ℕ))) (script : Script) (before after : Option (List ℕ)) → IsScript all script
+    → IsPlayedOn plays script.config (bound_of script.misses script.config) (commands_of script.commands) before after
+    → IsRun plays all before after
+run_of plays all script before after read played = inr (script.config, _, _, set_up all script read, played)

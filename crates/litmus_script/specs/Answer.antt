@@ -1,7 +1,6 @@
 -- What the answers to commands say. Each ends its line.
-use Rattle.std.specs.Prelude.{ℕ, List, [], ◌∷◌, ◌++◌, codes, decimal, Option, Some, None}
+use Rattle.std.specs.Prelude.{ℕ, List, ◌++◌, codes, decimal, Option, Some, None}
 use Rattle.std.specs.Fmt.{WritesInCalls}
-use Rattle.std.specs.List.{flat_map}
 use Rattle.litmus_script.specs.declared.answers.Issued.{Issued}
 use Rattle.litmus_script.specs.declared.answers.Issued.TheVariants as issues
 use Rattle.litmus_script.specs.declared.answers.Pumped.{Pumped}
@@ -40,15 +39,6 @@ text_of_word None = codes "not quiet"
 abbrev pub text_of_pumped : Pumped → List ℕ
 text_of_pumped pumps.Empty = codes "empty"
 text_of_pumped pumps.Left = codes "left"
-
--- these cores, each behind a comma
-abbrev pub further_cores : List ℕ → List ℕ
-further_cores cores = flat_map (λ core. codes "," ++ decimal core) cores
-
--- these cores with commas between them, or a dash where there is none
-abbrev pub text_of_cores : List ℕ → List ℕ
-text_of_cores [] = codes "-"
-text_of_cores (core ∷ cores) = decimal core ++ further_cores cores
 
 -- the writer took a line of this text, in some calls, and went from old to new
 abbrev pub WritesLine : {W : Type 0} → (W → List ℕ → W → Type 0) → W → List ℕ → W → Type 0

@@ -1,7 +1,6 @@
 pub mod Answer
 pub mod Issued
 pub mod Machine
-pub mod Message
 pub mod Play
 pub mod Prints
 pub mod Pump

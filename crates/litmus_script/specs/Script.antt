@@ -106,35 +106,44 @@ IsReadAs all (Some script) = IsScript all script
 
 -- ---- a run
 
--- A command on this line is played on the machine's slices: its answer is printed, behind the line where lines are echoed.
-abbrev pub Plays : Bool → Config → List PartsView → List ℕ → Command → Option (List ℕ) → Option (List ℕ) → List PartsView → Type 0
-Plays false config old line command before after new = IsPrinted config command old new before after
-Plays true config old line command before after new =
-    (middle : Option (List ℕ)) × Adds before middle line × IsPrinted config command old new middle after
+-- A style of playing: what a command on this line does to the slices of a machine, and what is written of it behind what
+-- was written before.
+abbrev pub Playing : Type 1
+Playing = Config → List PartsView → List ℕ → Command → Option (List ℕ) → Option (List ℕ) → List PartsView → Type 0
+
+-- the answer is printed
+abbrev pub Plainly : Playing
+Plainly config old line command before after new = IsPrinted config command old new before after
+
+-- .. and stands behind the line where lines are echoed
+abbrev pub Echoed : Bool → Playing → Playing
+Echoed false plays config old line command before after new = plays config old line command before after new
+Echoed true plays config old line command before after new =
+    (middle : Option (List ℕ)) × Adds before middle line × plays config old line command middle after new
 
 -- the commands are played on these slices, up to the last
-abbrev pub HasPlayed : Bool → Config → List (ℕ × List (List ℕ)) → List PartsView → Option (List ℕ) → Option (List ℕ) → Type 0
-HasPlayed echo config commands start before after =
-    (end : List PartsView) × PlaysAll (Plays echo config) config commands start end before after
+abbrev pub HasPlayed : Playing → Config → List (ℕ × List (List ℕ)) → List PartsView → Option (List ℕ) → Option (List ℕ) → Type 0
+HasPlayed plays config commands start before after =
+    (end : List PartsView) × PlaysAll (plays config) config commands start end before after
 
 -- .. on those of a new machine
-pub record IsPlayedOn (echo : Bool) (config : Config) (bound : Bound) (commands : List (ℕ × List (List ℕ)))
+pub record IsPlayedOn (plays : Playing) (config : Config) (bound : Bound) (commands : List (ℕ × List (List ℕ)))
     (before after : Option (List ℕ)) : Type 0 where
   pub start : List PartsView
   pub fresh : IsNewMachine config bound start
-  pub played : HasPlayed echo config commands start before after
+  pub played : HasPlayed plays config commands start before after
 
 -- .. up to a fault
-pub record IsStoppedOn (echo : Bool) (config : Config) (bound : Bound) (commands : List (ℕ × List (List ℕ)))
+pub record IsStoppedOn (plays : Playing) (config : Config) (bound : Bound) (commands : List (ℕ × List (List ℕ)))
     (before after : Option (List ℕ)) (fault : TextFault) : Type 0 where
   pub start : List PartsView
   pub fresh : IsNewMachine config bound start
-  pub plays : PlaysUpTo (Plays echo config) config commands start before after fault
+  pub stopped : PlaysUpTo (plays config) config commands start before after fault
 
 -- .. or there was no memory for a new machine
-abbrev pub IsPlayedUpTo : Bool → Config → Bound → List (ℕ × List (List ℕ)) → Option (List ℕ) → Option (List ℕ) → TextFault → Type 0
-IsPlayedUpTo echo config bound commands before after fault =
-    ((fault ≡ faults.NoMemory) × (after ≡ before)) ⊎ IsStoppedOn echo config bound commands before after fault
+abbrev pub IsPlayedUpTo : Playing → Config → Bound → List (ℕ × List (List ℕ)) → Option (List ℕ) → Option (List ℕ) → TextFault → Type 0
+IsPlayedUpTo plays config bound commands before after fault =
+    ((fault ≡ faults.NoMemory) × (after ≡ before)) ⊎ IsStoppedOn plays config bound commands before after fault
 
 -- the machine that the first statements configure, and the commands behind them
 pub record IsSetUp (all : List (ℕ × List (List ℕ))) (config : Config) (bound : Bound) (commands : List (ℕ × List (List ℕ))) : Type 0 where
@@ -144,16 +153,16 @@ pub record IsSetUp (all : List (ℕ × List (List ℕ))) (config : Config) (boun
   pub bounded : bound ≡ bound_of settings.misses config
 
 -- A script is run: what its commands print is written, in order. One that says nothing writes nothing.
-abbrev pub IsRun : Bool → List (ℕ × List (List ℕ)) → Option (List ℕ) → Option (List ℕ) → Type 0
-IsRun echo all before after =
+abbrev pub IsRun : Playing → List (ℕ × List (List ℕ)) → Option (List ℕ) → Option (List ℕ) → Type 0
+IsRun plays all before after =
     ((all ≡ []) × (after ≡ before))
     ⊎ ((config : Config) × (bound : Bound) × (commands : List (ℕ × List (List ℕ)))
-    × IsSetUp all config bound commands × IsPlayedOn echo config bound commands before after)
+    × IsSetUp all config bound commands × IsPlayedOn plays config bound commands before after)
 
 -- A fault ends the run of a script: before the first command, where nothing is written; or at a command, where what the
 -- ones before it print is written.
-abbrev pub IsRunUpTo : Bool → List (ℕ × List (List ℕ)) → Option (List ℕ) → Option (List ℕ) → TextFault → Type 0
-IsRunUpTo echo all before after fault =
+abbrev pub IsRunUpTo : Playing → List (ℕ × List (List ℕ)) → Option (List ℕ) → Option (List ℕ) → TextFault → Type 0
+IsRunUpTo plays all before after fault =
     (IsNotConfigured all fault × (after ≡ before))
     ⊎ ((config : Config) × (bound : Bound) × (commands : List (ℕ × List (List ℕ)))
-    × IsSetUp all config bound commands × IsPlayedUpTo echo config bound commands before after fault)
+    × IsSetUp all config bound commands × IsPlayedUpTo plays config bound commands before after fault)

@@ -14,12 +14,12 @@ use Rattle.directory_table.specs.declared.state.DirState.{DirState}
 use Rattle.script_text.specs.Line.{line_of_parts}
 use Rattle.slice_core_log.specs.declared.entry.Entry.{Entry}
 use Rattle.slice_core_steps.specs.declared.line_view.LineView.{LineView}
+use Rattle.step_text.specs.Cores.{text_of_cores}
 use Rattle.trace_check.specs.Trace.{lines_of}
 use Rattle.trace_check.specs.TraceLine.{cores_of, parts_of_first, parts_of_line}
 use Rattle.trace_check.specs.declared.trace_line.TraceLine.{TraceLine}
 use Rattle.trace_check.specs.declared.trace_line.Version.{Version}
 use Rattle.trace_check.specs.declared.trace_line.Version.TheVariants as versions
-use Rattle.litmus_script.specs.Answer.{text_of_cores}
 
 -- ---- a line
 
@@ -43,8 +43,8 @@ text_of_states states = flat_map (λ state. codes " " ++ name_of_copy state) sta
 -- what a slice has of a line: the directory's entry, the home copy, and each core's copy
 abbrev pub text_of_line : LineAddr → LineView → List ℕ
 text_of_line line shown =
-    text_of_entry line shown.dir ++ (text_of_owner shown.owner ++ (codes " sharers " ++ (text_of_cores (members shown.sharers)
-    ++ ((codes " home" ++ text_of_words shown.home) ++ ((codes " cores" ++ text_of_states shown.copies.items) ++ codes "\n")))))
+    text_of_entry line shown.dir ++ (text_of_owner shown.owner ++ ((codes " sharers " ++ text_of_cores (members shown.sharers))
+    ++ ((codes " home" ++ text_of_words shown.home) ++ ((codes " cores" ++ text_of_states shown.copies.items) ++ codes "\n"))))
 
 -- ---- a log
 

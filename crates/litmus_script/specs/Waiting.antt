@@ -5,7 +5,6 @@ use Rattle.address_map.specs.Locator.{local_at}
 use Rattle.address_map.specs.declared.address.Local.{Local}
 use Rattle.cache_table.specs.Name.{name_of as name_of_copy}
 use Rattle.directory_table.specs.Name.{name_of as name_of_entry}
-use Rattle.litmus_script.specs.Message.{text_of_message}
 use Rattle.litmus_text.specs.Command.{parts_of}
 use Rattle.litmus_text.specs.declared.command.Command.TheVariants as commands
 use Rattle.script_text.specs.Line.{text_of_parts}
@@ -23,6 +22,7 @@ use Rattle.slice_queues_message.specs.declared.channel.Channel.{Channel}
 use Rattle.slice_queues_message.specs.declared.channel.Channel.TheVariants as channels
 use Rattle.slice_queues_message.specs.declared.channel.Pick.{Pick}
 use Rattle.slice_queues_message.specs.declared.message.Message.{Message}
+use Rattle.step_text.specs.Message.{text_of_message}
 
 -- in which state the directory's entry, or the core's copy, is that a channel's messages come to
 abbrev pub receiver_state : View → Local → Channel → List ℕ

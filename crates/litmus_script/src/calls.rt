@@ -36,9 +36,10 @@ pub(crate) fn build<F: MissFile>(
     Ok(state)
 }
 
+/// An access of a core, and what became of it.
 // What became of an access isn't put together where it is written at once.
 #[inline(always)]
-pub(crate) fn issue<F: MissFile>(
+pub fn issue<F: MissFile>(
     state: &mut SliceState<F>,
     core: CoreId,
     request: Request,

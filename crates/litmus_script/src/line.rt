@@ -1,7 +1,5 @@
 ghost use Rattle.std.specs.Prelude.{◌++◌, OnOk, codes};
 ghost use Rattle.std.specs.Fmt.{WritesInCalls};
-ghost use Rattle.address_map.specs.CoreSet.{members};
-ghost use Rattle.litmus_script.specs.Answer.{text_of_cores};
 ghost use Rattle.litmus_script.specs.Shown.{text_of_entry, text_of_line, text_of_owner, text_of_states, text_of_words};
 
 use address_map::{CoreId, CoreSet, LineAddr};
@@ -10,6 +8,7 @@ use directory_table::DirState;
 use slice_core::LineView;
 use std::fmt;
 use std::fmt::Write;
+use step_text::Cores;
 
 /// Writes what a slice has of a line, as one line of text.
 pub fn write_line<W: Write>(line: LineAddr, view: &LineView, out: &mut W) -> fmt::Result
@@ -17,8 +16,7 @@ pub fn write_line<W: Write>(line: LineAddr, view: &LineView, out: &mut W) -> fmt
 {
     write_entry(line, view.dir, out)?;
     write_owner(view.owner, out)?;
-    write!(out, " sharers ")?;
-    write_sharers(CoreSet::from_bits(view.sharers), out)?;
+    write!(out, " sharers {}", Cores(CoreSet::from_bits(view.sharers)))?;
     write_home(&view.home, out)?;
     write_copies(view.copies.as_slice(), out)?;
     writeln!(out)
@@ -38,21 +36,6 @@ fn write_owner<W: Write>(owner: Option<CoreId>, out: &mut W) -> fmt::Result
         Some(CoreId(owner)) => write!(out, " owner {owner}"),
         None => write!(out, " owner -"),
     }
-}
-
-/// Writes the cores of a set, ascending, with commas between them; a set without cores is a dash.
-pub fn write_sharers<W: Write>(sharers: CoreSet, out: &mut W) -> fmt::Result
-    ensures { OnOk result (WritesInCalls W.write_str_gives out.old (text_of_cores (members sharers)) out.new) }
-{
-    let mut rest = sharers;
-    let Some(CoreId(first)) = rest.pop_first() else {
-        return write!(out, "-");
-    };
-    write!(out, "{first}")?;
-    while let Some(CoreId(core)) = rest.pop_first() {
-        write!(out, ",{core}")?;
-    }
-    Ok(())
 }
 
 fn write_home<W: Write>(home: &[u64], out: &mut W) -> fmt::Result

@@ -3,7 +3,8 @@ ghost use Rattle.std.specs.Str.Lines.{lines};
 ghost use Rattle.address_map.specs.Config.{checked_of};
 ghost use Rattle.litmus_script.specs.Machine.{bound_of};
 ghost use Rattle.litmus_script.specs.Play.{IsCommandFault, PlaysAll, PlaysOne, PlaysUpTo};
-ghost use Rattle.litmus_script.specs.Script.{BeginOtherwise, BeginsAsConfig, IsConfigured, IsLineFault, IsNotConfigured, HasPlayed, IsPlayedOn, IsPlayedUpTo, IsReadAs, IsRefused, IsRun, IsRunUpTo, IsScript, Plays, TakesLine, commands_of, left_of, said_by};
+ghost use Rattle.litmus_script.specs.Script.{BeginOtherwise, BeginsAsConfig, IsConfigured, IsLineFault, IsNotConfigured, IsReadAs, IsRefused, IsScript, TakesLine, commands_of, left_of, said_by};
+ghost use Rattle.litmus_script.specs.Script.{Echoed, HasPlayed, IsPlayedOn, IsPlayedUpTo, IsRun, IsRunUpTo, Plainly, Playing};
 ghost use Rattle.litmus_text.specs.Statement.{statements_from};
 
 use super::echo::Echo;
@@ -26,25 +27,43 @@ pub fn run_script<W: Write>(
     out: &mut W,
 ) -> Result<u8, TextFault>
     ensures status { IfOk result (λ status. status ≡ 0) }
-    ensures printed { OnOk result (IsRun echo (statements_from 0 (lines input.now)) (W.contents out.old) (W.contents out.new)) }
-    ensures fault { IfErr result (IsRunUpTo echo (statements_from 0 (lines input.now)) (W.contents out.old) (W.contents out.new)) }
+    ensures printed { OnOk result (IsRun (Echoed echo Plainly) (statements_from 0 (lines input.now))
+        (W.contents out.old) (W.contents out.new)) }
+    ensures fault { IfErr result (IsRunUpTo (Echoed echo Plainly) (statements_from 0 (lines input.now))
+        (W.contents out.old) (W.contents out.new)) }
+{
+    run_in_style(alloc, input, &Plain { echo }, out)
+}
+
+/// Runs a script, whose commands are played in this style.
+pub fn run_in_style<S: Style, W: Write>(
+    alloc: Global,
+    input: &[u8],
+    style: &S,
+    out: &mut W,
+) -> Result<u8, TextFault>
+    ensures status { IfOk result (λ status. status ≡ 0) }
+    ensures printed { OnOk result (IsRun (S.playing style.now) (statements_from 0 (lines input.now))
+        (W.contents out.old) (W.contents out.new)) }
+    ensures fault { IfErr result (IsRunUpTo (S.playing style.now) (statements_from 0 (lines input.now))
+        (W.contents out.old) (W.contents out.new)) }
 {
     let Some(script) = Script::read(alloc, input)? else {
         return Ok(0);
     };
-    run_read(alloc, script, echo, out)?;
+    run_read(alloc, script, style, out)?;
     Ok(0)
 }
 
-fn run_read<W: Write>(
+fn run_read<S: Style, W: Write>(
     alloc: Global,
     script: Script<'_>,
-    echo: bool,
+    style: &S,
     out: &mut W,
 ) -> Result<(), TextFault>
-    ensures played { OnOk result (IsPlayedOn echo script.entry.config (bound_of script.entry.misses script.entry.config)
+    ensures played { OnOk result (IsPlayedOn (S.playing style.now) script.entry.config (bound_of script.entry.misses script.entry.config)
         (commands_of script.entry.commands) (W.contents out.old) (W.contents out.new)) }
-    ensures fault { IfErr result (IsPlayedUpTo echo script.entry.config (bound_of script.entry.misses script.entry.config)
+    ensures fault { IfErr result (IsPlayedUpTo (S.playing style.now) script.entry.config (bound_of script.entry.misses script.entry.config)
         (commands_of script.entry.commands) (W.contents out.old) (W.contents out.new)) }
 {
     let Script {
@@ -53,29 +72,65 @@ fn run_read<W: Write>(
         commands,
     } = script;
     match misses {
-        MissKind::Explicit => run_on::<ExplicitFile, W>(alloc, config, commands, echo, out),
-        MissKind::Inverted => run_on::<InvertedFile, W>(alloc, config, commands, echo, out),
+        MissKind::Explicit => run_on::<ExplicitFile, S, W>(alloc, config, commands, style, out),
+        MissKind::Inverted => run_on::<InvertedFile, S, W>(alloc, config, commands, style, out),
     }
 }
 
 /// Plays commands on a new machine with miss registers of type `F`.
-fn run_on<F: MissFile, W: Write>(
+fn run_on<F: MissFile, S: Style, W: Write>(
     alloc: Global,
     config: Checked,
     commands: Commands<'_>,
-    echo: bool,
+    style: &S,
     out: &mut W,
 ) -> Result<(), TextFault>
-    ensures played { OnOk result (IsPlayedOn echo config (F.bound_by config) (commands_of commands.entry)
+    ensures played { OnOk result (IsPlayedOn (S.playing style.now) config (F.bound_by config) (commands_of commands.entry)
         (W.contents out.old) (W.contents out.new)) }
-    ensures fault { IfErr result (IsPlayedUpTo echo config (F.bound_by config) (commands_of commands.entry)
+    ensures fault { IfErr result (IsPlayedUpTo (S.playing style.now) config (F.bound_by config) (commands_of commands.entry)
         (W.contents out.old) (W.contents out.new)) }
 {
     let machine: Machine<F> = Machine::build(alloc, config)?;
-    if echo {
-        play_echoed(machine, commands, out)
-    } else {
-        play_alone(machine, commands, out)
+    style.play(machine, commands, out)
+}
+
+/// A style in which the commands of a script are played on a new machine.
+pub trait Style {
+    ghost playing: { Self → Playing };
+
+    /// Plays the commands in order, up to the first fault.
+    fn play<F: MissFile, W: Write>(
+        &self,
+        machine: Machine<F>,
+        commands: Commands<'_>,
+        out: &mut W,
+    ) -> Result<(), TextFault>
+        ensures played { OnOk result (HasPlayed (playing self.now) machine.config (commands_of commands.entry)
+            machine.slices.items (W.contents out.old) (W.contents out.new)) }
+        ensures fault { IfErr result (PlaysUpTo (playing self.now machine.config) machine.config (commands_of commands.entry)
+            machine.slices.items (W.contents out.old) (W.contents out.new)) };
+}
+
+/// Each command's answer alone, or behind the command's own line.
+#[derive(Clone, Copy)]
+pub struct Plain {
+    pub echo: bool,
+}
+
+impl Style for Plain {
+    ghost playing = { λ style. Echoed style.echo Plainly };
+
+    fn play<F: MissFile, W: Write>(
+        &self,
+        machine: Machine<F>,
+        commands: Commands<'_>,
+        out: &mut W,
+    ) -> Result<(), TextFault> {
+        if self.echo {
+            play_echoed(machine, commands, out)
+        } else {
+            play_alone(machine, commands, out)
+        }
     }
 }
 
@@ -85,9 +140,9 @@ fn play_echoed<F: MissFile, W: Write>(
     commands: Commands<'_>,
     out: &mut W,
 ) -> Result<(), TextFault>
-    ensures played { OnOk result (HasPlayed true machine.config (commands_of commands.entry) machine.slices.items
+    ensures played { OnOk result (HasPlayed (Echoed true Plainly) machine.config (commands_of commands.entry) machine.slices.items
         (W.contents out.old) (W.contents out.new)) }
-    ensures fault { IfErr result (PlaysUpTo (Plays true machine.config) machine.config (commands_of commands.entry)
+    ensures fault { IfErr result (PlaysUpTo (Echoed true Plainly machine.config) machine.config (commands_of commands.entry)
         machine.slices.items (W.contents out.old) (W.contents out.new)) }
 {
     let mut echo = Echo { player: machine };
@@ -100,9 +155,9 @@ fn play_alone<F: MissFile, W: Write>(
     commands: Commands<'_>,
     out: &mut W,
 ) -> Result<(), TextFault>
-    ensures played { OnOk result (HasPlayed false machine.config (commands_of commands.entry) machine.slices.items
+    ensures played { OnOk result (HasPlayed (Echoed false Plainly) machine.config (commands_of commands.entry) machine.slices.items
         (W.contents out.old) (W.contents out.new)) }
-    ensures fault { IfErr result (PlaysUpTo (Plays false machine.config) machine.config (commands_of commands.entry)
+    ensures fault { IfErr result (PlaysUpTo (Echoed false Plainly machine.config) machine.config (commands_of commands.entry)
         machine.slices.items (W.contents out.old) (W.contents out.new)) }
 {
     let mut player = machine;

@@ -14,7 +14,6 @@ ghost use Rattle.slice_queues_message.specs.Pick.{channel_of, line_of};
 
 use super::answers::{Answers, written};
 use super::machine::Machine;
-use super::message::MessageName;
 use address_map::CoreId;
 use arrayvec::ArrayVec;
 use litmus_text::TextFault;
@@ -23,6 +22,7 @@ use script_text::Delivery;
 use slice_core::{CopyState, Pick, Plan, SliceState};
 use std::fmt::Write;
 use std::{fmt, io};
+use step_text::MessageName;
 
 impl<F: MissFile> Machine<F> {
     /// Shows the messages in flight.

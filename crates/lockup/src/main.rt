@@ -7,8 +7,8 @@
 use clap::Error;
 use clap::error::ErrorKind;
 use litmus::{
-    CommandLine, read_line, run_chart, run_check, run_litmus, run_script, run_table, run_walk,
-    write_walk,
+    CommandLine, read_line, run_chart, run_check, run_explained, run_litmus, run_script, run_table,
+    run_walk, write_walk,
 };
 use litmus_text::TextFault;
 use progress::Shown;
@@ -126,6 +126,11 @@ where
 {
     let alloc = rt.alloc();
     match line {
+        CommandLine::Script {
+            echo,
+            explain: true,
+            ..
+        } => run_explained(alloc, input, echo, out),
         CommandLine::Script { echo, .. } => run_script(alloc, input, echo, out),
         CommandLine::Chart { .. } => run_chart(alloc, input, out),
         CommandLine::Litmus { seed, limit, .. } => {

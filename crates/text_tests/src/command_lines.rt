@@ -42,11 +42,31 @@ fn status_of(alloc: Global, given: &[&str]) -> Result<Option<i32>, AllocError> {
 #[test]
 fn reads_a_script(rt: HostRuntime) -> Result<(), Fail> {
     let file = "first.txt";
-    let plain = CommandLine::Script { file, echo: false };
-    let echo = CommandLine::Script { file, echo: true };
+    let plain = CommandLine::Script {
+        file,
+        echo: false,
+        explain: false,
+    };
+    let echo = CommandLine::Script {
+        file,
+        echo: true,
+        explain: false,
+    };
     assert!(rt; is_read(rt.alloc(), &["lockup", "script", file], plain)?);
     assert!(rt; is_read(rt.alloc(), &["lockup", "script", "--echo", file], echo)?);
     assert!(rt; is_read(rt.alloc(), &["lockup", "script", file, "--echo"], echo)?);
+    Ok(())
+}
+
+#[test]
+fn reads_a_script_to_be_explained(rt: HostRuntime) -> Result<(), Fail> {
+    let file = "first.txt";
+    let explained = CommandLine::Script {
+        file,
+        echo: false,
+        explain: true,
+    };
+    assert!(rt; is_read(rt.alloc(), &["lockup", "script", "--explain", file], explained)?);
     Ok(())
 }
 

@@ -6,6 +6,8 @@
 #[cfg(test)]
 mod command_lines;
 #[cfg(test)]
+mod explained;
+#[cfg(test)]
 mod scripts;
 #[cfg(test)]
 mod texts;

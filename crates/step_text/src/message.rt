@@ -1,8 +1,8 @@
 ghost use Rattle.std.specs.Prelude.{◌≡◌};
-ghost use Rattle.litmus_script.specs.Message.{text_of_request};
+ghost use Rattle.step_text.specs.Message.{text_of_request};
 
 use address_map::CoreId;
-use slice_core::{DataMessage, ForwardedMessage, Message, RequestMessage};
+use slice_queues_message::{DataMessage, ForwardedMessage, Message, RequestMessage};
 use std::fmt;
 
 /// A message under its name in the tables, with the core that it names or the acknowledgements to await.
@@ -11,7 +11,7 @@ pub struct MessageName(pub Message);
 
 impl fmt::Display for MessageName {
     ghost use Rattle.std.specs.Prelude.{Some};
-    ghost use Rattle.litmus_script.specs.Message.{text_of_message};
+    ghost use Rattle.step_text.specs.Message.{text_of_message};
 
     ghost output = { λ name. Some (text_of_message name.0) };
 

@@ -1,0 +1,4 @@
+pub mod CopyLemmas
+pub mod Pieces
+pub mod PlayerLemmas
+pub mod SliceLemmas

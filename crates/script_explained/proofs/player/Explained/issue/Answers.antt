@@ -1,0 +1,14 @@
+use Rattle.std.proofs.Common.{◌≡◌, ◌%◌, ◌∙◌, ap}
+use Rattle.std.proofs.lemmas.Result.{on_ok_weaker}
+use Rattle.address_map.specs.Place.{line_of}
+use Rattle.address_map.specs.declared.address.LineAddr.{LineAddr}
+use Rattle.script_explained.proofs.PlayerLemmas.{issue_explained}
+use Rattle.script_explained.proofs.player.Explained.issue.Goals as goal
+
+pub returns-clause-told : goal.returns-clause-told
+returns-clause-told g c =
+    let config = c.args.self.now.machine.config in
+    let at : c.slice_of-slice.result ≡ (line_of c.args.request.word).0 % config.slices =
+    c.slice_of-slice.ensures.slice ∙ ap (λ (line : LineAddr). line.0 % config.slices) c.line.ensures in
+    on_ok_weaker c.issue_in.result (λ told. issue_explained config c.args.core c.args.request _ _ _ _ _ at told)
+    c.issue_in.ensures.told

@@ -1,0 +1,71 @@
+-- What is said of a delivery: the case that the message in front of the channel met, what was planned for it, and what was
+-- done of that.
+use Rattle.std.specs.Prelude.{ℕ, List, ◌++◌, codes, length, Option, Some, None}
+use Rattle.std.specs.Option.{option_map}
+use Rattle.address_map.specs.declared.address.CoreId.{CoreId}
+use Rattle.litmus_script.specs.Answer.{text_of_delivered}
+use Rattle.litmus_script.specs.Machine.{Answers}
+use Rattle.litmus_script.specs.Prints.{Adds}
+use Rattle.script_explained.specs.Look.{copy_at, entry_of, message_at}
+use Rattle.slice_core.specs.declared.run.Call.TheVariants as calls
+use Rattle.slice_core.specs.declared.run.CallAnswer.TheVariants as answers
+use Rattle.slice_core_answer.specs.declared.answer.Delivered.{Delivered}
+use Rattle.slice_core_plan.specs.Parts.{PartsView, core_of}
+use Rattle.slice_core_plan.specs.Plan.{planned_at}
+use Rattle.slice_core_plan.specs.View.{View}
+use Rattle.slice_core_plan.specs.declared.decide.Plan.{Plan}
+use Rattle.slice_queues_message.specs.Pick.{channel_of, line_of}
+use Rattle.slice_queues_message.specs.declared.channel.Pick.{Pick}
+use Rattle.slice_queues_message.specs.declared.channel.Pick.TheVariants as picks
+use Rattle.step_text.specs.Delivery.{text_of_delivery}
+use Rattle.step_text.specs.declared.case.Case.{Case}
+use Rattle.step_text.specs.declared.case.Event.TheVariants as events
+use Rattle.step_text.specs.declared.case.Who.{Who}
+use Rattle.step_text.specs.declared.case.Who.TheVariants as whos
+use Rattle.step_text.specs.declared.delivery.Delivery.{Delivery}
+use Rattle.step_text.specs.declared.deeds.Done.{Done}
+
+-- who takes the message in front of a channel of the slice with this number
+abbrev pub who_takes : ℕ → View → Pick → Who
+who_takes slice v (picks.Req line core) = whos.Directory slice (entry_of v line)
+who_takes slice v (picks.Fwd line core) = whos.Core core (copy_at v line core)
+who_takes slice v (picks.Data line core) = whos.Core core (copy_at v line core)
+who_takes slice v (picks.Ack line to from) = whos.Core to (copy_at v line to)
+who_takes slice v (picks.Home line) = whos.Directory slice (entry_of v line)
+
+-- the case that it meets; none where no message waits
+abbrev pub case_at : ℕ → View → Pick → Option Case
+case_at slice v pick =
+    option_map (λ message. record { who = who_takes slice v pick; event = events.Message message }) (message_at v pick)
+
+-- what was done, from the number on that the log had before
+abbrev pub done_at : ℕ → View → Pick → Done
+done_at first v pick =
+    let core : CoreId = core_of (channel_of pick) in
+    record {
+      first = first;
+      end = length v.log;
+      asked = message_at v (picks.Req (line_of pick) core);
+      state = copy_at v (line_of pick) core;
+    }
+
+-- the delivery of the message that met a case; none where no message waits
+abbrev pub delivery_at : ℕ → Pick → Plan → Done → Option Case → Option Delivery
+delivery_at slice pick plan done case =
+    option_map (λ met. record { slice = slice; core = core_of (channel_of pick); case = met; plan = plan; done = done }) case
+
+-- .. from the one state to the other
+abbrev pub delivery_of : ℕ → Pick → View → View → Option Delivery
+delivery_of slice pick old new =
+    delivery_at slice pick (planned_at old pick) (done_at (length old.log) new pick) (case_at slice old pick)
+
+-- what is said of it
+abbrev pub told_of_delivery : Option Delivery → List ℕ
+told_of_delivery None = codes "no message waits"
+told_of_delivery (Some delivery) = text_of_delivery delivery
+
+-- a state of a slice delivered the message, and its answer was written with what is said of that
+pub record ExplainsDelivery (slice : ℕ) (pick : Pick) (before after : Option (List ℕ)) (old new : PartsView) : Type 0 where
+  pub answer : Delivered
+  pub answered : Answers (calls.Deliver pick) (answers.Deliver answer) old new
+  pub written : Adds before after (text_of_delivered answer ++ codes "   " ++ told_of_delivery (delivery_of slice pick old.view new.view))

@@ -1,0 +1,79 @@
+-- What is said of an access and of an eviction: the case that it met, what was decided, and the copies that stood in its way.
+use Rattle.std.specs.Prelude.{ℕ, List, [], ◌++◌, codes, Option}
+use Rattle.address_map.specs.declared.address.CoreId.{CoreId}
+use Rattle.address_map.specs.declared.address.LineAddr.{LineAddr}
+use Rattle.address_map.specs.declared.config.Config.{Config}
+use Rattle.address_map.specs.declared.request.Request.{Request}
+use Rattle.address_map.specs.Place.{line_of}
+use Rattle.litmus_script.specs.Answer.{text_of_issued}
+use Rattle.litmus_script.specs.Issued.{Issues}
+use Rattle.litmus_script.specs.Machine.{Answers}
+use Rattle.litmus_script.specs.Prints.{Adds}
+use Rattle.litmus_script.specs.declared.answers.Issued.{Issued}
+use Rattle.script_explained.specs.Look.{copy_at, message_at}
+use Rattle.script_explained.specs.Named.{left_before, named_by, text_of_copies}
+use Rattle.script_explained.specs.declared.named.Named.{Named}
+use Rattle.script_explained.specs.declared.named.Named.TheVariants as named
+use Rattle.slice_core.specs.declared.run.Call.TheVariants as calls
+use Rattle.slice_core.specs.declared.run.CallAnswer.TheVariants as answers
+use Rattle.slice_core_answer.specs.Text.{text_of_evicted}
+use Rattle.slice_core_answer.specs.declared.answer.Evicted.{Evicted}
+use Rattle.slice_core_answer.specs.declared.answer.Evicted.TheVariants as evictions
+use Rattle.slice_core_plan.specs.Decision.{decision_of}
+use Rattle.slice_core_plan.specs.Parts.{PartsView}
+use Rattle.slice_core_plan.specs.View.{View}
+use Rattle.slice_queues_message.specs.declared.channel.Pick.TheVariants as picks
+use Rattle.step_text.specs.Issue.{event_of, text_of_eviction, text_of_issue}
+use Rattle.step_text.specs.declared.case.Event.TheVariants as events
+use Rattle.step_text.specs.declared.case.Who.TheVariants as whos
+use Rattle.step_text.specs.declared.issue.Eviction.{Eviction}
+use Rattle.step_text.specs.declared.issue.Issue.{Issue}
+
+-- a request to the slice with this number, as it is decided
+abbrev pub issue_at : ℕ → View → CoreId → Request → Issue
+issue_at slice v core request = record {
+  slice = slice;
+  case = record { who = whos.Core core (copy_at v (line_of request.word) core); event = event_of request.op };
+  request = request;
+  decision = decision_of v core request;
+}
+
+-- what is said of it: the copies in its way are named as they are then
+abbrev pub told_of_issue : Config → ℕ → CoreId → Request → View → View → List ℕ
+told_of_issue config slice core request old new =
+    let which : Named = named_by (line_of request.word) (decision_of old core request) in
+    text_of_issue (issue_at slice old core request) ++ text_of_copies config which (left_before config which old core) new core
+
+-- a state of a slice answered the access, and its answer was written with what is said of that
+pub record ExplainsIssue (config : Config) (slice : ℕ) (core : CoreId) (request : Request) (before after : Option (List ℕ))
+    (old new : PartsView) : Type 0 where
+  pub issued : Issued
+  pub answered : Issues core request issued old new
+  pub written : Adds before after (text_of_issued issued ++ codes "   " ++ told_of_issue config slice core request old.view new.view)
+
+-- an eviction that a core asked the slice with this number for, as it was answered
+abbrev pub eviction_of : ℕ → CoreId → LineAddr → Evicted → View → View → Eviction
+eviction_of slice core line answer old new = record {
+  slice = slice;
+  case = record { who = whos.Core core (copy_at old line core); event = events.Eviction };
+  answer = answer;
+  state = copy_at new line core;
+  sent = message_at new (picks.Req line core);
+}
+
+-- where the write-back buffer is full, the copies in it are named
+abbrev pub named_by_answer : Evicted → Named
+named_by_answer evictions.WriteBackFull = named.Leaving
+named_by_answer answer = named.Nothing
+
+abbrev pub told_of_eviction : Config → ℕ → CoreId → LineAddr → Evicted → View → View → List ℕ
+told_of_eviction config slice core line answer old new =
+    text_of_eviction (eviction_of slice core line answer old new) ++ text_of_copies config (named_by_answer answer) [] new core
+
+-- a state of a slice answered the eviction, and its answer was written with what is said of that
+pub record ExplainsEviction (config : Config) (slice : ℕ) (core : CoreId) (line : LineAddr) (before after : Option (List ℕ))
+    (old new : PartsView) : Type 0 where
+  pub answer : Evicted
+  pub answered : Answers (calls.Evict core line) (answers.Evict answer) old new
+  pub written : Adds before after
+      (text_of_evicted answer ++ codes "   " ++ told_of_eviction config slice core line answer old.view new.view)

@@ -1,0 +1,141 @@
+//! Deliveries.
+ghost use Rattle.std.specs.Prelude.{◌≡◌, ◌++◌, IfErr, OnOk, codes};
+ghost use Rattle.litmus_script.specs.Answer.{WritesLine, text_of_delivered};
+ghost use Rattle.litmus_script.specs.Play.{IsOfRun};
+ghost use Rattle.script_explained.specs.Delivery.{ExplainsDelivery, case_at, delivery_at, done_at, told_of_delivery, who_takes};
+ghost use Rattle.slice_core.specs.Facts.{IsSameSlice};
+ghost use Rattle.slice_core_plan.specs.Parts.{core_of};
+ghost use Rattle.slice_queues_message.specs.Pick.{channel_of};
+
+use super::look;
+use address_map::CoreId;
+use litmus_script::{Answers, written};
+use litmus_text::TextFault;
+use mshr_file::MissFile;
+use slice_core::{Delivered, Pick, Plan, SliceState};
+use std::fmt;
+use std::io::Write;
+use step_text::{Case, Delivery, Done, Event, Who};
+
+/// Delivers the message in front of a channel of the slice with this number, and writes what became of it and why.
+pub(crate) fn deliver<F: MissFile, W: Write>(
+    state: &mut SliceState<F>,
+    slice: usize,
+    pick: Pick,
+    out: &mut W,
+) -> Result<(), TextFault>
+    ensures same { IsSameSlice state.old state.new }
+    ensures told { OnOk result (ExplainsDelivery slice pick (W.contents out.old) (W.contents out.new) state.old state.new) }
+    ensures fault { IfErr result IsOfRun }
+{
+    let case = case(state, slice, pick);
+    let plan = state.plan(pick);
+    let first = state.log().len();
+    let delivered = state.deliver(pick);
+    let done = done(state, first, pick);
+    let told = told(slice, pick, case, plan, done);
+    let mut answers = Answers { out };
+    written(write(delivered, told, &mut answers))
+}
+
+/// The delivery of the message that met a case, if one did.
+fn told(slice: usize, pick: Pick, case: Option<Case>, plan: Plan, done: Done) -> Option<Delivery>
+    ensures { result ≡ delivery_at slice pick plan done case }
+{
+    let case = case?;
+    Some(Delivery {
+        slice,
+        core: core(pick),
+        case,
+        plan,
+        done,
+    })
+}
+
+/// The answer to a delivery.
+#[derive(Clone, Copy)]
+struct Answer(Delivered);
+
+impl fmt::Display for Answer {
+    ghost use Rattle.std.specs.Prelude.{Some};
+    ghost use Rattle.litmus_script.specs.Answer.{text_of_delivered};
+
+    ghost output = { λ answer. Some (text_of_delivered answer.0) };
+
+    fn fmt<W: fmt::Write>(&self, f: &mut fmt::Formatter<W>) -> fmt::Result {
+        match self.0 {
+            Delivered::Moved => f.write_str("moved"),
+            Delivered::Blocked => f.write_str("blocked"),
+            Delivered::Nothing => f.write_str("nothing"),
+            Delivered::Broken(cell) => write!(f, "broken {cell}"),
+        }
+    }
+}
+
+/// Writes the answer to a delivery, and what there is to say of it.
+fn write<W: fmt::Write>(delivered: Delivered, told: Option<Delivery>, out: &mut W) -> fmt::Result
+    ensures { OnOk result (WritesLine W.write_str_gives out.old
+        (text_of_delivered delivered ++ codes "   " ++ told_of_delivery told) out.new) }
+{
+    let answer = Answer(delivered);
+    match told {
+        Some(told) => writeln!(out, "{answer}   {told}"),
+        None => writeln!(out, "{answer}   no message waits"),
+    }
+}
+
+/// The case that the message in front of a channel meets.
+fn case<F: MissFile>(state: &SliceState<F>, slice: usize, pick: Pick) -> Option<Case>
+    ensures { result ≡ case_at slice state.now.view pick }
+{
+    let message = state.front(pick)?;
+    Some(Case {
+        who: who(state, slice, pick),
+        event: Event::Message(message),
+    })
+}
+
+/// Who takes the messages of a channel.
+fn who<F: MissFile>(state: &SliceState<F>, slice: usize, pick: Pick) -> Who
+    ensures { result ≡ who_takes slice state.now.view pick }
+{
+    match pick {
+        Pick::Req(line, _) | Pick::Home(line) => Who::Directory {
+            slice,
+            state: look::entry(state, line),
+        },
+        Pick::Fwd(line, core) | Pick::Data(line, core) | Pick::Ack { line, to: core, .. } => {
+            Who::Core {
+                core,
+                state: look::copy(state, line, core),
+            }
+        }
+    }
+}
+
+/// The core at a channel.
+fn core(pick: Pick) -> CoreId
+    ensures { result ≡ core_of (channel_of pick) }
+{
+    match pick {
+        Pick::Req(_, core)
+        | Pick::Fwd(_, core)
+        | Pick::Data(_, core)
+        | Pick::Ack { to: core, .. } => { core }
+        Pick::Home(_) => CoreId(0),
+    }
+}
+
+/// What was done, where the log was so long before.
+fn done<F: MissFile>(state: &SliceState<F>, first: usize, pick: Pick) -> Done
+    ensures { result ≡ done_at first state.now.view pick }
+{
+    let line = pick.line();
+    let core = core(pick);
+    Done {
+        first,
+        end: state.log().len(),
+        asked: state.front(Pick::Req(line, core)),
+        state: look::copy(state, line, core),
+    }
+}

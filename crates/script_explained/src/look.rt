@@ -1,0 +1,30 @@
+//! What is seen of a slice's lines.
+ghost use Rattle.std.specs.Prelude.{◌≡◌};
+ghost use Rattle.script_explained.specs.Look.{copy_at, entry_of};
+
+use address_map::{CoreId, LineAddr};
+use mshr_file::MissFile;
+use slice_core::{CopyState, DirState, SliceState};
+
+/// The state of a core's copy of a line.
+pub(crate) fn copy<F: MissFile>(state: &SliceState<F>, line: LineAddr, core: CoreId) -> CopyState
+    ensures { result ≡ copy_at state.now.view line core }
+{
+    let Some(view) = state.line_view(line) else {
+        return CopyState::I;
+    };
+    match view.copies.get(core.0 as usize) {
+        Some(copy) => *copy,
+        None => CopyState::I,
+    }
+}
+
+/// The state of the directory's entry of a line.
+pub(crate) fn entry<F: MissFile>(state: &SliceState<F>, line: LineAddr) -> DirState
+    ensures { result ≡ entry_of state.now.view line }
+{
+    match state.line_view(line) {
+        Some(view) => view.dir,
+        None => DirState::I,
+    }
+}

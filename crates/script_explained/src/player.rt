@@ -1,0 +1,156 @@
+ghost use Rattle.std.specs.Prelude.{◌≡◌, ◌<◌, length, IfErr, OnOk};
+ghost use Rattle.litmus_script.specs.Machine.{OneSlice};
+ghost use Rattle.litmus_script.specs.Play.{IsOfRun};
+ghost use Rattle.litmus_text.specs.Command.{HasCore};
+ghost use Rattle.litmus_text.specs.declared.command.Command.TheVariants as commands;
+ghost use Rattle.script_explained.specs.Delivery.{ExplainsDelivery};
+ghost use Rattle.script_explained.specs.Explains.{IsExplained};
+ghost use Rattle.script_explained.specs.Issue.{ExplainsIssue};
+
+use super::{delivery, hand, issue};
+use address_map::{Checked, CoreId, LineAddr, Request, SliceId};
+use litmus_script::{Machine, Player};
+use litmus_text::{Command, Statement, TextFault};
+use mshr_file::MissFile;
+use slice_core::Pick;
+use std::alloc::Global;
+use std::io::Write;
+
+/// A player that writes behind each answer what happened.
+#[derive(Drop)]
+pub struct Explained<F: MissFile> {
+    pub machine: Machine<F>,
+    pub alloc: Global,
+}
+
+impl<F: MissFile> Player for Explained<F> {
+    ghost use Rattle.std.specs.Prelude.{◌≡◌};
+    ghost use Rattle.script_explained.specs.Explains.{IsExplained};
+
+    ghost config_of = { λ player. player.machine.config };
+
+    ghost plays = { λ old line command before after new. (new.machine.config ≡ old.machine.config)
+        × IsExplained old.machine.config command old.machine.slices.items new.machine.slices.items before after };
+
+    fn config(&self) -> &Checked {
+        &self.machine.config
+    }
+
+    fn play<W: Write>(
+        &mut self,
+        _statement: &Statement<'_>,
+        command: Command,
+        out: &mut W,
+    ) -> Result<(), TextFault> {
+        match command {
+            Command::Issue { core, request } => self.issue(core, request, out),
+            Command::Evict { core, line } => self.evict(core, line, out),
+            Command::Deliver(pick) => self.deliver(pick, out),
+            Command::Hand { core, slice } => self.hand(core, slice, out),
+            Command::Word(_)
+            | Command::State(_)
+            | Command::Log(_)
+            | Command::Stats
+            | Command::Waiting
+            | Command::Pump(_) => self.machine.run(command, out),
+        }
+    }
+}
+
+impl<F: MissFile> Explained<F> {
+    fn issue<W: Write>(
+        &mut self,
+        core: CoreId,
+        request: Request,
+        out: &mut W,
+    ) -> Result<(), TextFault>
+        requires { HasCore self.old.machine.config core }
+        ensures config { self.new.machine.config ≡ self.old.machine.config }
+        ensures fault { IfErr result IsOfRun }
+        ensures told { OnOk result (IsExplained self.old.machine.config (commands.Issue core request)
+            self.old.machine.slices.items self.new.machine.slices.items (W.contents out.old) (W.contents out.new)) }
+    {
+        let slice = self.machine.slice_of(request.word.line());
+        self.issue_in(slice, core, request, out)
+    }
+
+    fn issue_in<W: Write>(
+        &mut self,
+        slice: usize,
+        core: CoreId,
+        request: Request,
+        out: &mut W,
+    ) -> Result<(), TextFault>
+        requires core { HasCore self.old.machine.config core }
+        requires slice { slice < length self.old.machine.slices.items }
+        ensures config { self.new.machine.config ≡ self.old.machine.config }
+        ensures fault { IfErr result IsOfRun }
+        ensures told { OnOk result (OneSlice slice
+            (ExplainsIssue self.old.machine.config slice core request (W.contents out.old) (W.contents out.new))
+            self.old.machine.slices.items self.new.machine.slices.items) }
+    {
+        let Machine { config, slices, .. } = &mut self.machine;
+        issue::issue(
+            self.alloc,
+            config,
+            &mut slices[slice],
+            slice,
+            core,
+            request,
+            out,
+        )
+    }
+
+    fn evict<W: Write>(
+        &mut self,
+        core: CoreId,
+        line: LineAddr,
+        out: &mut W,
+    ) -> Result<(), TextFault>
+        requires { HasCore self.old.machine.config core }
+        ensures config { self.new.machine.config ≡ self.old.machine.config }
+        ensures fault { IfErr result IsOfRun }
+        ensures told { OnOk result (IsExplained self.old.machine.config (commands.Evict core line)
+            self.old.machine.slices.items self.new.machine.slices.items (W.contents out.old) (W.contents out.new)) }
+    {
+        let slice = self.machine.slice_of(line);
+        let Machine { config, slices, .. } = &mut self.machine;
+        issue::evict(config, &mut slices[slice], slice, core, line, out)
+    }
+
+    fn deliver<W: Write>(&mut self, pick: Pick, out: &mut W) -> Result<(), TextFault>
+        ensures config { self.new.machine.config ≡ self.old.machine.config }
+        ensures fault { IfErr result IsOfRun }
+        ensures told { OnOk result (IsExplained self.old.machine.config (commands.Deliver pick)
+            self.old.machine.slices.items self.new.machine.slices.items (W.contents out.old) (W.contents out.new)) }
+    {
+        let slice = self.machine.slice_of(pick.line());
+        self.deliver_in(slice, pick, out)
+    }
+
+    fn deliver_in<W: Write>(
+        &mut self,
+        slice: usize,
+        pick: Pick,
+        out: &mut W,
+    ) -> Result<(), TextFault>
+        requires { slice < length self.old.machine.slices.items }
+        ensures config { self.new.machine.config ≡ self.old.machine.config }
+        ensures fault { IfErr result IsOfRun }
+        ensures told { OnOk result (OneSlice slice (ExplainsDelivery slice pick (W.contents out.old) (W.contents out.new))
+            self.old.machine.slices.items self.new.machine.slices.items) }
+    {
+        delivery::deliver(&mut self.machine.slices[slice], slice, pick, out)
+    }
+
+    fn hand<W: Write>(&mut self, core: CoreId, slice: SliceId, out: &mut W) -> Result<(), TextFault>
+        requires core { HasCore self.old.machine.config core }
+        requires slice { slice.0 < self.old.machine.config.slices }
+        ensures config { self.new.machine.config ≡ self.old.machine.config }
+        ensures fault { IfErr result IsOfRun }
+        ensures told { OnOk result (IsExplained self.old.machine.config (commands.Hand core slice)
+            self.old.machine.slices.items self.new.machine.slices.items (W.contents out.old) (W.contents out.new)) }
+    {
+        hand::hand(&mut self.machine.slices[slice.0 as usize], core, out)
+    }
+}

@@ -1,0 +1,7 @@
+pub mod Case
+pub mod Cores
+pub mod Deeds
+pub mod Delivery
+pub mod Issue
+pub mod Message
+pub mod Performed

@@ -6,14 +6,15 @@
 //! - [`run_litmus`] runs a litmus test over threads, and [`run_walk`] on random schedules without any; each counts the
 //!   outcomes, and tells a [`Progress`] how far it is. [`write_walk`] prints a round of such a schedule as a script.
 //! - [`run_check`] judges a trace, and writes what it comes to.
-//! - [`run_table`] prints a table of the protocol.
+//! - [`run_table`] prints a table of the protocol, and [`run_export`] the protocol of one line as a model.
 //!
 //! Running, drawing, reading and walking are crates of their own.
 #![tactic(auto)]
 
 pub use check::run_check;
+pub use export::run_export;
 pub use litmus_chart::run_chart;
-pub use litmus_command_line::{CommandLine, Table, read_line};
+pub use litmus_command_line::{CommandLine, ModelCores, Table, read_line};
 pub use litmus_script::run_script;
 pub use litmus_test::Progress;
 pub use script_explained::run_explained;
@@ -21,5 +22,6 @@ pub use table::run_table;
 pub use tests::{run_litmus, run_walk, write_walk};
 
 mod check;
+mod export;
 mod table;
 mod tests;

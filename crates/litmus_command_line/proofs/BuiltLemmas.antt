@@ -5,7 +5,7 @@ use Rattle.std.specs.Borrow.{Bor}
 use Rattle.clap.specs.declared.builder.command.Command.{Command}
 use Rattle.clap.specs.declared.builder.command.Command.TheViews.{out-Command as fields_of}
 use Rattle.clap.specs.Words.{App, Text, app_of, with_subcommand}
-use Rattle.litmus_command_line.specs.CommandLine.{IsLockup, IsTable, IsWith, lockup_app, table_app}
+use Rattle.litmus_command_line.specs.CommandLine.{IsExport, IsLockup, IsTable, IsTablesProgram, IsWith, export_app, table_app, table_program}
 
 -- the program with a subcommand that is known
 pub with_known : {E : Type 0} (made : Result Command E) (program before known app : App) → program ≡ before
@@ -15,14 +15,29 @@ with_known (Ok sub) program before known app is reads plain added =
     added plain ∙ ap₂ with_subcommand is (ap (λ (a : App). a.top) reads)
 with_known (Err e) program before known app is reads plain added = absurd added
 
--- the program is whole with the subcommand that prints a table
+-- the program with the subcommand that prints a table
 pub with_table : {E : Type 0} (made : Result Command E) (program before app : App) → program ≡ before
-    → ((names : Bor (List (Bor Text))) → lockup_app names ≡ with_subcommand before (table_app names).top)
+    → ((names : Bor (List (Bor Text))) → table_program names ≡ with_subcommand before (table_app names).top)
     → IfOk made (λ sub. IsTable (app_of sub)) → IfOk made (λ sub. (fields_of sub).has_globals ≡ false)
-    → IsOkAnd made (λ sub. IsWith program sub app) → IsLockup app
+    → IsOkAnd made (λ sub. IsWith program sub app) → IsTablesProgram app
 with_table (Ok sub) program before app is whole reads plain added = record {
   names = reads.names;
   words = reads.words;
   is = added plain ∙ ap₂ with_subcommand is (ap (λ (a : App). a.top) reads.is) ∙ sym (whole reads.names);
 }
 with_table (Err e) program before app is whole reads plain added = absurd added
+
+-- the program is whole with the subcommand that prints a model
+pub with_export : {E : Type 0} (made : Result Command E) (program app : App) → IsTablesProgram program
+    → IfOk made (λ sub. IsExport (app_of sub)) → IfOk made (λ sub. (fields_of sub).has_globals ≡ false)
+    → IsOkAnd made (λ sub. IsWith program sub app) → IsLockup app
+with_export (Ok sub) program app is reads plain added = record {
+  names = is.names;
+  forms = reads.forms;
+  numbers = reads.numbers;
+  words = is.words;
+  form_words = reads.form_words;
+  number_words = reads.number_words;
+  is = added plain ∙ ap₂ with_subcommand is.is (ap (λ (a : App). a.top) reads.is);
+}
+with_export (Err e) program app is reads plain added = absurd added

@@ -12,6 +12,8 @@ use Rattle.clap.specs.declared.builder.action.ArgAction.TheVariants.{SetTrue}
 use Rattle.clap.specs.declared.builder.value_parser.ValueParser.TheVariants as parsers
 use Rattle.litmus_command_line.specs.declared.command_line.CommandLine.{CommandLine}
 use Rattle.litmus_command_line.specs.declared.command_line.CommandLine.TheVariants as lines
+use Rattle.litmus_command_line.specs.declared.export.ModelCores.{ModelCores}
+use Rattle.litmus_command_line.specs.declared.export.ModelCores.TheVariants.{Two, Three, Four}
 use Rattle.litmus_command_line.specs.declared.table.Table.{Table}
 use Rattle.litmus_command_line.specs.declared.table.Table.TheVariants.{Cache, Directory}
 
@@ -72,6 +74,24 @@ check_app = with_rule (new_app (codes "check")) file_rule
 abbrev pub table_app : Bor (List (Bor Text)) → App
 table_app names = with_rule (with_rule (new_app (codes "table")) (table_rule names)) (flag_rule (codes "exclusive"))
 
+-- the argument that is one of these forms, and the option that is one of these numbers: both have to be there
+abbrev pub form_rule : Bor (List (Bor Text)) → Rule
+form_rule names = record (new_rule (codes "FORM")) { required = true; parser = Some (parsers.Names names) }
+
+abbrev pub cores_rule : Bor (List (Bor Text)) → Rule
+cores_rule names = record (new_rule (codes "cores")) {
+  long = Some (codes "cores");
+  value_names = 1;
+  required = true;
+  parser = Some (parsers.Names names);
+}
+
+-- the subcommand that prints a model in one of these forms, of one of these numbers of cores
+abbrev pub export_app : Bor (List (Bor Text)) → Bor (List (Bor Text)) → App
+export_app forms numbers =
+    with_rule (with_rule (with_rule (new_app (codes "export")) (form_rule forms)) (cores_rule numbers))
+    (flag_rule (codes "exclusive"))
+
 -- the program itself, which asks for a subcommand
 abbrev pub top_app : App
 top_app = record (new_app (codes "lockup")) {
@@ -83,8 +103,8 @@ abbrev pub IsWith : App → Command → App → Type 0
 IsWith program sub app = (fields_of sub).has_globals ≡ false → app ≡ with_subcommand program (app_of sub).top
 
 -- the program with its subcommands
-abbrev pub lockup_app : Bor (List (Bor Text)) → App
-lockup_app names =
+abbrev pub table_program : Bor (List (Bor Text)) → App
+table_program names =
     with_subcommand
     (with_subcommand
     (with_subcommand
@@ -92,6 +112,9 @@ lockup_app names =
     walk_app.top)
     check_app.top)
     (table_app names).top
+
+abbrev pub lockup_app : Bor (List (Bor Text)) → Bor (List (Bor Text)) → Bor (List (Bor Text)) → App
+lockup_app names forms numbers = with_subcommand (table_program names) (export_app forms numbers).top
 
 -- the word that names a table
 abbrev pub word_of : Table → Text
@@ -102,17 +125,53 @@ word_of Directory = codes "directory"
 abbrev pub AreTables : Bor (List (Bor Text)) → Type 0
 AreTables names = map (λ name. name.now) names.now ≡ word_of Cache ∷ word_of Directory ∷ []
 
+-- these are the forms of a model, and the numbers of its cores, wherever they lie in memory
+abbrev pub AreForms : Bor (List (Bor Text)) → Type 0
+AreForms names = map (λ name. name.now) names.now ≡ codes "murphi" ∷ []
+
+abbrev pub number_of : ModelCores → ℕ
+number_of Two = 2
+number_of Three = 3
+number_of Four = 4
+
+abbrev pub word_of_number : ModelCores → Text
+word_of_number Two = codes "2"
+word_of_number Three = codes "3"
+word_of_number Four = codes "4"
+
+abbrev pub AreNumbers : Bor (List (Bor Text)) → Type 0
+AreNumbers names =
+    map (λ name. name.now) names.now ≡ word_of_number Two ∷ word_of_number Three ∷ word_of_number Four ∷ []
+
 -- the subcommand that prints a table
 pub record IsTable (app : App) : Type 0 where
   pub names : Bor (List (Bor Text))
   pub words : AreTables names
   pub is : app ≡ table_app names
 
+-- the subcommand that prints a model
+pub record IsExport (app : App) : Type 0 where
+  pub forms : Bor (List (Bor Text))
+  pub numbers : Bor (List (Bor Text))
+  pub form_words : AreForms forms
+  pub number_words : AreNumbers numbers
+  pub is : app ≡ export_app forms numbers
+
+-- the program with all but the last of its subcommands
+pub record IsTablesProgram (app : App) : Type 0 where
+  pub names : Bor (List (Bor Text))
+  pub words : AreTables names
+  pub is : app ≡ table_program names
+
 -- the program
 pub record IsLockup (app : App) : Type 0 where
   pub names : Bor (List (Bor Text))
+  pub forms : Bor (List (Bor Text))
+  pub numbers : Bor (List (Bor Text))
   pub words : AreTables names
-  pub is : app ≡ lockup_app names
+  pub form_words : AreForms forms
+  pub number_words : AreNumbers numbers
+  pub is : app ≡ lockup_app names forms numbers
 
 -- whether an option was given
 abbrev pub is_given : Text → List Row → Bool
@@ -143,6 +202,9 @@ IsLine name rows (lines.Walk file rounds seed script) =
 IsLine name rows (lines.Check file) = (name ≡ codes "check") × (first_of (codes "FILE") rows ≡ Some file.now)
 IsLine name rows (lines.Table table exclusive) =
     (name ≡ codes "table") × (first_of (codes "TABLE") rows ≡ Some (word_of table))
+    × (exclusive ≡ is_given (codes "exclusive") rows)
+IsLine name rows (lines.Export cores exclusive) =
+    (name ≡ codes "export") × (first_of (codes "cores") rows ≡ Some (word_of_number cores))
     × (exclusive ≡ is_given (codes "exclusive") rows)
 
 -- the subcommand that was read is what the line holds

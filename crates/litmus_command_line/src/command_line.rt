@@ -3,9 +3,10 @@ ghost use Rattle.clap.specs.declared.builder.command.Command.TheViews.{out-Comma
 ghost use Rattle.litmus_command_line.specs.CommandLine.{IsAsked, IsLine, IsLockup, IsRead, IsTable, IsWith, chart_app, check_app};
 ghost use Rattle.litmus_command_line.specs.CommandLine.{file_rule, flag_rule, is_given, script_app, word_of};
 ghost use Rattle.litmus_command_line.specs.CommandLine.{IsNumberOf, IsNumberIfGiven, litmus_app, number_rule};
-ghost use Rattle.litmus_command_line.specs.CommandLine.{number_rule_or, walk_app};
+ghost use Rattle.litmus_command_line.specs.CommandLine.{IsExport, number_rule_or, walk_app, word_of_number};
 ghost use Rattle.clap.specs.Words.{app_of, found_of, rows_of, rule_of, first_of, subcommand_rows_of};
 
+use super::export::ModelCores;
 use super::table::Table;
 use clap::error::ErrorKind;
 use clap::{Arg, ArgAction, ArgMatches, Command, Error, value_parser};
@@ -49,10 +50,21 @@ pub enum CommandLine<'a> {
         table: Table,
         exclusive: bool,
     },
+    /// Print a line's protocol as a model of so many cores, with the exclusive state or without it.
+    Export {
+        cores: ModelCores,
+        exclusive: bool,
+    },
 }
 
 /// The words that name a table.
 static TABLES: [&str; 2] = ["cache", "directory"];
+
+/// The words that name a form of model.
+static FORMS: [&str; 1] = ["murphi"];
+
+/// The numbers of cores that a model may have.
+static MODEL_CORES: [&str; 3] = ["2", "3", "4"];
 
 /// Reads the program's words, of which the first is its own name. What is refused, and help, is an error that
 /// says what to show, where and with which status.
@@ -84,6 +96,7 @@ fn asked<'a>(matches: &ArgMatches<'a>) -> Option<CommandLine<'a>>
         "walk" => walk_line(given),
         "check" => check_line(given),
         "table" => table_line(given),
+        "export" => export_line(given),
         _ => None,
     }
 }
@@ -147,6 +160,14 @@ fn table_line<'a>(given: &ArgMatches<'a>) -> Option<CommandLine<'a>>
     Some(CommandLine::Table { table, exclusive })
 }
 
+fn export_line<'a>(given: &ArgMatches<'a>) -> Option<CommandLine<'a>>
+    ensures { IfSome result (IsLine (codes "export") (rows_of (found_of given.now))) }
+{
+    let cores = model_cores_of(given)?;
+    let exclusive = is_given(given, "exclusive");
+    Some(CommandLine::Export { cores, exclusive })
+}
+
 fn file_of<'a>(given: &ArgMatches<'a>) -> Option<&'a str>
     ensures { IfSome result (λ file. first_of (codes "FILE") (rows_of (found_of given.now)) ≡ Some file.now) }
 {
@@ -159,6 +180,18 @@ fn table_of(given: &ArgMatches<'_>) -> Option<Table>
     match given.get_str("TABLE")? {
         "cache" => Some(Table::Cache),
         "directory" => Some(Table::Directory),
+        _ => None,
+    }
+}
+
+fn model_cores_of(given: &ArgMatches<'_>) -> Option<ModelCores>
+    ensures { IfSome result
+        (λ cores. first_of (codes "cores") (rows_of (found_of given.now)) ≡ Some (word_of_number cores)) }
+{
+    match given.get_str("cores")? {
+        "2" => Some(ModelCores::Two),
+        "3" => Some(ModelCores::Three),
+        "4" => Some(ModelCores::Four),
         _ => None,
     }
 }
@@ -199,7 +232,8 @@ fn lockup<'a>(alloc: Global) -> Result<Command<'a>, AllocError>
     let program = with(program, litmus(alloc))?;
     let program = with(program, walk(alloc))?;
     let program = with(program, check(alloc))?;
-    with(program, table(alloc))
+    let program = with(program, table(alloc))?;
+    with(program, export(alloc))
 }
 
 /// The program with one more subcommand, where there was memory to make it. One is made at a time: of several, each
@@ -300,6 +334,32 @@ fn table<'a>(alloc: Global) -> Result<Command<'a>, AllocError>
                 .value_parser(TABLES.as_slice()),
         )?
         .arg(flag(alloc, "exclusive", "Also show the exclusive state"))
+}
+
+fn export<'a>(alloc: Global) -> Result<Command<'a>, AllocError>
+    ensures reads { IfOk result (λ c. IsExport (app_of c)) }
+    ensures plain { IfOk result (λ c. (fields_of c).has_globals ≡ false) }
+{
+    Command::new(alloc, "export")
+        .about(
+            "Prints the protocol of one line as a model for the model checkers Rumur and CMurphi",
+        )
+        .after_help(help::EXPORT)
+        .arg(
+            Arg::new(alloc, "FORM")
+                .help("The form of the model")
+                .required(true)
+                .value_parser(FORMS.as_slice()),
+        )?
+        .arg(
+            Arg::new(alloc, "cores")
+                .long("cores")
+                .value_name("N")
+                .help("How many cores the model has")
+                .required(true)
+                .value_parser(MODEL_CORES.as_slice()),
+        )?
+        .arg(flag(alloc, "exclusive", "With the exclusive state"))
 }
 
 /// The argument that names the file of a text.

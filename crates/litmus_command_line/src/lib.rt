@@ -5,7 +5,9 @@
 #![tactic(auto)]
 
 pub use command_line::{CommandLine, read_line};
+pub use export::ModelCores;
 pub use table::Table;
 
 mod command_line;
+mod export;
 mod table;

@@ -1,4 +1,4 @@
-//! The program `lockup`: reads its command line, and runs the text or prints the table that it names.
+//! The program `lockup`: reads its command line, and runs the text or prints the table or the model that it names.
 //!
 //! Answers go to standard output, through one buffer. A fault goes to standard error as one line, behind all
 //! answers that came before it. Only a litmus test that runs over threads starts any.
@@ -7,7 +7,7 @@
 use clap::Error;
 use clap::error::ErrorKind;
 use litmus::{
-    CommandLine, read_line, run_chart, run_check, run_explained, run_litmus, run_script, run_table,
+    CommandLine, read_line, run_chart, run_check, run_explained, run_export, run_litmus, run_script, run_table,
     run_walk, write_walk,
 };
 use litmus_text::TextFault;
@@ -49,7 +49,7 @@ where
     }
 }
 
-/// Runs the text in the file that the command line names, or prints the table.
+/// Runs the text in the file that the command line names, or prints the table or the model.
 fn answer<R>(rt: &R, line: CommandLine<'_>, is_watched: bool) -> u8
 where
     R: Files + Input + AllocGlobal + Print + Eprint + Threads + Wait + Sync,
@@ -79,7 +79,7 @@ fn file_of<'a>(line: CommandLine<'a>) -> Option<&'a str> {
         | CommandLine::Litmus { file, .. }
         | CommandLine::Walk { file, .. }
         | CommandLine::Check { file } => Some(file),
-        CommandLine::Table { .. } => None,
+        CommandLine::Table { .. } | CommandLine::Export { .. } => None,
     }
 }
 
@@ -146,6 +146,7 @@ where
         }
         CommandLine::Check { .. } => run_check(alloc, input, out),
         CommandLine::Table { table, exclusive } => run_table(table, exclusive, out),
+        CommandLine::Export { cores, exclusive } => run_export(cores, exclusive, out),
     }
 }
 

@@ -53,3 +53,15 @@ With '--seed 5 --script' that round is printed, as a script for 'lockup script' 
 Documents: docs/TEXTS.md (the lines of a litmus test), docs/EXAMPLES.md (tests to begin with)
 
 Example: lockup walk examples/litmus/sb.txt --rounds 1000";
+
+/// What stands below the options of `export`.
+pub const EXPORT: &str = "\
+Each rule is one row of the tables by which the slices run, and has its cell's name, so a
+counterexample reads like them:
+
+  lockup export murphi --cores 3 > model.m
+  rumur --output model.c model.m
+  cc -O2 -o model model.c -lpthread -mcx16
+  ./model
+
+Documents: docs/PROTOCOL.md (the tables, and what Rumur finds)";

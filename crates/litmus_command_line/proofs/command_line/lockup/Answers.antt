@@ -2,7 +2,7 @@ use Rattle.std.proofs.Common.{◌≡◌, refl, rules}
 use Rattle.std.proofs.lemmas.Result.{IfOk-weaker}
 use Rattle.clap.specs.Words.{app_of}
 use Rattle.litmus_command_line.specs.CommandLine.{top_app}
-use Rattle.litmus_command_line.proofs.BuiltLemmas.{with_known, with_table}
+use Rattle.litmus_command_line.proofs.BuiltLemmas.{with_export, with_known, with_table}
 use Rattle.litmus_command_line.proofs.command_line.lockup.Goals as goal
 
 pub returns : goal.returns
@@ -18,6 +18,8 @@ returns c =
     c.in_ok-program-4.ensures in
     let five = with_known c.check.result _ _ _ _ four c.check.ensures.reads c.check.ensures.plain
     c.in_ok-program-5.ensures in
-    IfOk-weaker c.with-6.result _ _
-    (λ made. with_table c.table.result _ _ _ five (λ names. refl) c.table.ensures.reads c.table.ensures.plain)
-    c.with-6.ensures
+    let six = with_table c.table.result _ _ _ five (λ names. refl) c.table.ensures.reads c.table.ensures.plain
+    c.in_ok-program-6.ensures in
+    IfOk-weaker c.with-7.result _ _
+    (λ made. with_export c.export.result _ _ six c.export.ensures.reads c.export.ensures.plain)
+    c.with-7.ensures

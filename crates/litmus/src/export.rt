@@ -1,0 +1,28 @@
+ghost use Rattle.std.specs.Prelude.{◌≡◌, IfOk, OnOk};
+ghost use Rattle.std.specs.Io.KnownBytes.{Appends};
+ghost use Rattle.litmus_command_line.specs.CommandLine.{number_of};
+ghost use Rattle.protocol_murphi.specs.Model.{model_of};
+
+use litmus_command_line::ModelCores;
+use litmus_script::Answers;
+use litmus_text::TextFault;
+use protocol_murphi::write_model;
+use std::io::Write;
+
+/// Prints a line's protocol as a model of so many cores, with the exclusive state or without it. Answers the exit
+/// status.
+pub fn run_export<W: Write>(
+    cores: ModelCores,
+    exclusive: bool,
+    out: &mut W,
+) -> Result<u8, TextFault>
+    ensures status { IfOk result (λ status. status ≡ 0) }
+    ensures printed { OnOk result
+        (Appends (W.contents out.old) (W.contents out.new) (model_of exclusive (number_of cores))) }
+{
+    let mut answers = Answers { out };
+    match write_model(exclusive, cores.number(), &mut answers) {
+        Ok(()) => Ok(0),
+        Err(_) => Err(TextFault::CannotWrite),
+    }
+}

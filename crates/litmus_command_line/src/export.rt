@@ -1,0 +1,23 @@
+/// How many cores an exported model has.
+#[derive(Clone, Copy, Debug, PartialEq, Eq)]
+pub enum ModelCores {
+    Two,
+    Three,
+    Four,
+}
+
+impl ModelCores {
+    ghost use Rattle.std.specs.Prelude.{◌≡◌};
+    ghost use Rattle.litmus_command_line.specs.CommandLine.{number_of};
+
+    /// Their number.
+    pub const fn number(self) -> u8
+        ensures { result ≡ number_of self }
+    {
+        match self {
+            ModelCores::Two => 2,
+            ModelCores::Three => 3,
+            ModelCores::Four => 4,
+        }
+    }
+}

@@ -45,11 +45,11 @@ fn is_performed<F: MissFile, M: SystemKeys, R: Wait>(rt: &R, system: &System<F, 
 
 /// One core misses, and makes no turn: a mover serves it. Before that its job ends at a limit of no turns. Answers
 /// whether both came about.
-pub fn messages_move<
-    F: MissFile + Send,
-    M: SystemKeys + Send + Sync,
-    R: Threads + Wait + Sync,
->(rt: &R, system: &System<F, All<M>>, jobs: &mut [Job<'_, F, All<M>>]) -> Result<bool, AllocError> {
+pub fn messages_move<F: MissFile + Send, M: SystemKeys + Send + Sync, R: Threads + Wait + Sync>(
+    rt: &R,
+    system: &System<F, All<M>>,
+    jobs: &mut [Job<'_, F, All<M>>],
+) -> Result<bool, AllocError> {
     let limited = ends_at_its_limit(rt, system, jobs)?;
     for job in jobs.iter_mut() {
         job.program.clear();
@@ -65,11 +65,11 @@ pub fn messages_move<
 }
 
 /// Whether each job ends before a turn that it isn't allowed.
-fn ends_at_its_limit<
-    F: MissFile + Send,
-    M: SystemKeys + Send + Sync,
-    R: Threads + Wait + Sync,
->(rt: &R, system: &System<F, All<M>>, jobs: &mut [Job<'_, F, All<M>>]) -> Result<bool, AllocError> {
+fn ends_at_its_limit<F: MissFile + Send, M: SystemKeys + Send + Sync, R: Threads + Wait + Sync>(
+    rt: &R,
+    system: &System<F, All<M>>,
+    jobs: &mut [Job<'_, F, All<M>>],
+) -> Result<bool, AllocError> {
     for job in jobs.iter_mut() {
         job.program.push(Step::Turns(2))?;
     }

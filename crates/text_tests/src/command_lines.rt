@@ -66,7 +66,13 @@ fn reads_a_script_to_be_explained(rt: HostRuntime) -> Result<(), Fail> {
         echo: false,
         explain: true,
     };
-    assert!(rt; is_read(rt.alloc(), &["lockup", "script", "--explain", file], explained)?);
+    assert!(rt;
+        is_read(
+            rt.alloc(),
+            &["lockup", "script", "--explain", file],
+            explained
+        )?
+    );
     Ok(())
 }
 

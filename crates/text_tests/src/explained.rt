@@ -5,8 +5,7 @@ use std::test::Fail;
 const SCRIPT: &[u8] =
     b"issue 0 0 load 0\ndeliver req 0 0\ndeliver data 0 0\nissue 1 5 store 0 7\ndeliver req 0 1\ndeliver data 0 1\nissue 1 5 load 0\nevict 1 0\ndeliver fwd 0 0\ndeliver ack 0 1 0\nhand 1 0\nevict 1 0\n";
 
-const ANSWERS: &[u8] =
-    b"pending 0   core 0 (I, load): primary miss; to IS_D; sends GetS to dir 0\n\
+const ANSWERS: &[u8] = b"pending 0   core 0 (I, load): primary miss; to IS_D; sends GetS to dir 0\n\
 moved   dir 0 (I, GetS): to S, sharers 0; sends Data(0) to core 0\n\
 moved   core 0 (IS_D, Data(0)): to S; performs number 0\n\
 pending 0   core 1 (I, write): primary miss; to IM_AD; sends GetM to dir 0\n\

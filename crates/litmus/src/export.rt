@@ -1,4 +1,4 @@
-ghost use Rattle.std.specs.Prelude.{◌≡◌, IfOk, OnOk};
+ghost use Rattle.std.specs.Prelude.{◌≡◌, ◌<◌, IfOk, OnOk};
 ghost use Rattle.std.specs.Io.KnownBytes.{Appends};
 ghost use Rattle.litmus_command_line.specs.CommandLine.{number_of};
 ghost use Rattle.protocol_murphi.specs.Model.{model_of};
@@ -20,8 +20,16 @@ pub fn run_export<W: Write>(
     ensures printed { OnOk result
         (Appends (W.contents out.old) (W.contents out.new) (model_of exclusive (number_of cores))) }
 {
+    print_model(exclusive, cores.number(), out)
+}
+
+fn print_model<W: Write>(exclusive: bool, cores: u8, out: &mut W) -> Result<u8, TextFault>
+    requires { cores < 64 }
+    ensures status { IfOk result (λ status. status ≡ 0) }
+    ensures printed { OnOk result (Appends (W.contents out.old) (W.contents out.new) (model_of exclusive cores)) }
+{
     let mut answers = Answers { out };
-    match write_model(exclusive, cores.number(), &mut answers) {
+    match write_model(exclusive, cores, &mut answers) {
         Ok(()) => Ok(0),
         Err(_) => Err(TextFault::CannotWrite),
     }

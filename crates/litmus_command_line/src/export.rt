@@ -7,12 +7,13 @@ pub enum ModelCores {
 }
 
 impl ModelCores {
-    ghost use Rattle.std.specs.Prelude.{◌≡◌};
+    ghost use Rattle.std.specs.Prelude.{◌≡◌, ◌≤◌};
     ghost use Rattle.litmus_command_line.specs.CommandLine.{number_of};
 
     /// Their number.
     pub const fn number(self) -> u8
-        ensures { result ≡ number_of self }
+        ensures number { result ≡ number_of self }
+        ensures few { result ≤ 4 }
     {
         match self {
             ModelCores::Two => 2,

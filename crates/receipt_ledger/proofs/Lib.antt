@@ -5,6 +5,7 @@ pub mod Counts
 pub mod Gathered
 pub mod History
 pub mod Issued
+pub mod Kept
 pub mod Last
 pub mod Marks
 pub mod Near

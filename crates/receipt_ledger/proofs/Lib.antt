@@ -5,7 +5,6 @@ pub mod Counts
 pub mod Gathered
 pub mod History
 pub mod Issued
-pub mod Kept
 pub mod Last
 pub mod Marks
 pub mod Near
@@ -17,6 +16,7 @@ pub mod Ports
 pub mod Quiet
 pub mod Removed
 pub mod Settled
+pub mod Streaks
 pub mod Targets
 pub mod Tied
 pub mod Times

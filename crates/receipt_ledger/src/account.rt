@@ -1,5 +1,7 @@
-ghost use Rattle.std.specs.Prelude.{◌≡◌, ◌+◌, ◌<◌, ◌≤◌, ◌↔◌, [], ◌∷◌, ◌++◌, length, map, min, slice_get, vec_capacity, vec_len, IsTrue, OnOk};
-ghost use Rattle.receipt_ledger.specs.Account.{IsMarked, IsTold, marked, no_account};
+ghost use Rattle.std.specs.Prelude.{◌≡◌, ◌+◌, ◌<◌, ◌≤◌, [], ◌∷◌, ◌++◌, length, slice_get, vec_capacity, vec_len, IsTrue, OnOk};
+ghost use Rattle.std.specs.List.{AllWithin};
+ghost use Rattle.std.specs.List.Sorted.{IsNonDecreasingBy};
+ghost use Rattle.receipt_ledger.specs.Account.{AreStreaks, GoesOn, IsTold, no_account, told_in};
 ghost use Rattle.receipt_ledger.specs.History.{request_of};
 
 use super::receipt::{Ask, Receipt};
@@ -8,37 +10,37 @@ use slice_core_log::Entry;
 use std::alloc::{AllocError, Global};
 use std::marker::Model;
 
-/// How an accepted request is kept.
+/// Requests in a row: the first in full, and behind it those that were each done at once, with nothing seen in between.
 #[derive(Clone, Copy, Debug, PartialEq, Eq)]
-pub(crate) enum Mark {
-    /// It was done at once, and nothing was seen since the receipt before: its receipt stands at this place and names it,
-    /// and the one before it tells what had been seen.
-    Told(usize),
-    /// It stands in full at this place.
-    Kept(usize),
+pub(crate) struct Streak {
+    ask: Ask,
+    /// The first one's number.
+    first: usize,
+    /// Where the receipt of the one behind it stands, if there is one.
+    receipts: usize,
 }
 
-/// What was asked through a port and what was handed out. A request that is done at once is named by its receipt, so it
-/// isn't kept a second time: most requests are, and each write to a list that grows costs more than the search in it.
-/// Contracts see an `AccountView`.
+/// What was asked through a port and what was handed out. A request that is done at once is named by its receipt, and the
+/// receipt before tells what had been seen: so it isn't kept a second time. Most requests are done so, and each byte that
+/// is written to a list that grows costs more than the search in a short one. Contracts see an `AccountView`.
 #[derive(Drop)]
 pub(crate) struct Account {
     /// The accepted requests, in this order, which numbers them.
-    marks: Vec<Mark>,
-    /// Those that no receipt tells of.
-    kept: Vec<Ask>,
+    streaks: Vec<Streak>,
+    /// How many there are.
+    accepted: usize,
     receipts: Vec<Receipt>,
 }
 
 impl Model for Account {
     ghost use Rattle.std.specs.Prelude.{vec_capacity};
-    ghost use Rattle.receipt_ledger.specs.Account.{AccountView, AreMarked, account_of};
+    ghost use Rattle.receipt_ledger.specs.Account.{AccountView, AreStreaks, account_of};
 
     ghost Value = { AccountView };
 
-    ghost view = { λ a. account_of a.marks.items a.kept.items a.receipts.items (vec_capacity a.marks) (vec_capacity a.kept) (vec_capacity a.receipts) };
+    ghost view = { λ a. account_of a.streaks.items a.accepted a.receipts.items (vec_capacity a.streaks) (vec_capacity a.receipts) };
 
-    ghost invariant = { λ a. AreMarked a.receipts.items a.kept.items a.marks.items };
+    ghost invariant = { λ a. AreStreaks a.streaks.items a.accepted a.receipts.items };
 }
 
 impl Account {
@@ -47,8 +49,8 @@ impl Account {
         ensures { result ≡ no_account }
     {
         Account {
-            marks: Vec::new(alloc),
-            kept: Vec::new(alloc),
+            streaks: Vec::new(alloc),
+            accepted: 0,
             receipts: Vec::new(alloc),
         }
     }
@@ -57,17 +59,19 @@ impl Account {
     pub(crate) fn accepted(&self) -> usize
         ensures { result ≡ length self.now.asked }
     {
-        self.marks.len()
+        self.accepted
     }
 
     /// The request of this number.
     pub(crate) fn asked(&self, seq: u64) -> Option<Ask>
         ensures { result ≡ slice_get self.now.asked seq }
     {
-        match self.marks.get(seq as usize) {
-            Some(mark) => Some(asked_as(&self.receipts, &self.kept, *mark)),
-            None => None,
+        let seq = seq as usize;
+        if self.accepted <= seq {
+            return None;
         }
+        let begun = begun(&self.streaks, seq);
+        Some(told_in(&self.receipts, &self.streaks[begun - 1], seq))
     }
 
     /// The receipts of the requests that were handed out, in the order in which they were.
@@ -78,6 +82,7 @@ impl Account {
     }
 
     /// Gives the lists room for one more request, and for the receipts of all requests in flight and of that one.
+    #[tactic(auto, using(crate::proofs::Streaks::asks_long))]
     pub(crate) fn make_room(&mut self) -> Result<(), AllocError>
         requires fewer { length self.old.receipts ≤ length self.old.asked }
         requires reserved { length self.old.asked ≤ self.old.room.receipts }
@@ -87,23 +92,27 @@ impl Account {
         ensures receipts_room { OnOk result (length self.new.asked < self.new.room.receipts) }
         ensures reserved { length self.new.asked ≤ self.new.room.receipts }
     {
-        let accepted = self.marks.len();
-        if accepted < self.marks.capacity()
-            && accepted < self.receipts.capacity()
-            && self.kept.len() < self.kept.capacity()
+        if self.streaks.len() < self.streaks.capacity()
+            && self.accepted < self.receipts.capacity()
         {
             return Ok(());
         }
-        grow(&mut self.marks, &mut self.kept, &mut self.receipts)
+        grow(&mut self.streaks, self.accepted, &mut self.receipts)
     }
 
     /// Keeps one more request.
     pub(crate) fn keep(&mut self, ask: Ask)
-        requires { length self.old.asked < self.old.room.asked }
+        requires asked_room { length self.old.asked < self.old.room.asked }
+        requires receipts_room { length self.old.asked < self.old.room.receipts }
         ensures { self.new ≡ record self.old { asked = self.old.asked ++ ask ∷ [] } }
     {
-        self.marks.push_reserved(Mark::Kept(self.kept.len()));
-        self.kept.push_reserved(ask);
+        let _room = self.receipts.capacity();
+        self.streaks.push_reserved(Streak {
+            ask,
+            first: self.accepted,
+            receipts: self.receipts.len(),
+        });
+        self.accepted += 1;
     }
 
     /// Keeps a receipt.
@@ -117,33 +126,46 @@ impl Account {
     /// Keeps one more request that was done at once, and its receipt.
     pub(crate) fn keep_done(&mut self, ask: Ask, receipt: Receipt)
         requires named { request_of receipt.entry ≡ ask.request }
+        requires fewer { length self.old.receipts ≤ length self.old.asked }
         requires asked_room { length self.old.asked < self.old.room.asked }
-        requires receipts_room { length self.old.receipts < self.old.room.receipts }
+        requires receipts_room { length self.old.asked < self.old.room.receipts }
         ensures asked { self.new.asked ≡ self.old.asked ++ ask ∷ [] }
         ensures receipts { self.new.receipts ≡ self.old.receipts ++ receipt ∷ [] }
         ensures room { self.new.room.receipts ≡ self.old.room.receipts }
     {
-        if is_told(&self.receipts, ask.seen) {
-            self.marks.push_reserved(Mark::Told(self.receipts.len()));
+        let _room = self.receipts.capacity();
+        if goes_on(&self.streaks, self.accepted, &self.receipts, ask.seen) {
+            self.accepted += 1;
             self.receipts.push_reserved(receipt);
         } else {
-            self.keep(ask);
             self.receive(receipt);
+            self.keep(ask);
         }
     }
 }
 
-// The request that is kept so.
-fn asked_as(receipts: &[Receipt], kept: &[Ask], mark: Mark) -> Ask
-    requires { IsMarked receipts.now kept.now mark }
-    ensures { result ≡ marked receipts.now kept.now mark }
+// How many streaks begin no later than with the request of this number.
+fn begun(streaks: &[Streak], seq: usize) -> usize
+    requires { IsNonDecreasingBy (λ streak. streak.first) streaks.now }
+    ensures within { result ≤ length streaks.now }
+    ensures begun { AllWithin (λ streak. streak.first ≤ seq) streaks.now 0 result }
+    ensures later { AllWithin (λ streak. seq < streak.first) streaks.now result (length streaks.now) }
 {
-    match mark {
-        Mark::Told(place) => Ask {
-            request: request_of(&receipts[place].entry),
-            seen: receipts[place - 1].number + 1,
-        },
-        Mark::Kept(place) => kept[place],
+    streaks.partition_point(|streak| streak.first <= seq)
+}
+
+// The request of this number, by the streak that it is of.
+fn told_in(receipts: &[Receipt], streak: &Streak, seq: usize) -> Ask
+    requires { IsTold receipts.now streak.now seq }
+    ensures { result ≡ told_in receipts.now streak.now seq }
+{
+    if seq <= streak.first {
+        return streak.ask;
+    }
+    let place = streak.receipts + (seq - streak.first - 1);
+    Ask {
+        request: request_of(&receipts[place].entry),
+        seen: receipts[place - 1].number + 1,
     }
 }
 
@@ -158,13 +180,19 @@ pub(crate) fn request_of(entry: &Entry) -> Request
     }
 }
 
-// Whether the last receipt tells that so much was seen.
-fn is_told(receipts: &[Receipt], seen: u64) -> bool
-    ensures { IsTrue result → IsTold receipts.now (length receipts.now) seen }
+// Whether one more request that is done at once belongs to the last streak: each receipt since is of that, and the last
+// one tells that so much was seen.
+fn goes_on(streaks: &[Streak], accepted: usize, receipts: &[Receipt], seen: u64) -> bool
+    requires { AreStreaks streaks.now accepted receipts.now }
+    ensures { IsTrue result → GoesOn streaks.now accepted receipts.now seen }
 {
-    match receipts.last() {
-        Some(last) => 0 < seen && last.number == seen - 1,
-        None => false,
+    match (streaks.last(), receipts.last()) {
+        (Some(streak), Some(last)) => {
+            receipts.len() - streak.receipts == accepted - streak.first - 1
+                && 0 < seen
+                && last.number == seen - 1
+        }
+        _ => false,
     }
 }
 
@@ -173,22 +201,19 @@ fn is_told(receipts: &[Receipt], seen: u64) -> bool
 #[cold]
 #[inline(never)]
 fn grow(
-    marks: &mut Vec<Mark>,
-    kept: &mut Vec<Ask>,
+    streaks: &mut Vec<Streak>,
+    accepted: usize,
     receipts: &mut Vec<Receipt>,
 ) -> Result<(), AllocError>
-    requires fewer { vec_len receipts.old ≤ vec_len marks.old }
-    requires reserved { vec_len marks.old ≤ vec_capacity receipts.old }
-    ensures marks { marks.new.items ≡ marks.old.items }
-    ensures kept { kept.new.items ≡ kept.old.items }
+    requires fewer { vec_len receipts.old ≤ accepted }
+    requires reserved { accepted ≤ vec_capacity receipts.old }
+    ensures streaks { streaks.new.items ≡ streaks.old.items }
     ensures receipts { receipts.new.items ≡ receipts.old.items }
-    ensures marks_room { OnOk result (vec_len marks.new < vec_capacity marks.new) }
-    ensures kept_room { OnOk result (vec_len kept.new < vec_capacity kept.new) }
-    ensures receipts_room { OnOk result (vec_len marks.new < vec_capacity receipts.new) }
-    ensures reserved { length marks.new.items ≤ vec_capacity receipts.new }
+    ensures streaks_room { OnOk result (vec_len streaks.new < vec_capacity streaks.new) }
+    ensures receipts_room { OnOk result (accepted < vec_capacity receipts.new) }
+    ensures reserved { accepted ≤ vec_capacity receipts.new }
 {
-    marks.reserve(1)?;
-    kept.reserve(1)?;
-    let in_flight = marks.len() - receipts.len();
+    streaks.reserve(1)?;
+    let in_flight = accepted - receipts.len();
     receipts.reserve(in_flight + 1)
 }

@@ -66,6 +66,10 @@ walk_app =
     (number_rule_or (codes "seed") (codes "1")))
     (flag_rule (codes "script"))
 
+-- the subcommand that tests a script
+abbrev pub test_app : App
+test_app = with_rule (new_app (codes "test")) file_rule
+
 -- the subcommand that judges a trace
 abbrev pub check_app : App
 check_app = with_rule (new_app (codes "check")) file_rule
@@ -108,8 +112,10 @@ table_program names =
     with_subcommand
     (with_subcommand
     (with_subcommand
+    (with_subcommand
     (with_subcommand (with_subcommand (with_subcommand top_app script_app.top) chart_app.top) litmus_app.top)
     walk_app.top)
+    test_app.top)
     check_app.top)
     (table_app names).top
 
@@ -199,6 +205,7 @@ IsLine name rows (lines.Walk file rounds seed script) =
     (name ≡ codes "walk") × (first_of (codes "FILE") rows ≡ Some file.now)
     × IsNumberIfGiven (codes "rounds") rows rounds × IsNumberOf (codes "seed") rows seed
     × (script ≡ is_given (codes "script") rows)
+IsLine name rows (lines.Test file) = (name ≡ codes "test") × (first_of (codes "FILE") rows ≡ Some file.now)
 IsLine name rows (lines.Check file) = (name ≡ codes "check") × (first_of (codes "FILE") rows ≡ Some file.now)
 IsLine name rows (lines.Table table exclusive) =
     (name ≡ codes "table") × (first_of (codes "TABLE") rows ≡ Some (word_of table))

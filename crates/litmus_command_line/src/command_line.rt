@@ -1,7 +1,7 @@
 ghost use Rattle.std.specs.Prelude.{◌≡◌, map, IfOk, IfSome, IsOkAnd, string_bytes, codes, false};
 ghost use Rattle.clap.specs.declared.builder.command.Command.TheViews.{out-Command as fields_of};
 ghost use Rattle.litmus_command_line.specs.CommandLine.{IsAsked, IsLine, IsLockup, IsRead, IsTable, IsWith, chart_app, check_app};
-ghost use Rattle.litmus_command_line.specs.CommandLine.{file_rule, flag_rule, is_given, script_app, word_of};
+ghost use Rattle.litmus_command_line.specs.CommandLine.{file_rule, flag_rule, is_given, script_app, test_app, word_of};
 ghost use Rattle.litmus_command_line.specs.CommandLine.{IsNumberOf, IsNumberIfGiven, litmus_app, number_rule};
 ghost use Rattle.litmus_command_line.specs.CommandLine.{IsExport, number_rule_or, walk_app, word_of_number};
 ghost use Rattle.clap.specs.Words.{app_of, found_of, rows_of, rule_of, first_of, subcommand_rows_of};
@@ -40,6 +40,10 @@ pub enum CommandLine<'a> {
         rounds: Option<u64>,
         seed: u64,
         script: bool,
+    },
+    /// Test the script in this file against the answers that it wants.
+    Test {
+        file: &'a str,
     },
     /// Judge the trace in this file.
     Check {
@@ -94,6 +98,7 @@ fn asked<'a>(matches: &ArgMatches<'a>) -> Option<CommandLine<'a>>
         "chart" => chart_line(given),
         "litmus" => litmus_line(given),
         "walk" => walk_line(given),
+        "test" => test_line(given),
         "check" => check_line(given),
         "table" => table_line(given),
         "export" => export_line(given),
@@ -143,6 +148,13 @@ fn walk_line<'a>(given: &ArgMatches<'a>) -> Option<CommandLine<'a>>
         seed,
         script,
     })
+}
+
+fn test_line<'a>(given: &ArgMatches<'a>) -> Option<CommandLine<'a>>
+    ensures { IfSome result (IsLine (codes "test") (rows_of (found_of given.now))) }
+{
+    let file = file_of(given)?;
+    Some(CommandLine::Test { file })
 }
 
 fn check_line<'a>(given: &ArgMatches<'a>) -> Option<CommandLine<'a>>
@@ -231,6 +243,7 @@ fn lockup<'a>(alloc: Global) -> Result<Command<'a>, AllocError>
     let program = with(program, chart(alloc))?;
     let program = with(program, litmus(alloc))?;
     let program = with(program, walk(alloc))?;
+    let program = with(program, test(alloc))?;
     let program = with(program, check(alloc))?;
     let program = with(program, table(alloc))?;
     with(program, export(alloc))
@@ -306,6 +319,16 @@ fn walk<'a>(alloc: Global) -> Result<Command<'a>, AllocError>
             "1",
         ))?
         .arg(flag(alloc, "script", "Print the round of this seed, as a script"))
+}
+
+fn test<'a>(alloc: Global) -> Result<Command<'a>, AllocError>
+    ensures reads { IfOk result (λ c. app_of c ≡ test_app) }
+    ensures plain { IfOk result (λ c. (fields_of c).has_globals ≡ false) }
+{
+    Command::new(alloc, "test")
+        .about("Tests a script against the answers that it wants: finds the first that differs")
+        .after_help(help::TEST)
+        .arg(file(alloc, "The script: one command a line; - is standard input"))
 }
 
 fn check<'a>(alloc: Global) -> Result<Command<'a>, AllocError>

@@ -54,6 +54,20 @@ Documents: docs/TEXTS.md (the lines of a litmus test), docs/EXAMPLES.md (tests t
 
 Example: lockup walk examples/litmus/sb.txt --rounds 1000";
 
+/// What stands below the options of `test`.
+pub const TEST: &str = "\
+A line of the script may end in '=' and the answer that is wanted of its command; further lines of
+the answer stand in lines of their own that begin with '='. An answer of which nothing is wanted may
+be any. The first line that differs is printed, with status 1, or how many lines are as wanted:
+
+  issue 0 0 load 0      = pending 0
+  waiting
+  = deliver req 0 0   GetS   moves
+
+Documents: docs/TEXTS.md
+
+Example: lockup test examples/exercise_first_miss.txt";
+
 /// What stands below the options of `export`.
 pub const EXPORT: &str = "\
 Each rule is one row of the tables by which the slices run, and has its cell's name, so a

@@ -31,6 +31,13 @@ returns-in-walk c =
     let found = c.in_ok-name.ensures.rows in
     asked_of c.args.matches.now (codes "walk") rows c.walk_line.result named found c.walk_line.ensures
 
+pub returns-in-test : goal.returns-in-test
+returns-in-test c =
+    let named = rw c.in-test.is at c.in_ok-name.ensures.name in
+    let rows = rows_of (found_of c.in_ok-name.given.now) in
+    let found = c.in_ok-name.ensures.rows in
+    asked_of c.args.matches.now (codes "test") rows c.test_line.result named found c.test_line.ensures
+
 pub returns-in-check : goal.returns-in-check
 returns-in-check c =
     let named = rw c.in-check.is at c.in_ok-name.ensures.name in

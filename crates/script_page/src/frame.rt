@@ -11,15 +11,18 @@ pub const HEAD: &str = r#"<!doctype html>
 :root { color-scheme: light dark; --edge: #8888; --soft: #8882; --lit: #e8a20055; --new: #2277dd; }
 * { box-sizing: border-box; }
 body { margin: 0; font: 15px/1.4 system-ui, sans-serif; }
-header { position: sticky; top: 0; z-index: 1; padding: .5rem 1rem; background: Canvas; border-bottom: 1px solid var(--edge);
-    display: flex; flex-wrap: wrap; gap: .5rem; align-items: center; }
+header { position: sticky; top: 0; z-index: 1; padding: .5rem 1rem; background: Canvas;
+    border-bottom: 1px solid var(--edge); display: flex; flex-wrap: wrap; gap: .5rem; align-items: center; }
 button, select, input { font: inherit; padding: .2rem .6rem; }
 input { width: 6rem; }
 main { display: grid; grid-template-columns: minmax(16rem, 26rem) 1fr; gap: 1rem; padding: 1rem; }
+main > * { min-width: 0; }
 h2 { font-size: 1rem; margin: 0 0 .4rem; }
 code, pre, #script, .word, td, th { font-family: ui-monospace, monospace; font-size: .88rem; }
-#script { max-height: calc(100vh - 6rem); overflow: auto; border: 1px solid var(--edge); border-radius: 6px; position: sticky; top: 4.5rem; }
-#script div { padding: .05rem .5rem; white-space: pre-wrap; content-visibility: auto; contain-intrinsic-size: auto 1.3rem; }
+#script { max-height: calc(100vh - 6rem); overflow: auto; border: 1px solid var(--edge); border-radius: 6px;
+    position: sticky; top: 4.5rem; }
+#script div { padding: .05rem .5rem; white-space: pre-wrap; content-visibility: auto;
+    contain-intrinsic-size: auto 1.3rem; }
 #script .step { cursor: pointer; }
 #script .step:hover { background: var(--soft); }
 #script .quiet { opacity: .65; }
@@ -44,7 +47,7 @@ td, th { border: 1px solid var(--edge); padding: .1rem .4rem; text-align: left; 
 th { background: var(--soft); }
 td.lit { background: var(--lit); font-weight: bold; outline: 3px solid; }
 @media (max-width: 50rem) {
-    main { grid-template-columns: 1fr; }
+    main { grid-template-columns: minmax(0, 1fr); }
     #script { max-height: 14rem; position: static; }
 }
 @media print {
@@ -68,7 +71,8 @@ td.lit { background: var(--lit); font-weight: bold; outline: 3px solid; }
 <section>
 <div id="now" aria-live="polite"></div>
 <div id="lines"></div>
-<details id="tables"><summary>The protocol's tables, with the case that was met</summary><div class="tables"></div></details>
+<details id="tables" open><summary>The protocol's tables, with the case that was met</summary>
+<div class="tables"></div></details>
 </section>
 </main>
 <script type="application/json" id="run">
@@ -163,9 +167,10 @@ function caseOf(number) {
     const words = command.trim().split(/\s+/);
     if (who === 'core') {
         const name = event.replace(/ for core \d+$/, '').replace(/\(\d+\)$/, '');
+        const plain = it => it.replace(' (exclusive on)', '');
         const fits = (column, cell) => column === name
-            || (column.startsWith(name + ',') && (!next || cell.split('; ').pop() === next));
-        return { who, row: row => row === state, fits };
+            || (plain(column).startsWith(name + ',') && (!next || cell.split('; ').pop() === next));
+        return { who, row: row => plain(row) === state, fits };
     }
     const entry = linesAt(number - 1).get(words[2]) || { dir: state, owner: '-', sharers: '-' };
     const core = words[1] === 'req' ? words[3] : undefined;
@@ -214,17 +219,20 @@ function cardOf(line, before, messages, isAsked) {
     card.dataset.line = line.line;
     card.append(made('h2', '', 'line ' + line.line));
     const boxes = made('div', 'boxes');
-    const who = line.owner !== '-' ? 'owner ' + line.owner : line.sharers !== '-' ? 'sharers ' + line.sharers : 'no copies';
+    const shared = line.sharers !== '-' ? 'sharers ' + line.sharers : 'no copies';
+    const who = line.owner !== '-' ? 'owner ' + line.owner : shared;
     boxes.append(boxOf('directory', line.dir, before && before.dir, who, 'home'));
     line.cores.forEach((state, core) => {
         const [kind, remark] = may(state);
         boxes.append(boxOf('core ' + core, state, before && before.cores[core], remark, kind));
     });
-    const home = made('div', 'word' + (before && before.home !== line.home ? ' changed' : ''), 'home copy ' + line.home);
+    const kind = before && before.home !== line.home ? 'word changed' : 'word';
+    const home = made('div', kind, 'home copy ' + line.home);
     const list = made('ul', 'messages');
     for (const it of messages) {
         const way = (it.from ? it.from + ' → ' : '→ ') + it.to;
-        list.append(made('li', '', made('code', '', it.name), ' ' + way + ': ' + it.fate + ' ', made('small', '', '(' + it.command + ')')));
+        const command = made('small', '', '(' + it.command + ')');
+        list.append(made('li', '', made('code', '', it.name), ' ' + way + ': ' + it.fate + ' ', command));
     }
     card.append(boxes, home, list);
     return card;
@@ -327,7 +335,11 @@ window.onhashchange = () => show(stepOf(location.hash));
 document.onkeydown = event => {
     if (['INPUT', 'SELECT'].includes(event.target.tagName)) return;
     const keys = {
-        ArrowLeft: () => show(now - 1), ArrowRight: () => show(now + 1), Home: () => show(0), End: () => show(steps.length), ' ': play,
+        ArrowLeft: () => show(now - 1),
+        ArrowRight: () => show(now + 1),
+        Home: () => show(0),
+        End: () => show(steps.length),
+        ' ': play,
     };
     if (!keys[event.key]) return;
     event.preventDefault();

@@ -10,23 +10,25 @@ use crate::policy::Policy;
 use crate::set::Set;
 use address_map::{Checked, Local};
 use std::alloc::{AllocError, Global};
+use std::boxed::BoxedSlice;
 use std::marker::Model;
 
 /// The array of a private cache: sets of slots, each with a line and its value.
 #[derive(Drop)]
 pub struct CacheArray<V, P> {
-    sets: Vec<Set<V>>,
+    sets: BoxedSlice<Set<V>>,
     policy: P,
 }
 
 impl<V, P> Model for CacheArray<V, P> {
+    ghost use Rattle.std.specs.Box.{boxed_slice_items};
     ghost use Rattle.cache_array.specs.Array.{ArrayView, IsArray};
 
     ghost Value = { ArrayView V P };
 
-    ghost view = { λ array. record { sets = array.sets.items; policy = array.policy } };
+    ghost view = { λ array. record { sets = boxed_slice_items array.sets; policy = array.policy } };
 
-    ghost invariant = { λ array. IsArray {V = V} {P = P} (record { sets = array.sets.items; policy = array.policy }) };
+    ghost invariant = { λ array. IsArray {V = V} {P = P} (record { sets = boxed_slice_items array.sets; policy = array.policy }) };
 }
 
 impl<V: Copy, P: Policy + Drop> CacheArray<V, P> {
@@ -44,7 +46,10 @@ impl<V: Copy, P: Policy + Drop> CacheArray<V, P> {
         for set in 0..count {
             sets.push(Set::make(alloc, ways)?)?;
         }
-        Ok(CacheArray { sets, policy })
+        Ok(CacheArray {
+            sets: sets.into_boxed_slice(),
+            policy,
+        })
     }
 
     fn set_index(&self, line: Local) -> usize

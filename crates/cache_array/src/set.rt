@@ -22,7 +22,8 @@ pub struct Slot<V> {
     pub value: V,
 }
 
-/// One set: an insertion goes last, a removal closes up. The memory for its ways is taken when it is made.
+/// One set: an insertion goes last, a removal closes up. The memory for its ways is taken when it is made: by its
+/// invariant its list never has more room, nor less.
 #[derive(Drop)]
 pub struct Set<V> {
     slots: Vec<Slot<V>>,
@@ -30,7 +31,7 @@ pub struct Set<V> {
 }
 
 impl<V> Model for Set<V> {
-    ghost use Rattle.std.specs.Prelude.{◌≤◌, vec_capacity};
+    ghost use Rattle.std.specs.Prelude.{◌≡◌, ◌≤◌, vec_capacity};
     ghost use Rattle.cache_array.specs.declared.set.TheConstants.{MOST_WAYS};
     ghost use Rattle.cache_array.specs.Set.{SetView};
 
@@ -38,7 +39,7 @@ impl<V> Model for Set<V> {
 
     ghost view = { λ set. record { slots = set.slots.items; ways = set.ways } };
 
-    ghost invariant = { λ set. (set.ways ≤ MOST_WAYS) × (set.ways ≤ vec_capacity set.slots) };
+    ghost invariant = { λ set. (set.ways ≤ MOST_WAYS) × (vec_capacity set.slots ≡ set.ways) };
 }
 
 impl<V: Copy> Set<V> {

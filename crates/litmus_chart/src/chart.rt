@@ -161,11 +161,11 @@ impl<F: MissFile> Chart<F> {
         let issued = self.ahead.issue(core, request)?;
         written(note_issued(core, statement, issued, out))?;
         if let Issued::Pending(_) = issued {
-            self.picture.name(request.word.line())?;
+            self.picture.name(core, request.word.line())?;
         }
         written(
             self.picture
-                .write_changes(&self.ahead, request.word.line(), out),
+                .write_access(&self.ahead, core, request.word.line(), out),
         )?;
         self.picture.behind.issue(core, request)?;
         Ok(())
@@ -185,7 +185,7 @@ impl<F: MissFile> Chart<F> {
         let evicted = self.ahead.evict(core, line);
         written(begin_note(Participant::Core(core), statement, out))?;
         written(write_evicted(evicted, out))?;
-        written(self.picture.write_changes(&self.ahead, line, out))?;
+        written(self.picture.write_change(&self.ahead, line, out))?;
         self.picture.behind.evict(core, line);
         Ok(())
     }

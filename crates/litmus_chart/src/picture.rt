@@ -2,12 +2,13 @@ ghost use Rattle.std.specs.Prelude.{◌≡◌, IfErr, IfOk};
 ghost use Rattle.litmus_script.specs.Play.{IsOfRun};
 
 use super::arrow::{Arrow, Fate, Participant, receiver, sender};
+use super::names::Names;
 use super::note::write_changes;
 use address_map::{Checked, CoreId, LineAddr};
 use litmus_script::{Answers, Machine, written};
 use litmus_text::TextFault;
 use mshr_file::MissFile;
-use slice_core::{ForwardedMessage, Message, Pick};
+use slice_core::{CopyState, ForwardedMessage, Message, Pick};
 use std::alloc::Global;
 use std::fmt;
 use std::fmt::Write as _;
@@ -24,8 +25,7 @@ struct Sent {
 #[derive(Drop)]
 pub struct Picture<F: MissFile> {
     pub behind: Machine<F>,
-    /// The lines of which a core may have a copy, in the order in which they were first asked for.
-    named: Vec<LineAddr>,
+    names: Names,
     sent: Vec<Sent>,
 }
 
@@ -35,37 +35,63 @@ impl<F: MissFile> Picture<F> {
     {
         Ok(Picture {
             behind: Machine::build(alloc, config)?,
-            named: Vec::new(alloc),
+            names: Names::new(alloc),
             sent: Vec::new(alloc),
         })
     }
 
     /// A core has asked for the line.
-    pub fn name(&mut self, line: LineAddr) -> Result<(), TextFault>
+    pub fn name(&mut self, core: CoreId, line: LineAddr) -> Result<(), TextFault>
         ensures same { self.new.behind ≡ self.old.behind }
         ensures fault { IfErr result IsOfRun }
     {
-        if self.named.contains(&line) {
-            return Ok(());
+        let behind = &self.behind;
+        // those that left the set since then
+        if let Some(held) = self.names.held.get_mut(core.0 as usize) {
+            held.retain(|named| {
+                !shares_set(behind, line, named.line) || has_copy(behind, core, named.line)
+            });
         }
-        self.named.push(line).map_err(|_| TextFault::NoMemory)
+        self.names.name(core, line)
     }
 
-    /// Draws what is different on the machine that is one call ahead, in the slice of this line: the line itself, and
-    /// the one that had to leave for it.
-    pub fn write_changes<W: Write>(
+    /// Draws what an access of a core changed on the machine that is one call ahead: the line itself, and the one that had
+    /// to leave for it, in the order in which they were first asked for. The one that leaves is of the core's lines in
+    /// the same set.
+    pub fn write_access<W: Write>(
+        &self,
+        ahead: &Machine<F>,
+        core: CoreId,
+        line: LineAddr,
+        out: &mut Answers<'_, W>,
+    ) -> fmt::Result {
+        let Some(rank) = self.names.rank(line) else {
+            return Ok(());
+        };
+        for named in self.names.held_by(core) {
+            if named.rank < rank && shares_set(&self.behind, line, named.line) {
+                self.write_change(ahead, named.line, out)?;
+            }
+        }
+        self.write_change(ahead, line, out)?;
+        for named in self.names.held_by(core) {
+            if named.rank > rank && shares_set(&self.behind, line, named.line) {
+                self.write_change(ahead, named.line, out)?;
+            }
+        }
+        Ok(())
+    }
+
+    /// Draws what is different of a line on the machine that is one call ahead.
+    pub fn write_change<W: Write>(
         &self,
         ahead: &Machine<F>,
         line: LineAddr,
         out: &mut Answers<'_, W>,
     ) -> fmt::Result {
-        let slice = self.behind.slice_of(line);
-        for line in &self.named {
-            if self.behind.slice_of(*line) == slice {
-                if let (Some(before), Some(after)) = (self.behind.view(*line), ahead.view(*line)) {
-                    write_changes(Participant::Directory(slice), *line, &before, &after, out)?;
-                }
-            }
+        if let (Some(before), Some(after)) = (self.behind.view(line), ahead.view(line)) {
+            let directory = Participant::Directory(self.behind.slice_of(line));
+            write_changes(directory, line, &before, &after, out)?;
         }
         Ok(())
     }
@@ -160,5 +186,23 @@ impl<F: MissFile> Picture<F> {
 
     fn slice(&self, pick: Pick) -> usize {
         self.behind.slice_of(pick.line())
+    }
+}
+
+/// Whether the two lines are of one slice, and stand in the same set of a core's array.
+fn shares_set<F: MissFile>(machine: &Machine<F>, line: LineAddr, other: LineAddr) -> bool {
+    let slices = machine.config.slices() as u64;
+    let sets = machine.config.sets() as u64;
+    line.0 % slices == other.0 % slices && line.0 / slices % sets == other.0 / slices % sets
+}
+
+/// Whether the core has a copy of the line.
+fn has_copy<F: MissFile>(machine: &Machine<F>, core: CoreId, line: LineAddr) -> bool {
+    match machine.view(line) {
+        Some(view) => view
+            .copies
+            .get(core.0 as usize)
+            .is_some_and(|copy| *copy != CopyState::I),
+        None => false,
     }
 }

@@ -39,68 +39,68 @@ serving_row line register = ap (λ used. used && is_for line register) (used_row
 
 -- Whether there is a miss for a line is whether a row serves it.
 pub row_for : (table : RegisterTable) (line : ℕ) → IsKept table →
-    list_any (row_serves line) table.rows.items ≡ has_miss (misses_of table.registers.items) line
+    list_any (row_serves line) table.rows.items.items ≡ has_miss (misses_of table.registers.items.items) line
 row_for table line kept =
     ap (list_any (row_serves line)) kept.rows
-    ∙ any-map row_of (row_serves line) (serves line) (serving_row line) table.registers.items
-    ∙ has_miss_is table.registers.items line
+    ∙ any-map row_of (row_serves line) (serves line) (serving_row line) table.registers.items.items
+    ∙ has_miss_is table.registers.items.items line
 
 -- As many rows are in use as registers are open.
 pub open_rows : (table : RegisterTable) → IsKept table →
-    length (filter (λ row. not (is_free_row row)) table.rows.items) ≡ length (misses_of table.registers.items)
+    length (filter (λ row. not (is_free_row row)) table.rows.items.items) ≡ length (misses_of table.registers.items.items)
 open_rows table kept =
     ap (λ rows. length (filter (λ row. not (is_free_row row)) rows)) kept.rows
     ∙ kept-map row_of (λ row. not (is_free_row row))
-    (λ register. is_waited register.targets) used_row table.registers.items
+    (λ register. is_waited register.targets) used_row table.registers.items.items
 
-pub as_many : (table : RegisterTable) → IsKept table → length table.rows.items ≡ length table.registers.items
-as_many table kept = ap length kept.rows ∙ length-map table.registers.items row_of
+pub as_many : (table : RegisterTable) → IsKept table → length table.rows.items.items ≡ length table.registers.items.items
+as_many table kept = ap length kept.rows ∙ length-map table.registers.items.items row_of
 
 -- the row at a place is that of the register there
-pub row_at : (table : RegisterTable) (place : ℕ) (d : Row) → IsKept table → place < length table.registers.items →
-    get_or table.rows.items place d ≡ row_of (get_or table.registers.items place no_register)
+pub row_at : (table : RegisterTable) (place : ℕ) (d : Row) → IsKept table → place < length table.registers.items.items →
+    get_or table.rows.items.items place d ≡ row_of (get_or table.registers.items.items place no_register)
 row_at table place d kept inside =
-    ap (λ rows. get_or rows place d) kept.rows ∙ get_or-map row_of table.registers.items place no_register d inside
+    ap (λ rows. get_or rows place d) kept.rows ∙ get_or-map row_of table.registers.items.items place no_register d inside
 
 pub record IsServedAt (table : RegisterTable) (line place : ℕ) : Type 0 where
-  pub row : place < length table.rows.items
-  pub inside : place < length table.registers.items
-  pub serving : serves line (get_or table.registers.items place no_register) ≡ true
-  pub waits : targets_of (misses_of table.registers.items) line
-      ≡ (get_or table.registers.items place no_register).targets
+  pub row : place < length table.rows.items.items
+  pub inside : place < length table.registers.items.items
+  pub serving : serves line (get_or table.registers.items.items place no_register) ≡ true
+  pub waits : targets_of (misses_of table.registers.items.items) line
+      ≡ (get_or table.registers.items.items place no_register).targets
 
 -- Where a search finds a row for a line, the line waits in its register.
 pub served_at : (table : RegisterTable) (line place : ℕ) → IsKept table →
-    position (row_serves line) table.rows.items ≡ Some place →
+    position (row_serves line) table.rows.items.items ≡ Some place →
     IsServedAt table line place
 served_at table line place kept found = record {
   row = row;
   inside = inside;
   serving = serving;
-  waits = waits_for table.registers.items place line
-      (register_serving table.registers.items place line kept.single inside serving);
+  waits = waits_for table.registers.items.items place line
+      (register_serving table.registers.items.items place line kept.single inside serving);
 }
   where
-    row : place < length table.rows.items
-    row = (position-Some (row_serves line) table.rows.items place no_row found).0
+    row : place < length table.rows.items.items
+    row = (position-Some (row_serves line) table.rows.items.items place no_row found).0
 
-    inside : place < length table.registers.items
+    inside : place < length table.registers.items.items
     inside = let same = as_many table kept in omega (arith, row, same)
 
-    serving : serves line (get_or table.registers.items place no_register) ≡ true
+    serving : serves line (get_or table.registers.items.items place no_register) ≡ true
     serving =
-        sym (serving_row line (get_or table.registers.items place no_register))
+        sym (serving_row line (get_or table.registers.items.items place no_register))
         ∙ ap (row_serves line) (sym (row_at table place no_row kept inside))
-        ∙ (position-Some (row_serves line) table.rows.items place no_row found).1
+        ∙ (position-Some (row_serves line) table.rows.items.items place no_row found).1
 
 -- Where a search finds none, nothing waits for the line.
-pub unserved : (table : RegisterTable) (line : ℕ) → IsKept table → position (row_serves line) table.rows.items ≡ None →
-    targets_of (misses_of table.registers.items) line ≡ []
+pub unserved : (table : RegisterTable) (line : ℕ) → IsKept table → position (row_serves line) table.rows.items.items ≡ None →
+    targets_of (misses_of table.registers.items.items) line ≡ []
 unserved table line kept missing =
     ⊎_elim
-    (λ there. absurd (none_missing (row_serves line) table.rows.items there missing))
+    (λ there. absurd (none_missing (row_serves line) table.rows.items.items there missing))
     (λ nobody. nothing_waits _ (sym (row_for table line kept) ∙ nobody))
-    (cases_Bool (list_any (row_serves line) table.rows.items))
+    (cases_Bool (list_any (row_serves line) table.rows.items.items))
   where
     none_missing : (p : Row → Bool) (rows : List Row) → list_any p rows ≡ true → position p rows ≡ None → ⊥
     none_missing p rows there missing =
@@ -110,9 +110,9 @@ unserved table line kept missing =
 
 -- Where a line is waited for, some register is open.
 pub some_open : (table : RegisterTable) (line : ℕ) → IsKept table →
-    has_miss (misses_of table.registers.items) line ≡ true → 1 ≤ table.open_count
+    has_miss (misses_of table.registers.items.items) line ≡ true → 1 ≤ table.open_count
 some_open table line kept there =
-    let some = not_empty (misses_of table.registers.items) there in
+    let some = not_empty (misses_of table.registers.items.items) there in
     let counted = kept.counted in
     omega (arith, some, counted)
   where
@@ -122,27 +122,27 @@ some_open table line kept there =
 
 -- Where none is, no row serves a line.
 pub none_serves : (table : RegisterTable) (line : ℕ) → IsKept table → table.open_count ≡ 0 →
-    position (row_serves line) table.rows.items ≡ None
+    position (row_serves line) table.rows.items.items ≡ None
 none_serves table line kept closed =
     ⊎_elim
     (λ there. absurd (let some = some_open table line kept there in omega (arith, some, closed)))
-    (λ nobody. position_none (row_serves line) table.rows.items (row_for table line kept ∙ nobody))
-    (cases_Bool (has_miss (misses_of table.registers.items) line))
+    (λ nobody. position_none (row_serves line) table.rows.items.items (row_for table line kept ∙ nobody))
+    (cases_Bool (has_miss (misses_of table.registers.items.items) line))
 
 -- A miss is found.
 pub row_found : (table : RegisterTable) (line : ℕ) → IsKept table →
-    has_miss (misses_of table.registers.items) line ≡ true →
-    IsSome (position (row_serves line) table.rows.items)
-row_found table line kept there = position_found (row_serves line) table.rows.items (row_for table line kept ∙ there)
+    has_miss (misses_of table.registers.items.items) line ≡ true →
+    IsSome (position (row_serves line) table.rows.items.items)
+row_found table line kept there = position_found (row_serves line) table.rows.items.items (row_for table line kept ∙ there)
 
 -- Where not all registers are open, a free row is found.
 pub free_found : (table : RegisterTable) → IsKept table →
-    length (misses_of table.registers.items) < length table.registers.items →
-    IsSome (position is_free_row table.rows.items)
+    length (misses_of table.registers.items.items) < length table.registers.items.items →
+    IsSome (position is_free_row table.rows.items.items)
 free_found table kept fewer =
-    position_found is_free_row table.rows.items (free_somewhere table.rows.items few)
+    position_found is_free_row table.rows.items.items (free_somewhere table.rows.items.items few)
   where
-    few : length (filter (λ row. not (is_free_row row)) table.rows.items) < length table.rows.items
+    few : length (filter (λ row. not (is_free_row row)) table.rows.items.items) < length table.rows.items.items
     few = let used = open_rows table kept in let same = as_many table kept in omega (arith, fewer, used, same)
 
     free_somewhere : (rows : List Row) → length (filter (λ row. not (is_free_row row)) rows) < length rows →
@@ -155,26 +155,26 @@ free_found table kept fewer =
         (cases_Bool (is_free_row row))
 
 pub record IsFreeAt (table : RegisterTable) (place : ℕ) : Type 0 where
-  pub row : place < length table.rows.items
-  pub inside : place < length table.registers.items
-  pub free : is_waited (get_or table.registers.items place no_register).targets ≡ false
+  pub row : place < length table.rows.items.items
+  pub inside : place < length table.registers.items.items
+  pub free : is_waited (get_or table.registers.items.items place no_register).targets ≡ false
 
-pub free_at : (table : RegisterTable) (place : ℕ) → IsKept table → position is_free_row table.rows.items ≡ Some place →
+pub free_at : (table : RegisterTable) (place : ℕ) → IsKept table → position is_free_row table.rows.items.items ≡ Some place →
     IsFreeAt table place
 free_at table place kept found = record {
   row = row;
   inside = inside;
   free =
       by_not _
-      (sym (free_row (get_or table.registers.items place no_register))
+      (sym (free_row (get_or table.registers.items.items place no_register))
       ∙ ap is_free_row (sym (row_at table place no_row kept inside))
-      ∙ (position-Some is_free_row table.rows.items place no_row found).1);
+      ∙ (position-Some is_free_row table.rows.items.items place no_row found).1);
 }
   where
-    row : place < length table.rows.items
-    row = (position-Some is_free_row table.rows.items place no_row found).0
+    row : place < length table.rows.items.items
+    row = (position-Some is_free_row table.rows.items.items place no_row found).0
 
-    inside : place < length table.registers.items
+    inside : place < length table.registers.items.items
     inside = let same = as_many table kept in omega (arith, row, same)
 
     by_not : (b : Bool) → not b ≡ true → b ≡ false
@@ -182,8 +182,8 @@ free_at table place kept found = record {
     by_not false e = refl
 
 -- A table of free registers and free rows is kept.
-pub free_kept : (count : ℕ) (table : RegisterTable) → table.rows.items ≡ replicate count no_row →
-    table.registers.items ≡ replicate count no_register → table.open_count ≡ 0 → IsKept table
+pub free_kept : (count : ℕ) (table : RegisterTable) → table.rows.items.items ≡ replicate count no_row →
+    table.registers.items.items ≡ replicate count no_register → table.open_count ≡ 0 → IsKept table
 free_kept count table rows registers closed = record {
   few = rw rows (all_free count);
   rows = rows ∙ free_rows count ∙ ap (map row_of) (sym registers);
@@ -220,18 +220,18 @@ one_at_most false = omega arith
 
 -- A table is kept where a register and its row change together, and the open ones are counted.
 pub kept_after : (table after : RegisterTable) (place : ℕ) (register : Register) (row : Row) → IsKept table →
-    HasEachLineOnce (set table.registers.items place register) →
-    after.registers.items ≡ set table.registers.items place register →
-    after.rows.items ≡ set table.rows.items place row →
+    HasEachLineOnce (set table.registers.items.items place register) →
+    after.registers.items.items ≡ set table.registers.items.items place register →
+    after.rows.items.items ≡ set table.rows.items.items place row →
     row ≡ row_of register → row.waiting ≤ 64 →
-    after.open_count ≡ length (misses_of (set table.registers.items place register)) → IsKept after
+    after.open_count ≡ length (misses_of (set table.registers.items.items place register)) → IsKept after
 kept_after table after place register row kept single registers rows for few count = record {
-  few = rw rows (All-set (λ row. row.waiting ≤ 64) table.rows.items place row few kept.few);
+  few = rw rows (All-set (λ row. row.waiting ≤ 64) table.rows.items.items place row few kept.few);
   rows =
       rows
-      ∙ ap (λ r. set table.rows.items place r) for
+      ∙ ap (λ r. set table.rows.items.items place r) for
       ∙ ap (λ all. set all place (row_of register)) kept.rows
-      ∙ sym (map-set row_of table.registers.items place register)
+      ∙ sym (map-set row_of table.registers.items.items place register)
       ∙ ap (map row_of) (sym registers);
   single = rw registers single;
   counted = count ∙ ap (λ all. length (misses_of all)) (sym registers);

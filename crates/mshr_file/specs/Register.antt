@@ -1,5 +1,6 @@
 -- A table of miss registers, of which those with a target are open.
 use Rattle.std.specs.Prelude.{◌≡◌, ℕ, ◌≤◌, ◌==◌, Bool, not, ◌&&◌, List, [], length, filter, map, All}
+use Rattle.std.specs.Box.{boxed_slice_items}
 use Rattle.std.specs.List.{count_by}
 use Rattle.mshr_file.specs.declared.registers.Register.{Register}
 use Rattle.mshr_file.specs.declared.registers.RegisterTable.{RegisterTable}
@@ -43,13 +44,21 @@ is_free_row row = row.waiting == 0
 abbrev pub row_serves : ℕ → Row → Bool
 row_serves line row = not (is_free_row row) && (row.line.0 == line)
 
+-- all registers of a table, also those that are free
+abbrev pub registers_in : RegisterTable → List Register
+registers_in table = boxed_slice_items table.registers
+
+-- those of them that are open
+abbrev pub open_in : RegisterTable → List Register
+open_in table = misses_of (registers_in table)
+
 -- Each register has its row and at most 64 targets, no line has two open registers, and those that are open are
 -- counted.
 pub record IsKept (table : RegisterTable) : Type 0 where
-  pub few : All (λ row. row.waiting ≤ 64) table.rows.items
-  pub rows : table.rows.items ≡ map row_of table.registers.items
-  pub single : HasEachLineOnce table.registers.items
-  pub counted : table.open_count ≡ length (misses_of table.registers.items)
+  pub few : All (λ row. row.waiting ≤ 64) (boxed_slice_items table.rows)
+  pub rows : boxed_slice_items table.rows ≡ map row_of (registers_in table)
+  pub single : HasEachLineOnce (registers_in table)
+  pub counted : table.open_count ≡ length (open_in table)
 
 -- The bounds of a file of registers are those that a configuration may have.
 pub record IsTable (table : Table) : Type 0 where

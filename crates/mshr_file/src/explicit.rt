@@ -18,13 +18,13 @@ pub struct ExplicitFile {
 }
 
 impl Model for ExplicitFile {
-    ghost use Rattle.mshr_file.specs.Register.{Table, IsTable, IsKept};
+    ghost use Rattle.mshr_file.specs.Register.{Table, IsTable, IsKept, registers_in};
 
     ghost Value = { Table };
 
-    ghost view = { λ file. record { registers = file.table.registers.items; fields = file.fields } };
+    ghost view = { λ file. record { registers = registers_in file.table; fields = file.fields } };
 
-    ghost invariant = { λ file. IsTable (record { registers = file.table.registers.items; fields = file.fields })
+    ghost invariant = { λ file. IsTable (record { registers = registers_in file.table; fields = file.fields })
         × IsKept file.table };
 }
 

@@ -1,12 +1,14 @@
 ghost use Rattle.std.specs.Prelude.{◌≡◌, ◌<◌, ◌≤◌, ◌+◌, ◌==◌, [], ◌∷◌, true, false, not, if◌then◌else◌, length, filter, IfOk, replicate, slice_index_or};
+ghost use Rattle.std.specs.Box.{boxed_slice_items};
 ghost use Rattle.std.specs.List.{list_any, position};
 ghost use Rattle.target_list.specs.Target.{front_loads};
 ghost use Rattle.mshr_file.specs.Miss.{is_waited, targets_of, has_miss, AddsTarget, TakesTargets, IsMissFile};
-ghost use Rattle.mshr_file.specs.Register.{IsKept, misses_of, serves, no_register, row_of, no_row, row_serves, is_free_row};
+ghost use Rattle.mshr_file.specs.Register.{IsKept, registers_in, open_in, serves, no_register, row_of, no_row, row_serves, is_free_row};
 
 use address_map::Local;
 use arrayvec::ArrayVec;
 use std::alloc::{AllocError, Global};
+use std::boxed::BoxedSlice;
 use target_list::{Target, TargetList};
 
 /// A miss register: the line that is waited for, and the accesses that wait for it. It is free while it has no target.
@@ -73,8 +75,8 @@ impl Row {
 /// at none while no register is open.
 #[derive(Drop)]
 pub struct RegisterTable {
-    pub rows: Vec<Row>,
-    pub registers: Vec<Register>,
+    pub rows: BoxedSlice<Row>,
+    pub registers: BoxedSlice<Register>,
     /// How many registers are open.
     pub open_count: usize,
 }
@@ -83,7 +85,7 @@ impl RegisterTable {
     /// Takes the memory for a table of free registers.
     pub fn make(alloc: Global, count: usize) -> Result<Self, AllocError>
         ensures kept { IfOk result IsKept }
-        ensures free { IfOk result (λ table. table.registers.items ≡ replicate count no_register) }
+        ensures free { IfOk result (λ table. registers_in table ≡ replicate count no_register) }
     {
         let rows = free_rows(alloc, count)?;
         let registers = free_registers(alloc, count)?;
@@ -96,7 +98,7 @@ impl RegisterTable {
 
     /// How many registers there are.
     pub fn len(&self) -> usize
-        ensures { result ≡ length self.now.registers.items }
+        ensures { result ≡ length (registers_in self.now) }
     {
         self.registers.len()
     }
@@ -104,8 +106,8 @@ impl RegisterTable {
     /// Whether there is a register for the line.
     pub fn find(&self, line: Local) -> bool
         requires { IsKept self.now }
-        ensures served { result ≡ has_miss (misses_of self.now.registers.items) line.0 }
-        ensures sound { IsMissFile (misses_of self.now.registers.items) }
+        ensures served { result ≡ has_miss (open_in self.now) line.0 }
+        ensures sound { IsMissFile (open_in self.now) }
     {
         self.search(line).is_some()
     }
@@ -113,7 +115,7 @@ impl RegisterTable {
     /// How many targets wait for the line.
     pub fn waiting(&self, line: Local) -> usize
         requires { IsKept self.now }
-        ensures count { result ≡ length (targets_of (misses_of self.now.registers.items) line.0) }
+        ensures count { result ≡ length (targets_of (open_in self.now) line.0) }
         ensures few { result ≤ 64 }
     {
         match self.search(line) {
@@ -125,8 +127,8 @@ impl RegisterTable {
     /// How many loads the targets of the line begin with.
     pub fn front_loads(&self, line: Local) -> usize
         requires { IsKept self.now }
-        ensures count { result ≡ length (front_loads (targets_of (misses_of self.now.registers.items) line.0)) }
-        ensures within { result ≤ length (targets_of (misses_of self.now.registers.items) line.0) }
+        ensures count { result ≡ length (front_loads (targets_of (open_in self.now) line.0)) }
+        ensures within { result ≤ length (targets_of (open_in self.now) line.0) }
     {
         match self.search(line) {
             Some(place) => self.registers[place].targets.front_loads(),
@@ -137,7 +139,7 @@ impl RegisterTable {
     /// How many registers are open.
     pub fn count_open(&self) -> usize
         requires { IsKept self.now }
-        ensures { result ≡ length (misses_of self.now.registers.items) }
+        ensures { result ≡ length (open_in self.now) }
     {
         self.open_count
     }
@@ -145,13 +147,13 @@ impl RegisterTable {
     /// Opens a free register for the line.
     pub fn open(&mut self, line: Local, target: Target)
         requires kept { IsKept self.old }
-        requires unserved { has_miss (misses_of self.old.registers.items) line.0 ≡ false }
-        requires room { length (misses_of self.old.registers.items) < length self.old.registers.items }
+        requires unserved { has_miss (open_in self.old) line.0 ≡ false }
+        requires room { length (open_in self.old) < length (registers_in self.old) }
         ensures kept { IsKept self.new }
-        ensures added { AddsTarget (misses_of self.old.registers.items) (misses_of self.new.registers.items) line.0 target }
-        ensures count { length (misses_of self.new.registers.items) ≡ length (misses_of self.old.registers.items) + 1 }
-        ensures sound { IsMissFile (misses_of self.new.registers.items) }
-        ensures size { length self.new.registers.items ≡ length self.old.registers.items }
+        ensures added { AddsTarget (open_in self.old) (open_in self.new) line.0 target }
+        ensures count { length (open_in self.new) ≡ length (open_in self.old) + 1 }
+        ensures sound { IsMissFile (open_in self.new) }
+        ensures size { length (registers_in self.new) ≡ length (registers_in self.old) }
     {
         let place = self.free_place();
         let register = &mut self.registers[place];
@@ -165,13 +167,13 @@ impl RegisterTable {
     /// Adds a target to the line's register.
     pub fn join(&mut self, line: Local, target: Target)
         requires kept { IsKept self.old }
-        requires served { has_miss (misses_of self.old.registers.items) line.0 ≡ true }
-        requires room { length (targets_of (misses_of self.old.registers.items) line.0) < 64 }
+        requires served { has_miss (open_in self.old) line.0 ≡ true }
+        requires room { length (targets_of (open_in self.old) line.0) < 64 }
         ensures kept { IsKept self.new }
-        ensures added { AddsTarget (misses_of self.old.registers.items) (misses_of self.new.registers.items) line.0 target }
-        ensures count { length (misses_of self.new.registers.items) ≡ length (misses_of self.old.registers.items) }
-        ensures sound { IsMissFile (misses_of self.new.registers.items) }
-        ensures size { length self.new.registers.items ≡ length self.old.registers.items }
+        ensures added { AddsTarget (open_in self.old) (open_in self.new) line.0 target }
+        ensures count { length (open_in self.new) ≡ length (open_in self.old) }
+        ensures sound { IsMissFile (open_in self.new) }
+        ensures size { length (registers_in self.new) ≡ length (registers_in self.old) }
     {
         let place = self.place_of(line);
         let register = &mut self.registers[place];
@@ -183,15 +185,15 @@ impl RegisterTable {
     /// Takes the first target of the line's register.
     pub fn take_first(&mut self, line: Local) -> Target
         requires kept { IsKept self.old }
-        requires served { has_miss (misses_of self.old.registers.items) line.0 ≡ true }
+        requires served { has_miss (open_in self.old) line.0 ≡ true }
         ensures kept { IsKept self.new }
-        ensures taken { TakesTargets (misses_of self.old.registers.items) (misses_of self.new.registers.items) line.0
+        ensures taken { TakesTargets (open_in self.old) (open_in self.new) line.0
             (result ∷ []) }
-        ensures count { length (misses_of self.old.registers.items)
-            ≡ length (misses_of self.new.registers.items)
-            + (if has_miss (misses_of self.new.registers.items) line.0 then 0 else 1) }
-        ensures sound { IsMissFile (misses_of self.new.registers.items) }
-        ensures size { length self.new.registers.items ≡ length self.old.registers.items }
+        ensures count { length (open_in self.old)
+            ≡ length (open_in self.new)
+            + (if has_miss (open_in self.new) line.0 then 0 else 1) }
+        ensures sound { IsMissFile (open_in self.new) }
+        ensures size { length (registers_in self.new) ≡ length (registers_in self.old) }
     {
         let place = self.place_of(line);
         let register = &mut self.registers[place];
@@ -205,15 +207,15 @@ impl RegisterTable {
     /// Takes the loads at the front of the line's register.
     pub fn take_loads(&mut self, line: Local) -> ArrayVec<Target, 64>
         requires kept { IsKept self.old }
-        requires served { has_miss (misses_of self.old.registers.items) line.0 ≡ true }
+        requires served { has_miss (open_in self.old) line.0 ≡ true }
         ensures kept { IsKept self.new }
-        ensures loads { result.items ≡ front_loads (targets_of (misses_of self.old.registers.items) line.0) }
-        ensures taken { TakesTargets (misses_of self.old.registers.items) (misses_of self.new.registers.items) line.0 result.items }
-        ensures count { length (misses_of self.old.registers.items)
-            ≡ length (misses_of self.new.registers.items)
-            + (if has_miss (misses_of self.new.registers.items) line.0 then 0 else 1) }
-        ensures sound { IsMissFile (misses_of self.new.registers.items) }
-        ensures size { length self.new.registers.items ≡ length self.old.registers.items }
+        ensures loads { result.items ≡ front_loads (targets_of (open_in self.old) line.0) }
+        ensures taken { TakesTargets (open_in self.old) (open_in self.new) line.0 result.items }
+        ensures count { length (open_in self.old)
+            ≡ length (open_in self.new)
+            + (if has_miss (open_in self.new) line.0 then 0 else 1) }
+        ensures sound { IsMissFile (open_in self.new) }
+        ensures size { length (registers_in self.new) ≡ length (registers_in self.old) }
     {
         let place = self.place_of(line);
         let register = &mut self.registers[place];
@@ -227,13 +229,13 @@ impl RegisterTable {
     /// Takes all targets of the line's register.
     pub fn close(&mut self, line: Local) -> ArrayVec<Target, 64>
         requires kept { IsKept self.old }
-        requires served { has_miss (misses_of self.old.registers.items) line.0 ≡ true }
+        requires served { has_miss (open_in self.old) line.0 ≡ true }
         ensures kept { IsKept self.new }
-        ensures all { result.items ≡ targets_of (misses_of self.old.registers.items) line.0 }
-        ensures taken { TakesTargets (misses_of self.old.registers.items) (misses_of self.new.registers.items) line.0 result.items }
-        ensures count { length (misses_of self.old.registers.items) ≡ length (misses_of self.new.registers.items) + 1 }
-        ensures sound { IsMissFile (misses_of self.new.registers.items) }
-        ensures size { length self.new.registers.items ≡ length self.old.registers.items }
+        ensures all { result.items ≡ targets_of (open_in self.old) line.0 }
+        ensures taken { TakesTargets (open_in self.old) (open_in self.new) line.0 result.items }
+        ensures count { length (open_in self.old) ≡ length (open_in self.new) + 1 }
+        ensures sound { IsMissFile (open_in self.new) }
+        ensures size { length (registers_in self.new) ≡ length (registers_in self.old) }
     {
         let place = self.place_of(line);
         let register = &mut self.registers[place];
@@ -247,7 +249,7 @@ impl RegisterTable {
     /// Where the line's row stands, if it has one.
     fn search(&self, line: Local) -> Option<usize>
         requires { IsKept self.now }
-        ensures { result ≡ position (row_serves line.0) self.now.rows.items }
+        ensures { result ≡ position (row_serves line.0) (boxed_slice_items self.now.rows) }
     {
         if self.open_count == 0 {
             return None;
@@ -258,10 +260,10 @@ impl RegisterTable {
     /// The place of the register for the line.
     fn place_of(&self, line: Local) -> usize
         requires kept { IsKept self.now }
-        requires served { has_miss (misses_of self.now.registers.items) line.0 ≡ true }
-        ensures row { result < length self.now.rows.items }
-        ensures inside { result < length self.now.registers.items }
-        ensures serves { serves line.0 (slice_index_or self.now.registers.items result no_register) ≡ true }
+        requires served { has_miss (open_in self.now) line.0 ≡ true }
+        ensures row { result < length (boxed_slice_items self.now.rows) }
+        ensures inside { result < length (registers_in self.now) }
+        ensures serves { serves line.0 (slice_index_or (registers_in self.now) result no_register) ≡ true }
     {
         first_serving(&self.rows, line).unwrap()
     }
@@ -269,33 +271,33 @@ impl RegisterTable {
     /// The place of the first register that is free.
     fn free_place(&self) -> usize
         requires kept { IsKept self.now }
-        requires room { length (misses_of self.now.registers.items) < length self.now.registers.items }
-        ensures row { result < length self.now.rows.items }
-        ensures inside { result < length self.now.registers.items }
-        ensures free { is_waited (slice_index_or self.now.registers.items result no_register).targets ≡ false }
+        requires room { length (open_in self.now) < length (registers_in self.now) }
+        ensures row { result < length (boxed_slice_items self.now.rows) }
+        ensures inside { result < length (registers_in self.now) }
+        ensures free { is_waited (slice_index_or (registers_in self.now) result no_register).targets ≡ false }
     {
         first_free(&self.rows).unwrap()
     }
 }
 
-fn free_registers(alloc: Global, count: usize) -> Result<Vec<Register>, AllocError>
-    ensures { IfOk result (λ registers. registers.items ≡ replicate count no_register) }
+fn free_registers(alloc: Global, count: usize) -> Result<BoxedSlice<Register>, AllocError>
+    ensures { IfOk result (λ registers. boxed_slice_items registers ≡ replicate count no_register) }
 {
     let mut registers = Vec::with_capacity(alloc, count)?;
     for _ in 0..count {
         registers.push(Register::free())?;
     }
-    Ok(registers)
+    Ok(registers.into_boxed_slice())
 }
 
-fn free_rows(alloc: Global, count: usize) -> Result<Vec<Row>, AllocError>
-    ensures { IfOk result (λ rows. rows.items ≡ replicate count no_row) }
+fn free_rows(alloc: Global, count: usize) -> Result<BoxedSlice<Row>, AllocError>
+    ensures { IfOk result (λ rows. boxed_slice_items rows ≡ replicate count no_row) }
 {
     let mut rows = Vec::with_capacity(alloc, count)?;
     for _ in 0..count {
         rows.push(Row::free())?;
     }
-    Ok(rows)
+    Ok(rows.into_boxed_slice())
 }
 
 fn first_serving(rows: &[Row], line: Local) -> Option<usize>

@@ -6,7 +6,8 @@
 //!   taken, by the kind of their channel. Contracts see it as `StatsView` of specs/Stats.antt. Each count goes up by
 //!   one and stays at 2^64 - 1 (`counted`), and a counting call changes nothing else (`after_hit` and the others).
 //!
-//! Only [`Stats::new`] takes memory: 80 bytes for each core. A counting call writes one or two numbers in place.
+//! Only [`Stats::new`] takes memory: 80 bytes for each core, in a boxed slice, which has no call that lets it grow. A
+//! counting call writes one or two numbers in place.
 #![tactic(auto)]
 
 pub use answer::{Cell, Delivered, DeliveredNext, Evicted, Issue, Refused, Stall};

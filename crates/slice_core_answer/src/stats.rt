@@ -4,6 +4,7 @@ use super::answer::Stall;
 use address_map::CoreId;
 use slice_queues_message::Channel;
 use std::alloc::{AllocError, Global};
+use std::boxed::BoxedSlice;
 use std::marker::Model;
 
 /// What became of one core's requests.
@@ -55,17 +56,18 @@ pub struct MessageCounts {
 /// What a slice has counted.
 #[derive(Debug, Drop)]
 pub struct Stats {
-    cores: Vec<CoreStats>,
+    cores: BoxedSlice<CoreStats>,
     messages: MessageCounts,
     exclusive: bool,
 }
 
 impl Model for Stats {
+    ghost use Rattle.std.specs.Box.{boxed_slice_items};
     ghost use Rattle.slice_core_answer.specs.Stats.{StatsView};
 
     ghost Value = { StatsView };
 
-    ghost view = { λ own. record { cores = own.cores.items; messages = own.messages; exclusive = own.exclusive } };
+    ghost view = { λ own. record { cores = boxed_slice_items own.cores; messages = own.messages; exclusive = own.exclusive } };
 }
 
 impl Stats {
@@ -86,7 +88,7 @@ impl Stats {
     {
         let cores = vec![in alloc; CoreStats::default(); cores]?;
         Ok(Stats {
-            cores,
+            cores: cores.into_boxed_slice(),
             messages: MessageCounts::default(),
             exclusive,
         })

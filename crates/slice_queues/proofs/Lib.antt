@@ -6,3 +6,4 @@ pub mod WaitingLaws
 pub mod InvalidateLaws
 pub mod RingLaws
 pub mod PickLaws
+pub mod CountLaws

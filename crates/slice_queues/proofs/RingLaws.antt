@@ -1,5 +1,5 @@
 -- A round of lines as lines come to its end and leave its front.
-use Rattle.std.proofs.Common.{◌≡◌, ℕ, zero, suc, ◌-◌, ◌<◌, ◌≤◌, ◌||◌, ◌++◌, if◌then◌else◌, Bool, true, false, List, [], ◌∷◌, length, drop, take, refl, ap, sym, ◌∙◌, subst, arith, Some, replicate, get_or, inl, inr, eq-eqb, eqb-true, append_assoc, add-one, drop-cons, filter, ◌+◌}
+use Rattle.std.proofs.Common.{◌≡◌, ◌≢◌, ℕ, zero, suc, ◌-◌, ◌<◌, ◌≤◌, ◌||◌, ◌++◌, if◌then◌else◌, Bool, true, false, List, [], ◌∷◌, length, drop, take, refl, ap, sym, ◌∙◌, subst, arith, Some, replicate, get_or, inl, inr, eq-eqb, append_assoc, add-one, drop-cons, filter, ◌+◌}
 use Rattle.std.specs.Prelude.{eqb, slice_get}
 use Rattle.std.specs.List.{list_any, IsDistinct, AllByRecursion}
 use Rattle.std.proofs.Math.ListN.{set, length-set}
@@ -8,7 +8,7 @@ use Rattle.std.proofs.lemmas.Bool.{cases_eq, cases_lt, ne_eqb}
 use Rattle.std.proofs.lemmas.Cmp.{nat_eq_equiv}
 use Rattle.std.proofs.lemmas.List.{get_or-set_same, get_or-set_other, get_or_past, length-replicate}
 use Rattle.std.proofs.lemmas.List.Elements.{filter_more}
-use Rattle.std.proofs.lemmas.List.Folds.{list_any-append, Any-from_list_any}
+use Rattle.std.proofs.lemmas.List.Folds.{list_any-append}
 use Rattle.std.proofs.lemmas.Map.Keys.{IsDistinct-push, IsDistinct-head, IsDistinct-tail}
 use Rattle.std.proofs.lemmas.Map.Steps.{length-le_from_distinct_below}
 use Rattle.circular_buffer.specs.Buffer.{Buffer, buffer, keep_last}
@@ -279,21 +279,38 @@ IsQueues-turn lines ring new own first stays line says is queues = record {
       (says ∙ ap has_mail line) (queues.quiet local) (sym (ap (λ r. is_listed r.order local) is) ∙ apart);
 }
 
--- where no line of the ring has a message, no line has
-pub quiet-everywhere : (lines : List LineChannels) (ring : LineOrder) (own : Lines) → IsQueues lines ring own →
-    ((i : ℕ) → i < length ring.order → has_mail (get_or lines (get_or ring.order i 0) (empty_line 0)) ≡ false) →
-    (local : ℕ) → has_mail (get_or lines local (empty_line 0)) ≡ false
-quiet-everywhere lines ring own queues each local = by_test (is_listed ring.order local) refl
+-- a line that doesn't stand in the ring with one more line is another, and stood in no ring before
+apart-listed : (order : List ℕ) (local other : ℕ) → is_listed (with_listed order local) other ≡ false →
+    (other ≢ local) × (is_listed order other ≡ false)
+apart-listed order local other = by_test (is_listed order local) refl
   where
-    by_test : (listed : Bool) → is_listed ring.order local ≡ listed →
-        has_mail (get_or lines local (empty_line 0)) ≡ false
-    by_test false apart = queues.quiet local apart
-    by_test true there =
-        let found = Any-from_list_any (eqb local) ring.order there in
-        let same : local ≡ found.1 = eqb-true local found.1 found.4 in
-        let here : local ≡ get_or ring.order found.0 0 =
-        same ∙ sym found.3 ∙ read_default ring.order found.0 found.1 0 found.2 in
-        ap (λ (l : ℕ). has_mail (get_or lines l (empty_line 0))) here ∙ each found.0 found.2
+    by_test : (there : Bool) → is_listed order local ≡ there →
+        is_listed (if there then order else order ++ local ∷ []) other ≡ false →
+        (other ≢ local) × (is_listed order other ≡ false)
+    by_test true there apart = (
+      (λ same.
+          let clash : false ≡ true = sym apart ∙ ap (is_listed order) same ∙ there in
+          cc),
+      apart,
+    )
+    by_test false away apart =
+        let split = or_false (is_listed order other) _ (sym (list_any-append (eqb other) order (local ∷ [])) ∙ apart) in (
+          (λ same. let clash : false ≡ true = sym split.1 ∙ rw (eq-eqb other local same) refl in cc),
+          split.0,
+        )
+
+-- a line that is lent stands in the ring
+pub IsQueues-lent : (lines : List LineChannels) (ring new : LineOrder) (own : Lines) (local : ℕ) (line : LineChannels) →
+    new ≡ record ring { order = with_listed ring.order local } → IsQueues lines ring own →
+    IsQueues (set lines local line) new own
+IsQueues-lent lines ring new own local line is queues = record {
+  machine = queues.machine;
+  lines_here = queues.lines_here ∙ sym (length-set lines local line);
+  ring_for_all = ap (λ r. r.lines) is ∙ queues.ring_for_all ∙ sym (length-set lines local line);
+  quiet = λ other apart.
+      let out = apart-listed ring.order local other (sym (ap (λ r. is_listed r.order other) is) ∙ apart) in
+      ap has_mail (get_or-set_other lines local other line (empty_line 0) out.0) ∙ queues.quiet other out.1;
+}
 
 -- a line of a slice in which nothing waits has no message
 pub no_mail-replicate : (lines cores local : ℕ) →

@@ -3,6 +3,7 @@ pub mod Line
 pub mod Mail
 pub mod Slice
 pub mod Ring
+pub mod Count
 pub use Rattle.slice_queues_message.specs.Pick
 pub use Rattle.slice_queues_message.specs.Class
 pub mod Lending

@@ -25,8 +25,9 @@
 //! for the line, of which 9 are for the ring. The largest slice, 65536 lines of 64 cores, takes 781 MB, and its
 //! building 0.6 to 0.8 s, nearly all of it for the first touch of the pages. A send or a take costs the same whatever
 //! the number of lines and cores, and so does [`LineQueues::is_empty`]: four sets say for which cores messages wait.
-//! [`LineQueues::waiting`] looks at no core without a message, [`Queues::is_empty`] at the lines of the ring alone, and
-//! [`Queues::picks_of`] and [`Queues::picks_from`] at each line.
+//! [`LineQueues::waiting`] looks at no core without a message. [`Queues::is_empty`] looks at the line that was lent last
+//! alone, since the others with a message are counted. [`Queues::picks_of`] and [`Queues::picks_from`] look at each
+//! line.
 #![tactic(auto)]
 
 pub use line_queues::LineQueues;
@@ -38,6 +39,7 @@ pub use slice_queues_message::{
 pub use waiting::LineWaiting;
 
 mod core_queues;
+mod count;
 mod forwarded_queue;
 mod line_by_channel;
 mod line_queues;

@@ -2,6 +2,7 @@ ghost use Rattle.std.specs.Prelude.{◌≡◌, ℕ, ◌<◌, ◌≤◌, ◌↔�
 ghost use Rattle.std.specs.Borrow.{sem};
 ghost use Rattle.slice_queues_message.specs.Pick.{line_of, channel_of};
 
+use super::count::MailCount;
 use super::line_queues::LineQueues;
 use super::picks::{LinesWaiting, Picks};
 use super::ring::LineRing;
@@ -17,11 +18,13 @@ pub struct Queues {
     lines: BoxedSlice<LineQueues>,
     ring: LineRing,
     locator: Locator,
+    count: MailCount,
 }
 
 impl Model for Queues {
     ghost use Rattle.std.specs.Box.{boxed_slice_items};
     ghost use Rattle.slice_queues.specs.Ring.{QueuesView, IsQueues};
+    ghost use Rattle.slice_queues.specs.Count.{IsCounted};
 
     ghost Value = { QueuesView };
 
@@ -33,7 +36,9 @@ impl Model for Queues {
               queues.ring.order;
         } };
 
-    ghost invariant = { λ queues. IsQueues (boxed_slice_items queues.lines) queues.ring queues.locator };
+    ghost invariant = { λ queues.
+        IsQueues (boxed_slice_items queues.lines) queues.ring queues.locator
+        × IsCounted (boxed_slice_items queues.lines) queues.count };
 }
 
 /// The lines by their places in the slice, and the ring.
@@ -63,6 +68,7 @@ impl Queues {
             lines: lines.into_boxed_slice(),
             ring,
             locator,
+            count: MailCount { lent: 0, others: 0 },
         })
     }
 
@@ -88,6 +94,7 @@ impl Queues {
         ensures value { result.now ≡ at_local self.old.channels local.0 }
     {
         self.ring.list(local);
+        self.count.lend(&self.lines, local);
         &mut self.lines[local.0]
     }
 
@@ -128,13 +135,7 @@ impl Queues {
         ensures slice { IsTrue result ↔ IsEmptySlice self.now.channels }
         ensures lines { IsTrue result ↔ ((local : ℕ) → IsEmptyLine (at_local self.now.channels local)) }
     {
-        for index in 0..self.ring.len() {
-            let line = self.ring.at(index);
-            if self.lines[line.0].has_mail() {
-                return false;
-            }
-        }
-        true
+        self.count.is_zero(&self.lines)
     }
 }
 
@@ -223,6 +224,7 @@ impl Queues {
         ensures rest { TakesOnly (at_local self.old.channels local.0) (after_take (at_local self.old.channels local.0) channel)
             channel }
     {
+        self.count.lend(&self.lines, local);
         self.lines[local.0].take(channel)
     }
 

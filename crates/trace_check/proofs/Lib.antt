@@ -1,3 +1,4 @@
+mod LatestLemmas
 mod SeqLemmas
 mod ValueLemmas
 mod VerdictLemmas

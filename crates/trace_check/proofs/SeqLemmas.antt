@@ -1,5 +1,5 @@
 -- The greatest seq of each core and line says which entries are in order.
-use Rattle.std.proofs.Common.{◌≡◌, ℕ, zero, suc, ◌⊎◌, eq-eqb, ◌/◌, ◌<◌, ◌≤◌, Bool, true, false, cond, eqb, List, [], ◌∷◌, ◌++◌, length, get_or, Option, Some, None, refl, sym, ap, ◌∙◌, inl, inr, arith, subst}
+use Rattle.std.proofs.Common.{◌≡◌, ◌&&◌, ℕ, zero, suc, ◌⊎◌, eq-eqb, ◌/◌, ◌<◌, ◌≤◌, Bool, true, false, cond, eqb, List, [], ◌∷◌, ◌++◌, length, get_or, Option, Some, None, refl, sym, ap, ◌∙◌, inl, inr, arith, subst}
 use Rattle.std.specs.Prelude.{slice_get}
 use Rattle.std.proofs.lemmas.Bool.{eqb-true}
 use Rattle.std.proofs.lemmas.Option.{slice_get_within, get_or_from_slice_get, slice_get-get_or}
@@ -8,54 +8,47 @@ use Rattle.slice_core_log.specs.declared.entry.Entry.{Entry}
 use Rattle.slice_core_log.specs.Log.{IsAfter}
 use Rattle.slice_core_log.proofs.Pushes.{slice_get-push}
 use Rattle.trace_check.specs.Verdict.{IsInOrder}
-use Rattle.trace_check.specs.Judge.{AreGreatest, Reaches, IsUpTo, slot_of}
+use Rattle.trace_check.specs.Judge.{AreGreatest, Reaches, IsUpTo}
+use Rattle.trace_check.specs.Latest.{latest_of}
+use Rattle.trace_check.specs.declared.latest.LatestSeqs.{LatestSeqs}
 
--- entries of one core and line have one slot
-same_slot : (d e : Entry) → d.core ≡ e.core → d.word.0 / 8 ≡ e.word.0 / 8 → slot_of d ≡ slot_of e
-same_slot d e core line = let number : d.core.0 ≡ e.core.0 = ap (λ (c : CoreId). c.0) core in omega arith
+-- what is kept for an entry of the same core and line
+same_latest : (latest : LatestSeqs) (d e : Entry) → d.core ≡ e.core → d.word.0 / 8 ≡ e.word.0 / 8 →
+    latest_of latest (d.word.0 / 8) d.core.0 ≡ latest_of latest (e.word.0 / 8) e.core.0
+same_latest latest d e core line =
+    ap (λ (l : ℕ). latest_of latest l d.core.0) line ∙ ap (λ (c : CoreId). latest_of latest (e.word.0 / 8) c.0) core
 
--- and no others
-slot_core : (d e : Entry) → d.core.0 < 64 → e.core.0 < 64 → slot_of d ≡ slot_of e → d.core ≡ e.core
-slot_core d e small_d small_e same =
-    let number : d.core.0 ≡ e.core.0 = omega arith in
-    ap (λ (n : ℕ). let c : CoreId = record { 0 = n } in c) number
-
-slot_line : (d e : Entry) → d.core.0 < 64 → e.core.0 < 64 → slot_of d ≡ slot_of e → d.word.0 / 8 ≡ e.word.0 / 8
-slot_line d e small_d small_e same = omega arith
+same_core : (d e : Entry) → d.core.0 ≡ e.core.0 → d.core ≡ e.core
+same_core d e number = ap (λ (n : ℕ). let c : CoreId = record { 0 = n } in c) number
 
 -- an entry that has its core and line for itself is in order
-pub in_order_alone : (latest : List (Option ℕ)) (log : List Entry) (e : Entry) → AreGreatest latest log
-    → get_or latest (slot_of e) None ≡ None
+pub in_order_alone : (latest : LatestSeqs) (log : List Entry) (e : Entry) → AreGreatest latest log
+    → latest_of latest (e.word.0 / 8) e.core.0 ≡ None
     → IsInOrder log e
 in_order_alone latest log e greatest none = λ k d within core line.
     let x = get_or log k d in
     let kept = greatest.above k x (slice_get-get_or log k d within) in
-    absurd (subst (λ o. IsUpTo o x.seq) none
-    (subst (λ n. IsUpTo (get_or latest n None) x.seq) (same_slot x e core line) kept))
+    absurd (subst (λ o. IsUpTo o x.seq) (same_latest latest x e core line ∙ none) kept)
 
 -- an entry above the greatest seq is in order
-pub in_order_above : (latest : List (Option ℕ)) (log : List Entry) (e : Entry) (s : ℕ) → AreGreatest latest log
-    → get_or latest (slot_of e) None ≡ Some s
+pub in_order_above : (latest : LatestSeqs) (log : List Entry) (e : Entry) (s : ℕ) → AreGreatest latest log
+    → latest_of latest (e.word.0 / 8) e.core.0 ≡ Some s
     → s < e.seq → IsInOrder log e
 in_order_above latest log e s greatest some above = λ k d within core line.
     let x = get_or log k d in
     let kept = greatest.above k x (slice_get-get_or log k d within) in
-    let at_most : x.seq ≤ s =
-    subst (λ o. IsUpTo o x.seq) some
-    (subst (λ n. IsUpTo (get_or latest n None) x.seq) (same_slot x e core line) kept) in
+    let at_most : x.seq ≤ s = subst (λ o. IsUpTo o x.seq) (same_latest latest x e core line ∙ some) kept in
     omega arith
 
 -- an entry that is in order is above it
-pub above_in_order : (latest : List (Option ℕ)) (log : List Entry) (e : Entry) (s : ℕ) → AreGreatest latest log
-    → e.core.0 < 64
-    → get_or latest (slot_of e) None ≡ Some s → IsInOrder log e → s < e.seq
-above_in_order latest log e s greatest small some in_order =
-    let r = greatest.reached (slot_of e) s some in
+pub above_in_order : (latest : LatestSeqs) (log : List Entry) (e : Entry) (s : ℕ) → AreGreatest latest log
+    → latest_of latest (e.word.0 / 8) e.core.0 ≡ Some s → IsInOrder log e → s < e.seq
+above_in_order latest log e s greatest some in_order =
+    let r = greatest.reached (e.word.0 / 8) e.core.0 s some in
     let found : get_or log r.at r.entry ≡ r.entry = get_or_from_slice_get log r.at r.entry r.entry r.stands in
     let after : IsAfter r.entry e =
     subst (λ d. IsAfter d e) found (in_order r.at r.entry (slice_get_within log r.at r.entry r.stands)) in
-    let above : r.entry.seq < e.seq =
-    after (slot_core r.entry e r.core small r.slot) (slot_line r.entry e r.core small r.slot) in
+    let above : r.entry.seq < e.seq = after (same_core r.entry e r.of_core) r.of_line in
     let seq : r.entry.seq ≡ s = r.seq in
     omega arith
 
@@ -69,18 +62,21 @@ pub slice_get-last : {X : Type 0} (xs : List X) (y : X) → slice_get (xs ++ y �
 slice_get-last [] y = refl
 slice_get-last (z ∷ zs) y = slice_get-last zs y
 
-pub greatest-nil : AreGreatest [] []
-greatest-nil = record { above = λ k d at. cc; reached = λ place seq at. cc }
+pub greatest-nil : (latest : LatestSeqs) → ((line core : ℕ) → latest_of latest line core ≡ None) → AreGreatest latest []
+greatest-nil latest none = record {
+  above = λ k d at. cc;
+  reached = λ line core seq at. let e = none line core in cc;
+}
 
 -- what reaches a seq in a log reaches it in a longer one
-reaches-push : (log : List Entry) (e : Entry) (place seq : ℕ) → Reaches log place seq
-    → Reaches (log ++ e ∷ []) place seq
-reaches-push log e place seq r = record {
+reaches-push : (log : List Entry) (e : Entry) (line core seq : ℕ) → Reaches log line core seq
+    → Reaches (log ++ e ∷ []) line core seq
+reaches-push log e line core seq r = record {
   at = r.at;
   entry = r.entry;
   stands = slice_get-append log (e ∷ []) r.at r.entry r.stands;
-  core = r.core;
-  slot = r.slot;
+  of_line = r.of_line;
+  of_core = r.of_core;
   seq = r.seq;
 }
 
@@ -99,32 +95,52 @@ kept_cases true was new seq h = inl (refl, cc)
 kept_cases false was new seq h = inr h
 
 -- an entry in order is the greatest of its core and line from now on
-pub greatest-push : (was now : List (Option ℕ)) (log : List Entry) (e : Entry) → AreGreatest was log
-    → ((i : ℕ) → get_or now i None ≡ cond (eqb (slot_of e) i) (Some e.seq) (get_or was i None))
-    → e.core.0 < 64 → IsInOrder log e → AreGreatest now (log ++ e ∷ [])
-greatest-push was now log e greatest is small in_order = record {
+pub greatest-push : (was now : LatestSeqs) (log : List Entry) (e : Entry) → AreGreatest was log
+    → ((line core : ℕ) → latest_of now line core
+    ≡ cond (eqb (e.word.0 / 8) line && eqb e.core.0 core) (Some e.seq) (latest_of was line core))
+    → IsInOrder log e → AreGreatest now (log ++ e ∷ [])
+greatest-push was now log e greatest is in_order = record {
   above = λ k d at. elim (slice_get-push log e k d at) [
-    | inl w ↦ subst (λ o. IsUpTo o d.seq) (sym (is (slot_of d)))
-        (up_to-replaced (eqb (slot_of e) (slot_of d)) (get_or was (slot_of d) None) d.seq e.seq (greatest.above k d w.1)
-        (λ same s kept. above_in_order was log e s greatest small
-        (ap (λ i. get_or was i None) (eqb-true (slot_of e) (slot_of d) same) ∙ kept) in_order))
-    | inr w ↦ subst (λ (x : Entry). IsUpTo (get_or now (slot_of x) None) x.seq) (sym w.1)
+    | inl w ↦
+        let line : ℕ = d.word.0 / 8 in
+        let core : ℕ = d.core.0 in
+        subst (λ o. IsUpTo o d.seq) (sym (is line core))
+        (up_to-replaced (eqb (e.word.0 / 8) line && eqb e.core.0 core) (latest_of was line core) d.seq e.seq
+        (greatest.above k d w.1)
+        (λ same s kept.
+        let both = both_true (eqb (e.word.0 / 8) line) (eqb e.core.0 core) same in
+        above_in_order was log e s greatest
+        (ap (λ l. latest_of was l e.core.0) (eqb-true (e.word.0 / 8) line both.0)
+        ∙ ap (latest_of was line) (eqb-true e.core.0 core both.1)
+        ∙ kept)
+        in_order))
+    | inr w ↦ subst (λ (x : Entry). IsUpTo (latest_of now (x.word.0 / 8) x.core.0) x.seq) (sym w.1)
         (subst (λ o. IsUpTo o e.seq)
-        (sym (is (slot_of e)
-        ∙ ap (λ b. cond b (Some e.seq) (get_or was (slot_of e) None)) (eq-eqb (slot_of e) (slot_of e) refl)))
+        (sym (is (e.word.0 / 8) e.core.0
+        ∙ ap
+        (λ b. cond (b && eqb e.core.0 e.core.0) (Some e.seq) (latest_of was (e.word.0 / 8) e.core.0))
+        (eq-eqb (e.word.0 / 8) (e.word.0 / 8) refl)
+        ∙ ap (λ b. cond b (Some e.seq) (latest_of was (e.word.0 / 8) e.core.0)) (eq-eqb e.core.0 e.core.0 refl)))
         (omega arith))
   ];
   reached =
-      λ place seq at.
-      elim (kept_cases (eqb (slot_of e) place) (get_or was place None) e.seq seq (sym (is place) ∙ at)) [
-        | inl w ↦ record {
-          at = length log;
-          entry = e;
-          stands = slice_get-last log e;
-          core = small;
-          slot = eqb-true (slot_of e) place w.0;
-          seq = w.1;
-        }
-        | inr w ↦ reaches-push log e place seq (greatest.reached place seq w)
+      λ line core seq at.
+      elim (kept_cases
+      (eqb (e.word.0 / 8) line && eqb e.core.0 core) (latest_of was line core) e.seq seq (sym (is line core) ∙ at)) [
+        | inl w ↦
+            let both = both_true (eqb (e.word.0 / 8) line) (eqb e.core.0 core) w.0 in
+            record {
+              at = length log;
+              entry = e;
+              stands = slice_get-last log e;
+              of_line = eqb-true (e.word.0 / 8) line both.0;
+              of_core = eqb-true e.core.0 core both.1;
+              seq = w.1;
+            }
+        | inr w ↦ reaches-push log e line core seq (greatest.reached line core seq w)
       ];
 }
+  where
+    both_true : (a b : Bool) → (a && b) ≡ true → (a ≡ true) × (b ≡ true)
+    both_true true b h = (refl, h)
+    both_true false b h = absurd (cc h)

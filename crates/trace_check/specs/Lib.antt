@@ -1,4 +1,5 @@
 pub mod Verdict
+pub mod Latest
 pub mod Judge
 pub mod TraceLine
 pub mod Trace

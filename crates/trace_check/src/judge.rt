@@ -1,12 +1,13 @@
-ghost use Rattle.std.specs.Prelude.{◌≡◌, ◌<◌, ℕ, List, [], ◌∷◌, ◌++◌, length, All, OnOk, IfOk, MatchOption, slice_index, IsTrue, ◌↔◌, slice_index_or, None};
+ghost use Rattle.std.specs.Prelude.{◌≡◌, ◌<◌, ℕ, List, [], ◌∷◌, ◌++◌, length, All, OnOk, IfOk, MatchOption, slice_index, IsTrue, ◌↔◌, ◌/◌};
 ghost use Rattle.address_map.specs.declared.address.WordAddr.{WordAddr};
 ghost use Rattle.address_map.specs.Words.{IsAscendingBy};
 ghost use Rattle.slice_core_log.specs.Log.{initially};
 ghost use Rattle.slice_core_log.specs.declared.entry.Entry.{Entry};
 ghost use Rattle.trace_check.specs.declared.verdict.Verdict.{Verdict};
 ghost use Rattle.trace_check.specs.Verdict.{IsVerdict, IsWrong, IsRight, IsInOrder};
-ghost use Rattle.trace_check.specs.Judge.{Knows, AreGreatest, IsNameable, slot_of};
+ghost use Rattle.trace_check.specs.Judge.{Knows, AreGreatest, IsNameable};
 
+use super::latest::LatestSeqs;
 use super::slots::set_slot;
 use super::verdict::{Reason, Verdict};
 use address_map::WordAddr;
@@ -24,8 +25,8 @@ pub const MOST_WORDS: u64 = 524_288;
 pub struct Judge {
     /// The value of each word. Those past the last have 0.
     values: Vec<u64>,
-    /// The greatest seq of each core and line, by line and then by core.
-    latest: Vec<Option<u64>>,
+    /// The greatest seq of each core and line.
+    latest: LatestSeqs,
 }
 
 impl Judge {
@@ -35,7 +36,7 @@ impl Judge {
     {
         Judge {
             values: Vec::new(alloc),
-            latest: Vec::new(alloc),
+            latest: LatestSeqs::new(alloc),
         }
     }
 
@@ -76,7 +77,8 @@ impl Judge {
     {
         let value = performed(entry.op, self.value(entry.word));
         set_slot(&mut self.values, 0, entry.word.0 as usize, value)?;
-        set_slot(&mut self.latest, None, slot(entry), Some(entry.seq))
+        self.latest
+            .set(line_of(entry), entry.core.0 as usize, entry.seq)
     }
 
     fn value(&self, word: WordAddr) -> u64
@@ -91,33 +93,22 @@ impl Judge {
     // Whether the entry was asked for after all of its core and line that were taken.
     fn is_in_order(&self, entry: &Entry) -> bool
         requires { IsNameable entry.now }
-        ensures { (log : List Entry) → AreGreatest self.now.latest.items log
+        ensures { (log : List Entry) → AreGreatest self.now.latest log
             → (IsTrue result ↔ IsInOrder log entry.now) }
     {
-        match self.latest(entry) {
+        match self.latest.of(line_of(entry), entry.core.0 as usize) {
             Some(seq) => seq < entry.seq,
             None => true,
         }
     }
-
-    // The greatest seq of the entry's core and line.
-    fn latest(&self, entry: &Entry) -> Option<u64>
-        requires { IsNameable entry.now }
-        ensures { result ≡ slice_index_or self.now.latest.items (slot_of entry.now) None }
-    {
-        match self.latest.get(slot(entry)) {
-            Some(seq) => *seq,
-            None => None,
-        }
-    }
 }
 
-// Where the seqs of the entry's core and line are kept.
-fn slot(entry: &Entry) -> usize
+// The number of the entry's line.
+fn line_of(entry: &Entry) -> usize
     requires { IsNameable entry.now }
-    ensures { result ≡ slot_of entry.now }
+    ensures { result ≡ entry.now.word.0 / 8 }
 {
-    (MOST_CORES * entry.word.line().0 + entry.core.0 as u64) as usize
+    entry.word.line().0 as usize
 }
 
 /// Judges a log, in which words begin with these values.

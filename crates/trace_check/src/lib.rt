@@ -12,8 +12,8 @@
 //! - [`Judge`] has the value of each word and the greatest seq of each core and line (specs/Judge.antt), so an entry is
 //!   judged without a look at earlier ones.
 //!
-//! `check_trace` goes over the text once and keeps no entry. Its memory grows with the greatest word that is named and
-//! with the greatest line, of which each has room for 64 cores.
+//! `check_trace` goes over the text once and keeps no entry. Its memory grows with the greatest word that is named, and
+//! each line with entries has room for the seqs of its cores, up to the last of them.
 #![tactic(auto)]
 
 pub use check::{check_trace, one_judgement};
@@ -23,6 +23,7 @@ pub use verdict::{Reason, Verdict};
 
 mod check;
 mod judge;
+mod latest;
 mod slots;
 mod trace_line;
 mod verdict;

@@ -7,19 +7,19 @@ use Rattle.mshr_file.proofs.Steps.{sound}
 use Rattle.mshr_file.proofs.registers.RegisterTable.close.Goals as goal
 
 same : (c : goal.After-self-3-1) →
-    c.index_mut-register.result.now ≡ slice_index_or c.args.self.now.registers.items c.place_of-place.result no_register
+    c.index_mut-register.result.now ≡ slice_index_or c.args.self.now.registers.items.items c.place_of-place.result no_register
 same c =
     c.index_mut-register.ensures.value
-    ∙ get_or_default c.args.self.now.registers.items c.place_of-place.result c.index_mut-register.result.now no_register
+    ∙ get_or_default c.args.self.now.registers.items.items c.place_of-place.result c.index_mut-register.result.now no_register
     c.place_of-place.ensures.inside
 
 step : (c : goal.After-self-3-1) →
-    IsTaken c.args.self.now.registers.items
-    (slice_set c.args.self.now.registers.items c.place_of-place.result
+    IsTaken c.args.self.now.registers.items.items
+    (slice_set c.args.self.now.registers.items.items c.place_of-place.result
     (record { targets = c.take_all-all.new.self; line = c.index_mut-register.result.now.line }))
     c.args.line.0 c.index_mut-register.result.now (c.take_all-all.result.items) c.take_all-all.new.self
 step c =
-    took c.args.self.now.registers.items c.place_of-place.result c.args.line.0 c.index_mut-register.result.now
+    took c.args.self.now.registers.items.items c.place_of-place.result c.args.line.0 c.index_mut-register.result.now
     (c.take_all-all.result.items) c.take_all-all.new.self c.requires.kept.single c.place_of-place.ensures.inside
     (same c) c.place_of-place.ensures.serves
     (sym c.take_all-all.ensures.taken

@@ -11,7 +11,7 @@ returns-in-Some-clause-count c =
     let found = sym c.search.ensures ∙ c.in-Some.is in
     let at = served_at table c.args.line.0 c.in-Some.place c.requires found in
     let same = c.index.ensures
-    ∙ get_or_default table.registers.items c.in-Some.place c.index.result.now no_register at.inside in
+    ∙ get_or_default table.registers.items.items c.in-Some.place c.index.result.now no_register at.inside in
     c.front_loads.ensures.count ∙ ap (λ targets. length (front_loads targets)) (ap (λ r. r.targets) same ∙ sym at.waits)
 
 pub returns-in-Some-clause-within : goal.returns-in-Some-clause-within
@@ -20,7 +20,7 @@ returns-in-Some-clause-within c =
     let found = sym c.search.ensures ∙ c.in-Some.is in
     let at = served_at table c.args.line.0 c.in-Some.place c.requires found in
     let same = c.index.ensures
-    ∙ get_or_default table.registers.items c.in-Some.place c.index.result.now no_register at.inside in
+    ∙ get_or_default table.registers.items.items c.in-Some.place c.index.result.now no_register at.inside in
     let equal = ap length (ap (λ r. r.targets) same ∙ sym at.waits) in
     let within = c.front_loads.ensures.within in
     omega (arith, equal, within)

@@ -8,7 +8,7 @@ use Rattle.mshr_file.proofs.registers.RegisterTable.join.Goals as goal
 
 pub push-requires : goal.push-requires
 push-requires c =
-    let registers = c.args.self.now.registers.items in
+    let registers = c.args.self.now.registers.items.items in
     let place = c.place_of-place.result in
     let found = c.place_of-place.ensures in
     let home = register_serving registers place c.args.line.0 c.requires.kept.single found.inside found.serves in
@@ -20,19 +20,19 @@ push-requires c =
     omega (arith, short, equal)
 
 same : (c : goal.After-self-2-1) →
-    c.index_mut-register.result.now ≡ slice_index_or c.args.self.now.registers.items c.place_of-place.result no_register
+    c.index_mut-register.result.now ≡ slice_index_or c.args.self.now.registers.items.items c.place_of-place.result no_register
 same c =
     c.index_mut-register.ensures.value
-    ∙ get_or_default c.args.self.now.registers.items c.place_of-place.result c.index_mut-register.result.now no_register
+    ∙ get_or_default c.args.self.now.registers.items.items c.place_of-place.result c.index_mut-register.result.now no_register
     c.place_of-place.ensures.inside
 
 step : (c : goal.After-self-2-1) →
-    IsAdded c.args.self.now.registers.items
-    (slice_set c.args.self.now.registers.items c.place_of-place.result
+    IsAdded c.args.self.now.registers.items.items
+    (slice_set c.args.self.now.registers.items.items c.place_of-place.result
     (record { targets = c.push.new.self; line = c.index_mut-register.result.now.line }))
     c.args.line.0 c.args.target 0
 step c =
-    joined c.args.self.now.registers.items c.place_of-place.result c.args.line.0 c.index_mut-register.result.now
+    joined c.args.self.now.registers.items.items c.place_of-place.result c.args.line.0 c.index_mut-register.result.now
     c.args.target c.push.new.self c.requires.kept.single c.place_of-place.ensures.inside (same c)
     c.place_of-place.ensures.serves c.push.ensures
 

@@ -8,19 +8,19 @@ use Rattle.mshr_file.proofs.registers.RegisterTable.open.Goals as goal
 
 same : (c : goal.After-self-3-1) →
     c.index_mut-register.result.now
-    ≡ slice_index_or c.args.self.now.registers.items c.free_place-place.result no_register
+    ≡ slice_index_or c.args.self.now.registers.items.items c.free_place-place.result no_register
 same c =
     c.index_mut-register.ensures.value
-    ∙ get_or_default c.args.self.now.registers.items c.free_place-place.result c.index_mut-register.result.now
+    ∙ get_or_default c.args.self.now.registers.items.items c.free_place-place.result c.index_mut-register.result.now
     no_register c.free_place-place.ensures.inside
 
 step : (c : goal.After-self-3-1) →
-    IsAdded c.args.self.now.registers.items
-    (slice_set c.args.self.now.registers.items c.free_place-place.result
+    IsAdded c.args.self.now.registers.items.items
+    (slice_set c.args.self.now.registers.items.items c.free_place-place.result
     (record { targets = c.push.new.self; line = c.args.line }))
     c.args.line.0 c.args.target 1
 step c =
-    opened c.args.self.now.registers.items c.free_place-place.result c.args.line c.index_mut-register.result.now
+    opened c.args.self.now.registers.items.items c.free_place-place.result c.args.line c.index_mut-register.result.now
     c.args.target c.push.new.self c.requires.kept.single c.free_place-place.ensures.inside (same c)
     c.free_place-place.ensures.free c.requires.unserved c.push.ensures
 

@@ -30,4 +30,5 @@ loop-turn-preserved c =
       IsQueues-turn
           now.lines.items.items now.ring _ now.locator c.index.result.now c.has_mail-has_mail.result line
           c.has_mail-has_mail.ensures c.turn.ensures queues,
+      c.loop-turn.invariant.4,
     )

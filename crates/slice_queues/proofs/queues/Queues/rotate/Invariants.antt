@@ -13,3 +13,4 @@ invariant-loop-turn l =
     × (now.lines ≡ began.lines)
     × (now.locator ≡ began.locator)
     × IsQueues now.lines.items.items now.ring now.locator
+    × (now.count ≡ began.count)

@@ -1,4 +1,4 @@
-use Rattle.std.proofs.Common.{cond, eqb, get_or, Some, None, ap, ◌∙◌}
+use Rattle.std.proofs.Common.{cond, eqb, get_or, ap, rules, ◌∙◌}
 use Rattle.std.proofs.lemmas.Result.{on_ok_weaker}
 use Rattle.slice_core_log.specs.Op.{value_of}
 use Rattle.trace_check.proofs.VerdictLemmas.{knows-take}
@@ -8,11 +8,10 @@ pub returns : goal.returns
 returns c =
     let entry = c.args.entry.now in
     let values = c.args.self.now.values.items in
-    let latest = c.args.self.now.latest.items in
     let left = c.performed-value.ensures ∙ ap (value_of entry.op) c.value.ensures in
-    on_ok_weaker c.set_slot-2.result
-    (λ kept initial log knows right. knows-take _ _ initial log entry c.requires.core
+    on_ok_weaker c.set.result
+    (λ kept initial log knows right. knows-take _ _ initial log entry
     (λ w. c.in_ok-set_slot.ensures w ∙ ap (λ n. cond (eqb entry.word.0 w) n (get_or values w 0)) left)
-    (λ i. kept i ∙ ap (λ n. cond (eqb n i) (Some entry.seq) (get_or latest i None)) c.slot.ensures)
+    (λ line core. search rules)
     knows right)
-    c.set_slot-2.ensures
+    c.set.ensures

@@ -1,0 +1,3 @@
+pub mod JudgedLemmas
+pub mod AnswerLemmas
+pub mod RunLemmas

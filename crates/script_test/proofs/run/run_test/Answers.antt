@@ -1,0 +1,30 @@
+use Rattle.std.proofs.Common.{inl, ◌∙◌, sym, subst, map, ap}
+use Rattle.std.proofs.lemmas.Result.{IfOk-weaker, err_from_is_err_and}
+use Rattle.std.proofs.lemmas.List.{length-map}
+use Rattle.std.specs.Str.Lines.{lines}
+use Rattle.litmus_text.specs.Statement.{statements_from}
+use Rattle.script_test.specs.Answers.{AreAnswers}
+use Rattle.script_test.proofs.RunLemmas.{prints_test}
+use Rattle.script_test.proofs.run.run_test.Goals as goal
+
+pub returns-in_err-texts-clause-fault : goal.returns-in_err-texts-clause-fault
+returns-in_err-texts-clause-fault g c =
+    let p = err_from_is_err_and c.from_residual-in_err-texts.result c.from_residual-in_err-texts.ensures.1 in
+    let script = rw c.in_ok-script.ensures at c.script_of.ensures in
+    let fault = rw (c.as_slice.ensures.value, script) at c.in_err-texts.ensures.fault in
+    rw (p.1, p.2) (inl fault)
+
+pub returns-clause-printed : goal.returns-clause-printed
+returns-clause-printed g c =
+    let script = rw c.in_ok-script.ensures at c.script_of.ensures in
+    let numbers = rw c.in_ok-numbers.ensures at c.numbers_of.ensures in
+    let answers = rw c.in_ok-answers.ensures at c.answers_of.ensures in
+    let wants = rw c.in_ok-wants.ensures at c.wants_of.ensures in
+    let all = c.in_ok-texts.ensures.answers in
+    let numbered = rw (c.as_slice-3.ensures.value, c.as_slice-4.ensures.value) at answers in
+    IfOk-weaker c.print_judgement.result _ _
+    (λ status printed. prints_test c.args.input.now _ _ _ _ _ _ (c.as_slice.ensures.value ∙ script) (c.as_slice-2.ensures.value ∙ script)
+    all numbers (ap (λ s. map (λ a. (a.line, a.text.now)) s) c.as_slice-6.ensures.value ∙ numbered)
+    (ap (λ s. map (λ w. (w.line, w.text.now)) s) c.as_slice-5.ensures.value ∙ wants)
+    _ _ status _ (sym (length-map _ _)) printed)
+    c.print_judgement.ensures.printed

@@ -1,0 +1,3 @@
+pub mod Exercise
+pub mod Answers
+pub mod Judged

@@ -1,0 +1,49 @@
+ghost use Rattle.std.specs.Prelude.{◌≡◌, ℕ, ◌<◌, ◌↔◌, false, length, slice_index_or, IsTrue};
+ghost use Rattle.slice_queues.specs.Line.{has_mail, empty_line};
+ghost use Rattle.slice_queues.specs.Count.{one_where, IsCounted};
+
+use super::line_queues::LineQueues;
+use address_map::Local;
+
+/// How many lines have a message. The line that was lent last isn't among them: what is done to it isn't seen here.
+#[derive(Debug, Drop)]
+pub struct MailCount {
+    pub lent: usize,
+    pub others: usize,
+}
+
+impl MailCount {
+    /// It is now this line that is lent.
+    pub fn lend(&mut self, lines: &[LineQueues], local: Local)
+        requires line { local.0 < length lines.now }
+        requires counted { IsCounted lines.now self.old }
+        ensures lent { self.new.lent ≡ local.0 }
+        ensures counted { IsCounted lines.now self.new }
+    {
+        if local.0 != self.lent {
+            let before = one_where(lines[self.lent].has_mail());
+            let now = one_where(lines[local.0].has_mail());
+            self.others = self.others + before - now;
+            self.lent = local.0;
+        }
+    }
+
+    /// Whether no line has a message.
+    pub fn is_zero(&self, lines: &[LineQueues]) -> bool
+        requires { IsCounted lines.now self.now }
+        ensures { IsTrue result ↔ ((local : ℕ) → has_mail (slice_index_or lines.now local (empty_line 0)) ≡ false) }
+    {
+        self.others == 0
+            && match lines.get(self.lent) {
+                Some(line) => !line.has_mail(),
+                None => true,
+            }
+    }
+}
+
+// 1 where the test holds, and else 0.
+fn one_where(holds: bool) -> usize
+    ensures { result ≡ one_where holds }
+{
+    if holds { 1 } else { 0 }
+}

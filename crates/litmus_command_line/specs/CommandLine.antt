@@ -38,6 +38,10 @@ script_app =
 abbrev pub chart_app : App
 chart_app = with_rule (new_app (codes "chart")) file_rule
 
+-- the subcommand that writes it as a page
+abbrev pub page_app : App
+page_app = with_rule (new_app (codes "page")) file_rule
+
 -- an option `--name` that takes a number below 2^64
 abbrev pub number_rule : Text → Rule
 number_rule name = record (new_rule name) {
@@ -113,7 +117,9 @@ table_program names =
     (with_subcommand
     (with_subcommand
     (with_subcommand
-    (with_subcommand (with_subcommand (with_subcommand top_app script_app.top) chart_app.top) litmus_app.top)
+    (with_subcommand
+    (with_subcommand (with_subcommand (with_subcommand top_app script_app.top) chart_app.top) page_app.top)
+    litmus_app.top)
     walk_app.top)
     test_app.top)
     check_app.top)
@@ -198,6 +204,7 @@ IsLine name rows (lines.Script file echo explain) =
     (name ≡ codes "script") × (first_of (codes "FILE") rows ≡ Some file.now) × (echo ≡ is_given (codes "echo") rows)
     × (explain ≡ is_given (codes "explain") rows)
 IsLine name rows (lines.Chart file) = (name ≡ codes "chart") × (first_of (codes "FILE") rows ≡ Some file.now)
+IsLine name rows (lines.Page file) = (name ≡ codes "page") × (first_of (codes "FILE") rows ≡ Some file.now)
 IsLine name rows (lines.Litmus file seed limit) =
     (name ≡ codes "litmus") × (first_of (codes "FILE") rows ≡ Some file.now)
     × IsNumberOf (codes "seed") rows seed × IsNumberOf (codes "limit") rows limit

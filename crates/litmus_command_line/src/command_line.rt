@@ -1,7 +1,7 @@
 ghost use Rattle.std.specs.Prelude.{◌≡◌, map, IfOk, IfSome, IsOkAnd, string_bytes, codes, false};
 ghost use Rattle.clap.specs.declared.builder.command.Command.TheViews.{out-Command as fields_of};
 ghost use Rattle.litmus_command_line.specs.CommandLine.{IsAsked, IsLine, IsLockup, IsRead, IsTable, IsWith, chart_app, check_app};
-ghost use Rattle.litmus_command_line.specs.CommandLine.{file_rule, flag_rule, is_given, script_app, test_app, word_of};
+ghost use Rattle.litmus_command_line.specs.CommandLine.{file_rule, flag_rule, is_given, page_app, script_app, test_app, word_of};
 ghost use Rattle.litmus_command_line.specs.CommandLine.{IsNumberOf, IsNumberIfGiven, litmus_app, number_rule};
 ghost use Rattle.litmus_command_line.specs.CommandLine.{IsExport, number_rule_or, walk_app, word_of_number};
 ghost use Rattle.clap.specs.Words.{app_of, found_of, rows_of, rule_of, first_of, subcommand_rows_of};
@@ -24,6 +24,10 @@ pub enum CommandLine<'a> {
     },
     /// Draw the run of the script in this file.
     Chart {
+        file: &'a str,
+    },
+    /// Write the run of the script in this file as a page for a browser.
+    Page {
         file: &'a str,
     },
     /// Run the litmus test in this file over threads. The seed is that of the cores' extra turns, and no run takes more
@@ -96,6 +100,7 @@ fn asked<'a>(matches: &ArgMatches<'a>) -> Option<CommandLine<'a>>
     match name {
         "script" => script_line(given),
         "chart" => chart_line(given),
+        "page" => page_line(given),
         "litmus" => litmus_line(given),
         "walk" => walk_line(given),
         "test" => test_line(given),
@@ -124,6 +129,13 @@ fn chart_line<'a>(given: &ArgMatches<'a>) -> Option<CommandLine<'a>>
 {
     let file = file_of(given)?;
     Some(CommandLine::Chart { file })
+}
+
+fn page_line<'a>(given: &ArgMatches<'a>) -> Option<CommandLine<'a>>
+    ensures { IfSome result (IsLine (codes "page") (rows_of (found_of given.now))) }
+{
+    let file = file_of(given)?;
+    Some(CommandLine::Page { file })
 }
 
 fn litmus_line<'a>(given: &ArgMatches<'a>) -> Option<CommandLine<'a>>
@@ -241,6 +253,7 @@ fn lockup<'a>(alloc: Global) -> Result<Command<'a>, AllocError>
         .subcommand_required(true);
     let program = with(program, script(alloc))?;
     let program = with(program, chart(alloc))?;
+    let program = with(program, page(alloc))?;
     let program = with(program, litmus(alloc))?;
     let program = with(program, walk(alloc))?;
     let program = with(program, test(alloc))?;
@@ -279,6 +292,16 @@ fn chart<'a>(alloc: Global) -> Result<Command<'a>, AllocError>
     Command::new(alloc, "chart")
         .about("Draws the run of a script as a sequence diagram, in Mermaid's words")
         .after_help("Example: lockup chart examples/shared_line.txt")
+        .arg(file(alloc, "The script: one command a line; - is standard input"))
+}
+
+fn page<'a>(alloc: Global) -> Result<Command<'a>, AllocError>
+    ensures reads { IfOk result (λ c. app_of c ≡ page_app) }
+    ensures plain { IfOk result (λ c. (fields_of c).has_globals ≡ false) }
+{
+    Command::new(alloc, "page")
+        .about("Writes the run of a script as a page for a browser, which is stepped through there")
+        .after_help("Example: lockup page examples/shared_line.txt > run.html")
         .arg(file(alloc, "The script: one command a line; - is standard input"))
 }
 

@@ -117,7 +117,8 @@ impl<F: MissFile> Machine<F> {
         written(write_word(shown, &mut answers))
     }
 
-    fn run_state<W: Write>(&self, line: LineAddr, out: &mut W) -> Result<(), TextFault>
+    /// Shows what a slice has of a line.
+    pub fn run_state<W: Write>(&self, line: LineAddr, out: &mut W) -> Result<(), TextFault>
         requires { HasLine self.now.config line }
         ensures fault { IfErr result IsOfRun }
         ensures printed { OnOk result (IsPrinted self.now.config (commands.State line) self.now.slices.items self.now.slices.items

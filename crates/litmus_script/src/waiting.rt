@@ -26,7 +26,7 @@ use step_text::MessageName;
 
 impl<F: MissFile> Machine<F> {
     /// Shows the messages in flight.
-    pub(crate) fn run_waiting<W: io::Write>(&self, out: &mut W) -> Result<(), TextFault>
+    pub fn run_waiting<W: io::Write>(&self, out: &mut W) -> Result<(), TextFault>
         ensures fault { IfErr result IsOfRun }
         ensures printed { OnOk result (IsPrinted self.now.config commands.Waiting self.now.slices.items self.now.slices.items
             (W.contents out.old) (W.contents out.new)) }

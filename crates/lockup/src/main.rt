@@ -8,7 +8,7 @@ use clap::Error;
 use clap::error::ErrorKind;
 use litmus::{
     CommandLine, read_line, run_chart, run_check, run_explained, run_export, run_litmus,
-    run_script, run_table, run_test, run_walk, write_walk,
+    run_page, run_script, run_table, run_test, run_walk, write_walk,
 };
 use litmus_text::TextFault;
 use progress::Shown;
@@ -76,6 +76,7 @@ fn file_of<'a>(line: CommandLine<'a>) -> Option<&'a str> {
     match line {
         CommandLine::Script { file, .. }
         | CommandLine::Chart { file }
+        | CommandLine::Page { file }
         | CommandLine::Test { file }
         | CommandLine::Litmus { file, .. }
         | CommandLine::Walk { file, .. }
@@ -134,6 +135,7 @@ where
         } => run_explained(alloc, input, echo, out),
         CommandLine::Script { echo, .. } => run_script(alloc, input, echo, out),
         CommandLine::Chart { .. } => run_chart(alloc, input, out),
+        CommandLine::Page { .. } => run_page(alloc, input, out),
         CommandLine::Test { .. } => run_test(alloc, input, out),
         CommandLine::Litmus { seed, limit, .. } => {
             run_litmus(alloc, rt, input, seed, limit, shown, out)

@@ -5,6 +5,7 @@
 //! from the slice just before the call and just behind it, so a call is made as without it.
 #![tactic(auto)]
 
+pub use player::Explained;
 pub use style::run_explained;
 
 mod delivery;

@@ -17,6 +17,13 @@ returns-in-chart c =
     let found = c.in_ok-name.ensures.rows in
     asked_of c.args.matches.now (codes "chart") rows c.chart_line.result named found c.chart_line.ensures
 
+pub returns-in-page : goal.returns-in-page
+returns-in-page c =
+    let named = rw c.in-page.is at c.in_ok-name.ensures.name in
+    let rows = rows_of (found_of c.in_ok-name.given.now) in
+    let found = c.in_ok-name.ensures.rows in
+    asked_of c.args.matches.now (codes "page") rows c.page_line.result named found c.page_line.ensures
+
 pub returns-in-litmus : goal.returns-in-litmus
 returns-in-litmus c =
     let named = rw c.in-litmus.is at c.in_ok-name.ensures.name in

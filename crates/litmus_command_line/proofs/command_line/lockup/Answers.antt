@@ -12,16 +12,18 @@ returns c =
     c.in_ok-program.ensures in
     let two = with_known c.chart.result _ _ _ _ one c.chart.ensures.reads c.chart.ensures.plain
     c.in_ok-program-2.ensures in
-    let three = with_known c.litmus.result _ _ _ _ two c.litmus.ensures.reads c.litmus.ensures.plain
+    let three = with_known c.page.result _ _ _ _ two c.page.ensures.reads c.page.ensures.plain
     c.in_ok-program-3.ensures in
-    let four = with_known c.walk.result _ _ _ _ three c.walk.ensures.reads c.walk.ensures.plain
+    let four = with_known c.litmus.result _ _ _ _ three c.litmus.ensures.reads c.litmus.ensures.plain
     c.in_ok-program-4.ensures in
-    let five = with_known c.test.result _ _ _ _ four c.test.ensures.reads c.test.ensures.plain
+    let five = with_known c.walk.result _ _ _ _ four c.walk.ensures.reads c.walk.ensures.plain
     c.in_ok-program-5.ensures in
-    let six = with_known c.check.result _ _ _ _ five c.check.ensures.reads c.check.ensures.plain
+    let six = with_known c.test.result _ _ _ _ five c.test.ensures.reads c.test.ensures.plain
     c.in_ok-program-6.ensures in
-    let seven = with_table c.table.result _ _ _ six (λ names. refl) c.table.ensures.reads c.table.ensures.plain
+    let seven = with_known c.check.result _ _ _ _ six c.check.ensures.reads c.check.ensures.plain
     c.in_ok-program-7.ensures in
-    IfOk-weaker c.with-8.result _ _
-    (λ made. with_export c.export.result _ _ seven c.export.ensures.reads c.export.ensures.plain)
-    c.with-8.ensures
+    let eight = with_table c.table.result _ _ _ seven (λ names. refl) c.table.ensures.reads c.table.ensures.plain
+    c.in_ok-program-8.ensures in
+    IfOk-weaker c.with-9.result _ _
+    (λ made. with_export c.export.result _ _ eight c.export.ensures.reads c.export.ensures.plain)
+    c.with-9.ensures

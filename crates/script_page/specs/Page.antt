@@ -1,0 +1,67 @@
+-- A page: what a browser needs, and in it the run of a script as one value of JSON.
+use Rattle.std.specs.Prelude.{◌≡◌, ◌⊎◌, ℕ, true, List, [], ◌++◌, codes, Option}
+use Rattle.std.specs.Io.KnownBytes.{Appends}
+use Rattle.address_map.specs.declared.config.Config.{Config}
+use Rattle.litmus_script.specs.Machine.{IsNewMachine}
+use Rattle.litmus_script.specs.Play.{IsOfRun, PlaysAll, PlaysUpTo}
+use Rattle.litmus_script.specs.Script.{IsNotConfigured, IsSetUp}
+use Rattle.litmus_text.specs.declared.command.Command.{Command}
+use Rattle.litmus_text.specs.declared.fault.TextFault.{TextFault}
+use Rattle.mshr_file.specs.Miss.{Bound}
+use Rattle.protocol_tables.specs.Cache.{table_of as cache_table}
+use Rattle.protocol_tables.specs.Directory.{table_of as directory_table}
+use Rattle.script_page.specs.Json.{json_of}
+use Rattle.script_page.specs.Step.{IsStep, Shown}
+use Rattle.script_page.specs.declared.frame.TheConstants.{HEAD, TAIL}
+use Rattle.slice_core_plan.specs.Parts.{PartsView}
+
+-- what stands before the steps: the script itself, and the protocol's tables
+abbrev pub text_of_begin : List ℕ → List ℕ
+text_of_begin script =
+    HEAD.now ++ (codes "{\"script\":" ++ (json_of script ++ (codes ",\"cache\":" ++ (json_of (cache_table true)
+    ++ (codes ",\"directory\":" ++ (json_of (directory_table true) ++ codes ",\"steps\":[\n"))))))
+
+-- .. and what stands behind them
+abbrev pub text_of_end : List ℕ
+text_of_end = codes "null]}\n" ++ TAIL.now
+
+-- a step, as what a player does of a command
+abbrev pub Steps : Config → Shown → List ℕ → Command → Option (List ℕ) → Option (List ℕ) → Shown → Type 0
+Steps config old line command before after new = IsStep config line command old new before after
+
+-- The commands are played from these slices on, with no line named before, and a step of each is written.
+pub record HasSteps (config : Config) (commands : List (ℕ × List (List ℕ))) (start : List PartsView)
+    (before after : Option (List ℕ)) : Type 0 where
+  pub end : Shown
+  pub last : Option (List ℕ)
+  pub played : PlaysAll (Steps config) config commands (record { slices = start; named = [] }) end before last
+  pub ended : Appends last after text_of_end
+
+-- .. on a new machine
+pub record IsPageOf (script : List ℕ) (config : Config) (bound : Bound) (commands : List (ℕ × List (List ℕ)))
+    (before after : Option (List ℕ)) : Type 0 where
+  pub start : List PartsView
+  pub fresh : IsNewMachine config bound start
+  pub first : Option (List ℕ)
+  pub begun : Appends before first (text_of_begin script)
+  pub steps : HasSteps config commands start first after
+
+-- A script's page. That of a script that says nothing has no steps.
+abbrev pub IsPage : List ℕ → List (ℕ × List (List ℕ)) → Option (List ℕ) → Option (List ℕ) → Type 0
+IsPage script all before after =
+    ((all ≡ []) × (first : Option (List ℕ)) × Appends before first (text_of_begin script) × Appends first after text_of_end)
+    ⊎ ((config : Config) × (bound : Bound) × (commands : List (ℕ × List (List ℕ)))
+    × IsSetUp all config bound commands × IsPageOf script config bound commands before after)
+
+-- the commands are played up to one that can't be, from these slices on
+pub record StopsAt (config : Config) (commands : List (ℕ × List (List ℕ))) (start : List PartsView) (fault : TextFault) : Type 0 where
+  pub first : Option (List ℕ)
+  pub last : Option (List ℕ)
+  pub stopped : PlaysUpTo (Steps config) config commands (record { slices = start; named = [] }) first last fault
+
+-- why a page has not all of its script: as in scripts, or it couldn't be written
+abbrev pub IsPageFault : List (ℕ × List (List ℕ)) → TextFault → Type 0
+IsPageFault all fault =
+    IsNotConfigured all fault ⊎ IsOfRun fault
+    ⊎ ((config : Config) × (bound : Bound) × (commands : List (ℕ × List (List ℕ))) × (start : List PartsView)
+    × IsSetUp all config bound commands × IsNewMachine config bound start × StopsAt config commands start fault)

@@ -1,0 +1,201 @@
+//! A script's page.
+ghost use Rattle.std.specs.Prelude.{◌≡◌, ◌⊎◌, List, [], true, IfErr, IfOk, OnOk};
+ghost use Rattle.std.specs.Fmt.{WritesInCalls};
+ghost use Rattle.std.specs.Io.KnownBytes.{Appends};
+ghost use Rattle.std.specs.Str.Lines.{lines};
+ghost use Rattle.litmus_script.specs.Machine.{IsNewMachine, bound_of};
+ghost use Rattle.litmus_script.specs.Play.{IsOfRun};
+ghost use Rattle.litmus_script.specs.Script.{commands_of};
+ghost use Rattle.litmus_text.specs.Statement.{statements_from};
+ghost use Rattle.protocol_tables.specs.Cache.{table_of as cache_table};
+ghost use Rattle.protocol_tables.specs.Directory.{table_of as directory_table};
+ghost use Rattle.script_page.specs.Page.{HasSteps, IsPage, IsPageFault, IsPageOf, StopsAt, text_of_begin, text_of_end};
+ghost use Rattle.slice_core_plan.specs.Parts.{PartsView};
+
+use super::frame::{HEAD, TAIL};
+use super::json::write_json;
+use super::player::Paged;
+use address_map::Checked;
+use litmus_script::{Answers, Commands, Machine, Script, written};
+use litmus_text::{MissKind, TextFault};
+use mshr_file::{ExplicitFile, InvertedFile, MissFile};
+use protocol_tables::{write_cache_table, write_directory_table};
+use std::alloc::Global;
+use std::fmt;
+use std::io::Write;
+
+/// Writes a script's run as a page for a browser: a step for each command. Answers the exit status. A line that can't be
+/// taken ends the steps, and the page tells it too.
+pub fn run_page<W: Write>(alloc: Global, input: &[u8], out: &mut W) -> Result<u8, TextFault>
+    ensures status { IfOk result (λ status. status ≡ 0) }
+    ensures printed { OnOk result (IsPage input.now (statements_from 0 (lines input.now)) (W.contents out.old) (W.contents out.new)) }
+    ensures fault { IfErr result (IsPageFault (statements_from 0 (lines input.now))) }
+{
+    match Script::read(alloc, input)? {
+        Some(script) => page_of(alloc, input, script, out)?,
+        None => page_of_nothing(alloc, input, out)?,
+    }
+    Ok(0)
+}
+
+fn page_of_nothing<W: Write>(alloc: Global, input: &[u8], out: &mut W) -> Result<(), TextFault>
+    ensures written { OnOk result (IsPage input.now [] (W.contents out.old) (W.contents out.new)) }
+    ensures fault { IfErr result IsOfRun }
+{
+    begin(alloc, input, out)?;
+    end(out)
+}
+
+fn page_of<W: Write>(
+    alloc: Global,
+    input: &[u8],
+    script: Script<'_>,
+    out: &mut W,
+) -> Result<(), TextFault>
+    ensures page { OnOk result (IsPageOf input.now script.entry.config (bound_of script.entry.misses script.entry.config)
+        (commands_of script.entry.commands) (W.contents out.old) (W.contents out.new)) }
+    ensures fault { IfErr result (λ fault. IsOfRun fault ⊎ ((start : List PartsView)
+        × IsNewMachine script.entry.config (bound_of script.entry.misses script.entry.config) start
+        × StopsAt script.entry.config (commands_of script.entry.commands) start fault)) }
+{
+    let Script {
+        config,
+        misses,
+        commands,
+    } = script;
+    match misses {
+        MissKind::Explicit => page_on::<ExplicitFile, W>(alloc, input, config, commands, out),
+        MissKind::Inverted => page_on::<InvertedFile, W>(alloc, input, config, commands, out),
+    }
+}
+
+/// The page of commands on a new machine with miss registers of type `F`.
+fn page_on<F: MissFile, W: Write>(
+    alloc: Global,
+    input: &[u8],
+    config: Checked,
+    commands: Commands<'_>,
+    out: &mut W,
+) -> Result<(), TextFault>
+    ensures page { OnOk result (IsPageOf input.now config (F.bound_by config) (commands_of commands.entry)
+        (W.contents out.old) (W.contents out.new)) }
+    ensures fault { IfErr result (λ fault. IsOfRun fault ⊎ ((start : List PartsView)
+        × IsNewMachine config (F.bound_by config) start × StopsAt config (commands_of commands.entry) start fault)) }
+{
+    let machine: Machine<F> = Machine::build(alloc, config)?;
+    begin(alloc, input, out)?;
+    steps(alloc, machine, commands, out)
+}
+
+/// The steps, and what stands behind them.
+fn steps<F: MissFile, W: Write>(
+    alloc: Global,
+    machine: Machine<F>,
+    commands: Commands<'_>,
+    out: &mut W,
+) -> Result<(), TextFault>
+    ensures steps { OnOk result (HasSteps machine.config (commands_of commands.entry) machine.slices.items
+        (W.contents out.old) (W.contents out.new)) }
+    ensures fault { IfErr result (λ fault. IsOfRun fault ⊎ StopsAt machine.config (commands_of commands.entry) machine.slices.items fault) }
+{
+    let mut player = Paged::new(alloc, machine);
+    match commands.play(&mut player, out) {
+        Ok(()) => end(out),
+        Err(fault) => {
+            // where this can't be written either, there is nobody left to tell
+            let _ = end_at(&fault, &mut Answers { out });
+            Err(fault)
+        }
+    }
+}
+
+/// Writes what stands before the steps.
+fn begin<W: Write>(alloc: Global, script: &[u8], out: &mut W) -> Result<(), TextFault>
+    ensures begun { OnOk result (Appends (W.contents out.old) (W.contents out.new) (text_of_begin script.now)) }
+    ensures fault { IfErr result IsOfRun }
+{
+    let cache = cache_table(alloc)?;
+    let directory = directory_table(alloc)?;
+    let mut answers = Answers { out };
+    written(write_begin(script, cache.as_slice(), directory.as_slice(), &mut answers))
+}
+
+fn write_begin<W: fmt::Write>(
+    script: &[u8],
+    cache: &[u8],
+    directory: &[u8],
+    out: &mut W,
+) -> fmt::Result
+    requires cache { cache.now ≡ cache_table true }
+    requires directory { directory.now ≡ directory_table true }
+    ensures { OnOk result (WritesInCalls W.write_str_gives out.old (text_of_begin script.now) out.new) }
+{
+    out.write_str(HEAD)?;
+    out.write_str("{\"script\":")?;
+    write_json(script, out)?;
+    out.write_str(",\"cache\":")?;
+    write_json(cache, out)?;
+    out.write_str(",\"directory\":")?;
+    write_json(directory, out)?;
+    out.write_str(",\"steps\":[\n")
+}
+
+/// The table of a cache.
+fn cache_table(alloc: Global) -> Result<Vec<u8>, TextFault>
+    ensures table { IfOk result (λ table. table.items ≡ cache_table true) }
+    ensures fault { IfErr result IsOfRun }
+{
+    let mut table = Vec::new(alloc);
+    match print_cache_table(&mut table) {
+        Ok(()) => Ok(table),
+        Err(_) => Err(TextFault::NoMemory),
+    }
+}
+
+fn print_cache_table<W: Write>(out: &mut W) -> fmt::Result
+    ensures { OnOk result (Appends (W.contents out.old) (W.contents out.new) (cache_table true)) }
+{
+    let mut answers = Answers { out };
+    write_cache_table(true, &mut answers)
+}
+
+/// The table of a directory.
+fn directory_table(alloc: Global) -> Result<Vec<u8>, TextFault>
+    ensures table { IfOk result (λ table. table.items ≡ directory_table true) }
+    ensures fault { IfErr result IsOfRun }
+{
+    let mut table = Vec::new(alloc);
+    match print_directory_table(&mut table) {
+        Ok(()) => Ok(table),
+        Err(_) => Err(TextFault::NoMemory),
+    }
+}
+
+fn print_directory_table<W: Write>(out: &mut W) -> fmt::Result
+    ensures { OnOk result (Appends (W.contents out.old) (W.contents out.new) (directory_table true)) }
+{
+    let mut answers = Answers { out };
+    write_directory_table(true, &mut answers)
+}
+
+/// Writes what stands behind the steps.
+fn end<W: Write>(out: &mut W) -> Result<(), TextFault>
+    ensures ended { OnOk result (Appends (W.contents out.old) (W.contents out.new) text_of_end) }
+    ensures fault { IfErr result IsOfRun }
+{
+    let mut answers = Answers { out };
+    written(write_end(&mut answers))
+}
+
+fn write_end<W: fmt::Write>(out: &mut W) -> fmt::Result
+    ensures { OnOk result (WritesInCalls W.write_str_gives out.old text_of_end out.new) }
+{
+    out.write_str("null]}\n")?;
+    out.write_str(TAIL)
+}
+
+/// .. where a line can't be taken.
+fn end_at<W: fmt::Write>(fault: &TextFault, out: &mut W) -> fmt::Result {
+    writeln!(out, "null],\"fault\":\"{fault}\"}}")?;
+    out.write_str(TAIL)
+}

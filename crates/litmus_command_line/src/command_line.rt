@@ -1,7 +1,7 @@
 ghost use Rattle.std.specs.Prelude.{◌≡◌, map, IfOk, IfSome, IsOkAnd, string_bytes, codes, false};
 ghost use Rattle.clap.specs.declared.builder.command.Command.TheViews.{out-Command as fields_of};
 ghost use Rattle.litmus_command_line.specs.CommandLine.{IsAsked, IsLine, IsLockup, IsRead, IsTable, IsWith, chart_app, check_app};
-ghost use Rattle.litmus_command_line.specs.CommandLine.{file_rule, flag_rule, is_given, page_app, script_app, test_app, word_of};
+ghost use Rattle.litmus_command_line.specs.CommandLine.{file_rule, flag_rule, is_given, page_app, script_app, test_app, top_app, word_of};
 ghost use Rattle.litmus_command_line.specs.CommandLine.{IsNumberOf, IsNumberIfGiven, litmus_app, number_rule};
 ghost use Rattle.litmus_command_line.specs.CommandLine.{IsExport, number_rule_or, walk_app, word_of_number};
 ghost use Rattle.clap.specs.Words.{app_of, found_of, rows_of, rule_of, first_of, subcommand_rows_of};
@@ -247,11 +247,7 @@ fn is_given(given: &ArgMatches<'_>, name: &str) -> bool
 fn lockup<'a>(alloc: Global) -> Result<Command<'a>, AllocError>
     ensures { IfOk result (λ c. IsLockup (app_of c)) }
 {
-    let program = Command::new(alloc, "lockup")
-        .about("Runs a verified model of lockup-free caches under a directory protocol")
-        .version("0.1.0")
-        .subcommand_required(true);
-    let program = with(program, script(alloc))?;
+    let program = with(top(alloc), script(alloc))?;
     let program = with(program, chart(alloc))?;
     let program = with(program, page(alloc))?;
     let program = with(program, litmus(alloc))?;
@@ -260,6 +256,16 @@ fn lockup<'a>(alloc: Global) -> Result<Command<'a>, AllocError>
     let program = with(program, check(alloc))?;
     let program = with(program, table(alloc))?;
     with(program, export(alloc))
+}
+
+/// The program without its subcommands, of which it asks for one.
+fn top<'a>(alloc: Global) -> Command<'a>
+    ensures { app_of result ≡ top_app }
+{
+    Command::new(alloc, "lockup")
+        .about("Runs a verified model of lockup-free caches under a directory protocol")
+        .version("0.1.0")
+        .subcommand_required(true)
 }
 
 /// The program with one more subcommand, where there was memory to make it. One is made at a time: of several, each

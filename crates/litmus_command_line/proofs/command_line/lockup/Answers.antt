@@ -1,14 +1,11 @@
-use Rattle.std.proofs.Common.{◌≡◌, refl, rules}
+use Rattle.std.proofs.Common.{refl}
 use Rattle.std.proofs.lemmas.Result.{IfOk-weaker}
-use Rattle.clap.specs.Words.{app_of}
-use Rattle.litmus_command_line.specs.CommandLine.{top_app}
 use Rattle.litmus_command_line.proofs.BuiltLemmas.{with_export, with_known, with_table}
 use Rattle.litmus_command_line.proofs.command_line.lockup.Goals as goal
 
 pub returns : goal.returns
 returns c =
-    let none : app_of c.subcommand_required-program.result ≡ top_app = search rules in
-    let one = with_known c.script.result _ _ _ _ none c.script.ensures.reads c.script.ensures.plain
+    let one = with_known c.script.result _ _ _ _ c.top.ensures c.script.ensures.reads c.script.ensures.plain
     c.in_ok-program.ensures in
     let two = with_known c.chart.result _ _ _ _ one c.chart.ensures.reads c.chart.ensures.plain
     c.in_ok-program-2.ensures in

@@ -26,6 +26,11 @@ found-at (x ∷ xs) zero found = (x, omega arith, refl, found.0, found.1)
 found-at (x ∷ xs) (suc i) found =
     let (y, there, is, first, second) = found-at xs i found in (y, omega arith, is, first, second)
 
+-- What was asked for at a place stands there.
+pub asked-inside : (asked : List Ask) (next : ℕ) (word : WordAddr) (op : Op)
+    → IsSomeAnd (slice_get asked next) (λ ask. (ask.request.word ≡ word) × (ask.request.op ≡ op)) → next < length asked
+asked-inside asked next word op at_next = let (ask, there, is, same_word, same_op) = found-at asked next at_next in there
+
 -- steps in a row ask for what each part asks for
 requests-append : (c : Config) (slice : ℕ) (first later : List Action)
     → requests_in c slice (first ++ later) ≡ requests_in c slice first ++ requests_in c slice later

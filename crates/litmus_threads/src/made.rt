@@ -56,6 +56,7 @@ fn are_asked<F: MissFile, M: SystemNames>(
 ) -> bool
     ensures { IsTrue result → accesses_of (asked_of core.now slice.0) ≡ requests_in config.now slice.0 steps.now }
 {
+    let accepted = core.accepted(slice);
     let mut next = 0;
     for step in steps {
         if let Some((word, op)) = access_in(config, slice, *step) {
@@ -65,7 +66,7 @@ fn are_asked<F: MissFile, M: SystemNames>(
             next += 1;
         }
     }
-    next == core.accepted(slice)
+    next == accepted
 }
 
 // What the step asks of the slice, if it asks for anything.

@@ -1,10 +1,21 @@
-use Rattle.std.proofs.Common.{◌≡◌, subst}
+use Rattle.std.proofs.Common.{◌≡◌, arith, subst}
 use Rattle.std.specs.Prelude.{IsSomeAnd}
 use Rattle.core_thread_system.specs.Core.{asked_of}
-use Rattle.litmus_threads.proofs.Asked.{asked-more, asked-still}
+use Rattle.litmus_threads.proofs.Asked.{asked-inside, asked-more, asked-still}
 use Rattle.receipt_ledger.specs.declared.receipt.Ask.{Ask}
 use Rattle.litmus_threads.proofs.made.are_asked.Goals as goal
 use Rattle.litmus_threads.proofs.made.are_asked.Goals.{in-Some+else-not-is_asked, in_default}
+
+pub overflow_add-next : goal.overflow_add-next
+overflow_add-next g c =
+    let asked = asked_of c.args.core.now c.args.slice.0 in
+    let inside =
+    asked-inside asked c.loop-step.next c.in-Some.word c.in-Some.op
+    (subst (λ found. IsSomeAnd found (λ (ask : Ask). (ask.request.word ≡ c.in-Some.word) × (ask.request.op ≡ c.in-Some.op)))
+    c.asked.ensures (c.is_asked.ensures c.if-not-is_asked.false)) in
+    let long = c.accepted-accepted.ensures in
+    let small = c.accepted-accepted.type_inv in
+    omega (arith, inside, long, small)
 
 pub loop-step-preserved : goal.loop-step-preserved
 loop-step-preserved g c =

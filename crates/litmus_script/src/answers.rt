@@ -96,9 +96,9 @@ pub fn write_delivered<W: fmt::Write>(delivered: Delivered, out: &mut W) -> fmt:
     ensures { OnOk result (WritesLine W.write_str_gives out.old (text_of_delivered delivered) out.new) }
 {
     match delivered {
-        Delivered::Moved => writeln!(out, "moved"),
-        Delivered::Blocked => writeln!(out, "blocked"),
-        Delivered::Nothing => writeln!(out, "nothing"),
+        Delivered::Moved => write_whole("moved\n", out),
+        Delivered::Blocked => write_whole("blocked\n", out),
+        Delivered::Nothing => write_whole("nothing\n", out),
         Delivered::Broken(cell) => writeln!(out, "broken {cell}"),
     }
 }
@@ -108,11 +108,7 @@ pub fn write_handed<W: fmt::Write>(handed: Option<Numbered>, out: &mut W) -> fmt
     ensures { OnOk result (WritesLine W.write_str_gives out.old (text_of_handed handed) out.new) }
 {
     match handed {
-        Some(Numbered { number, entry }) => {
-            let tag = entry.tag;
-            let reply = entry.reply;
-            writeln!(out, "receipt {number} tag {tag} reply {reply}")
-        }
+        Some(Numbered { number, entry }) => write_receipt(number, entry.tag, entry.reply, out),
         None => writeln!(out, "none"),
     }
 }
@@ -137,6 +133,13 @@ pub fn write_pumped<W: fmt::Write>(pumped: Pumped, out: &mut W) -> fmt::Result
     }
 }
 
+/// Writes an answer that is always the same, with its end.
+fn write_whole<W: fmt::Write>(text: &str, out: &mut W) -> fmt::Result
+    ensures { OnOk result (W.write_str_gives out.old text.now out.new) }
+{
+    out.write_str(text)
+}
+
 /// Room for the longest answer to an access that is done: two numbers of twenty digits, and the words around them.
 const DONE_ROOM: usize = 64;
 
@@ -150,6 +153,27 @@ fn write_done<W: fmt::Write>(number: u64, reply: u64, out: &mut W) -> fmt::Resul
     let mut digits = Buffer::new();
     text.push_str("done ");
     text.push_str(digits.format(number));
+    text.push_str(" reply ");
+    text.push_str(digits.format(reply));
+    text.push_str("\n");
+    out.write_str(text.as_str())
+}
+
+/// Room for the longest receipt: two numbers of twenty digits, a tag, and the words around them.
+const RECEIPT_ROOM: usize = 80;
+
+/// Writes a receipt. Its text is put together before it is written, since there is one for each access.
+fn write_receipt<W: fmt::Write>(number: u64, tag: u8, reply: u64, out: &mut W) -> fmt::Result
+    ensures { OnOk result (W.write_str_gives out.old
+        (codes "receipt " ++ decimal number ++ codes " tag " ++ decimal tag ++ codes " reply " ++ decimal reply
+        ++ codes "\n") out.new) }
+{
+    let mut text = ArrayString::<RECEIPT_ROOM>::new();
+    let mut digits = Buffer::new();
+    text.push_str("receipt ");
+    text.push_str(digits.format(number));
+    text.push_str(" tag ");
+    text.push_str(digits.format(tag));
     text.push_str(" reply ");
     text.push_str(digits.format(reply));
     text.push_str("\n");

@@ -24,6 +24,10 @@ pub enum Work {
     Turns { cores: u64, lines: u64 },
     /// Two cores add in turn to one word. Each delivery names its channel.
     Picks,
+    /// So many cores add to one word, all before the first delivery. The slice chooses each delivery.
+    Crowd { cores: u64 },
+    /// Core 0 fetches so many lines, and each delivery names its channel. Then it is asked whether the slice is quiet.
+    Quiet { lines: u64 },
     /// Nothing: the slice is built and dropped.
     Build,
 }
@@ -83,7 +87,7 @@ const LARGEST: Shape = Shape {
     writebacks: 16,
 };
 
-pub const LOADS: [Load; 15] = [
+pub const LOADS: [Load; 17] = [
     Load {
         name: "hits-1-line-long",
         about: "one core hits one line; logs of 1000000",
@@ -216,6 +220,30 @@ pub const LOADS: [Load; 15] = [
         },
         requests: 2_000_000,
         run: 200_000,
+    },
+    Load {
+        name: "adds-of-64-cores",
+        about: "64 cores add to one word at once",
+        shape: Shape {
+            cores: 64,
+            lines: 1,
+            ..USUAL
+        },
+        work: Work::Crowd { cores: 64 },
+        requests: 640_000,
+        run: 64_000,
+    },
+    Load {
+        name: "quiet-of-65536-lines",
+        about: "whether a slice is quiet, after deliveries by name on 65536 lines",
+        shape: Shape {
+            cores: 1,
+            lines: 65536,
+            ..USUAL
+        },
+        work: Work::Quiet { lines: 65536 },
+        requests: 20_000,
+        run: 20_000,
     },
     Load {
         name: "build-largest",

@@ -56,6 +56,8 @@ impl Player {
             Work::Hits { lines } => self.hit(lines, requests)?,
             Work::Turns { cores, lines } => self.take_turns(cores, lines, requests)?,
             Work::Picks => self.pick(requests)?,
+            Work::Crowd { cores } => self.crowd(cores, requests)?,
+            Work::Quiet { lines } => self.ask_quiet(lines, requests)?,
             Work::Build => self.calls = requests,
         }
         Ok(self.calls)
@@ -109,6 +111,53 @@ impl Player {
             let moved = self.deliver(Pick::Data(line, own));
             wants(moved == Delivered::Moved)?;
             self.hand(own);
+        }
+        Ok(())
+    }
+
+    fn crowd(&mut self, cores: u64, requests: u64) -> Result<(), Fault> {
+        for number in 0..requests {
+            let core = number.checked_rem(cores).unwrap_or(0);
+            self.add(CoreId((core & 63) as u8), LineAddr(0))?;
+            if core.wrapping_add(1) == cores || number.wrapping_add(1) == requests {
+                self.deliver_all();
+                self.hand_each(cores);
+            }
+        }
+        wants(self.slice.log().len() as u64 == requests)
+    }
+
+    fn hand_each(&mut self, cores: u64) {
+        for core in 0..cores {
+            self.hand(CoreId((core & 63) as u8));
+        }
+    }
+
+    // Only the questions are counted.
+    fn ask_quiet(&mut self, lines: u64, requests: u64) -> Result<(), Fault> {
+        self.fetch(lines)?;
+        self.calls = 0;
+        for _ in 0..requests {
+            self.calls = self.calls.wrapping_add(1);
+            wants(self.slice.is_quiet())?;
+        }
+        Ok(())
+    }
+
+    // Core 0 adds to one line after the other. There is room for eight, and the one that came eight before leaves.
+    fn fetch(&mut self, lines: u64) -> Result<(), Fault> {
+        let core = CoreId(0);
+        for number in 0..lines {
+            let line = LineAddr(number);
+            self.add(core, line)?;
+            if let Some(leaves) = number.checked_sub(8) {
+                self.deliver(Pick::Req(LineAddr(leaves), core));
+                self.deliver(Pick::Fwd(LineAddr(leaves), core));
+            }
+            self.deliver(Pick::Req(line, core));
+            let moved = self.deliver(Pick::Data(line, core));
+            wants(moved == Delivered::Moved)?;
+            self.hand(core);
         }
         Ok(())
     }

@@ -1,4 +1,4 @@
-ghost use Rattle.std.specs.Prelude.{◌≡◌, ◌+◌, ◌<◌, ◌≤◌, ◌%◌, Err, None, IfSome, OnErr, OnOk};
+ghost use Rattle.std.specs.Prelude.{◌≡◌, ◌+◌, ◌<◌, ◌≤◌, ◌%◌, slice_get, Err, None, IfSome, OnErr, OnOk};
 ghost use Rattle.core_thread_system.specs.Answers.{AfterCollect, AfterIssue, IsAtItsSlice, IsJudgedThere, refusal_of, tags_after};
 ghost use Rattle.core_thread_system.specs.Core.{accepted_of, asked_of, core_of, port_at, receipts_of, with_port};
 ghost use Rattle.receipt_ledger.specs.Answers.{AfterReply, AfterRequest, IsJudged};
@@ -139,24 +139,31 @@ impl<'a, F: MissFile, M: SystemNames> Core<'a, F, M> {
         }
     }
 
-    /// Its requests that a slice accepted, in this order, each with what the core had seen of the slice's log by then.
-    pub fn asked(&self, slice: SliceId) -> &[Ask]
-        ensures { result.now ≡ asked_of self.now slice.0 }
+    /// Its request that a slice accepted as the one of this number, counted from 0, with what the core had seen of the
+    /// slice's log by then.
+    pub fn asked(&self, slice: SliceId, seq: u64) -> Option<Ask>
+        ensures { result ≡ slice_get (asked_of self.now slice.0) seq }
     {
         match slice.0 {
-            0 => self.port0.asked(),
-            1 => self.port1.asked(),
-            2 => self.port2.asked(),
-            3 => self.port3.asked(),
-            _ => &[],
+            0 => self.port0.asked(seq),
+            1 => self.port1.asked(seq),
+            2 => self.port2.asked(seq),
+            3 => self.port3.asked(seq),
+            _ => None,
         }
     }
 
-    /// How many these are.
+    /// How many requests a slice accepted.
     pub fn accepted(&self, slice: SliceId) -> u64
         ensures { result ≡ accepted_of self.now slice.0 }
     {
-        self.asked(slice).len() as u64
+        match slice.0 {
+            0 => self.port0.accepted(),
+            1 => self.port1.accepted(),
+            2 => self.port2.accepted(),
+            3 => self.port3.accepted(),
+            _ => 0,
+        }
     }
 
     /// Asks the slice of the request's word for it. A word past the memory, a tag above 63 and a tag in flight in any

@@ -26,6 +26,11 @@ found-at (x ∷ xs) zero found = (x, omega arith, refl, found.0, found.1)
 found-at (x ∷ xs) (suc i) found =
     let (y, there, is, first, second) = found-at xs i found in (y, omega arith, is, first, second)
 
+-- What was asked for at a place stands there.
+pub asked-inside : (asked : List Ask) (next : ℕ) (word : WordAddr) (op : Op)
+    → IsSomeAnd (slice_get asked next) (λ ask. (ask.request.word ≡ word) × (ask.request.op ≡ op)) → next < length asked
+asked-inside asked next word op at_next = let (ask, there, is, same_word, same_op) = found-at asked next at_next in there
+
 -- steps in a row ask for what each part asks for
 requests-append : (c : Config) (slice : ℕ) (first later : List Action)
     → requests_in c slice (first ++ later) ≡ requests_in c slice first ++ requests_in c slice later
@@ -77,12 +82,12 @@ asked-more c slice steps asked i next d word op inside asks at_next so_far =
     (omega arith, grown)
 
 -- One slice more accepted just what the steps ask of it.
-pub asked-below : (c config : Config) (limit : ℕ) (steps : List Action) (v : CoreView) (shown : List Ask)
-    → HasMadeBelow c limit steps v → shown ≡ asked_of v limit → config ≡ c
-    → accesses_of shown ≡ requests_in config limit steps → HasMadeBelow c (limit + 1) steps v
-asked-below c config limit steps v shown so_far is same made =
+pub asked-below : (c config : Config) (limit : ℕ) (steps : List Action) (v : CoreView)
+    → HasMadeBelow c limit steps v → config ≡ c
+    → accesses_of (asked_of v limit) ≡ requests_in config limit steps → HasMadeBelow c (limit + 1) steps v
+asked-below c config limit steps v so_far same made =
     below_more (λ slice. accesses_of (asked_of v slice) ≡ requests_in c slice steps) limit so_far
-    (ap accesses_of (sym is) ∙ made ∙ ap (λ (k : Config). requests_in k limit steps) same)
+    (made ∙ ap (λ (k : Config). requests_in k limit steps) same)
 
 -- what holds of each element holds with one more
 all-push : {X : Type 0} (P : X → Type 0) (xs : List X) (x : X) → AllByRecursion P xs → P x

@@ -1,5 +1,6 @@
-ghost use Rattle.std.specs.Prelude.{◌≡◌, ◌==◌, [], ◌∷◌, IsSomeAnd, IsTrue, MatchOption, slice_get};
+ghost use Rattle.std.specs.Prelude.{◌≡◌, ◌==◌, [], ◌∷◌, IsSomeAnd, IsTrue, MatchOption};
 ghost use Rattle.address_map.specs.Place.{line_of, slice_of};
+ghost use Rattle.core_thread_system.specs.Core.{asked_of};
 ghost use Rattle.core_thread_system.specs.Program.{accesses_of};
 ghost use Rattle.litmus_outcomes.specs.Sought.{requests_in};
 ghost use Rattle.litmus_threads.specs.Made.{HasMadeBelow, HaveMadeAll};
@@ -39,27 +40,33 @@ fn has_made<F: MissFile, M: SystemNames>(
 {
     for slice in 0..config.slices() {
         let slice = SliceId(slice as u8);
-        if !are_asked(config, slice, steps, core.asked(slice)) {
+        if !are_asked(config, slice, steps, core) {
             return false;
         }
     }
     true
 }
 
-// Whether this is what the steps ask of the slice.
-fn are_asked(config: &Checked, slice: SliceId, steps: &[Action], asked: &[Ask]) -> bool
-    ensures { IsTrue result → accesses_of asked.now ≡ requests_in config.now slice.0 steps.now }
+// Whether the core has asked the slice for just what the steps ask of it.
+fn are_asked<F: MissFile, M: SystemNames>(
+    config: &Checked,
+    slice: SliceId,
+    steps: &[Action],
+    core: &Core<'_, F, M>,
+) -> bool
+    ensures { IsTrue result → accesses_of (asked_of core.now slice.0) ≡ requests_in config.now slice.0 steps.now }
 {
+    let accepted = core.accepted(slice);
     let mut next = 0;
     for step in steps {
         if let Some((word, op)) = access_in(config, slice, *step) {
-            if !is_asked(asked, next, word, op) {
+            if !is_asked(core.asked(slice, next), word, op) {
                 return false;
             }
             next += 1;
         }
     }
-    next == asked.len()
+    next == accepted
 }
 
 // What the step asks of the slice, if it asks for anything.
@@ -80,11 +87,11 @@ fn is_in(config: &Checked, slice: SliceId, word: WordAddr) -> bool
     word.line().0 % config.slices() as u64 == u64::from(slice.0)
 }
 
-// Whether the access was asked for at this place.
-fn is_asked(asked: &[Ask], at: usize, word: WordAddr, op: Op) -> bool
-    ensures { IsTrue result → IsSomeAnd (slice_get asked.now at) (λ ask. (ask.request.word ≡ word) × (ask.request.op ≡ op)) }
+// Whether the access is what was asked for.
+fn is_asked(asked: Option<Ask>, word: WordAddr, op: Op) -> bool
+    ensures { IsTrue result → IsSomeAnd asked (λ ask. (ask.request.word ≡ word) × (ask.request.op ≡ op)) }
 {
-    match asked.get(at) {
+    match asked {
         Some(ask) => ask.request.word == word && ask.request.op == op,
         None => false,
     }

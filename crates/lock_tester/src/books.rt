@@ -185,7 +185,7 @@ fn reads<N: SliceNames>(state: &mut State, book: &mut Book<N>, port: &mut Port<N
     let filled = moves(state, book, Pick::Data(LINE, READER));
     let read = book.hand_out(state, port);
     let right = matches!(read, Some(receipt) if receipt.number == 1 && receipt.entry.reply == 5);
-    let seen = matches!(port.asked().first(), Some(ask) if ask.seen == 1);
+    let seen = matches!(port.asked(0), Some(ask) if ask.seen == 1);
     pending && asked && forwarded && filled && right && seen && port.seen() == 2
 }
 

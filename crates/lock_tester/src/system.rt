@@ -214,8 +214,8 @@ fn learns<M: SystemNames, R: Wait>(
 }
 
 /// Whether the core had seen so many entries of slice 0 when it asked for the request with this number.
-fn has_seen<M: SystemNames>(core: &Core<'_, ExplicitFile, M>, number: usize, seen: u64) -> bool {
-    match core.asked(SliceId(0)).get(number) {
+fn has_seen<M: SystemNames>(core: &Core<'_, ExplicitFile, M>, number: u64, seen: u64) -> bool {
+    match core.asked(SliceId(0), number) {
         Some(ask) => ask.seen == seen,
         None => false,
     }

@@ -16,6 +16,7 @@ pub mod Ports
 pub mod Quiet
 pub mod Removed
 pub mod Settled
+pub mod Streaks
 pub mod Targets
 pub mod Tied
 pub mod Times

@@ -1,5 +1,5 @@
 -- State and book go on belonging together: what each call makes of the totals.
-use Rattle.std.proofs.Common.{◌≡◌, ℕ, ◌<◌, false, List, [], ◌∷◌, ◌++◌, get_or, length, map, Some, Ok, refl, sym, ap, ◌∙◌, subst, arith}
+use Rattle.std.proofs.Common.{◌≡◌, ℕ, ◌<◌, List, [], ◌∷◌, ◌++◌, get_or, length, map, Some, Ok, refl, sym, ap, ◌∙◌, subst, arith}
 use Rattle.std.specs.Prelude.{slice_get, slice_index_or}
 use Rattle.std.proofs.Math.ListN.{get_or-map}
 use Rattle.std.proofs.lemmas.List.{get_or_push, length-append}
@@ -10,7 +10,7 @@ use Rattle.address_map.specs.declared.request.Request.{Request}
 use Rattle.receipt_ledger.proofs.Booked.{accept-booked, hand-booked, perform-booked, performs-booked, same-booked}
 use Rattle.receipt_ledger.proofs.Issued.{issued-last}
 use Rattle.receipt_ledger.proofs.Placed.{issued-judged}
-use Rattle.receipt_ledger.specs.Booked.{IsServed, IsTied, stores_to}
+use Rattle.receipt_ledger.specs.Booked.{IsServed, IsTied}
 use Rattle.receipt_ledger.specs.Port.{IsEntryOf}
 use Rattle.receipt_ledger.specs.Slice.{IsBuiltAs, IsSliceOf}
 use Rattle.receipt_shares.specs.Names.{counters_of}

@@ -12,7 +12,7 @@ use Rattle.receipt_ledger.specs.declared.receipt.Answer.{Answer}
 use Rattle.receipt_ledger.specs.declared.receipt.Answer.TheVariants as answers
 use Rattle.receipt_ledger.specs.declared.receipt.Receipt.{Receipt}
 use Rattle.receipt_shares.specs.Names.{counters_of}
-use Rattle.receipt_shares.specs.Totals.{Totals, only_handed, together}
+use Rattle.receipt_shares.specs.Totals.{Totals, only_accepted, only_handed, together}
 use Rattle.slice_core_answer.specs.declared.answer.Issue.{Issue}
 use Rattle.slice_core_answer.specs.declared.answer.Issue.TheVariants as issues
 use Rattle.slice_core_answer.specs.declared.answer.Refused.{Refused}
@@ -152,6 +152,15 @@ pub record IsGiven (counters : List WordAddr) (log : List Entry) (number : ℕ) 
   pub there : slice_get log number ≡ Some entry
   pub port : new ≡ with_receipt old (receipt_of old.slice (record { number = number; entry = entry }))
   pub totals : after ≡ together before (only_handed counters entry)
+
+-- The port got one more request, which is the log's entry of this number, and its receipt, and the totals count both.
+pub record IsDone (counters : List WordAddr) (log : List Entry) (number : ℕ) (request : Request) (old new : PortView)
+    (before after : Totals) : Type 0 where
+  pub entry : Entry
+  pub there : slice_get log number ≡ Some entry
+  pub port : IsWithRoom
+      (with_receipt (with_request old request) (receipt_of old.slice (record { number = number; entry = entry }))) new
+  pub totals : after ≡ together (together before (only_accepted 1)) (only_handed counters entry)
 
 -- ---- the steps of the small machine that a call is
 

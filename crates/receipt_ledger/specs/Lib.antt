@@ -1,4 +1,5 @@
 pub mod Accepted
+pub mod Account
 pub mod Answers
 pub mod Booked
 pub mod Counted

@@ -11,7 +11,7 @@ use Rattle.receipt_shares.specs.Totals.{Amounts, Totals, totals}
 use Rattle.slice_core_log.specs.declared.entry.Entry.{Entry}
 use Rattle.slice_core_plan.specs.Initial.{is_of_slice}
 
--- how much each of a port's lists can hold before it has to grow
+-- how many requests and how many receipts a port can hold, whatever becomes of them, before a list has to grow
 pub record Room : Type 0 where
   pub asked : ℕ
   pub receipts : ℕ

@@ -1,8 +1,9 @@
 ghost use Rattle.std.specs.Prelude.{◌≡◌, ◌<◌, ◌↔◌, length, slice_get, IfErr, IfSome, IsOk, IsTrue, OnErr, OnOk, Some};
 ghost use Rattle.receipt_ledger.specs.Answers.{AfterAsking, AfterReply, AfterRequest, AsksFor, AsksReply, AsksSlice};
-ghost use Rattle.receipt_ledger.specs.Answers.{IsGenuine, IsGenuineAnswer, IsGenuineLast, IsGiven, IsJudged, IsKnown, IsShortOf};
+ghost use Rattle.receipt_ledger.specs.Answers.{IsDone, IsGenuine, IsGenuineAnswer, IsGenuineLast, IsGiven, IsJudged, IsKnown, IsShortOf};
 ghost use Rattle.receipt_ledger.specs.Answers.{answer_steps, reply_steps};
 ghost use Rattle.receipt_ledger.specs.Booked.{IsTied};
+ghost use Rattle.receipt_ledger.specs.History.{request_of};
 ghost use Rattle.receipt_ledger.specs.Port.{HasRoom, IsEntryOf, with_request, with_seen};
 ghost use Rattle.receipt_shares.specs.Names.{counters_of};
 ghost use Rattle.receipt_shares.specs.Totals.{only_accepted, together};
@@ -94,8 +95,7 @@ impl<N: SliceNames> Book<N> {
         }
         match state.issue(port.core(), request) {
             Ok(Issue::Done(number)) => {
-                self.count(port, request);
-                self.give(state, port, number);
+                self.give_done(state, port, request, number);
                 Ok(Issue::Done(number))
             }
             Ok(Issue::Pending(seq)) => {
@@ -159,6 +159,29 @@ impl<N: SliceNames> Book<N> {
         ensures book { self.new ≡ together self.old (only_accepted 1) }
     {
         port.count(&mut self.books, request);
+    }
+
+    // Gives the port a request that was done at once as an entry of the log, and its receipt, and counts both.
+    fn give_done<F: MissFile>(
+        &mut self,
+        state: &SliceState<F>,
+        port: &mut Port<N>,
+        request: Request,
+        number: u64,
+    )
+        requires room { HasRoom port.old }
+        requires within { number < length state.now.view.log }
+        requires own { (e : Entry) → slice_get state.now.view.log number ≡ Some e → IsEntryOf N.setup N.number port.old.core e }
+        requires named { (e : Entry) → slice_get state.now.view.log number ≡ Some e → request_of e ≡ request }
+        ensures { IsDone (counters_of N.setup N.number) state.now.view.log number request port.old port.new self.old self.new }
+    {
+        port.perform(
+            &mut self.books,
+            &self.counters,
+            state.log(),
+            number,
+            request,
+        );
     }
 
     // Gives the port the receipt of an entry of the log, and counts it.

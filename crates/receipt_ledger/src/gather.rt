@@ -74,8 +74,14 @@ fn gather_port<N: SliceNames, T: Lends<Port<N>, K>, const K: usize>(
 {
     share.gather(&mut port.shares);
     gather(books, words, share, rest);
-    let accepted = port.asked.len() as u64;
-    give_back(share, &mut port.shares, words, accepted, &port.receipts);
+    let accepted = port.account.accepted() as u64;
+    give_back(
+        share,
+        &mut port.shares,
+        words,
+        accepted,
+        port.account.receipts(),
+    );
 }
 
 // Gives a share that was gathered its part, its requests and its receipts' entries back.

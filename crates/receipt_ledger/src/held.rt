@@ -1,10 +1,11 @@
 ghost use Rattle.std.specs.Prelude.{◌≡◌, ◌⊎◌, ◌+◌, ◌-◌, ◌<◌, ◌≤◌, ◌↔◌, length, map, slice_get, Contains, IsSomeAnd, IsTrue, Some};
 ghost use Rattle.receipt_ledger.specs.History.{AreHeld, HasAsked, HasReceipt, IsHeld, request_of};
 
+use super::account::request_of;
 use super::lends::Lends;
 use super::port::Port;
 use super::receipt::{Ask, Receipt};
-use address_map::{Request, SliceId};
+use address_map::SliceId;
 use receipt_shares::SliceNames;
 use slice_core_log::Entry;
 
@@ -45,7 +46,7 @@ impl<N: SliceNames> Port<N> {
     fn has_asked(&self, number: u64, entry: &Entry) -> bool
         ensures { IsTrue result ↔ HasAsked self.now number entry.now }
     {
-        was_asked(self.asked(), number, entry)
+        was_asked(self.asked(entry.seq), number, entry)
     }
 
     // Whether it has the receipt of the entry of this number. That is looked for from the request's own place outwards: it
@@ -63,24 +64,13 @@ impl<N: SliceNames> Port<N> {
     }
 }
 
-fn was_asked(asked: &[Ask], number: u64, entry: &Entry) -> bool
-    ensures { IsTrue result ↔ IsSomeAnd (slice_get asked.now entry.now.seq) (λ ask. (ask.request ≡ request_of entry.now) × (ask.seen ≤ number)) }
+fn was_asked(asked: Option<Ask>, number: u64, entry: &Entry) -> bool
+    ensures { IsTrue result ↔ IsSomeAnd asked (λ ask. (ask.request ≡ request_of entry.now) × (ask.seen ≤ number)) }
 {
-    match asked.get(entry.seq as usize) {
-        Some(ask) => is_ask_of(ask, number, entry),
+    match asked {
+        Some(ask) => ask.request == request_of(entry) && ask.seen <= number,
         None => false,
     }
-}
-
-fn is_ask_of(ask: &Ask, number: u64, entry: &Entry) -> bool
-    ensures { IsTrue result ↔ (ask.now.request ≡ request_of entry.now) × (ask.now.seen ≤ number) }
-{
-    let request = Request {
-        op: entry.op,
-        word: entry.word,
-        tag: entry.tag,
-    };
-    ask.request == request && ask.seen <= number
 }
 
 // Whether the receipt is one of these. It is looked for at this place first, and then ever further from it.

@@ -28,6 +28,7 @@ pub use lends::{Alone, Lends};
 pub use port::Port;
 pub use receipt::{Answer, Ask, LearnError, Receipt};
 
+mod account;
 mod book;
 mod gather;
 mod held;

@@ -1,9 +1,11 @@
 ghost use Rattle.std.specs.Prelude.{◌≡◌, ◌+◌, ◌<◌, ◌≤◌, true, false, length, slice_get, vec_capacity, vec_len, OnOk, Some};
-ghost use Rattle.receipt_ledger.specs.Answers.{IsGiven, IsLastOf};
+ghost use Rattle.receipt_ledger.specs.Answers.{IsDone, IsGiven, IsLastOf};
+ghost use Rattle.receipt_ledger.specs.History.{request_of};
 ghost use Rattle.receipt_ledger.specs.Port.{AreOwn, HasRoom, IsEntryOf, IsWithRoom, fresh_port, with_request, with_seen};
 ghost use Rattle.receipt_shares.specs.Names.{AreCounters};
 ghost use Rattle.receipt_shares.specs.Totals.{nothing, only_accepted, together};
 
+use super::account::Account;
 use super::receipt::{Ask, Receipt};
 use address_map::{CoreId, Request, SliceId, WordAddr};
 use receipt_shares::{Books, Shares, SliceNames};
@@ -17,22 +19,19 @@ use std::marker::Model;
 pub struct Port<N: SliceNames> {
     core: CoreId,
     slice: SliceId,
-    /// The accepted requests, in this order, which numbers them.
-    pub(crate) asked: Vec<Ask>,
-    pub(crate) receipts: Vec<Receipt>,
+    pub(crate) account: Account,
     seen: u64,
     pub(crate) shares: Shares<N>,
 }
 
 impl<N: SliceNames> Model for Port<N> {
-    ghost use Rattle.std.specs.Prelude.{vec_capacity};
     ghost use Rattle.receipt_ledger.specs.Port.{PortView, IsPort, port_with};
 
     ghost Value = { PortView };
 
-    ghost view = { λ p. port_with p.core p.slice p.asked.items p.receipts.items p.seen (record { asked = vec_capacity p.asked; receipts = vec_capacity p.receipts }) };
+    ghost view = { λ p. port_with p.core p.slice p.account.asked p.account.receipts p.seen p.account.room };
 
-    ghost invariant = { λ p. IsPort N.setup N.number (port_with p.core p.slice p.asked.items p.receipts.items p.seen (record { asked = vec_capacity p.asked; receipts = vec_capacity p.receipts })) p.shares };
+    ghost invariant = { λ p. IsPort N.setup N.number (port_with p.core p.slice p.account.asked p.account.receipts p.seen p.account.room) p.shares };
 }
 
 impl<N: SliceNames> Port<N> {
@@ -57,14 +56,14 @@ impl<N: SliceNames> Port<N> {
         ensures accepted { result ≡ length self.now.asked }
         ensures fewer { length self.now.receipts ≤ result }
     {
-        self.asked.len() as u64
+        self.account.accepted() as u64
     }
 
-    /// Which ones, in this order, each with what the port had seen of the log by then.
-    pub fn asked(&self) -> &[Ask]
-        ensures { result.now ≡ self.now.asked }
+    /// The one of this number, counted from 0, with what the port had seen of the log by then.
+    pub fn asked(&self, seq: u64) -> Option<Ask>
+        ensures { result ≡ slice_get self.now.asked seq }
     {
-        &self.asked
+        self.account.asked(seq)
     }
 
     /// Those of them that were handed out, in the order in which they were.
@@ -73,7 +72,7 @@ impl<N: SliceNames> Port<N> {
         ensures fewer { length result.now ≤ length self.now.asked }
         ensures own { AreOwn N.setup N.number self.now.core result.now }
     {
-        &self.receipts
+        self.account.receipts()
     }
 
     /// One more than the greatest number of a receipt that it got or was told of, and 0 before the first.
@@ -88,7 +87,7 @@ impl<N: SliceNames> Port<N> {
         ensures waiting { result ≡ true → length self.now.receipts < length self.now.asked }
         ensures idle { result ≡ false → length self.now.asked ≤ length self.now.receipts }
     {
-        self.receipts.len() < self.asked.len()
+        self.account.receipts().len() < self.account.accepted()
     }
 
     /// A port through which nothing was asked for yet.
@@ -102,8 +101,7 @@ impl<N: SliceNames> Port<N> {
         Port {
             core,
             slice,
-            asked: Vec::new(alloc),
-            receipts: Vec::new(alloc),
+            account: Account::new(alloc),
             seen: 0,
             shares,
         }
@@ -115,11 +113,7 @@ impl<N: SliceNames> Port<N> {
         ensures fewer { length self.old.receipts ≤ length self.old.asked }
         ensures room { OnOk result (HasRoom self.new) }
     {
-        let accepted = self.asked.len();
-        if accepted < self.asked.capacity() && accepted < self.receipts.capacity() {
-            return Ok(());
-        }
-        grow(&mut self.asked, &mut self.receipts)
+        self.account.make_room()
     }
 
     /// Keeps one more accepted request, and counts it in the book too.
@@ -130,7 +124,37 @@ impl<N: SliceNames> Port<N> {
     {
         books.accept(&mut self.shares);
         let seen = self.seen;
-        self.asked.push_reserved(Ask { request, seen });
+        self.account.keep(Ask { request, seen });
+    }
+
+    /// Keeps one more accepted request that was done at once as the entry of the log with this number, and its receipt,
+    /// and counts both in the book too.
+    pub(crate) fn perform(
+        &mut self,
+        books: &mut Books<N>,
+        words: &[WordAddr],
+        log: &[Entry],
+        number: u64,
+        request: Request,
+    )
+        requires room { HasRoom self.old }
+        requires words { AreCounters N.setup N.number words.now }
+        requires within { number < length log.now }
+        requires own { (e : Entry) → slice_get log.now number ≡ Some e → IsEntryOf N.setup N.number self.old.core e }
+        requires named { (e : Entry) → slice_get log.now number ≡ Some e → request_of e ≡ request }
+        ensures { IsDone words.now log.now number request self.old self.new books.old books.new }
+    {
+        let entry = entry_at(log, number);
+        books.accept(&mut self.shares);
+        books.hand(&mut self.shares, words, entry);
+        let seen = self.seen;
+        self.seen = seen.max(after(log, number));
+        let receipt = Receipt {
+            entry: *entry,
+            number,
+            slice: self.slice,
+        };
+        self.account.keep_done(Ask { request, seen }, receipt);
     }
 
     /// Takes the receipt of the entry of the log with this number, and counts it in the book too.
@@ -150,7 +174,7 @@ impl<N: SliceNames> Port<N> {
         let entry = entry_at(log, number);
         books.hand(&mut self.shares, words, entry);
         self.seen = self.seen.max(after(log, number));
-        self.receipts.push_reserved(Receipt {
+        self.account.receive(Receipt {
             entry: *entry,
             number,
             slice: self.slice,
@@ -171,26 +195,9 @@ impl<N: SliceNames> Port<N> {
         requires some { 0 < length self.now.receipts }
         ensures { IsLastOf self.now.receipts result }
     {
-        self.receipts[self.receipts.len() - 1]
+        let receipts = self.account.receipts();
+        receipts[receipts.len() - 1]
     }
-}
-
-// Makes room for one more request, and for the receipts of all requests and of that one. It stands apart, since most
-// requests find room.
-#[cold]
-#[inline(never)]
-fn grow(asked: &mut Vec<Ask>, receipts: &mut Vec<Receipt>) -> Result<(), AllocError>
-    requires fewer { vec_len receipts.old ≤ vec_len asked.old }
-    requires reserved { vec_len asked.old ≤ vec_capacity receipts.old }
-    ensures asked { asked.new.items ≡ asked.old.items }
-    ensures receipts { receipts.new.items ≡ receipts.old.items }
-    ensures asked_room { OnOk result (vec_len asked.new < vec_capacity asked.new) }
-    ensures receipts_room { OnOk result (vec_len asked.new < vec_capacity receipts.new) }
-    ensures reserved { length asked.new.items ≤ vec_capacity receipts.new }
-{
-    asked.reserve(1)?;
-    let in_flight = asked.len() - receipts.len();
-    receipts.reserve(in_flight + 1)
 }
 
 // The entry of the log with this number.

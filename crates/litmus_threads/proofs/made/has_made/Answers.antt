@@ -3,5 +3,5 @@ use Rattle.litmus_threads.proofs.made.has_made.Goals as goal
 
 pub loop-slice-preserved : goal.loop-slice-preserved
 loop-slice-preserved g c =
-    asked-below g.M.SystemNames.setup c.args.config.now c.loop-slice.slice c.args.steps.now c.args.core.now _
-    c.loop-slice.invariant c.asked.ensures c.requires (c.are_asked.ensures c.if-not-are_asked.false)
+    asked-below g.M.SystemNames.setup c.args.config.now c.loop-slice.slice c.args.steps.now c.args.core.now
+    c.loop-slice.invariant c.requires (c.are_asked.ensures c.if-not-are_asked.false)

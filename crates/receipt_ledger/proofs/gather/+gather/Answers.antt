@@ -29,11 +29,11 @@ gather_port-returns-clause-share g t c =
     let number = g.N.SliceNames.number in
     let had = c.port.inside.shares in
     let held = ap (λ (s : Amounts). s.held) c.port.invariant.held in
-    let given : totals c.args.words.now c.len-accepted.result (entries_of c.deref.result.now) ≡ had.held =
-    ap (λ n. totals c.args.words.now n (entries_of c.deref.result.now)) (c.len-accepted.ensures ∙ c.port.inside.asked.ok.0)
-    ∙ ap (λ words. totals words (length c.port.inside.asked.items) (entries_of c.deref.result.now)) c.requires.words.are
-    ∙ ap (λ (rs : List Receipt). totals (counters_of setup number) (length c.port.inside.asked.items) (entries_of rs))
-    c.deref.ensures.value
+    let given : totals c.args.words.now c.accepted-accepted.result (entries_of c.receipts.result.now) ≡ had.held =
+    ap (λ n. totals c.args.words.now n (entries_of c.receipts.result.now)) c.accepted-accepted.ensures
+    ∙ ap (λ words. totals words (length c.port.inside.account.asked) (entries_of c.receipts.result.now)) c.requires.words.are
+    ∙ ap (λ (rs : List Receipt). totals (counters_of setup number) (length c.port.inside.account.asked) (entries_of rs))
+    c.receipts.ensures
     ∙ sym held in
     let one = ap (λ (s : Amounts). s.parts) c.port.invariant.held in
     let kept = ap (λ (s : Amounts). s.parts) c.gather-2.ensures.share in

@@ -5,28 +5,33 @@ use Rattle.receipt_ledger.proofs.Ports.{with-room}
 use Rattle.receipt_ledger.proofs.Tied.{done-last, done-own, done-tied, pending-tied, same-tied}
 use Rattle.receipt_ledger.specs.Answers.{IsGenuine, IsLastOf, receipt_of}
 use Rattle.receipt_ledger.specs.Booked.{IsTied}
+use Rattle.receipt_ledger.specs.History.{request_of}
 use Rattle.receipt_ledger.specs.Port.{IsEntryOf, PortView, with_receipt, with_request}
 use Rattle.receipt_ledger.specs.declared.receipt.Receipt.{Receipt}
-use Rattle.receipt_shares.specs.Names.{counters_of}
-use Rattle.receipt_shares.specs.Totals.{only_handed, together}
 use Rattle.slice_core_log.specs.declared.entry.Entry.{Entry}
 use Rattle.receipt_ledger.proofs.book.Book.ask.Given.{Over}
 use Rattle.receipt_ledger.proofs.book.Book.ask.Goals as goal
 
 -- the receipt that is given at once
-abbrev given : (g : Over) (c : goal.After-give g) → Receipt
+abbrev given : (g : Over) (c : goal.After-give_done g) → Receipt
 given g c =
-    receipt_of c.args.port.now.slice (record { number = c.in-Ok-Done.number; entry = c.give.ensures.entry })
+    receipt_of c.args.port.now.slice (record { number = c.in-Ok-Done.number; entry = c.give_done.ensures.entry })
 
-pub give-requires-clause-own : goal.give-requires-clause-own
-give-requires-clause-own g c e there =
+pub give_done-requires-clause-own : goal.give_done-requires-clause-own
+give_done-requires-clause-own g c e there =
     let setup = g.N.SliceNames.setup in
     let number = g.N.SliceNames.number in
     let told = rw c.in-Ok-Done.field-0-is at c.in-Ok-Done.ensures in
-    subst (λ core. IsEntryOf setup number core e)
-    (c.core.ensures.core ∙ sym (ap (λ (p : PortView). p.core) c.count.ensures.port))
+    subst (λ core. IsEntryOf setup number core e) c.core.ensures.core
     (done-own setup number c.args.self.now c.args.state.now c.issue.new.self c.requires c.core.result c.args.request
     c.in-Ok-Done.number told.step told.machine e there)
+
+pub give_done-requires-clause-named : goal.give_done-requires-clause-named
+give_done-requires-clause-named g c e there =
+    let told = rw c.in-Ok-Done.field-0-is at c.in-Ok-Done.ensures in
+    let last =
+    done-last c.args.state.now c.issue.new.self c.core.result c.args.request c.in-Ok-Done.number told.step told.machine in
+    ap request_of (last.is e there)
 
 pub returns-in-Err-clause-judged : goal.returns-in-Err-clause-judged
 returns-in-Err-clause-judged g c =
@@ -41,19 +46,20 @@ returns-in-Ok-Done-clause-judged g c =
 
 pub returns-in-Ok-Done-clause-genuine : goal.returns-in-Ok-Done-clause-genuine
 returns-in-Ok-Done-clause-genuine g c last is =
+    let port = c.make_room.new.self in
     let same =
-    last-pushed c.count.new.port.receipts
-    (receipt_of c.count.new.port.slice (record { number = c.in-Ok-Done.number; entry = c.give.ensures.entry })) last
-    (subst (λ (p : PortView). IsLastOf p.receipts last) c.give.ensures.port is)
+    last-pushed port.receipts
+    (receipt_of port.slice (record { number = c.in-Ok-Done.number; entry = c.give_done.ensures.entry })) last
+    (subst (λ (p : PortView). IsLastOf p.receipts last) c.give_done.ensures.port is)
     in
-    subst (IsGenuine c.issue.new.self.view.log) (sym same) c.give.ensures.there
+    subst (IsGenuine c.issue.new.self.view.log) (sym same) c.give_done.ensures.there
 
 pub returns-in-Ok-Done-clause-port : goal.returns-in-Ok-Done-clause-port
 returns-in-Ok-Done-clause-port g c =
     let told = rw c.in-Ok-Done.field-0-is at c.in-Ok-Done.ensures in
     let last =
     done-last c.args.state.now c.issue.new.self c.core.result c.args.request c.in-Ok-Done.number told.step told.machine in
-    let is = last.is c.give.ensures.entry c.give.ensures.there in
+    let is = last.is c.give_done.ensures.entry c.give_done.ensures.there in
     let same = c.make_room.ensures.same in (
       given g c,
       record {
@@ -66,10 +72,14 @@ returns-in-Ok-Done-clause-port g c =
         op = ap (λ (e : Entry). e.op) is;
       },
       refl,
-      with-room (with_receipt (with_request c.args.port.now c.args.request) (given g c)) c.give.new.port c.make_room.new.self.room
-          (c.give.ensures.port
-          ∙ ap (λ p. with_receipt p (receipt_of p.slice (record { number = c.in-Ok-Done.number; entry = c.give.ensures.entry })))
-          (c.count.ensures.port ∙ ap (λ p. with_request p c.args.request) same)),
+      with-room (with_receipt (with_request c.args.port.now c.args.request) (given g c)) c.give_done.new.port
+          c.give_done.new.port.room
+          (c.give_done.ensures.port
+          ∙ ap
+          (λ p. record (with_receipt (with_request p c.args.request)
+          (receipt_of p.slice (record { number = c.in-Ok-Done.number; entry = c.give_done.ensures.entry }))) {
+            room = c.give_done.new.port.room;
+          }) same),
     )
 
 pub returns-in-Ok-Done-clause-tied : goal.returns-in-Ok-Done-clause-tied
@@ -79,10 +89,9 @@ returns-in-Ok-Done-clause-tied g c =
     let new = c.issue.new.self in
     let told = rw c.in-Ok-Done.field-0-is at c.in-Ok-Done.ensures in
     subst (λ t. IsTied setup number t new)
-    (sym (c.give.ensures.totals
-    ∙ ap (λ t. together t (only_handed (counters_of setup number) c.give.ensures.entry)) c.count.ensures.book))
+    (sym c.give_done.ensures.totals)
     (done-tied setup number c.args.self.now c.args.state.now new c.requires c.core.result c.args.request
-    c.in-Ok-Done.number c.give.ensures.entry told.step told.same told.machine c.give.ensures.there)
+    c.in-Ok-Done.number c.give_done.ensures.entry told.step told.same told.machine c.give_done.ensures.there)
 
 pub returns-in-Ok-Pending-clause-tied : goal.returns-in-Ok-Pending-clause-tied
 returns-in-Ok-Pending-clause-tied g c =
@@ -90,7 +99,7 @@ returns-in-Ok-Pending-clause-tied g c =
     let number = g.N.SliceNames.number in
     let new = c.issue.new.self in
     let told = rw c.in-Ok-Pending.field-0-is at c.in-Ok-Pending.ensures in
-    subst (λ t. IsTied setup number t new) (sym c.count-in-Ok-Pending.ensures.book)
+    subst (λ t. IsTied setup number t new) (sym c.count.ensures.book)
     (pending-tied setup number c.args.self.now c.args.state.now new c.requires c.core.result c.args.request
     c.in-Ok-Pending.seq told.step told.same told.machine)
 

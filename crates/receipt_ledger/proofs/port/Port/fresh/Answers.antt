@@ -3,11 +3,6 @@ use Rattle.receipt_ledger.proofs.port.Port.fresh.Goals as goal
 
 pub invariant_of-result : goal.invariant_of-result
 invariant_of-result g c =
-    rw (
-      c.new.ensures.items,
-      c.new.ensures.capacity,
-      c.new-2.ensures.items,
-      c.new-2.ensures.capacity,
-    )
+    rw (c.new.ensures)
     (fresh-port g.N.SliceNames.setup g.N.SliceNames.number c.args.core c.args.slice c.args.shares c.requires.known
     c.requires.named c.requires.part c.requires.nothing)

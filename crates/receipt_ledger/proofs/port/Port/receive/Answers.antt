@@ -9,8 +9,7 @@ pub invariant_of-self : goal.invariant_of-self
 invariant_of-self g c =
     let r : Receipt = record { number = c.args.number; entry = c.entry_at-entry.result.now; slice = c.self.inside.slice } in
     rw (
-      c.push_reserved.ensures.items,
-      c.push_reserved.ensures.capacity,
+      c.receive.ensures,
       c.max-self-inside.ensures,
       c.after.ensures,
     )

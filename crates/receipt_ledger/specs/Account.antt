@@ -36,7 +36,7 @@ receipt_at receipts place = get_or receipts place no_receipt
 abbrev pub no_streak : Streak
 no_streak = record { ask = record { request = request_of no_receipt.entry; seen = 0 }; first = 0; receipts = 0 }
 
--- Of the streaks, which ascend, and of one before them: the last that begins no later than with the request of this number.
+-- Of the streaks, which ascend, and of one before them: the last that begins no later than the request of this number.
 abbrev pub streak_in : Streak → List Streak → ℕ → Streak
 streak_in streak [] seq = streak
 streak_in streak (next ∷ streaks) seq = if nat_lt seq next.first then streak else streak_in next streaks seq

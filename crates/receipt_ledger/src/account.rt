@@ -20,9 +20,9 @@ pub(crate) struct Streak {
     receipts: usize,
 }
 
-/// What was asked through a port and what was handed out. A request that is done at once is named by its receipt, and the
-/// receipt before tells what had been seen: so it isn't kept a second time. Most requests are done so, and each byte that
-/// is written to a list that grows costs more than the search in a short one. Contracts see an `AccountView`.
+/// What was asked through a port and what was handed out. A request that is done at once is named by its receipt, and
+/// the receipt before tells what had been seen, so it isn't kept a second time. Most requests are done so, and each byte
+/// that is written to a list that grows costs more than the search in a short one. Contracts see an `AccountView`.
 #[derive(Drop)]
 pub(crate) struct Account {
     /// The accepted requests, in this order, which numbers them.

@@ -23,7 +23,8 @@ pub told_in-requires : goal.told_in-requires
 told_in-requires c =
     let had = c.self.inside in
     subst (λ (receipts : List Receipt). IsTold receipts c.index.result.now c.args.seq) (sym c.deref-2.ensures.value)
-    (subst (λ (s : Streak). IsTold c.self.inside.receipts.items s c.args.seq) (begun-streak had.streaks.items had.accepted had.receipts.items c.self.invariant c.args.seq c.begun-begun.result _ _
+    (subst (λ (s : Streak). IsTold c.self.inside.receipts.items s c.args.seq)
+    (begun-streak had.streaks.items had.accepted had.receipts.items c.self.invariant c.args.seq c.begun-begun.result _ _
     c.deref.ensures.value c.if-self-seq.false c.begun-begun.ensures.within c.begun-begun.ensures.begun
     c.begun-begun.ensures.later c.index.ensures)
     (c.self.invariant.told c.args.seq c.if-self-seq.false))
@@ -33,7 +34,8 @@ returns c =
     let had = c.self.inside in
     sym (ap (λ (v : AccountView). slice_get v.asked c.args.seq) (sym c.self.view_is)
     ∙ asks-at had.streaks.items had.accepted had.receipts.items c.args.seq c.if-self-seq.false
-    ∙ ap (λ (s : Streak). Some (told_in had.receipts.items s c.args.seq)) (begun-streak had.streaks.items had.accepted had.receipts.items c.self.invariant c.args.seq c.begun-begun.result _ _
+    ∙ ap (λ (s : Streak). Some (told_in had.receipts.items s c.args.seq))
+    (begun-streak had.streaks.items had.accepted had.receipts.items c.self.invariant c.args.seq c.begun-begun.result _ _
     c.deref.ensures.value c.if-self-seq.false c.begun-begun.ensures.within c.begun-begun.ensures.begun
     c.begun-begun.ensures.later c.index.ensures)
     ∙ ap (λ (receipts : List Receipt). Some (told_in receipts c.index.result.now c.args.seq)) (sym c.deref-2.ensures.value)

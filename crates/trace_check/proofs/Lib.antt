@@ -6,3 +6,4 @@ mod CheckLemmas
 mod ExactLemmas
 mod RefusalLemmas
 mod ReadingLemmas
+pub mod SinceLemmas

@@ -15,7 +15,7 @@ use Rattle.trace_check.specs.declared.trace_line.Version.{Version}
 use Rattle.trace_check.specs.declared.trace_line.Version.TheVariants as versions
 use Rattle.slice_core_log.specs.declared.entry.Entry.{Entry}
 use Rattle.trace_check.specs.declared.trace_line.TraceLine.TheVariants as lines
-use Rattle.trace_check.specs.TraceLine.{IsOfVersion, BeginsWith, IsInRange, IsEntryOf, IsNoLineOf, parts_of_line}
+use Rattle.trace_check.specs.TraceLine.{IsOfVersion, BeginsWith, IsInRange, IsEntryOf, IsNoLineOf, completed, ended, parts_of_line}
 
 -- words behind words write parts behind parts
 pub Writes-append : (ws vs : List (List ℕ)) (ps qs : List Part) → Writes ws ps → Writes vs qs
@@ -52,7 +52,7 @@ entry_written all core seq tag access reply since e shape is_core is_seq is_tag 
     rw shape (refl, (is_core.0, sym is_core.1, (is_seq.0, sym is_seq.1, (is_tag.0, sym is_tag.1, rest))))
 
 -- there is a word for each part
-word_for_each : (ws : List (List ℕ)) (ps : List Part) → Writes ws ps → length ws ≡ length ps
+pub word_for_each : (ws : List (List ℕ)) (ps : List Part) → Writes ws ps → length ws ≡ length ps
 word_for_each ws ps h = elim (cases_eq (length ws) (length ps)) [
   | inl same ↦ same
   | inr other ↦ absurd (wrong_count (λ w. w) ws ps other (rw map-id h))
@@ -109,6 +109,14 @@ begins_otherwise (w ∷ ws) (ops.Add delta) word written of cas =
     two_names w (codes "add") (codes "cas") written.0 cas refl
 begins_otherwise (w ∷ ws) (ops.Cas expect new) word written of cas = absurd of
 
+-- an entry's words, completed
+pub completed_entry : (version : Version) (ws : List (List ℕ)) → completed version (codes "entry" ∷ ws) ≡ codes "entry" ∷ ended version ws
+completed_entry version ws = refl
+
+-- .. and another line's
+pub completed_init : (version : Version) (ws : List (List ℕ)) → completed version (codes "init" ∷ ws) ≡ codes "init" ∷ ws
+completed_init version ws = refl
+
 -- what the words behind `init` write of a line
 pub init_refused : (version : Version) (ws : List (List ℕ))
     → ((word value : ℕ) → Writes ws (num word ∷ num value ∷ []) → word < MOST_WORDS → ⊥)
@@ -159,7 +167,7 @@ one_number word m n spells is = sym spells.1 ∙ sym is
 -- words that an entry doesn't have write no line behind its name
 pub entry_refused : (version : Version) (all : List (List ℕ)) (core seq tag : List ℕ) (access : List (List ℕ))
     (reply since : List ℕ)
-    → all ≡ core ∷ seq ∷ tag ∷ (access ++ reply ∷ since ∷ [])
+    → ended version all ≡ core ∷ seq ∷ tag ∷ (access ++ reply ∷ since ∷ [])
     → ((e : Entry) → AreWordsOf e (core ∷ seq ∷ tag ∷ []) access (reply ∷ since ∷ []) → IsEntryOf version e → ⊥)
     → IsNoLineOf version (codes "entry" ∷ all)
 unfolding IsInRange
@@ -178,12 +186,12 @@ access_count (ops.Add delta) word = lit≤ tt
 access_count (ops.Cas expect new) word = lit≤ tt
 
 -- few words write no entry
-pub entry_too_short : (version : Version) (ws : List (List ℕ)) → length ws < 5 → IsNoLineOf version (codes "entry" ∷ ws)
+pub entry_too_short : (version : Version) (ws : List (List ℕ)) → length (ended version ws) < 5 → IsNoLineOf version (codes "entry" ∷ ws)
 entry_too_short version ws few (lines.Init word value) is =
     two_names (codes "entry") (codes "entry") (codes "init") refl is.written.0 refl
 entry_too_short version ws few (lines.Entry e) is =
     let op : List Part = parts_of_op e.op e.word.0 in
     let parts : List Part = num e.core.0 ∷ num e.seq ∷ num e.tag ∷ (op ++ num e.reply ∷ num e.since ∷ []) in
-    let whole : length ws ≡ length parts = word_for_each ws parts is.written.1 in
+    let whole : length (ended version ws) ≡ length parts = word_for_each (ended version ws) parts is.written.1 in
     let two : 2 ≤ length op = access_count e.op e.word.0 in
     omega (arith, simp length-append at whole)

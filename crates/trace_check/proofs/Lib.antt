@@ -7,3 +7,4 @@ mod CheckLemmas
 mod ExactLemmas
 mod RefusalLemmas
 mod ReadingLemmas
+pub mod SinceLemmas

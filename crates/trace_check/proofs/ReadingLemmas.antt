@@ -15,7 +15,7 @@ use Rattle.trace_check.specs.declared.trace_line.Version.{Version}
 use Rattle.trace_check.specs.declared.trace_line.Version.TheVariants as versions
 use Rattle.trace_check.specs.declared.trace_line.TraceLine.{TraceLine}
 use Rattle.trace_check.specs.declared.trace_line.TraceLine.TheVariants as trace_lines
-use Rattle.trace_check.specs.TraceLine.{parts_of_line, parts_of_first}
+use Rattle.trace_check.specs.TraceLine.{completed, parts_of_line, parts_of_first}
 use Rattle.trace_check.specs.Trace.{AreLines, lines_of, IsJudged}
 use Rattle.trace_check.proofs.FormLemmas.{two_names}
 use Rattle.trace_check.proofs.ExactLemmas.{one_verdict}
@@ -31,6 +31,19 @@ one_version (w ∷ v ∷ ws) versions.One versions.Two h k = absurd (two_names v
 one_version [] versions.Two versions.One h k = absurd h
 one_version (w ∷ []) versions.Two versions.One h k = absurd h.1
 one_version (w ∷ v ∷ ws) versions.Two versions.One h k = absurd (two_names v (codes "2") (codes "1") h.1.0 k.1.0 refl)
+one_version words versions.Three versions.Three h k = refl
+one_version [] versions.One versions.Three h k = absurd h
+one_version (w ∷ []) versions.One versions.Three h k = absurd h.1
+one_version (w ∷ v ∷ ws) versions.One versions.Three h k = absurd (two_names v (codes "1") (codes "3") h.1.0 k.1.0 refl)
+one_version [] versions.Three versions.One h k = absurd h
+one_version (w ∷ []) versions.Three versions.One h k = absurd h.1
+one_version (w ∷ v ∷ ws) versions.Three versions.One h k = absurd (two_names v (codes "3") (codes "1") h.1.0 k.1.0 refl)
+one_version [] versions.Two versions.Three h k = absurd h
+one_version (w ∷ []) versions.Two versions.Three h k = absurd h.1
+one_version (w ∷ v ∷ ws) versions.Two versions.Three h k = absurd (two_names v (codes "2") (codes "3") h.1.0 k.1.0 refl)
+one_version [] versions.Three versions.Two h k = absurd h
+one_version (w ∷ []) versions.Three versions.Two h k = absurd h.1
+one_version (w ∷ v ∷ ws) versions.Three versions.Two h k = absurd (two_names v (codes "3") (codes "2") h.1.0 k.1.0 refl)
 
 -- words that write both rests of two lines
 record Both (ps qs : List Part) : Type 0 where
@@ -174,7 +187,7 @@ same_lines version [] [] (b ∷ ls) h k = absurd k
 same_lines version (s ∷ ss) [] ls h k = absurd h
 same_lines version (s ∷ ss) (a ∷ ks) [] h k = absurd k
 same_lines version (s ∷ ss) (a ∷ ks) (b ∷ ls) h k =
-    same_list a b ks ls (one_line s.1 a b h.0.written k.0.written) (same_lines version ss ks ls h.1 k.1)
+    same_list a b ks ls (one_line (completed version s.1) a b h.0.written k.0.written) (same_lines version ss ks ls h.1 k.1)
 
 same_entries : (a b : List Entry) → map trace_lines.Entry a ≡ map trace_lines.Entry b → a ≡ b
 same_entries [] [] h = refl

@@ -1,5 +1,6 @@
 -- How the lines of a trace are written.
-use Rattle.std.specs.Prelude.{◌≡◌, ℕ, ◌<◌, List, [], ◌∷◌, ◌++◌, codes}
+use Rattle.std.specs.Prelude.{◌≡◌, ℕ, ◌<◌, List, [], ◌∷◌, ◌++◌, codes, if◌then◌else◌}
+use Rattle.std.specs.Str.{bytes_eq}
 use Rattle.address_map.specs.declared.request.Op.{Op}
 use Rattle.address_map.specs.declared.request.Op.TheVariants as ops
 use Rattle.slice_core_log.specs.declared.entry.Entry.{Entry}
@@ -16,6 +17,7 @@ use Rattle.trace_check.specs.declared.trace_line.TraceLine.TheVariants as lines
 abbrev pub number_of : Version → List ℕ
 number_of versions.One = codes "1"
 number_of versions.Two = codes "2"
+number_of versions.Three = codes "3"
 
 abbrev pub parts_of_first : Version → List Part
 parts_of_first version = key (codes "lockup-trace") ∷ key (number_of version) ∷ []
@@ -35,6 +37,7 @@ parts_of_line (lines.Entry e) =
 abbrev pub cores_of : Version → ℕ
 cores_of versions.One = 16
 cores_of versions.Two = 64
+cores_of versions.Three = 64
 
 -- version 1 has no words for a compare-exchange
 abbrev pub IsOfVersion : Version → Op → Type 0
@@ -58,9 +61,20 @@ unfoldable pub IsInRange : Version → TraceLine → Type 0
 IsInRange version (lines.Init word value) = word.0 < MOST_WORDS
 IsInRange version (lines.Entry e) = IsEntryOf version e
 
+-- The words of an entry behind its name, with how long the log was when it was asked for: in version 3 it doesn't say, and
+-- counts as asked for before all.
+abbrev pub ended : Version → List (List ℕ) → List (List ℕ)
+ended versions.Three words = words ++ codes "0" ∷ []
+ended version words = words
+
+-- .. of a line: of an entry alone, which begins with its name
+abbrev pub completed : Version → List (List ℕ) → List (List ℕ)
+completed version [] = []
+completed version (name ∷ words) = if bytes_eq name (codes "entry") then name ∷ ended version words else name ∷ words
+
 -- the words write the line
 pub record IsLineOf (version : Version) (words : List (List ℕ)) (line : TraceLine) : Type 0 where
-  pub written : Writes words (parts_of_line line)
+  pub written : Writes (completed version words) (parts_of_line line)
   pub in_range : IsInRange version line
 
 -- the words write no line of a trace of this version

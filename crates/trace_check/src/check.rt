@@ -10,7 +10,10 @@ ghost use Rattle.trace_check.specs.declared.judge.TheConstants.{MOST_WORDS};
 ghost use Rattle.trace_check.specs.TraceLine.{IsLineOf};
 ghost use Rattle.trace_check.specs.declared.verdict.Verdict.{Verdict};
 ghost use Rattle.trace_check.specs.Verdict.{IsVerdict};
-ghost use Rattle.trace_check.specs.Trace.{IsJudged, AreJudged, IsFaultAt, IsNoTrace, AreNoTrace, AreSomeTrace, IsNoMemoryOr, IsNoNextLine, IsReading, IsSoFar, Stands, MayBegin, MayFollow};
+ghost use Rattle.trace_check.specs.declared.trace_line.Version.TheVariants as versions;
+ghost use Rattle.trace_check.specs.declared.verdict.Reason.TheVariants as reasons;
+ghost use Rattle.trace_check.specs.declared.verdict.Verdict.TheVariants as verdicts;
+ghost use Rattle.trace_check.specs.Trace.{IsJudged, IsTrace, AreJudged, IsFaultAt, IsNoTrace, AreNoTrace, AreSomeTrace, IsNoMemoryOr, IsNoNextLine, IsReading, IsSoFar, Stands, MayBegin, MayFollow};
 
 use super::judge::Judge;
 use super::trace_line::{TraceLine, Version};
@@ -53,6 +56,13 @@ pub fn check_trace(alloc: Global, input: &[u8]) -> Result<Verdict, TextFault>
 /// A text has one verdict alone: its words are one trace's at most.
 pub fn one_judgement()
     ensures { (text : List ℕ) (a b : Verdict) → IsJudged text a → IsJudged text b → a ≡ b }
+{}
+
+/// In a trace of version 3 no entry is at fault by how long the log was, which it doesn't say: its verdict is that of the
+/// replies and of the order alone.
+pub fn none_by_since()
+    ensures { (text : List ℕ) (init : List (WordAddr × ℕ)) (entries : List Entry) (k : ℕ)
+        → IsTrace versions.Three init entries text → IsVerdict (initially init) entries (verdicts.Illegal k reasons.Since) → ⊥ }
 {}
 
 /// Judges the lines behind the first.

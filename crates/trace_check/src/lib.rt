@@ -4,7 +4,8 @@
 //! - [`check_trace`] judges a text. At Ok its lines write a trace's initial values and entries, and the verdict is that
 //!   on these entries. A text is refused only where it is no trace, with any initial values and entries, and the line that
 //!   the fault names is the first with which it can be none (`IsFaultAt`); want of memory is a fault of its own
-//!   (specs/Trace.antt). [`one_judgement`] says that no text has two verdicts.
+//!   (specs/Trace.antt). [`one_judgement`] says that no text has two verdicts, and
+//!   [`none_by_since`] that where entries don't say how long the log was, none is judged by it.
 //! - [`judge_log`] judges a log that is at hand (specs/Verdict.antt), and [`one_verdict`] says that no log has two
 //!   verdicts.
 //! - [`TraceLine`] is a line of a trace. At Ok of [`TraceLine::parse`] the words write that line, and it names only
@@ -16,7 +17,7 @@
 //! each line with entries has room for the seqs of its cores, up to the last of them.
 #![tactic(auto)]
 
-pub use check::{check_trace, one_judgement};
+pub use check::{check_trace, none_by_since, one_judgement};
 pub use judge::{Judge, MOST_CORES, MOST_WORDS, judge_log, one_verdict};
 pub use trace_line::{MOST_TAGS, TraceLine, Version};
 pub use verdict::{Reason, Verdict};

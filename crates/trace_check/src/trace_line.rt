@@ -2,7 +2,7 @@ ghost use Rattle.std.specs.Prelude.{◌≡◌, ◌∷◌, [], ◌++◌, ◌<◌,
 ghost use Rattle.std.specs.Result.{OkIff};
 ghost use Rattle.std.specs.Str.Parse.{digits_value};
 ghost use Rattle.litmus_text.specs.Number.{IsNumber};
-ghost use Rattle.trace_check.specs.TraceLine.{IsLineOf, IsNoLineOf, IsNoFirstLine, IsOfVersion, BeginsWith, cores_of, number_of, parts_of_first};
+ghost use Rattle.trace_check.specs.TraceLine.{IsLineOf, IsNoLineOf, IsNoFirstLine, IsOfVersion, BeginsWith, cores_of, ended, number_of, parts_of_first};
 ghost use Rattle.litmus_text.specs.Form.{Writes, key};
 ghost use Rattle.litmus_text.specs.Command.{parts_of_op};
 ghost use Rattle.address_map.specs.declared.request.Op.{Op};
@@ -23,6 +23,8 @@ pub enum Version {
     One,
     /// For 64 cores.
     Two,
+    /// For 64 cores. Entries end with their reply: who wrote them needn't know how long the log was.
+    Three,
 }
 
 /// What a line of a trace says, behind the first.
@@ -56,7 +58,7 @@ impl Version {
     {
         match self {
             Version::One => !is_compare_exchange(access),
-            Version::Two => true,
+            Version::Two | Version::Three => true,
         }
     }
 
@@ -66,7 +68,7 @@ impl Version {
     {
         match self {
             Version::One => 16,
-            Version::Two => MOST_CORES,
+            Version::Two | Version::Three => MOST_CORES,
         }
     }
 }
@@ -91,6 +93,7 @@ fn numbered(number: &[u8]) -> Result<Version, LineFault>
     match number {
         b"1" => Ok(Version::One),
         b"2" => Ok(Version::Two),
+        b"3" => Ok(Version::Three),
         _ => Err(LineFault::NotATrace),
     }
 }
@@ -140,7 +143,19 @@ struct EntryWords<'a> {
     since: &'a [u8],
 }
 
-fn entry_words<'a>(words: &'a [&'a [u8]]) -> Option<EntryWords<'a>>
+fn entry_words<'a>(version: Version, words: &'a [&'a [u8]]) -> Option<EntryWords<'a>>
+    ensures parts { IfSome result
+        (λ e. ended version (map (λ w. w.now) words.now)
+        ≡ e.core.now ∷ e.seq.now ∷ e.tag.now ∷ (map (λ w. w.now) e.access.now ++ e.reply.now ∷ e.since.now ∷ [])) }
+    ensures short { IfNone result (length (ended version (map (λ w. w.now) words.now)) < 5) }
+{
+    match version {
+        Version::One | Version::Two => full_words(words),
+        Version::Three => bare_words(words),
+    }
+}
+
+fn full_words<'a>(words: &'a [&'a [u8]]) -> Option<EntryWords<'a>>
     ensures parts { IfSome result
         (λ e. map (λ w. w.now) words.now
         ≡ e.core.now ∷ e.seq.now ∷ e.tag.now ∷ (map (λ w. w.now) e.access.now ++ e.reply.now ∷ e.since.now ∷ [])) }
@@ -159,11 +174,31 @@ fn entry_words<'a>(words: &'a [&'a [u8]]) -> Option<EntryWords<'a>>
     })
 }
 
+/// The words of an entry that ends with its reply.
+fn bare_words<'a>(words: &'a [&'a [u8]]) -> Option<EntryWords<'a>>
+    ensures parts { IfSome result
+        (λ e. map (λ w. w.now) words.now ++ codes "0" ∷ []
+        ≡ e.core.now ∷ e.seq.now ∷ e.tag.now ∷ (map (λ w. w.now) e.access.now ++ e.reply.now ∷ e.since.now ∷ [])) }
+    ensures short { IfNone result (length words.now < 4) }
+{
+    let [core, seq, tag, access @ .., reply] = words else {
+        return None;
+    };
+    Some(EntryWords {
+        core,
+        seq,
+        tag,
+        access,
+        reply,
+        since: b"0",
+    })
+}
+
 fn parse_entry(version: Version, words: &[&[u8]]) -> Result<TraceLine, LineFault>
     ensures written { IfOk result (IsLineOf version (codes "entry" ∷ map (λ w. w.now) words.now)) }
     ensures refused { IfErr result (λ fault. IsNoLineOf version (codes "entry" ∷ map (λ w. w.now) words.now)) }
 {
-    let Some(words) = entry_words(words) else {
+    let Some(words) = entry_words(version, words) else {
         return Err(LineFault::NotACommand);
     };
     if !version.has_access(words.access) {

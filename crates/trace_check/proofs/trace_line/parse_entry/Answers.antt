@@ -27,8 +27,7 @@ returns-clause-written c =
 
 pub returns-in_default-clause-refused : goal.returns-in_default-clause-refused
 returns-in_default-clause-refused c =
-    let few : length (map (λ w. w.now) c.args.words.now) < 5 = rw length-map c.in_default.ensures.short in
-    entry_too_short c.args.version _ few
+    entry_too_short c.args.version _ c.in_default.ensures.short
 
 pub returns-then-not-has_access-clause-refused : goal.returns-then-not-has_access-clause-refused
 returns-then-not-has_access-clause-refused c =

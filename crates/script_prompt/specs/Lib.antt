@@ -1,0 +1,4 @@
+pub mod Asked
+pub mod Next
+pub mod Session
+pub mod Tag

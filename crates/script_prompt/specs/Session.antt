@@ -1,0 +1,49 @@
+-- What a session does with a line of a script, and what the machine of a script is.
+use Rattle.std.specs.Prelude.{◌≡◌, ℕ, List, ◌++◌, codes, true, Option}
+use Rattle.std.specs.Str.Lines.{lines}
+use Rattle.address_map.specs.declared.config.Config.{Config}
+use Rattle.litmus_script.specs.Machine.{IsNewMachine}
+use Rattle.litmus_script.specs.Play.{PlaysAll}
+use Rattle.litmus_script.specs.Script.{Echoed, IsSetUp}
+use Rattle.litmus_text.specs.Command.{IsRead}
+use Rattle.litmus_text.specs.Statement.{statements_from}
+use Rattle.litmus_text.specs.declared.command.Command.{Command}
+use Rattle.mshr_file.specs.Miss.{Bound}
+use Rattle.script_explained.specs.Explains.{Explainingly, IsExplained}
+use Rattle.slice_core_plan.specs.Parts.{PartsView}
+use Rattle.script_prompt.specs.declared.kinds.AnySession.{AnySession}
+use Rattle.script_prompt.specs.declared.kinds.AnySession.TheVariants as sessions
+
+-- The words write this command. It is done, its answer is printed with what happened, and the script goes on with the line.
+pub record PlaysLine (config : Config) (words : List (List ℕ)) (line : List ℕ) (command : Command) (old new : List PartsView)
+    (before after : Option (List ℕ)) (old_script new_script : List ℕ) : Type 0 where
+  pub read : IsRead config words command
+  pub told : IsExplained config command old new before after
+  pub kept : new_script ≡ old_script ++ (line ++ codes "\n")
+
+-- These commands lead from a new machine to these slices, and each one's line and answer with what happened is printed.
+pub record IsPlayedTo (config : Config) (bound : Bound) (commands : List (ℕ × List (List ℕ))) (slices : List PartsView)
+    (before after : Option (List ℕ)) : Type 0 where
+  pub start : List PartsView
+  pub fresh : IsNewMachine config bound start
+  pub played : PlaysAll (Echoed true Explainingly config) config commands start slices before after
+
+-- the slices are what the script leaves
+pub record IsAfter (script : List ℕ) (config : Config) (slices : List PartsView) (before after : Option (List ℕ)) : Type 0 where
+  pub bound : Bound
+  pub commands : List (ℕ × List (List ℕ))
+  pub set_up : IsSetUp (statements_from 0 (lines script)) config bound commands
+  pub played : IsPlayedTo config bound commands slices before after
+
+-- what a session has
+abbrev pub config_of : AnySession → Config
+config_of (sessions.Explicit session) = session.player.machine.config
+config_of (sessions.Inverted session) = session.player.machine.config
+
+abbrev pub slices_of : AnySession → List PartsView
+slices_of (sessions.Explicit session) = session.player.machine.slices.items
+slices_of (sessions.Inverted session) = session.player.machine.slices.items
+
+abbrev pub script_of : AnySession → List ℕ
+script_of (sessions.Explicit session) = session.script.items
+script_of (sessions.Inverted session) = session.script.items

@@ -1,0 +1,206 @@
+//! The prompt.
+
+use super::asked::Asked;
+use super::help::HELP;
+use super::kinds::AnySession;
+use super::saver::Saver;
+use litmus_script::{Answers, written};
+use litmus_text::{Statement, Statements, TextFault};
+use std::alloc::Global;
+use std::fmt::Write as _;
+use std::io;
+use std::io::{BufRead, Write};
+use std::str;
+
+/// Plays a script, and then answers each line of the input at once, behind this mark. Answers the exit status.
+pub fn run_prompt<R: BufRead, W: Write, S: Saver>(
+    alloc: Global,
+    script: &[u8],
+    mark: &str,
+    input: &mut R,
+    out: &mut W,
+    saver: &mut S,
+) -> Result<u8, TextFault> {
+    let script = with_end(alloc, script)?;
+    let session = AnySession::open(alloc, script, out)?;
+    let mut prompt = Prompt {
+        alloc,
+        session,
+        parts: Vec::new(alloc),
+    };
+    for _ in 0..u64::MAX {
+        show(mark, out)?;
+        let line = read_line(alloc, input)?;
+        if line.is_empty() || !prompt.answer(&line, out, saver)? {
+            break;
+        }
+    }
+    Ok(0)
+}
+
+/// The text, whose last line has its end.
+fn with_end(alloc: Global, text: &[u8]) -> Result<Vec<u8>, TextFault> {
+    let mut whole = Vec::new(alloc);
+    let Ok(()) = whole.extend_from_slice(text) else {
+        return Err(TextFault::NoMemory);
+    };
+    if matches!(text.last(), Some(byte) if *byte != b'\n') {
+        let Ok(()) = whole.push(b'\n') else {
+            return Err(TextFault::NoMemory);
+        };
+    }
+    Ok(whole)
+}
+
+/// Writes the mark, and all that waits to be written.
+fn show<W: Write>(mark: &str, out: &mut W) -> Result<(), TextFault> {
+    let mut answers = Answers { out };
+    written(answers.write_str(mark))?;
+    match out.flush() {
+        Ok(()) => Ok(()),
+        Err(_) => Err(TextFault::CannotWrite),
+    }
+}
+
+/// The next line of the input with its end, or nothing where the input ends or can't be read.
+fn read_line<R: BufRead>(alloc: Global, input: &mut R) -> Result<Vec<u8>, TextFault> {
+    let mut line = Vec::new(alloc);
+    match input.read_until(b'\n', &mut line) {
+        Ok(_) => Ok(line),
+        Err(error) if error.kind() == io::ErrorKind::OutOfMemory => Err(TextFault::NoMemory),
+        Err(_) => Ok(Vec::new(alloc)),
+    }
+}
+
+/// A session, and where in its script each part begins that one line of the prompt has brought.
+#[derive(Drop)]
+struct Prompt {
+    alloc: Global,
+    session: AnySession,
+    parts: Vec<usize>,
+}
+
+impl Prompt {
+    /// Answers a line. Says whether the prompt goes on.
+    fn answer<W: Write, S: Saver>(
+        &mut self,
+        line: &[u8],
+        out: &mut W,
+        saver: &mut S,
+    ) -> Result<bool, TextFault> {
+        let Some(statement) = Statements::of(line).next() else {
+            return Ok(true);
+        };
+        let before = self.session.script().len();
+        match self.session.answer(&statement, out) {
+            Ok(Asked::Quit) => return Ok(false),
+            Ok(Asked::Undo) => {
+                self.undo(out)?;
+                return Ok(true);
+            }
+            Ok(asked) => self.do_other(asked, &statement, out, saver)?,
+            Err(fault) => tell(fault, out)?,
+        }
+        if self.session.script().len() > before {
+            let Ok(()) = self.parts.push(before) else {
+                return Err(TextFault::NoMemory);
+            };
+        }
+        Ok(true)
+    }
+
+    fn do_other<W: Write, S: Saver>(
+        &mut self,
+        asked: Asked<'_>,
+        statement: &Statement<'_>,
+        out: &mut W,
+        saver: &mut S,
+    ) -> Result<(), TextFault> {
+        match asked {
+            Asked::Configuration => self.configure(statement.line, out),
+            Asked::Save(name) => self.save(name, out, saver),
+            Asked::Help => {
+                let mut answers = Answers { out };
+                written(answers.write_str(HELP))
+            }
+            _ => Ok(()),
+        }
+    }
+
+    /// Has the machine that the script so far configures with one more line. That is played anew, where it can be.
+    fn configure<W: Write>(&mut self, line: &[u8], out: &mut W) -> Result<(), TextFault> {
+        let mut script = with_end(self.alloc, self.session.script())?;
+        let Ok(()) = script.extend_from_slice(line) else {
+            return Err(TextFault::NoMemory);
+        };
+        let script = with_end(self.alloc, &script)?;
+        match AnySession::open(self.alloc, script, &mut io::sink()) {
+            Ok(session) => {
+                self.session = session;
+                Ok(())
+            }
+            Err(fault) => tell(fault, out),
+        }
+    }
+
+    /// Takes back what the last line brought. The script without that is played anew.
+    fn undo<W: Write>(&mut self, out: &mut W) -> Result<(), TextFault> {
+        let script = self.session.script();
+        let first = match self.parts.pop() {
+            Some(part) => part,
+            None => last_line(script),
+        };
+        let (Some(left), Some(gone)) = (script.get(..first), script.get(first..)) else {
+            return Ok(());
+        };
+        let mut answers = Answers { out };
+        if gone.is_empty() {
+            return written(writeln!(answers, "nothing to undo"));
+        }
+        for line in gone.split_inclusive(|byte| *byte == b'\n') {
+            written(answers.write_str("undone: "))?;
+            written(answers.write_bytes(line))?;
+        }
+        let left = with_end(self.alloc, left)?;
+        self.session = AnySession::open(self.alloc, left, &mut io::sink())?;
+        Ok(())
+    }
+
+    fn save<W: Write, S: Saver>(
+        &self,
+        name: &[u8],
+        out: &mut W,
+        saver: &mut S,
+    ) -> Result<(), TextFault> {
+        let mut answers = Answers { out };
+        let Ok(name) = str::from_utf8(name) else {
+            return written(writeln!(answers, "fault: cannot write a file of this name"));
+        };
+        match saver.save(name, self.session.script()) {
+            Ok(()) => written(writeln!(answers, "saved {name}")),
+            Err(error) if error.kind() == io::ErrorKind::OutOfMemory => Err(TextFault::NoMemory),
+            Err(_) => written(writeln!(answers, "fault: cannot write {name}")),
+        }
+    }
+}
+
+/// Where the last line of a text begins.
+fn last_line(text: &[u8]) -> usize {
+    let Some((_, before)) = text.split_last() else {
+        return 0;
+    };
+    match before.iter().rposition(|byte| *byte == b'\n') {
+        Some(end) => end + 1,
+        None => 0,
+    }
+}
+
+/// Says what is wrong with a line of the prompt. A fault that isn't the line's is handed on.
+fn tell<W: Write>(fault: TextFault, out: &mut W) -> Result<(), TextFault> {
+    let mut answers = Answers { out };
+    match fault {
+        TextFault::Line { fault, .. } => written(writeln!(answers, "fault: {fault}")),
+        TextFault::Config(error) => written(writeln!(answers, "fault: config {error}")),
+        TextFault::CannotWrite | TextFault::NoMemory => Err(fault),
+    }
+}

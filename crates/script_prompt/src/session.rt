@@ -1,0 +1,210 @@
+//! A machine, and the script that it has played.
+ghost use Rattle.std.specs.Prelude.{◌≡◌, ◌++◌, ◌<◌, IfErr, IfOk, OnOk, codes};
+ghost use Rattle.litmus_script.specs.Play.{IsCommandFault};
+ghost use Rattle.litmus_script.specs.Script.{said_by};
+ghost use Rattle.litmus_text.specs.Command.{HasCore};
+ghost use Rattle.script_prompt.specs.Session.{PlaysLine};
+
+use super::asked::{Asked, read_asked};
+use super::machine;
+use address_map::{Checked, CoreId, Op, Request, SliceId, WordAddr};
+use litmus_script::{Answers, Player, written};
+use litmus_text::{Command, Statement, Statements, TextFault, parse_command};
+use mshr_file::MissFile;
+use script_explained::Explained;
+use script_text::write_command;
+use slice_core::NextPick;
+use std::alloc::AllocError;
+use std::fmt::Write as _;
+use std::io::Write;
+
+/// A machine, and the script so far: the lines that it was configured by and has played.
+#[derive(Drop)]
+pub struct Session<F: MissFile> {
+    pub player: Explained<F>,
+    /// Each line with its end.
+    pub script: Vec<u8>,
+}
+
+impl<F: MissFile> Session<F> {
+    pub fn config(&self) -> &Checked
+        ensures { result.now ≡ self.now.player.machine.config }
+    {
+        self.player.config()
+    }
+
+    /// Answers a line that asks something of the machine. What any other asks for is left to do.
+    pub fn answer<'a, W: Write>(
+        &mut self,
+        statement: &Statement<'a>,
+        out: &mut W,
+    ) -> Result<Asked<'a>, TextFault> {
+        let asked = match read_asked(self.config(), statement.words.as_slice()) {
+            Ok(asked) => asked,
+            Err(fault) => return Err(fault.at(statement.number)),
+        };
+        match asked {
+            Asked::Command => self.answer_command(statement, out)?,
+            Asked::Access { core, op, word } => self.ask(core, op, word, out)?,
+            Asked::Next(slice) => self.deliver_next(slice, out)?,
+            Asked::Nothing
+            | Asked::Configuration
+            | Asked::Undo
+            | Asked::Save(_)
+            | Asked::Help
+            | Asked::Quit => {}
+        }
+        Ok(asked)
+    }
+
+    /// Plays a line of a script. Writes its answer, with what happened, and keeps it.
+    pub fn play<W: Write>(
+        &mut self,
+        statement: &Statement<'_>,
+        out: &mut W,
+    ) -> Result<Command, TextFault>
+        ensures config { self.new.player.machine.config ≡ self.old.player.machine.config }
+        ensures played { IfOk result (λ command. PlaysLine self.old.player.machine.config (said_by statement.now).1
+            statement.now.line.now command self.old.player.machine.slices.items self.new.player.machine.slices.items
+            (W.contents out.old) (W.contents out.new) self.old.script.items self.new.script.items) }
+        ensures fault { IfErr result (IsCommandFault self.old.player.machine.config (said_by statement.now)
+            (W.contents out.old) (W.contents out.new)) }
+    {
+        match parse_command(self.config(), statement.words.as_slice()) {
+            Ok(command) => {
+                self.player.play(statement, command, out)?;
+                self.keep(statement.line)?;
+                Ok(command)
+            }
+            Err(fault) => Err(fault.at(statement.number)),
+        }
+    }
+
+    fn keep(&mut self, line: &[u8]) -> Result<(), TextFault>
+        ensures player { self.new.player ≡ self.old.player }
+        ensures kept { OnOk result (self.new.script.items ≡ self.old.script.items ++ (line.now ++ codes "\n")) }
+        ensures fault { IfErr result (λ fault. fault ≡ TextFault.NoMemory) }
+    {
+        let (Ok(()), Ok(())) = (
+            self.script.extend_from_slice(line),
+            self.script.push(b'\n'),
+        ) else {
+            return Err(TextFault::NoMemory);
+        };
+        Ok(())
+    }
+
+    /// Plays a command of the prompt's own, which is shown as a line of a script first.
+    fn play_own<W: Write>(&mut self, command: Command, out: &mut W) -> Result<(), TextFault> {
+        let mut line = Vec::new(self.player.alloc);
+        let Ok(()) = write_command(command, &mut Answers { out: &mut line }) else {
+            return Err(TextFault::NoMemory);
+        };
+        let mut answers = Answers { out };
+        written(answers.write_bytes(&line))?;
+        if let Some(statement) = Statements::of(&line).next() {
+            self.play(&statement, out)?;
+        }
+        Ok(())
+    }
+
+    /// Plays a line of a script, and hands out the replies that it brought.
+    fn answer_command<W: Write>(
+        &mut self,
+        statement: &Statement<'_>,
+        out: &mut W,
+    ) -> Result<(), TextFault> {
+        let before = self.performed()?;
+        match self.play(statement, out)? {
+            Command::Deliver(_) | Command::Pump(_) => self.hand_out(&before, out),
+            _ => Ok(()),
+        }
+    }
+
+    /// Asks for an access of a core under its lowest free tag.
+    fn ask<W: Write>(
+        &mut self,
+        core: CoreId,
+        op: Op,
+        word: WordAddr,
+        out: &mut W,
+    ) -> Result<(), TextFault>
+        requires { HasCore self.old.player.machine.config core }
+    {
+        match machine::free_tag(&self.player.machine, core, op, word) {
+            Some(tag) => {
+                let request = Request { op, word, tag };
+                self.play_own(Command::Issue { core, request }, out)
+            }
+            None => {
+                let number = core.0;
+                let mut answers = Answers { out };
+                written(writeln!(answers, "no tag of core {number} is free"))
+            }
+        }
+    }
+
+    /// Makes the next delivery, of any slice or of this one, and hands out the replies that it brought.
+    fn deliver_next<W: Write>(
+        &mut self,
+        slice: Option<SliceId>,
+        out: &mut W,
+    ) -> Result<(), TextFault> {
+        let next = machine::next(&self.player.machine, slice);
+        if let NextPick::Move(pick) = next {
+            let before = self.performed()?;
+            self.play_own(Command::Deliver(pick), out)?;
+            return self.hand_out(&before, out);
+        }
+        let mut answers = Answers { out };
+        written(match next {
+            NextPick::Broken(cell) => writeln!(answers, "broken {cell}"),
+            NextPick::Nothing => writeln!(answers, "nothing   no message waits"),
+            _ => writeln!(answers, "blocked   each message that waits has to wait for another"),
+        })
+    }
+
+    /// How many entries each slice's log has.
+    fn performed(&self) -> Result<Vec<usize>, TextFault> {
+        match self.lengths() {
+            Ok(lengths) => Ok(lengths),
+            Err(_) => Err(TextFault::NoMemory),
+        }
+    }
+
+    fn lengths(&self) -> Result<Vec<usize>, AllocError> {
+        let mut lengths = Vec::new(self.player.alloc);
+        for state in &self.player.machine.slices {
+            lengths.push(state.log().len())?;
+        }
+        Ok(lengths)
+    }
+
+    /// Hands out a reply for each entry by which a slice's log has grown since it was so long.
+    fn hand_out<W: Write>(&mut self, before: &[usize], out: &mut W) -> Result<(), TextFault> {
+        for (slice, first) in before.iter().enumerate() {
+            self.hand_out_of(slice, *first, out)?;
+        }
+        Ok(())
+    }
+
+    fn hand_out_of<W: Write>(
+        &mut self,
+        slice: usize,
+        first: usize,
+        out: &mut W,
+    ) -> Result<(), TextFault> {
+        if slice >= self.config().slices() {
+            return Ok(());
+        }
+        let slice = SliceId(slice as u8);
+        let end = self.player.machine.log_of(slice).len();
+        for number in first..end {
+            if let Some(entry) = self.player.machine.log_of(slice).get(number) {
+                let core = entry.core;
+                self.play_own(Command::Hand { core, slice }, out)?;
+            }
+        }
+        Ok(())
+    }
+}

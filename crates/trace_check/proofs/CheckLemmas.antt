@@ -196,4 +196,4 @@ reading-none check all stands =
 pub few_cores : (version : Version) → cores_of version ≤ 64
 few_cores versions.One = omega arith
 few_cores versions.Two = omega arith
-few_cores versions.Three = omega arith
+few_cores versions.WithoutSince = omega arith

@@ -31,19 +31,19 @@ one_version (w ∷ v ∷ ws) versions.One versions.Two h k = absurd (two_names v
 one_version [] versions.Two versions.One h k = absurd h
 one_version (w ∷ []) versions.Two versions.One h k = absurd h.1
 one_version (w ∷ v ∷ ws) versions.Two versions.One h k = absurd (two_names v (codes "2") (codes "1") h.1.0 k.1.0 refl)
-one_version words versions.Three versions.Three h k = refl
-one_version [] versions.One versions.Three h k = absurd h
-one_version (w ∷ []) versions.One versions.Three h k = absurd h.1
-one_version (w ∷ v ∷ ws) versions.One versions.Three h k = absurd (two_names v (codes "1") (codes "3") h.1.0 k.1.0 refl)
-one_version [] versions.Three versions.One h k = absurd h
-one_version (w ∷ []) versions.Three versions.One h k = absurd h.1
-one_version (w ∷ v ∷ ws) versions.Three versions.One h k = absurd (two_names v (codes "3") (codes "1") h.1.0 k.1.0 refl)
-one_version [] versions.Two versions.Three h k = absurd h
-one_version (w ∷ []) versions.Two versions.Three h k = absurd h.1
-one_version (w ∷ v ∷ ws) versions.Two versions.Three h k = absurd (two_names v (codes "2") (codes "3") h.1.0 k.1.0 refl)
-one_version [] versions.Three versions.Two h k = absurd h
-one_version (w ∷ []) versions.Three versions.Two h k = absurd h.1
-one_version (w ∷ v ∷ ws) versions.Three versions.Two h k = absurd (two_names v (codes "3") (codes "2") h.1.0 k.1.0 refl)
+one_version words versions.WithoutSince versions.WithoutSince h k = refl
+one_version [] versions.One versions.WithoutSince h k = absurd h
+one_version (w ∷ []) versions.One versions.WithoutSince h k = absurd h.1
+one_version (w ∷ v ∷ ws) versions.One versions.WithoutSince h k = absurd (two_names v (codes "1") (codes "no-since") h.1.0 k.1.0 refl)
+one_version [] versions.WithoutSince versions.One h k = absurd h
+one_version (w ∷ []) versions.WithoutSince versions.One h k = absurd h.1
+one_version (w ∷ v ∷ ws) versions.WithoutSince versions.One h k = absurd (two_names v (codes "no-since") (codes "1") h.1.0 k.1.0 refl)
+one_version [] versions.Two versions.WithoutSince h k = absurd h
+one_version (w ∷ []) versions.Two versions.WithoutSince h k = absurd h.1
+one_version (w ∷ v ∷ ws) versions.Two versions.WithoutSince h k = absurd (two_names v (codes "2") (codes "no-since") h.1.0 k.1.0 refl)
+one_version [] versions.WithoutSince versions.Two h k = absurd h
+one_version (w ∷ []) versions.WithoutSince versions.Two h k = absurd h.1
+one_version (w ∷ v ∷ ws) versions.WithoutSince versions.Two h k = absurd (two_names v (codes "no-since") (codes "2") h.1.0 k.1.0 refl)
 
 -- words that write both rests of two lines
 record Both (ps qs : List Part) : Type 0 where

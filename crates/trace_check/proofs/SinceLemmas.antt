@@ -1,4 +1,4 @@
--- In a trace of version 3 each entry has 0 for how long the log was, so none is wrong by it.
+-- In a trace without SINCE each entry has 0 for how long the log was, so none is wrong by it.
 use Rattle.std.proofs.Common.{◌≡◌, ℕ, ◌<◌, List, [], ◌∷◌, ◌++◌, length, map, sym, ap, subst, refl, ◌∙◌, arith, append_assoc, length-append, get_or, take, Bool, true, false, suc, zero}
 use Rattle.std.specs.Prelude.{codes, if◌then◌else◌}
 use Rattle.std.specs.Str.{bytes_eq}
@@ -40,13 +40,13 @@ first_named : (b : Bool) (name text : List ℕ) (xs ys : List (List ℕ)) (ps : 
 first_named true name text xs ys ps written = written.0
 first_named false name text xs ys ps written = written.0
 
-bare_line : (words : List (List ℕ)) (e : Entry) → Writes (completed versions.Three words) (parts_of_line (trace_lines.Entry e)) → e.since ≡ 0
+bare_line : (words : List (List ℕ)) (e : Entry) → Writes (completed versions.WithoutSince words) (parts_of_line (trace_lines.Entry e)) → e.since ≡ 0
 bare_line [] e written = absurd written
 bare_line (name ∷ ws) e written =
     let named = first_named (bytes_eq name (codes "entry")) name (codes "entry") (ws ++ codes "0" ∷ []) ws _ written in
-    bare_words ws e (subst (λ n. Writes (completed versions.Three (n ∷ ws)) (parts_of_line (trace_lines.Entry e))) named written)
+    bare_words ws e (subst (λ n. Writes (completed versions.WithoutSince (n ∷ ws)) (parts_of_line (trace_lines.Entry e))) named written)
 
-bare_entries : (statements : List (ℕ × List (List ℕ))) (entries : List Entry) → AreLines versions.Three statements (map trace_lines.Entry entries)
+bare_entries : (statements : List (ℕ × List (List ℕ))) (entries : List Entry) → AreLines versions.WithoutSince statements (map trace_lines.Entry entries)
     → (k : ℕ) (d : Entry) → k < length entries → (get_or entries k d).since ≡ 0
 unfolding AreLines
 bare_entries statements [] written k d within = absurd (omega arith)
@@ -55,7 +55,7 @@ bare_entries (s ∷ statements) (e ∷ entries) written zero d within = bare_lin
 bare_entries (s ∷ statements) (e ∷ entries) written (suc k) d within = bare_entries statements entries written.1 k d (omega arith)
 
 bare_trace : (statements : List (ℕ × List (List ℕ))) (init : List (WordAddr × ℕ)) (entries : List Entry)
-    → AreLines versions.Three statements (lines_of init entries) → (k : ℕ) (d : Entry) → k < length entries → (get_or entries k d).since ≡ 0
+    → AreLines versions.WithoutSince statements (lines_of init entries) → (k : ℕ) (d : Entry) → k < length entries → (get_or entries k d).since ≡ 0
 unfolding AreLines
 bare_trace statements [] entries written k d within = bare_entries statements entries written k d within
 bare_trace [] (pair ∷ init) entries written k d within = absurd written
@@ -63,7 +63,7 @@ bare_trace (s ∷ statements) (pair ∷ init) entries written k d within = bare_
 
 -- none of its entries is wrong by how long the log was
 pub none_by_since : (statements : List (ℕ × List (List ℕ))) (init : List (WordAddr × ℕ)) (entries : List Entry) (initial : ℕ → ℕ) (k : ℕ)
-    → AreLines versions.Three statements (lines_of init entries) → IsVerdict initial entries (verdicts.Illegal k reasons.Since) → ⊥
+    → AreLines versions.WithoutSince statements (lines_of init entries) → IsVerdict initial entries (verdicts.Illegal k reasons.Since) → ⊥
 unfolding IsVerdict IsWrong
 none_by_since statements init entries initial k written is =
     let e : Entry = is.2.0 in

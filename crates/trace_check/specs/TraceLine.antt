@@ -17,7 +17,7 @@ use Rattle.trace_check.specs.declared.trace_line.TraceLine.TheVariants as lines
 abbrev pub number_of : Version → List ℕ
 number_of versions.One = codes "1"
 number_of versions.Two = codes "2"
-number_of versions.Three = codes "3"
+number_of versions.WithoutSince = codes "no-since"
 
 abbrev pub parts_of_first : Version → List Part
 parts_of_first version = key (codes "lockup-trace") ∷ key (number_of version) ∷ []
@@ -37,7 +37,7 @@ parts_of_line (lines.Entry e) =
 abbrev pub cores_of : Version → ℕ
 cores_of versions.One = 16
 cores_of versions.Two = 64
-cores_of versions.Three = 64
+cores_of versions.WithoutSince = 64
 
 -- version 1 has no words for a compare-exchange
 abbrev pub IsOfVersion : Version → Op → Type 0
@@ -61,10 +61,9 @@ unfoldable pub IsInRange : Version → TraceLine → Type 0
 IsInRange version (lines.Init word value) = word.0 < MOST_WORDS
 IsInRange version (lines.Entry e) = IsEntryOf version e
 
--- The words of an entry behind its name, with how long the log was when it was asked for: in version 3 it doesn't say, and
--- counts as asked for before all.
+-- the words of an entry behind its name, with SINCE: where the version leaves it out, it is 0
 abbrev pub ended : Version → List (List ℕ) → List (List ℕ)
-ended versions.Three words = words ++ codes "0" ∷ []
+ended versions.WithoutSince words = words ++ codes "0" ∷ []
 ended version words = words
 
 -- .. of a line: of an entry alone, which begins with its name

@@ -58,11 +58,11 @@ pub fn one_judgement()
     ensures { (text : List ℕ) (a b : Verdict) → IsJudged text a → IsJudged text b → a ≡ b }
 {}
 
-/// In a trace of version 3 no entry is at fault by how long the log was, which it doesn't say: its verdict is that of the
+/// In a trace without SINCE no entry is at fault by how long the log was, which it doesn't say: its verdict is that of the
 /// replies and of the order alone.
 pub fn none_by_since()
     ensures { (text : List ℕ) (init : List (WordAddr × ℕ)) (entries : List Entry) (k : ℕ)
-        → IsTrace versions.Three init entries text → IsVerdict (initially init) entries (verdicts.Illegal k reasons.Since) → ⊥ }
+        → IsTrace versions.WithoutSince init entries text → IsVerdict (initially init) entries (verdicts.Illegal k reasons.Since) → ⊥ }
 {}
 
 /// Judges the lines behind the first.

@@ -24,7 +24,7 @@ pub enum Version {
     /// For 64 cores.
     Two,
     /// For 64 cores. Entries end with their reply: who wrote them needn't know how long the log was.
-    Three,
+    WithoutSince,
 }
 
 /// What a line of a trace says, behind the first.
@@ -58,7 +58,7 @@ impl Version {
     {
         match self {
             Version::One => !is_compare_exchange(access),
-            Version::Two | Version::Three => true,
+            Version::Two | Version::WithoutSince => true,
         }
     }
 
@@ -68,7 +68,7 @@ impl Version {
     {
         match self {
             Version::One => 16,
-            Version::Two | Version::Three => MOST_CORES,
+            Version::Two | Version::WithoutSince => MOST_CORES,
         }
     }
 }
@@ -93,7 +93,7 @@ fn numbered(number: &[u8]) -> Result<Version, LineFault>
     match number {
         b"1" => Ok(Version::One),
         b"2" => Ok(Version::Two),
-        b"3" => Ok(Version::Three),
+        b"no-since" => Ok(Version::WithoutSince),
         _ => Err(LineFault::NotATrace),
     }
 }
@@ -151,7 +151,7 @@ fn entry_words<'a>(version: Version, words: &'a [&'a [u8]]) -> Option<EntryWords
 {
     match version {
         Version::One | Version::Two => full_words(words),
-        Version::Three => bare_words(words),
+        Version::WithoutSince => bare_words(words),
     }
 }
 

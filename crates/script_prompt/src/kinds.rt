@@ -30,8 +30,8 @@ impl AnySession {
         script: Vec<u8>,
         out: &mut W,
     ) -> Result<Self, TextFault>
-        ensures script { IfOk result (λ session. script_of session ≡ script.entry.items) }
-        ensures after { IfOk result (λ session. IsAfter script.entry.items (config_of session) (slices_of session)
+        ensures script { IfOk result (λ session. script_of session ≡ script.items) }
+        ensures after { IfOk result (λ session. IsAfter script.items (config_of session) (slices_of session)
             (W.contents out.old) (W.contents out.new)) }
     {
         match Script::read(alloc, &script)? {
@@ -57,9 +57,9 @@ impl AnySession {
 
     /// The machine of a script that says nothing.
     fn open_default(alloc: Global, script: Vec<u8>) -> Result<Self, TextFault>
-        ensures script { IfOk result (λ session. script_of session ≡ script.entry.items) }
-        ensures after { IfOk result (λ session. statements_from 0 (lines script.entry.items) ≡ [] → (before : Option (List ℕ))
-            → IsAfter script.entry.items (config_of session) (slices_of session) before before) }
+        ensures script { IfOk result (λ session. script_of session ≡ script.items) }
+        ensures after { IfOk result (λ session. statements_from 0 (lines script.items) ≡ [] → (before : Option (List ℕ))
+            → IsAfter script.items (config_of session) (slices_of session) before before) }
     {
         let Settings { config, .. } = Settings::new(alloc);
         let config = config.check().map_err(TextFault::Config)?;

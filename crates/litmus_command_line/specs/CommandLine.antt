@@ -1,6 +1,6 @@
 -- What the program's words ask for, as `clap` reads them.
 use Rattle.std.specs.Prelude.{◌≡◌, ℕ, Bool, true, false, List, [], ◌∷◌, map, Option, Some, None, IsSomeAnd, codes}
-use Rattle.std.specs.Option.{option_map_or}
+use Rattle.std.specs.Option.{option_map, option_map_or}
 use Rattle.std.specs.Str.{bytes_eq}
 use Rattle.std.specs.Str.Parse.{digits_value, without_leading_plus}
 use Rattle.std.specs.Borrow.{Bor}
@@ -33,6 +33,10 @@ flag_rule name = record (new_rule name) { long = Some name; action = Some SetTru
 abbrev pub script_app : App
 script_app =
     with_rule (with_rule (with_rule (new_app (codes "script")) file_rule) (flag_rule (codes "echo"))) (flag_rule (codes "explain"))
+
+-- the subcommand that answers a script's lines one by one, behind a text that may be left out
+abbrev pub try_app : App
+try_app = with_rule (new_app (codes "try")) (new_rule (codes "FILE"))
 
 -- the subcommand that draws the run of a script
 abbrev pub chart_app : App
@@ -118,7 +122,9 @@ table_program names =
     (with_subcommand
     (with_subcommand
     (with_subcommand
-    (with_subcommand (with_subcommand (with_subcommand top_app script_app.top) chart_app.top) page_app.top)
+    (with_subcommand
+    (with_subcommand (with_subcommand (with_subcommand top_app script_app.top) try_app.top) chart_app.top)
+    page_app.top)
     litmus_app.top)
     walk_app.top)
     test_app.top)
@@ -203,6 +209,8 @@ abbrev pub IsLine : Text → List Row → CommandLine → Type 0
 IsLine name rows (lines.Script file echo explain) =
     (name ≡ codes "script") × (first_of (codes "FILE") rows ≡ Some file.now) × (echo ≡ is_given (codes "echo") rows)
     × (explain ≡ is_given (codes "explain") rows)
+IsLine name rows (lines.Try file) =
+    (name ≡ codes "try") × (option_map (λ f. f.now) file ≡ first_of (codes "FILE") rows)
 IsLine name rows (lines.Chart file) = (name ≡ codes "chart") × (first_of (codes "FILE") rows ≡ Some file.now)
 IsLine name rows (lines.Page file) = (name ≡ codes "page") × (first_of (codes "FILE") rows ≡ Some file.now)
 IsLine name rows (lines.Litmus file seed limit) =

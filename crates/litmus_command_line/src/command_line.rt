@@ -3,7 +3,8 @@ ghost use Rattle.clap.specs.declared.builder.command.Command.TheViews.{out-Comma
 ghost use Rattle.litmus_command_line.specs.CommandLine.{IsAsked, IsLine, IsLockup, IsRead, IsTable, IsWith, chart_app, check_app};
 ghost use Rattle.litmus_command_line.specs.CommandLine.{file_rule, flag_rule, is_given, page_app, script_app, test_app, top_app, word_of};
 ghost use Rattle.litmus_command_line.specs.CommandLine.{IsNumberOf, IsNumberIfGiven, litmus_app, number_rule};
-ghost use Rattle.litmus_command_line.specs.CommandLine.{IsExport, number_rule_or, walk_app, word_of_number};
+ghost use Rattle.litmus_command_line.specs.CommandLine.{IsExport, number_rule_or, try_app, walk_app, word_of_number};
+ghost use Rattle.std.specs.Option.{option_map};
 ghost use Rattle.clap.specs.Words.{app_of, found_of, rows_of, rule_of, first_of, subcommand_rows_of};
 
 use super::export::ModelCores;
@@ -21,6 +22,10 @@ pub enum CommandLine<'a> {
         file: &'a str,
         echo: bool,
         explain: bool,
+    },
+    /// Answer a script's lines one by one, behind the script in this file if one is named.
+    Try {
+        file: Option<&'a str>,
     },
     /// Draw the run of the script in this file.
     Chart {
@@ -99,6 +104,7 @@ fn asked<'a>(matches: &ArgMatches<'a>) -> Option<CommandLine<'a>>
     let (name, given) = matches.subcommand()?;
     match name {
         "script" => script_line(given),
+        "try" => try_line(given),
         "chart" => chart_line(given),
         "page" => page_line(given),
         "litmus" => litmus_line(given),
@@ -122,6 +128,13 @@ fn script_line<'a>(given: &ArgMatches<'a>) -> Option<CommandLine<'a>>
         echo,
         explain,
     })
+}
+
+fn try_line<'a>(given: &ArgMatches<'a>) -> Option<CommandLine<'a>>
+    ensures { IfSome result (IsLine (codes "try") (rows_of (found_of given.now))) }
+{
+    let file = file_if_given(given);
+    Some(CommandLine::Try { file })
 }
 
 fn chart_line<'a>(given: &ArgMatches<'a>) -> Option<CommandLine<'a>>
@@ -198,6 +211,12 @@ fn file_of<'a>(given: &ArgMatches<'a>) -> Option<&'a str>
     given.get_str("FILE")
 }
 
+fn file_if_given<'a>(given: &ArgMatches<'a>) -> Option<&'a str>
+    ensures { option_map (λ file. file.now) result ≡ first_of (codes "FILE") (rows_of (found_of given.now)) }
+{
+    given.get_str("FILE")
+}
+
 fn table_of(given: &ArgMatches<'_>) -> Option<Table>
     ensures { IfSome result (λ table. first_of (codes "TABLE") (rows_of (found_of given.now)) ≡ Some (word_of table)) }
 {
@@ -248,6 +267,7 @@ fn lockup<'a>(alloc: Global) -> Result<Command<'a>, AllocError>
     ensures { IfOk result (λ c. IsLockup (app_of c)) }
 {
     let program = with(top(alloc), script(alloc))?;
+    let program = with(program, prompt(alloc))?;
     let program = with(program, chart(alloc))?;
     let program = with(program, page(alloc))?;
     let program = with(program, litmus(alloc))?;
@@ -289,6 +309,16 @@ fn script<'a>(alloc: Global) -> Result<Command<'a>, AllocError>
         .arg(file(alloc, "The script: one command a line; - is standard input"))?
         .arg(flag(alloc, "echo", "Print each command's line before its answer"))?
         .arg(flag(alloc, "explain", "Print behind each answer what happened"))
+}
+
+fn prompt<'a>(alloc: Global) -> Result<Command<'a>, AllocError>
+    ensures reads { IfOk result (λ c. app_of c ≡ try_app) }
+    ensures plain { IfOk result (λ c. (fields_of c).has_globals ≡ false) }
+{
+    Command::new(alloc, "try")
+        .about("Answers a script's lines one by one, and tells what happened behind each answer")
+        .after_help(help::TRY)
+        .arg(Arg::new(alloc, "FILE").help("A script to begin with"))
 }
 
 fn chart<'a>(alloc: Global) -> Result<Command<'a>, AllocError>

@@ -1,4 +1,5 @@
-//! The program `lockup`: reads its command line, and runs the text or prints the table or the model that it names.
+//! The program `lockup`: reads its command line, and runs the text or prints the table or the model that it names, or
+//! answers lines of standard input one by one.
 //!
 //! Answers go to standard output, through one buffer. A fault goes to standard error as one line, behind all
 //! answers that came before it. Only a litmus test that runs over threads starts any.
@@ -7,8 +8,8 @@
 use clap::Error;
 use clap::error::ErrorKind;
 use litmus::{
-    CommandLine, read_line, run_chart, run_check, run_explained, run_export, run_litmus,
-    run_page, run_script, run_table, run_test, run_walk, write_walk,
+    CommandLine, read_line, run_chart, run_check, run_explained, run_export, run_litmus, run_page,
+    run_script, run_table, run_test, run_walk, write_walk,
 };
 use litmus_text::TextFault;
 use progress::Shown;
@@ -21,6 +22,7 @@ use std::thread::Threads;
 use std::{env, fs, io};
 
 mod progress;
+mod prompt;
 
 /// The exit status where the command line or the file is refused.
 const REFUSED: u8 = 2;
@@ -29,13 +31,23 @@ const REFUSED: u8 = 2;
 const STANDARD_INPUT: &str = "-";
 
 fn main(rt: HostRuntime) -> ExitCode {
-    let is_watched = rt.stderr().is_terminal();
-    ExitCode::from(run(&rt, is_watched))
+    let people = People {
+        watch: rt.stderr().is_terminal(),
+        type_lines: rt.stdin().is_terminal(),
+    };
+    ExitCode::from(run(&rt, people))
 }
 
-/// Does what the command line asks for, and answers the exit status. Where somebody watches, a long run shows how far it
-/// is.
-fn run<R>(rt: &R, is_watched: bool) -> u8
+/// Whether somebody watches, to whom a long run shows how far it is, and whether somebody types, to whom a prompt shows
+/// that it waits.
+#[derive(Clone, Copy)]
+struct People {
+    watch: bool,
+    type_lines: bool,
+}
+
+/// Does what the command line asks for, and answers the exit status.
+fn run<R>(rt: &R, people: People) -> u8
 where
     R: Env + Files + Input + AllocGlobal + Print + Eprint + Threads + Wait + Sync,
 {
@@ -44,13 +56,13 @@ where
         Err(error) => return report(rt, &error, "cannot read the command line"),
     };
     match read_line(rt.alloc(), &words) {
-        Ok(line) => answer(rt, line, is_watched),
+        Ok(line) => answer(rt, line, people),
         Err(error) => show(rt, &error),
     }
 }
 
 /// Runs the text in the file that the command line names, or prints the table or the model.
-fn answer<R>(rt: &R, line: CommandLine<'_>, is_watched: bool) -> u8
+fn answer<R>(rt: &R, line: CommandLine<'_>, people: People) -> u8
 where
     R: Files + Input + AllocGlobal + Print + Eprint + Threads + Wait + Sync,
 {
@@ -61,8 +73,7 @@ where
             Err(error) => return report(rt, &error, format_args!("cannot read {file}")),
         }
     }
-    let mut shown = Shown { rt, is_watched };
-    match print_answers(rt, line, &input, &mut shown) {
+    match print_answers(rt, line, &input, people) {
         Ok(status) => status,
         Err(fault) => {
             complain(rt, fault);
@@ -81,6 +92,7 @@ fn file_of<'a>(line: CommandLine<'a>) -> Option<&'a str> {
         | CommandLine::Litmus { file, .. }
         | CommandLine::Walk { file, .. }
         | CommandLine::Check { file } => Some(file),
+        CommandLine::Try { file } => file,
         CommandLine::Table { .. } | CommandLine::Export { .. } => None,
     }
 }
@@ -100,15 +112,15 @@ fn print_answers<R>(
     rt: &R,
     line: CommandLine<'_>,
     input: &[u8],
-    shown: &mut Shown<'_, R>,
+    people: People,
 ) -> Result<u8, TextFault>
 where
-    R: AllocGlobal + Print + Eprint + Threads + Wait + Sync,
+    R: Files + Input + AllocGlobal + Print + Eprint + Threads + Wait + Sync,
 {
     let Ok(mut out) = BufWriter::new(rt.alloc(), io::writer(rt)) else {
         return Err(TextFault::NoMemory);
     };
-    let ran = write_answers(rt, line, input, shown, &mut out);
+    let ran = write_answers(rt, line, input, people, &mut out);
     match out.flush() {
         Ok(()) => ran,
         Err(_) => Err(TextFault::CannotWrite),
@@ -119,14 +131,16 @@ fn write_answers<R, W>(
     rt: &R,
     line: CommandLine<'_>,
     input: &[u8],
-    shown: &mut Shown<'_, R>,
+    people: People,
     out: &mut W,
 ) -> Result<u8, TextFault>
 where
-    R: AllocGlobal + Eprint + Threads + Wait + Sync,
+    R: Files + Input + AllocGlobal + Eprint + Threads + Wait + Sync,
     W: Write,
 {
     let alloc = rt.alloc();
+    let is_watched = people.watch;
+    let shown = &mut Shown { rt, is_watched };
     match line {
         CommandLine::Script {
             echo,
@@ -134,6 +148,7 @@ where
             ..
         } => run_explained(alloc, input, echo, out),
         CommandLine::Script { echo, .. } => run_script(alloc, input, echo, out),
+        CommandLine::Try { .. } => prompt::run(rt, input, people.type_lines, out),
         CommandLine::Chart { .. } => run_chart(alloc, input, out),
         CommandLine::Page { .. } => run_page(alloc, input, out),
         CommandLine::Test { .. } => run_test(alloc, input, out),

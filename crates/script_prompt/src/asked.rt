@@ -87,11 +87,7 @@ fn own_word(name: &[u8]) -> Option<Word>
 }
 
 // What the prompt's word asks for with these other words.
-fn read_own<'a>(
-    config: &Checked,
-    word: Word,
-    rest: &[&'a [u8]],
-) -> Result<Asked<'a>, LineFault>
+fn read_own<'a>(config: &Checked, word: Word, rest: &[&'a [u8]]) -> Result<Asked<'a>, LineFault>
     ensures { IfOk result (Asks config.now (name_of word ∷ map (λ w. w.now) rest.now)) }
 {
     match (word, rest) {

@@ -36,19 +36,23 @@ impl AnySession {
     {
         match Script::read(alloc, &script)? {
             None => AnySession::open_default(alloc, script),
-            Some(Script {
-                config,
-                misses: MissKind::Explicit,
-                commands,
-            }) => {
+            Some(
+                Script {
+                    config,
+                    misses: MissKind::Explicit,
+                    commands,
+                },
+            ) => {
                 let player = play_on(alloc, config, commands, out)?;
                 Ok(AnySession::Explicit(Session { player, script }))
             }
-            Some(Script {
-                config,
-                misses: MissKind::Inverted,
-                commands,
-            }) => {
+            Some(
+                Script {
+                    config,
+                    misses: MissKind::Inverted,
+                    commands,
+                },
+            ) => {
                 let player = play_on(alloc, config, commands, out)?;
                 Ok(AnySession::Inverted(Session { player, script }))
             }

@@ -8,9 +8,8 @@ use litmus_script::{Answers, written};
 use litmus_text::{Statement, Statements, TextFault};
 use std::alloc::Global;
 use std::fmt::Write as _;
-use std::io;
 use std::io::{BufRead, Write};
-use std::str;
+use std::{io, str};
 
 /// Plays a script, and then answers each line of the input at once, behind this mark. Answers the exit status.
 pub fn run_prompt<R: BufRead, W: Write, S: Saver>(

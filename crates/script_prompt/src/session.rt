@@ -85,10 +85,7 @@ impl<F: MissFile> Session<F> {
         ensures kept { OnOk result (self.new.script.items ≡ self.old.script.items ++ (line.now ++ codes "\n")) }
         ensures fault { IfErr result (λ fault. fault ≡ TextFault.NoMemory) }
     {
-        let (Ok(()), Ok(())) = (
-            self.script.extend_from_slice(line),
-            self.script.push(b'\n'),
-        ) else {
+        let (Ok(()), Ok(())) = (self.script.extend_from_slice(line), self.script.push(b'\n')) else {
             return Err(TextFault::NoMemory);
         };
         Ok(())
@@ -160,7 +157,10 @@ impl<F: MissFile> Session<F> {
         written(match next {
             NextPick::Broken(cell) => writeln!(answers, "broken {cell}"),
             NextPick::Nothing => writeln!(answers, "nothing   no message waits"),
-            _ => writeln!(answers, "blocked   each message that waits has to wait for another"),
+            _ => writeln!(
+                answers,
+                "blocked   each message that waits has to wait for another"
+            ),
         })
     }
 

@@ -26,6 +26,25 @@ docs/EXAMPLES.md (scripts to begin with)
 
 Example: lockup script examples/first_add.txt";
 
+/// What stands below the options of `try`.
+pub const TRY: &str = "\
+Lines come from standard input, a terminal or a pipe, and each is answered at once. A line is one of
+a script ('lockup script --help' lists them), or:
+
+  load 0 8            core 0 asks for word 8, under its lowest free tag
+                      (or store 0 8 VALUE, add 0 8 VALUE, cas 0 8 EXPECTED NEW)
+  next                makes the next delivery ('next 1' that of slice 1)
+  undo                takes the last line back, with all that it did
+  save FILE           writes the script so far
+  help                lists these
+  quit                ends, as the end of the input does
+
+Replies are handed out as they come. Lines of the prompt's own show the script's lines that they are.
+
+Documents: docs/TEXTS.md (each line and answer)
+
+Example: lockup try examples/first_add.txt";
+
 /// What stands below the options of `litmus`.
 pub const LITMUS: &str = "\
 Each round runs the test's programs on a new machine, in a thread for each core, beside threads

@@ -7,20 +7,22 @@ pub returns : goal.returns
 returns c =
     let one = with_known c.script.result _ _ _ _ c.top.ensures c.script.ensures.reads c.script.ensures.plain
     c.in_ok-program.ensures in
-    let two = with_known c.chart.result _ _ _ _ one c.chart.ensures.reads c.chart.ensures.plain
+    let two = with_known c.prompt.result _ _ _ _ one c.prompt.ensures.reads c.prompt.ensures.plain
     c.in_ok-program-2.ensures in
-    let three = with_known c.page.result _ _ _ _ two c.page.ensures.reads c.page.ensures.plain
+    let three = with_known c.chart.result _ _ _ _ two c.chart.ensures.reads c.chart.ensures.plain
     c.in_ok-program-3.ensures in
-    let four = with_known c.litmus.result _ _ _ _ three c.litmus.ensures.reads c.litmus.ensures.plain
+    let four = with_known c.page.result _ _ _ _ three c.page.ensures.reads c.page.ensures.plain
     c.in_ok-program-4.ensures in
-    let five = with_known c.walk.result _ _ _ _ four c.walk.ensures.reads c.walk.ensures.plain
+    let five = with_known c.litmus.result _ _ _ _ four c.litmus.ensures.reads c.litmus.ensures.plain
     c.in_ok-program-5.ensures in
-    let six = with_known c.test.result _ _ _ _ five c.test.ensures.reads c.test.ensures.plain
+    let six = with_known c.walk.result _ _ _ _ five c.walk.ensures.reads c.walk.ensures.plain
     c.in_ok-program-6.ensures in
-    let seven = with_known c.check.result _ _ _ _ six c.check.ensures.reads c.check.ensures.plain
+    let seven = with_known c.test.result _ _ _ _ six c.test.ensures.reads c.test.ensures.plain
     c.in_ok-program-7.ensures in
-    let eight = with_table c.table.result _ _ _ seven (λ names. refl) c.table.ensures.reads c.table.ensures.plain
+    let eight = with_known c.check.result _ _ _ _ seven c.check.ensures.reads c.check.ensures.plain
     c.in_ok-program-8.ensures in
-    IfOk-weaker c.with-9.result _ _
-    (λ made. with_export c.export.result _ _ eight c.export.ensures.reads c.export.ensures.plain)
-    c.with-9.ensures
+    let nine = with_table c.table.result _ _ _ eight (λ names. refl) c.table.ensures.reads c.table.ensures.plain
+    c.in_ok-program-9.ensures in
+    IfOk-weaker c.with-10.result _ _
+    (λ made. with_export c.export.result _ _ nine c.export.ensures.reads c.export.ensures.plain)
+    c.with-10.ensures

@@ -1,2 +1,3 @@
+pub mod AskedLemmas
 pub mod NextLemmas
 pub mod SessionLemmas

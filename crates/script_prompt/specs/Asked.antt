@@ -36,15 +36,28 @@ abbrev pub BeginsAsOther : List (List ℕ) → Type 0
 BeginsAsOther [] = ⊥
 BeginsAsOther (name ∷ rest) = (¬ BeginsAsConfig (name ∷ rest)) × ((word : Word) → name ≢ name_of word)
 
--- the words ask for this, and the machine has what they name
+-- the words ask for this by a word of the prompt's own, and the machine has what they name
+abbrev pub AsksOwn : Config → List (List ℕ) → Asked → Type 0
+AsksOwn config said asks.Nothing = ⊥
+AsksOwn config said asks.Configuration = ⊥
+AsksOwn config said asks.Command = ⊥
+AsksOwn config said (asks.Access core op word) = Writes said (parts_of_access core op word.0) × HasCore config core
+AsksOwn config said (asks.Next None) = Writes said (key (codes "next") ∷ [])
+AsksOwn config said (asks.Next (Some slice)) =
+    Writes said (key (codes "next") ∷ num slice.0 ∷ []) × (slice.0 < config.slices)
+AsksOwn config said asks.Undo = Writes said (key (codes "undo") ∷ [])
+AsksOwn config said (asks.Save name) = Writes said (key (codes "save") ∷ key name.now ∷ [])
+AsksOwn config said asks.Help = Writes said (key (codes "help") ∷ [])
+AsksOwn config said asks.Quit = Writes said (key (codes "quit") ∷ [])
+
+-- the words ask for this
 abbrev pub Asks : Config → List (List ℕ) → Asked → Type 0
 Asks config said asks.Nothing = said ≡ []
 Asks config said asks.Configuration = BeginsAsConfig said
 Asks config said asks.Command = BeginsAsOther said
-Asks config said (asks.Access core op word) = Writes said (parts_of_access core op word.0) × HasCore config core
-Asks config said (asks.Next None) = Writes said (key (codes "next") ∷ [])
-Asks config said (asks.Next (Some slice)) = Writes said (key (codes "next") ∷ num slice.0 ∷ []) × (slice.0 < config.slices)
-Asks config said asks.Undo = Writes said (key (codes "undo") ∷ [])
-Asks config said (asks.Save name) = Writes said (key (codes "save") ∷ key name.now ∷ [])
-Asks config said asks.Help = Writes said (key (codes "help") ∷ [])
-Asks config said asks.Quit = Writes said (key (codes "quit") ∷ [])
+Asks config said (asks.Access core op word) = AsksOwn config said (asks.Access core op word)
+Asks config said (asks.Next slice) = AsksOwn config said (asks.Next slice)
+Asks config said asks.Undo = AsksOwn config said asks.Undo
+Asks config said (asks.Save name) = AsksOwn config said (asks.Save name)
+Asks config said asks.Help = AsksOwn config said asks.Help
+Asks config said asks.Quit = AsksOwn config said asks.Quit

@@ -1,13 +1,13 @@
 //! What a line at the prompt asks for.
-ghost use Rattle.std.specs.Prelude.{◌≡◌, ◌≢◌, ◌<◌, ◌∷◌, IfNone, IfOk, IfSome, map};
-ghost use Rattle.std.specs.Str.Parse.{digits_value};
-ghost use Rattle.litmus_text.specs.Number.{IsNumber};
-ghost use Rattle.script_prompt.specs.Asked.{Asks, name_of};
+ghost use Rattle.std.specs.Prelude.{◌≡◌, ◌≢◌, ◌<◌, ◌∷◌, IfErr, IfNone, IfOk, IfSome, codes, map};
+ghost use Rattle.std.specs.Result.{OkIff};
+ghost use Rattle.script_prompt.specs.Asked.{Asks, AsksOwn, name_of};
+ghost use Rattle.script_prompt.specs.declared.asked.Asked.{Asked};
 ghost use Rattle.script_prompt.specs.declared.asked.Word.{Word};
 
 use address_map::{Checked, CoreId, Op, SliceId, WordAddr};
 use litmus_text::{
-    ConfigLine, LineFault, core_in, one_number, parse_number, three_numbers, two_numbers,
+    ConfigLine, LineFault, core_in, no_numbers, parse_number, three_numbers, two_numbers,
     value_named,
 };
 
@@ -65,7 +65,8 @@ static WORDS: [(&[u8], Word); 9] = [
 
 /// What a line of these words asks for, at a machine of this configuration.
 pub fn read_asked<'a>(config: &Checked, words: &[&'a [u8]]) -> Result<Asked<'a>, LineFault>
-    ensures { IfOk result (Asks config.now (map (λ w. w.now) words.now)) }
+    ensures asks { IfOk result (Asks config.now (map (λ w. w.now) words.now)) }
+    ensures refused { IfErr result (λ fault. (asked : Asked) → Asks config.now (map (λ w. w.now) words.now) asked → ⊥) }
 {
     let Some((name, rest)) = words.split_first() else {
         return Ok(Asked::Nothing);
@@ -87,63 +88,110 @@ fn own_word(name: &[u8]) -> Option<Word>
 }
 
 // What the prompt's word asks for with these other words.
+#[tactic(auto, unfolding(crate::specs::Asked::parts_of_access))]
 fn read_own<'a>(config: &Checked, word: Word, rest: &[&'a [u8]]) -> Result<Asked<'a>, LineFault>
-    ensures { IfOk result (Asks config.now (name_of word ∷ map (λ w. w.now) rest.now)) }
+    ensures asks { IfOk result (AsksOwn config.now (name_of word ∷ map (λ w. w.now) rest.now)) }
+    ensures refused { IfErr result (λ fault. (asked : Asked) → AsksOwn config.now (name_of word ∷ map (λ w. w.now) rest.now) asked → ⊥) }
 {
-    match (word, rest) {
-        (Word::Load | Word::Store | Word::Add | Word::Cas, [core, others @ ..]) => {
-            read_access(config, word, core, others)
+    match word {
+        Word::Load => read_load(config, rest),
+        Word::Store => read_store(config, rest),
+        Word::Add => read_add(config, rest),
+        Word::Cas => read_cas(config, rest),
+        Word::Next => read_next(config, rest),
+        Word::Undo => {
+            no_numbers(rest)?;
+            Ok(Asked::Undo)
         }
-        (Word::Next, []) => Ok(Asked::Next(None)),
-        (Word::Next, [slice]) => Ok(Asked::Next(Some(slice_named(config, slice)?))),
-        (Word::Undo, []) => Ok(Asked::Undo),
-        (Word::Save, [file]) => Ok(Asked::Save(file)),
-        (Word::Help, []) => Ok(Asked::Help),
-        (Word::Quit, []) => Ok(Asked::Quit),
-        _ => Err(LineFault::NotACommand),
+        Word::Save => {
+            let (file, more) = rest.split_first().ok_or(LineFault::NotACommand)?;
+            no_numbers(more)?;
+            Ok(Asked::Save(file))
+        }
+        Word::Help => {
+            no_numbers(rest)?;
+            Ok(Asked::Help)
+        }
+        Word::Quit => {
+            no_numbers(rest)?;
+            Ok(Asked::Quit)
+        }
     }
 }
 
-// The access of this name, of the core of this number, with these other words.
 #[tactic(auto, unfolding(crate::specs::Asked::parts_of_access))]
-fn read_access<'a>(
-    config: &Checked,
-    name: Word,
-    core: &[u8],
-    rest: &[&[u8]],
-) -> Result<Asked<'a>, LineFault>
-    ensures { IfOk result (Asks config.now (name_of name ∷ core.now ∷ map (λ w. w.now) rest.now)) }
+fn read_load<'a>(config: &Checked, rest: &[&'a [u8]]) -> Result<Asked<'a>, LineFault>
+    ensures asks { IfOk result (AsksOwn config.now (codes "load" ∷ map (λ w. w.now) rest.now)) }
+    ensures refused { IfErr result (λ fault. (asked : Asked) → AsksOwn config.now (codes "load" ∷ map (λ w. w.now) rest.now) asked → ⊥) }
 {
-    let (op, word) = match name {
-        Word::Load => (Op::Load, one_number(rest)?),
-        Word::Store => {
-            let (word, value) = two_numbers(rest)?;
-            (Op::Store(value), word)
-        }
-        Word::Add => {
-            let (word, delta) = two_numbers(rest)?;
-            (Op::Add(delta), word)
-        }
-        Word::Cas => {
-            let (word, expect, new) = three_numbers(rest)?;
-            (Op::Cas { expect, new }, word)
-        }
-        _ => return Err(LineFault::NotACommand),
-    };
-    let number = parse_number(core).ok_or(LineFault::BadNumber)?;
-    let core = core_in(config, number)?;
+    let (core, word) = two_numbers(rest)?;
     Ok(Asked::Access {
-        core,
-        op,
+        core: core_in(config, core)?,
+        op: Op::Load,
         word: WordAddr(word),
     })
 }
 
-fn slice_named(config: &Checked, word: &[u8]) -> Result<SliceId, LineFault>
-    ensures number { IfOk result (λ slice. IsNumber word.now × (digits_value 10 word.now ≡ slice.0)) }
-    ensures known { IfOk result (λ slice. slice.0 < config.now.slices) }
+#[tactic(auto, unfolding(crate::specs::Asked::parts_of_access))]
+fn read_store<'a>(config: &Checked, rest: &[&'a [u8]]) -> Result<Asked<'a>, LineFault>
+    ensures asks { IfOk result (AsksOwn config.now (codes "store" ∷ map (λ w. w.now) rest.now)) }
+    ensures refused { IfErr result (λ fault. (asked : Asked) → AsksOwn config.now (codes "store" ∷ map (λ w. w.now) rest.now) asked → ⊥) }
 {
-    let number = parse_number(word).ok_or(LineFault::BadNumber)?;
+    let (core, word, value) = three_numbers(rest)?;
+    Ok(Asked::Access {
+        core: core_in(config, core)?,
+        op: Op::Store(value),
+        word: WordAddr(word),
+    })
+}
+
+#[tactic(auto, unfolding(crate::specs::Asked::parts_of_access))]
+fn read_add<'a>(config: &Checked, rest: &[&'a [u8]]) -> Result<Asked<'a>, LineFault>
+    ensures asks { IfOk result (AsksOwn config.now (codes "add" ∷ map (λ w. w.now) rest.now)) }
+    ensures refused { IfErr result (λ fault. (asked : Asked) → AsksOwn config.now (codes "add" ∷ map (λ w. w.now) rest.now) asked → ⊥) }
+{
+    let (core, word, delta) = three_numbers(rest)?;
+    Ok(Asked::Access {
+        core: core_in(config, core)?,
+        op: Op::Add(delta),
+        word: WordAddr(word),
+    })
+}
+
+#[tactic(auto, unfolding(crate::specs::Asked::parts_of_access))]
+fn read_cas<'a>(config: &Checked, rest: &[&'a [u8]]) -> Result<Asked<'a>, LineFault>
+    ensures asks { IfOk result (AsksOwn config.now (codes "cas" ∷ map (λ w. w.now) rest.now)) }
+    ensures refused { IfErr result (λ fault. (asked : Asked) → AsksOwn config.now (codes "cas" ∷ map (λ w. w.now) rest.now) asked → ⊥) }
+{
+    let [core, others @ ..] = rest else {
+        return Err(LineFault::NotACommand);
+    };
+    let (word, expect, new) = three_numbers(others)?;
+    let core = parse_number(core).ok_or(LineFault::BadNumber)?;
+    Ok(Asked::Access {
+        core: core_in(config, core)?,
+        op: Op::Cas { expect, new },
+        word: WordAddr(word),
+    })
+}
+
+#[tactic(auto, unfolding(crate::specs::Asked::parts_of_access))]
+fn read_next<'a>(config: &Checked, rest: &[&'a [u8]]) -> Result<Asked<'a>, LineFault>
+    ensures asks { IfOk result (AsksOwn config.now (codes "next" ∷ map (λ w. w.now) rest.now)) }
+    ensures refused { IfErr result (λ fault. (asked : Asked) → AsksOwn config.now (codes "next" ∷ map (λ w. w.now) rest.now) asked → ⊥) }
+{
+    let Some((slice, more)) = rest.split_first() else {
+        return Ok(Asked::Next(None));
+    };
+    no_numbers(more)?;
+    let number = parse_number(slice).ok_or(LineFault::BadNumber)?;
+    Ok(Asked::Next(Some(slice_in(config, number)?)))
+}
+
+/// The slice with this number, where the machine has it.
+fn slice_in(config: &Checked, number: u64) -> Result<SliceId, LineFault>
+    ensures { OkIff result (number < config.now.slices) (record { 0 = number }) }
+{
     if number < config.slices() as u64 {
         Ok(SliceId(number as u8))
     } else {

@@ -1,4 +1,5 @@
 //! The prompt.
+ghost use Rattle.std.specs.Prelude.{◌≡◌, IfOk};
 
 use super::asked::Asked;
 use super::help::HELP;
@@ -19,7 +20,9 @@ pub fn run_prompt<R: BufRead, W: Write, S: Saver>(
     input: &mut R,
     out: &mut W,
     saver: &mut S,
-) -> Result<u8, TextFault> {
+) -> Result<u8, TextFault>
+    ensures status { IfOk result (λ status. status ≡ 0) }
+{
     let script = with_end(alloc, script)?;
     let session = AnySession::open(alloc, script, out)?;
     let mut prompt = Prompt {

@@ -1,12 +1,12 @@
 -- What a session does with a line of a script, and what the machine of a script is.
-use Rattle.std.specs.Prelude.{◌≡◌, ℕ, List, ◌++◌, codes, true, Option}
+use Rattle.std.specs.Prelude.{◌≡◌, ℕ, List, [], ◌∷◌, ◌++◌, codes, true, Option}
 use Rattle.std.specs.Str.Lines.{lines}
 use Rattle.address_map.specs.declared.config.Config.{Config}
 use Rattle.litmus_script.specs.Machine.{IsNewMachine}
 use Rattle.litmus_script.specs.Play.{PlaysAll}
 use Rattle.litmus_script.specs.Script.{Echoed, IsSetUp}
 use Rattle.litmus_text.specs.Command.{IsRead}
-use Rattle.litmus_text.specs.Statement.{statements_from}
+use Rattle.litmus_text.specs.Statement.{kept_words, statements_from}
 use Rattle.litmus_text.specs.declared.command.Command.{Command}
 use Rattle.mshr_file.specs.Miss.{Bound}
 use Rattle.script_explained.specs.Explains.{Explainingly, IsExplained}
@@ -20,6 +20,24 @@ pub record PlaysLine (config : Config) (words : List (List ℕ)) (line : List �
   pub read : IsRead config words command
   pub told : IsExplained config command old new before after
   pub kept : new_script ≡ old_script ++ (line ++ codes "\n")
+
+-- .. whatever stood printed before it
+abbrev pub IsPlayed : Config → List ℕ → List PartsView → List PartsView → List ℕ → List ℕ → Type 0
+IsPlayed config line old new old_script new_script =
+    (command : Command) × (before : Option (List ℕ)) × (after : Option (List ℕ))
+    × PlaysLine config (kept_words line) line command old new before after old_script new_script
+
+-- the lines are played, in order: each on the slices, and behind the script, that the one before it left
+abbrev pub PlaysLines : Config → List (List ℕ) → List PartsView → List PartsView → List ℕ → List ℕ → Type 0
+PlaysLines config [] old new old_script new_script = (new ≡ old) × (new_script ≡ old_script)
+PlaysLines config (line ∷ more) old new old_script new_script =
+    (mid : List PartsView) × (script : List ℕ) × IsPlayed config line old mid old_script script
+    × PlaysLines config more mid new script new_script
+
+-- some lines are played, and nothing else
+pub record IsContinued (config : Config) (old new : List PartsView) (old_script new_script : List ℕ) : Type 0 where
+  pub lines : List (List ℕ)
+  pub played : PlaysLines config lines old new old_script new_script
 
 -- These commands lead from a new machine to these slices, and each one's line and answer with what happened is printed.
 pub record IsPlayedTo (config : Config) (bound : Bound) (commands : List (ℕ × List (List ℕ))) (slices : List PartsView)

@@ -3,7 +3,7 @@ ghost use Rattle.std.specs.Prelude.{◌≡◌, ℕ, List, Option, [], IfOk};
 ghost use Rattle.std.specs.Str.Lines.{lines};
 ghost use Rattle.litmus_text.specs.Statement.{statements_from};
 ghost use Rattle.litmus_script.specs.Script.{commands_of};
-ghost use Rattle.script_prompt.specs.Session.{IsAfter, IsPlayedTo};
+ghost use Rattle.script_prompt.specs.Session.{IsAfter, IsContinued, IsPlayedTo};
 ghost use Rattle.script_prompt.specs.Session.{config_of, script_of, slices_of};
 
 use super::asked::Asked;
@@ -77,7 +77,10 @@ impl AnySession {
         &mut self,
         statement: &Statement<'a>,
         out: &mut W,
-    ) -> Result<Asked<'a>, TextFault> {
+    ) -> Result<Asked<'a>, TextFault>
+        ensures { IfOk result (λ asked. IsContinued (config_of self.old) (slices_of self.old) (slices_of self.new)
+            (script_of self.old) (script_of self.new)) }
+    {
         match self {
             AnySession::Explicit(session) => session.answer(statement, out),
             AnySession::Inverted(session) => session.answer(statement, out),

@@ -3,7 +3,7 @@ ghost use Rattle.std.specs.Prelude.{◌≡◌, ◌++◌, ◌<◌, IfErr, IfOk, O
 ghost use Rattle.litmus_script.specs.Play.{IsCommandFault};
 ghost use Rattle.litmus_script.specs.Script.{said_by};
 ghost use Rattle.litmus_text.specs.Command.{HasCore};
-ghost use Rattle.script_prompt.specs.Session.{PlaysLine};
+ghost use Rattle.script_prompt.specs.Session.{IsContinued, PlaysLine};
 
 use super::asked::{Asked, read_asked};
 use super::machine;
@@ -33,12 +33,17 @@ impl<F: MissFile> Session<F> {
         self.player.config()
     }
 
-    /// Answers a line that asks something of the machine. What any other asks for is left to do.
+    /// Answers a line that asks something of the machine: plays the lines of a script that it stands for. What any other
+    /// asks for is left to do.
     pub fn answer<'a, W: Write>(
         &mut self,
         statement: &Statement<'a>,
         out: &mut W,
-    ) -> Result<Asked<'a>, TextFault> {
+    ) -> Result<Asked<'a>, TextFault>
+        ensures config { self.new.player.machine.config ≡ self.old.player.machine.config }
+        ensures plays { IfOk result (λ asked. IsContinued self.old.player.machine.config self.old.player.machine.slices.items
+            self.new.player.machine.slices.items self.old.script.items self.new.script.items) }
+    {
         let asked = match read_asked(self.config(), statement.words.as_slice()) {
             Ok(asked) => asked,
             Err(fault) => return Err(fault.at(statement.number)),
@@ -92,7 +97,11 @@ impl<F: MissFile> Session<F> {
     }
 
     /// Plays a command of the prompt's own, which is shown as a line of a script first.
-    fn play_own<W: Write>(&mut self, command: Command, out: &mut W) -> Result<(), TextFault> {
+    fn play_own<W: Write>(&mut self, command: Command, out: &mut W) -> Result<(), TextFault>
+        ensures config { self.new.player.machine.config ≡ self.old.player.machine.config }
+        ensures plays { OnOk result (IsContinued self.old.player.machine.config self.old.player.machine.slices.items
+            self.new.player.machine.slices.items self.old.script.items self.new.script.items) }
+    {
         let mut line = Vec::new(self.player.alloc);
         let Ok(()) = write_command(command, &mut Answers { out: &mut line }) else {
             return Err(TextFault::NoMemory);
@@ -110,7 +119,11 @@ impl<F: MissFile> Session<F> {
         &mut self,
         statement: &Statement<'_>,
         out: &mut W,
-    ) -> Result<(), TextFault> {
+    ) -> Result<(), TextFault>
+        ensures config { self.new.player.machine.config ≡ self.old.player.machine.config }
+        ensures plays { OnOk result (IsContinued self.old.player.machine.config self.old.player.machine.slices.items
+            self.new.player.machine.slices.items self.old.script.items self.new.script.items) }
+    {
         let before = self.performed()?;
         match self.play(statement, out)? {
             Command::Deliver(_) | Command::Pump(_) => self.hand_out(&before, out),
@@ -127,6 +140,9 @@ impl<F: MissFile> Session<F> {
         out: &mut W,
     ) -> Result<(), TextFault>
         requires { HasCore self.old.player.machine.config core }
+        ensures config { self.new.player.machine.config ≡ self.old.player.machine.config }
+        ensures plays { OnOk result (IsContinued self.old.player.machine.config self.old.player.machine.slices.items
+            self.new.player.machine.slices.items self.old.script.items self.new.script.items) }
     {
         match machine::free_tag(&self.player.machine, core, op, word) {
             Some(tag) => {
@@ -146,7 +162,11 @@ impl<F: MissFile> Session<F> {
         &mut self,
         slice: Option<SliceId>,
         out: &mut W,
-    ) -> Result<(), TextFault> {
+    ) -> Result<(), TextFault>
+        ensures config { self.new.player.machine.config ≡ self.old.player.machine.config }
+        ensures plays { OnOk result (IsContinued self.old.player.machine.config self.old.player.machine.slices.items
+            self.new.player.machine.slices.items self.old.script.items self.new.script.items) }
+    {
         let next = machine::next(&self.player.machine, slice);
         if let NextPick::Move(pick) = next {
             let before = self.performed()?;
@@ -181,7 +201,11 @@ impl<F: MissFile> Session<F> {
     }
 
     /// Hands out a reply for each entry by which a slice's log has grown since it was so long.
-    fn hand_out<W: Write>(&mut self, before: &[usize], out: &mut W) -> Result<(), TextFault> {
+    fn hand_out<W: Write>(&mut self, before: &[usize], out: &mut W) -> Result<(), TextFault>
+        ensures config { self.new.player.machine.config ≡ self.old.player.machine.config }
+        ensures plays { OnOk result (IsContinued self.old.player.machine.config self.old.player.machine.slices.items
+            self.new.player.machine.slices.items self.old.script.items self.new.script.items) }
+    {
         for (slice, first) in before.iter().enumerate() {
             self.hand_out_of(slice, *first, out)?;
         }
@@ -193,7 +217,11 @@ impl<F: MissFile> Session<F> {
         slice: usize,
         first: usize,
         out: &mut W,
-    ) -> Result<(), TextFault> {
+    ) -> Result<(), TextFault>
+        ensures config { self.new.player.machine.config ≡ self.old.player.machine.config }
+        ensures plays { OnOk result (IsContinued self.old.player.machine.config self.old.player.machine.slices.items
+            self.new.player.machine.slices.items self.old.script.items self.new.script.items) }
+    {
         if slice >= self.config().slices() {
             return Ok(());
         }

@@ -1,5 +1,5 @@
 -- What no line asks for.
-use Rattle.std.proofs.Common.{◌≡◌, ℕ, List, ◌∷◌, sym, subst}
+use Rattle.std.proofs.Common.{◌≡◌, ℕ, List, ◌∷◌, subst}
 use Rattle.address_map.specs.declared.config.Config.{Config}
 use Rattle.litmus_text.specs.Field.{IsFieldName}
 use Rattle.script_prompt.specs.Asked.{Asks, AsksOwn, name_of}

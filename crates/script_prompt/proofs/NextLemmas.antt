@@ -1,5 +1,5 @@
 -- Slices are asked one after another.
-use Rattle.std.proofs.Common.{◌≡◌, List, [], ◌∷◌, refl}
+use Rattle.std.proofs.Common.{◌≡◌, refl}
 use Rattle.slice_core_plan.specs.declared.decide.NextPick.{NextPick}
 use Rattle.slice_core_plan.specs.declared.decide.NextPick.TheVariants as next_picks
 use Rattle.script_prompt.specs.Next.{or_next}

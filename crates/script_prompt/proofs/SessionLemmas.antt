@@ -1,5 +1,5 @@
 -- The machine of a script.
-use Rattle.std.proofs.Common.{◌≡◌, ℕ, List, [], ◌∷◌, ◌++◌, Option, Ok, refl, subst, sym}
+use Rattle.std.proofs.Common.{◌≡◌, ℕ, List, [], ◌∷◌, ◌++◌, Option, Ok, refl, subst}
 use Rattle.std.specs.Str.Lines.{lines}
 use Rattle.address_map.specs.Config.{checked_of}
 use Rattle.address_map.specs.declared.config.Config.{Config}

@@ -1,4 +1,4 @@
-use Rattle.std.proofs.Common.{◌≡◌, refl, subst, true, ◌∙◌}
+use Rattle.std.proofs.Common.{◌≡◌, subst, true, ◌∙◌}
 use Rattle.address_map.specs.declared.config.Config.{Config}
 use Rattle.litmus_script.proofs.PlayLemmas.{all_shown}
 use Rattle.litmus_script.specs.Play.{PlaysAll}

@@ -7,8 +7,8 @@
 use clap::Error;
 use clap::error::ErrorKind;
 use litmus::{
-    CommandLine, read_line, run_chart, run_check, run_explained, run_export, run_litmus,
-    run_page, run_script, run_table, run_test, run_walk, write_walk,
+    CommandLine, read_line, run_chart, run_check, run_explained, run_export, run_litmus, run_page,
+    run_script, run_table, run_test, run_walk, write_walk,
 };
 use litmus_text::TextFault;
 use progress::Shown;

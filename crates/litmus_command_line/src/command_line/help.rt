@@ -85,7 +85,7 @@ be any. The first line that differs is printed, with status 1, or how many lines
 
 Documents: docs/TEXTS.md
 
-Example: lockup test examples/exercise_first_miss.txt";
+Example: lockup test examples/exercises/first_miss.txt";
 
 /// What stands below the options of `export`.
 pub const EXPORT: &str = "\

@@ -94,7 +94,10 @@ impl<F: MissFile> Player for Recorder<F> {
         _out: &mut W,
     ) -> Result<(), TextFault> {
         let mut text = Vec::new(self.alloc);
-        self.machine.run(command, &mut text)?;
+        let Ok(()) = self.machine.run(command, &mut text) else {
+            // writing to memory fails for want of it
+            return Err(TextFault::NoMemory);
+        };
         match self.texts.push(text) {
             Ok(()) => Ok(()),
             Err(_) => Err(TextFault::NoMemory),

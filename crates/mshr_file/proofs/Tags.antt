@@ -108,11 +108,17 @@ pub free_at : (tag : ℕ) (entries : List Waiting) → is_free (by_line entries)
     count_at (has_tag tag) entries ≡ 0
 free_at tag entries free = sym (counts_at (has_tag tag) entries) ∙ eqb-true _ _ free
 
+-- No more targets are for a line than there are entries.
+pub few_for : (line : ℕ) (entries : List Waiting) → length (at_line line entries) ≤ length entries
+few_for line entries =
+    let same = length-map (filter (waits_for line) entries) (λ (e : Waiting). e.target) in
+    let filtered = length-filter (waits_for line) entries in
+    let fewer = count_by-le-length (waits_for line) entries in
+    omega (arith, same, filtered, fewer)
+
 -- A line has no more entries than there are tags.
 pub few_at : (line : ℕ) (entries : List Waiting) → HasEntryByTag entries → length (at_line line entries) ≤ 64
 few_at line entries by_tag =
     let all = fits 64 entries by_tag.once by_tag.small in
-    let same = length-map (filter (waits_for line) entries) (λ (e : Waiting). e.target) in
-    let filtered = length-filter (waits_for line) entries in
-    let fewer = count_by-le-length (waits_for line) entries in
-    omega (arith, all, same, filtered, fewer)
+    let fewer = few_for line entries in
+    omega (arith, all, fewer)

@@ -3,7 +3,7 @@ ghost use Rattle.std.specs.List.{list_any, prefix_len, position};
 ghost use Rattle.std.specs.Option.{option_copied};
 ghost use Rattle.target_list.specs.Target.{front_loads};
 ghost use Rattle.mshr_file.specs.Miss.{targets_of, has_miss, has_tag, is_free, AddsTarget, TakesTargets, IsMissFile};
-ghost use Rattle.mshr_file.specs.Waiting.{at_line, by_line, waiting_in, waits_for, slot_for, IsEntryTable, TakesEntries};
+ghost use Rattle.mshr_file.specs.Waiting.{at_line, by_line, entry_at, waiting_in, waits_for, slot_for, IsEntryTable, TakesEntries};
 
 use super::waiting::Waiting;
 use address_map::Local;
@@ -86,6 +86,14 @@ impl EntryTable {
         ensures few { result ≤ 64 }
     {
         count_slots(self.order.as_slice(), line)
+    }
+
+    /// The targets of the entries for the line.
+    pub fn targets(&self, line: Local) -> ArrayVec<Target, 64>
+        requires { IsEntryTable self.now }
+        ensures { result.items ≡ targets_of (by_line (waiting_in self.now)) line.0 }
+    {
+        targets_at(&self.entries, self.order.as_slice(), line)
     }
 
     /// How many loads the entries for the line begin with.
@@ -175,6 +183,34 @@ fn take_entry(table: &mut EntryTable, line: Local) -> Target
     let held = table.entries[tag];
     table.entries[tag] = None;
     held.unwrap().target
+}
+
+/// The targets of those entries that are for the line, by their slots.
+fn targets_at(entries: &[Option<Waiting>], slots: &[Slot], line: Local) -> ArrayVec<Target, 64>
+    requires { length slots.now ≤ 64 }
+    ensures { result.items ≡ at_line line.0 (map (entry_at entries.now) slots.now) }
+{
+    let mut targets = ArrayVec::new();
+    for slot in slots {
+        let entry = entry_of(entries, *slot);
+        if entry.line == line {
+            targets.push(entry.target);
+        }
+    }
+    targets
+}
+
+/// The entry under the tag of a slot.
+fn entry_of(entries: &[Option<Waiting>], slot: Slot) -> Waiting
+    ensures { result ≡ entry_at entries.now slot }
+{
+    match entries.get(slot.tag as usize) {
+        Some(Some(entry)) => *entry,
+        _ => Waiting {
+            target: Target::default(),
+            line: Local(0),
+        },
+    }
 }
 
 fn any_for(slots: &[Slot], line: Local) -> bool

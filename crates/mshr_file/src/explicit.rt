@@ -63,6 +63,10 @@ impl MissFile for ExplicitFile {
         self.table.front_loads(line)
     }
 
+    fn targets(&self, line: Local) -> ArrayVec<Target, 64> {
+        self.table.targets(line)
+    }
+
     fn admit(&self, line: Local, tag: u8) -> Admission {
         let used = self.table.waiting(line);
         if used > 0 {

@@ -79,6 +79,10 @@ impl MissFile for InvertedFile {
         self.table.count_front_loads(line)
     }
 
+    fn targets(&self, line: Local) -> ArrayVec<Target, 64> {
+        self.table.targets(line)
+    }
+
     fn admit(&self, line: Local, tag: u8) -> Admission {
         let free = self.room_open(tag);
         match (self.find(line), free) {

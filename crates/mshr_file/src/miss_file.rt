@@ -49,6 +49,10 @@ pub trait MissFile: Sized + Drop {
         ensures count { result ≡ length (front_loads (targets_of (misses self.now) line.0)) }
         ensures within { result ≤ length (targets_of (misses self.now) line.0) };
 
+    /// The targets of the line, the oldest first: none where it has no register.
+    fn targets(&self, line: Local) -> ArrayVec<Target, 64>
+        ensures { result.items ≡ targets_of (misses self.now) line.0 };
+
     /// What a request with this tag for the line is to do.
     fn admit(&self, line: Local, tag: u8) -> Admission
         requires tag { tag < 64 }

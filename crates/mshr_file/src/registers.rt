@@ -136,6 +136,17 @@ impl RegisterTable {
         }
     }
 
+    /// The targets of the line.
+    pub fn targets(&self, line: Local) -> ArrayVec<Target, 64>
+        requires { IsKept self.now }
+        ensures { result.items ≡ targets_of (open_in self.now) line.0 }
+    {
+        match self.search(line) {
+            Some(place) => self.registers[place].targets.to_vec(),
+            None => ArrayVec::new(),
+        }
+    }
+
     /// How many registers are open.
     pub fn count_open(&self) -> usize
         requires { IsKept self.now }

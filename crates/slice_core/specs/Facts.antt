@@ -1,12 +1,12 @@
 -- What callers of a slice may rely on after every call.
-use Rattle.std.specs.Prelude.{◌≡◌, ℕ, ◌<◌, ◌&&◌, true, if◌then◌else◌, count_by, is_some, nat_lt, length, map, slice_get, List, Option, Some, None, Result, Ok}
+use Rattle.std.specs.Prelude.{◌≡◌, ℕ, ◌<◌, ◌&&◌, true, if◌then◌else◌, [], count_by, is_some, nat_lt, length, map, slice_get, List, Option, Some, None, Result, Ok}
 use Rattle.address_map.specs.declared.address.CoreId.{CoreId}
 use Rattle.address_map.specs.Locator.{local_at}
 use Rattle.address_map.specs.Place.{offset_of}
 use Rattle.address_map.specs.declared.address.Local.{Local}
 use Rattle.address_map.specs.declared.address.WordAddr.{WordAddr}
 use Rattle.cache_table.specs.CopyState.{is_waiting}
-use Rattle.mshr_file.specs.Miss.{Bound, count_of, has_miss, has_tag, IsMissFile}
+use Rattle.mshr_file.specs.Miss.{Bound, count_of, has_miss, has_tag, targets_of, IsMissFile}
 use Rattle.slice_core.specs.Shape.{shape_of}
 use Rattle.slice_core_answer.specs.Stats.{accepted_of, counts_of}
 use Rattle.slice_core_answer.specs.declared.answer.Delivered.{Delivered}
@@ -24,7 +24,8 @@ use Rattle.slice_core_coherence.specs.Whole.{IsAddressed, IsWhole}
 use Rattle.slice_core_log.specs.Log.{initially, value, IsLegal, IsOrdered}
 use Rattle.slice_core_log.specs.declared.entry.Entry.{Entry}
 use Rattle.slice_core_machine.specs.Shows.{IsAccounted}
-use Rattle.slice_core_side.specs.Side.{state_of, tag_at}
+use Rattle.slice_core_side.specs.Side.{copy_of, state_of, tag_at}
+use Rattle.slice_core_side.specs.declared.copy.CacheCopy.{CacheCopy}
 use Rattle.slice_core_side.specs.declared.tags.TagState.TheVariants as tags
 use Rattle.slice_core_standing.specs.Standing.{is_open, standings}
 use Rattle.slice_core_plan.specs.Parts.{PartsView}
@@ -36,6 +37,7 @@ use Rattle.slice_queues_message.specs.Pick.{channel_of, line_of}
 use Rattle.slice_queues_message.specs.declared.channel.Channel.{Channel}
 use Rattle.slice_queues_message.specs.declared.channel.Pick.{Pick}
 use Rattle.slice_queues_message.specs.declared.message.Message.{Message}
+use Rattle.target_list.specs.declared.target.Target.{Target}
 
 -- Each request that a core had accepted stands in exactly one place, and nothing else stands there. It is a target of
 -- a miss register, or an entry of the log: a reply, as long as a tag names its number, and handed out otherwise.
@@ -139,6 +141,16 @@ ShowsLine v (Some local) shown =
 abbrev pub front_at : View → Option Local → Channel → Option Message
 front_at v None channel = None
 front_at v (Some local) channel = slice_get (messages_at (channels_at v local) channel) 0
+
+-- A core's copy of a line, wherever it stands: none of a line that isn't the slice's.
+abbrev pub copy_at : View → CoreId → Option Local → Option CacheCopy
+copy_at v core None = None
+copy_at v core (Some local) = Some (copy_of (side_at v core) local)
+
+-- The accesses of a core that wait for a line, the oldest first.
+abbrev pub targets_at : View → CoreId → Option Local → List Target
+targets_at v core None = []
+targets_at v core (Some local) = targets_of (side_at v core).misses local.0
 
 -- What a slice shows of a line's channels: those in which a message waits, in their order, each once and no other.
 abbrev pub AreWaitingAt : View → Option Local → List Channel → Type 0

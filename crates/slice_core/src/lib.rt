@@ -14,6 +14,8 @@
 //! [`SliceState::next`] which pick of a class [`SliceState::deliver_next`] would deliver, [`SliceState::waiting`] goes
 //! through the picks with a message, and [`SliceState::waiting_at`] through the channels of one line that have one. A
 //! call does what was decided: its contract is by the same definitions (`decision_of`, `planned_at`, `next_pick`).
+//! [`SliceState::line_view`], [`SliceState::copy`], [`SliceState::targets`], [`SliceState::tag`] and
+//! [`SliceState::ring_line`] show what the slice has.
 #![tactic(auto)]
 
 pub use address_map::{Block, CoreId, CoreSet, LineAddr, Local, Op, Request, SliceId, WordAddr};
@@ -25,7 +27,7 @@ pub use slice_core_answer::{
 };
 pub use slice_core_log::{Entry, Numbered};
 pub use slice_core_plan::{Decision, NextPick, Plan};
-pub use slice_core_side::{Access, Ask, Way};
+pub use slice_core_side::{Access, Ask, CacheCopy, TagState, Way};
 pub use slice_core_steps::LineView;
 pub use slice_queues::{LineWaiting, Picks};
 pub use slice_queues_message::{

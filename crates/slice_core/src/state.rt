@@ -1,7 +1,7 @@
-ghost use Rattle.std.specs.Prelude.{◌≡◌, ℕ, ◌<◌, ◌↔◌, [], ◌∷◌, length, All, IfNone, IfOk, IfSome, IsTrue, IsSome, None};
+ghost use Rattle.std.specs.Prelude.{◌≡◌, ℕ, ◌<◌, ◌↔◌, [], ◌∷◌, length, slice_get, All, IfNone, IfOk, IfSome, IsTrue, IsSome, None};
 ghost use Rattle.address_map.specs.Locator.{local_at};
 ghost use Rattle.address_map.specs.Place.{line_of};
-ghost use Rattle.slice_core.specs.Facts.{AreWaitingAt, HasEachFrontOnce, Holds, IsInverted, IsNotBroken, IsNotBrokenNext, IsSameSlice, NeedsNoRegister, ShowsLast, ShowsLine, ShowsWord, front_at};
+ghost use Rattle.slice_core.specs.Facts.{copy_at, targets_at, AreWaitingAt, HasEachFrontOnce, Holds, IsInverted, IsNotBroken, IsNotBrokenNext, IsSameSlice, NeedsNoRegister, ShowsLast, ShowsLine, ShowsWord, front_at};
 ghost use Rattle.slice_core.specs.Run.{AfterCall, HasCore, HasCores, IsOneRun, IsUnbroken, Runs};
 ghost use Rattle.slice_core_machine.specs.Machine.{IsSame, new_machine};
 ghost use Rattle.slice_core_machine.specs.Shows.{Leads, Performs, hand_steps, issue_steps, next_of, shown};
@@ -9,16 +9,20 @@ ghost use Rattle.slice_core_plan.specs.Decision.{decision_of};
 ghost use Rattle.slice_core_plan.specs.Parts.{PartsView, AfterDeliverNext, AfterDelivery, AfterEvict, AfterHand, AfterIssue, IsNew, IsNextPick, next_pick};
 ghost use Rattle.slice_core_plan.specs.Plan.{planned_at};
 ghost use Rattle.slice_core_plan.specs.Turn.{ServesInTurn};
-ghost use Rattle.slice_core_plan.specs.View.{View, IsQuiet};
+ghost use Rattle.slice_core_plan.specs.Slice.{ring_lines};
+ghost use Rattle.slice_core_plan.specs.View.{View, IsQuiet, side_at};
+ghost use Rattle.slice_core_side.specs.Side.{tag_at};
 ghost use Rattle.slice_queues.specs.Waiting.{lines_waiting};
 ghost use Rattle.slice_queues_message.specs.Pick.{channel_of, line_of as line_of_pick};
 
 use super::run::{Call, CallAnswer};
 use address_map::{Checked, CoreId, LineAddr, Request, SliceId, WordAddr};
-use mshr_file::MissFile;
+use arrayvec::ArrayVec;
+use mshr_file::{MissFile, Target};
 use slice_core_answer::{Delivered, DeliveredNext, Evicted, Issue, Refused, Stats};
 use slice_core_log::{Entry, Numbered};
 use slice_core_plan::{Decision, NextPick, Plan};
+use slice_core_side::{CacheCopy, TagState};
 use slice_core_steps::{LineView, Parts};
 use slice_queues::{LineWaiting, Picks};
 use slice_queues_message::{Class, Message, Pick};
@@ -208,6 +212,44 @@ impl<F: MissFile> SliceState<F> {
     {
         let local = self.parts.lines().local_of(line)?;
         Some(self.parts.line_view(local))
+    }
+
+    /// A core's copy of a line, which stands in its array, or leaves by its write-back buffer, or is nowhere. None for a
+    /// line that isn't the slice's.
+    pub fn copy(&self, core: CoreId, line: LineAddr) -> Option<CacheCopy>
+        requires { core.0 < length self.now.view.sides }
+        ensures { result ≡ copy_at self.now.view core (local_at self.now.view.lines line.0) }
+    {
+        let local = self.parts.lines().local_of(line)?;
+        Some(self.parts.sides()[core.0 as usize].copy(local))
+    }
+
+    /// The accesses of a core that wait for a line, the oldest first: the targets of its miss register, where it has one.
+    pub fn targets(&self, core: CoreId, line: LineAddr) -> ArrayVec<Target, 64>
+        requires { core.0 < length self.now.view.sides }
+        ensures { result.items ≡ targets_at self.now.view core (local_at self.now.view.lines line.0) }
+    {
+        match self.parts.lines().local_of(line) {
+            Some(local) => self.parts.sides()[core.0 as usize].targets(local),
+            None => ArrayVec::new(),
+        }
+    }
+
+    /// What a tag of a core names.
+    pub fn tag(&self, core: CoreId, tag: u8) -> TagState
+        requires core { core.0 < length self.now.view.sides }
+        requires tag { tag < 64 }
+        ensures { result ≡ tag_at (side_at self.now.view core) tag }
+    {
+        self.parts.sides()[core.0 as usize].tag(tag)
+    }
+
+    /// The line at a place of the ring, the front at 0. [`SliceState::deliver_next`] looks at lines in this order; each
+    /// line with a message stands there once.
+    pub fn ring_line(&self, place: usize) -> Option<LineAddr>
+        ensures { result ≡ slice_get (ring_lines self.now) place }
+    {
+        self.parts.ring_line(place)
     }
 
     /// What [`SliceState::issue`] would decide of the request: to refuse it, or what its access would be. That is a hit, a

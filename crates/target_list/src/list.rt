@@ -62,6 +62,13 @@ impl TargetList {
         &self.targets.as_slice()[self.taken..]
     }
 
+    /// The targets, by value.
+    pub fn to_vec(&self) -> ArrayVec<Target, 64>
+        ensures { result.items ≡ self.now }
+    {
+        copied(self.as_slice())
+    }
+
     /// How many loads there are in front of the first target that writes.
     pub fn front_loads(&self) -> usize
         ensures count { result ≡ length (front_loads self.now) }

@@ -8,8 +8,9 @@ ghost use Rattle.writeback_buffer.specs.Buffer.{held_at as buffer_at};
 
 use super::Side;
 use address_map::{Block, Local};
+use arrayvec::ArrayVec;
 use cache_table::CopyState;
-use mshr_file::MissFile;
+use mshr_file::{MissFile, Target};
 
 /// What a message looks at of a core's copy: all but its block.
 #[derive(Clone, Copy, Debug, PartialEq, Eq)]
@@ -73,6 +74,13 @@ impl<F: MissFile> Side<F> {
         ensures held { IsSome result ↔ IsSome (array_at self.now.array local) }
     {
         self.array.find(local)
+    }
+
+    /// The accesses that wait for the line, the oldest first.
+    pub fn targets(&self, local: Local) -> ArrayVec<Target, 64>
+        ensures { result.items ≡ targets_of self.now.misses local.0 }
+    {
+        self.file.targets(local)
     }
 
     /// Whether no access that waits for the line writes it.

@@ -1,4 +1,5 @@
 ghost use Rattle.std.specs.Prelude.{◌≡◌, ◌<◌, ◌≤◌, length, map, slice_get};
+ghost use Rattle.slice_core_plan.specs.Slice.{ring_lines};
 ghost use Rattle.slice_core_plan.specs.View.{View, channels_at, entry_at, IsShaped};
 ghost use Rattle.slice_core_side.specs.Side.{SideView, state_of};
 ghost use Rattle.slice_queues.specs.Line.{messages_at};
@@ -6,7 +7,7 @@ ghost use Rattle.slice_queues.specs.Waiting.{line_waiting, lines_waiting, placed
 
 use super::Parts;
 use crate::line_view::LineView;
-use address_map::Local;
+use address_map::{LineAddr, Local};
 use arrayvec::ArrayVec;
 use cache_table::CopyState;
 use mshr_file::MissFile;
@@ -43,6 +44,18 @@ impl<F: MissFile> Parts<F> {
         ensures { result ≡ slice_get (messages_at (channels_at self.now.view local) channel) 0 }
     {
         self.queues.line(local).front(channel)
+    }
+
+    /// The line at a place of the ring, the front at 0: lines are looked at in this order for the next delivery.
+    pub fn ring_line(&self, place: usize) -> Option<LineAddr>
+        requires { IsShaped self.now.view }
+        ensures { result ≡ slice_get (ring_lines self.now) place }
+    {
+        if place < self.queues.ring_len() {
+            Some(self.lines.line_at(self.queues.ring_at(place)))
+        } else {
+            None
+        }
     }
 
     /// The picks with a message, each once and no other, from the first line to the last.

@@ -114,7 +114,7 @@ impl<F: MissFile> Player for Chart<F> {
             Command::Hand { core, slice } => self.hand(statement, core, slice, out),
             Command::Word(word) => self.show(statement, command, word.line(), out),
             Command::State(line) => self.show(statement, command, line, out),
-            Command::Log(_) | Command::Stats | Command::Waiting => Ok(()),
+            Command::Log(_) | Command::Stats | Command::Waiting | Command::Show => Ok(()),
             Command::Pump(calls) => self.pump(statement, calls, out),
         }
     }

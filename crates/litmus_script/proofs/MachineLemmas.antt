@@ -1,6 +1,6 @@
 -- A machine that is built has its slices in order, and what they have counted is alike.
 use Rattle.std.proofs.Common.{◌≡◌, ℕ, ◌+◌, ◌<◌, ◌≤◌, List, [], ◌∷◌, ◌++◌, length, get_or, sym, ap, below_more, ◌∙◌, subst, arith, inl, inr, length-append}
-use Rattle.std.proofs.lemmas.List.Elements.{All-head, All-tail, All-weaker}
+use Rattle.std.proofs.lemmas.List.Elements.{All-from_get_or, All-head, All-nil, All-tail, All-weaker}
 use Rattle.std.proofs.Math.ListN.{get_or-append}
 use Rattle.std.proofs.lemmas.List.{get_or_default}
 use Rattle.std.proofs.Math.Seq.{get_or-append_seam}
@@ -11,6 +11,7 @@ use Rattle.address_map.specs.declared.address.SliceId.{SliceId}
 use Rattle.mshr_file.specs.Miss.{Bound}
 use Rattle.slice_core_plan.specs.Parts.{PartsView, IsNew}
 use Rattle.slice_core_answer.specs.Stats.{StatsView}
+use Rattle.slice_text.specs.Shown.{HaveCores}
 use Rattle.stats_report.specs.Report.{AreAlike, IsLike}
 use Rattle.litmus_script.specs.Machine.{IsSliceOf, AreSlicesOf, AreNew, IsCountOf}
 
@@ -62,3 +63,13 @@ pub each_more : (P : PartsView → Type 0) (slices : List PartsView) (i : ℕ) (
 each_more P slices i p here within before holds k d below =
     below_more (λ k. P (get_or slices k d)) i (λ j less. before j d less)
     (subst P (here ∙ get_or_default slices i p d within) holds) k below
+
+-- what holds of the state at each place holds of each state
+each_has : (P : PartsView → Type 0) (slices : List PartsView) → ((i : ℕ) (d : PartsView) → i < length slices → P (get_or slices i d))
+    → All P slices
+each_has P [] each = All-nil P
+each_has P (p ∷ more) each = All-from_get_or P (p ∷ more) p (λ i below. each i p below)
+
+-- each slice of a machine has its cores
+pub have_cores : (config : Config) (slices : List PartsView) → AreSlicesOf config slices → HaveCores config.cores slices
+have_cores config slices each = each_has (λ p. length p.view.sides ≡ config.cores) slices (λ i d below. (each i d below).cores)

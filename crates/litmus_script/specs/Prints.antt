@@ -7,7 +7,7 @@ use Rattle.litmus_script.specs.Answer.{text_of_delivered, text_of_handed, text_o
 use Rattle.litmus_script.specs.Issued.{IsIssued}
 use Rattle.litmus_script.specs.Machine.{IsAnswered, IsShownLine, IsShownWord, counts_in, init_at, log_at}
 use Rattle.litmus_script.specs.Pump.{Pumps}
-use Rattle.litmus_script.specs.Shown.{text_of_line, text_of_trace}
+use Rattle.litmus_script.specs.Shown.{text_of_trace}
 use Rattle.litmus_script.specs.Waiting.{text_of_waiting}
 use Rattle.litmus_script.specs.declared.answers.Issued.{Issued}
 use Rattle.litmus_script.specs.declared.answers.Pumped.{Pumped}
@@ -22,6 +22,8 @@ use Rattle.slice_core_log.specs.declared.entry.Numbered.{Numbered}
 use Rattle.slice_core_plan.specs.Parts.{PartsView}
 use Rattle.slice_core_steps.specs.declared.line_view.LineView.{LineView}
 use Rattle.slice_queues_message.specs.Pick.{line_of}
+use Rattle.slice_text.specs.Line.{text_of_line}
+use Rattle.slice_text.specs.Shown.{text_of_machine}
 use Rattle.stats_report.specs.Report.{report_of}
 
 -- what is written grows by this text and the end of its line
@@ -53,6 +55,7 @@ Prints config (commands.Log slice) old new before after =
     (new ≡ old) × Appends before after (text_of_trace config.cores (init_at old slice.0) (log_at old slice.0))
 Prints config commands.Stats old new before after = (new ≡ old) × Appends before after (report_of (counts_in old))
 Prints config commands.Waiting old new before after = (new ≡ old) × Appends before after (text_of_waiting old)
+Prints config commands.Show old new before after = (new ≡ old) × Appends before after (text_of_machine config old)
 Prints config (commands.Pump calls) old new before after =
     (pumped : Pumped) × Pumps config.slices calls pumped old new × Adds before after (text_of_pumped pumped)
 

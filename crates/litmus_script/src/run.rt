@@ -9,7 +9,6 @@ use super::answers::{
     Answers, write_delivered, write_evicted, write_handed, write_issued, write_pumped, write_word,
     written,
 };
-use super::line::write_line;
 use super::machine::Machine;
 use super::trace::write_trace;
 use super::watcher::Nobody;
@@ -17,6 +16,7 @@ use address_map::{CoreId, LineAddr, Request, SliceId, WordAddr};
 use litmus_text::{Command, TextFault};
 use mshr_file::MissFile;
 use slice_core::Pick;
+use slice_text::write_line;
 use stats_report::{ReportError, write_report};
 use std::io::Write;
 
@@ -39,6 +39,7 @@ impl<F: MissFile> Machine<F> {
             Command::Log(slice) => self.run_log(slice, out),
             Command::Stats => self.run_stats(out),
             Command::Waiting => self.run_waiting(out),
+            Command::Show => self.run_show(out),
             Command::Pump(calls) => self.run_pump(calls, out),
         }
     }

@@ -21,6 +21,7 @@ no_command name rest other (commands.State line) w = other verbs.State w.0
 no_command name rest other (commands.Log slice) w = other verbs.Log w.0
 no_command name rest other commands.Stats w = other verbs.Stats w.0
 no_command name rest other commands.Waiting w = other verbs.Waiting w.0
+no_command name rest other commands.Show w = other verbs.Show w.0
 no_command name rest other (commands.Pump calls) w = other verbs.Pump w.0
 
 -- and write none

@@ -40,6 +40,7 @@ parts_of (commands.State line) = key (codes "state") ∷ num line.0 ∷ []
 parts_of (commands.Log slice) = key (codes "log") ∷ num slice.0 ∷ []
 parts_of commands.Stats = key (codes "stats") ∷ []
 parts_of commands.Waiting = key (codes "waiting") ∷ []
+parts_of commands.Show = key (codes "show") ∷ []
 parts_of (commands.Pump calls) = key (codes "pump") ∷ num calls ∷ []
 
 -- the machine has this core, and this line
@@ -77,6 +78,7 @@ IsInRange config (commands.State line) = HasLine config line
 IsInRange config (commands.Log slice) = slice.0 < config.slices
 IsInRange config commands.Stats = Unit {0}
 IsInRange config commands.Waiting = Unit {0}
+IsInRange config commands.Show = Unit {0}
 IsInRange config (commands.Pump calls) = Unit {0}
 
 -- a tag is a number below 256

@@ -22,6 +22,8 @@ pub enum Command {
     Stats,
     /// Shows the messages in flight.
     Waiting,
+    /// Shows all that isn't at rest.
+    Show,
     /// Delivers messages, by so many calls at most.
     Pump(u64),
 }

@@ -47,6 +47,7 @@ fn parse_called(config: &Checked, verb: Verb, words: &[&[u8]]) -> Result<Command
         Verb::Log => parse_log(config, words),
         Verb::Stats => parse_stats(words),
         Verb::Waiting => parse_waiting(words),
+        Verb::Show => parse_show(words),
         Verb::Pump => parse_pump(words),
     }
 }
@@ -126,6 +127,13 @@ fn parse_waiting(words: &[&[u8]]) -> Result<Command, LineFault>
 {
     no_numbers(words)?;
     Ok(Command::Waiting)
+}
+
+fn parse_show(words: &[&[u8]]) -> Result<Command, LineFault>
+    ensures { (config : Config) → ReadsAs config (codes "show" ∷ map (λ w. w.now) words.now) result }
+{
+    no_numbers(words)?;
+    Ok(Command::Show)
 }
 
 fn parse_pump(words: &[&[u8]]) -> Result<Command, LineFault>

@@ -16,11 +16,12 @@ pub(super) enum Verb {
     Log,
     Stats,
     Waiting,
+    Show,
     Pump,
 }
 
 /// Each verb, by its name.
-static VERBS: [(&[u8], Verb); 10] = [
+static VERBS: [(&[u8], Verb); 11] = [
     (b"issue", Verb::Issue),
     (b"evict", Verb::Evict),
     (b"deliver", Verb::Deliver),
@@ -30,6 +31,7 @@ static VERBS: [(&[u8], Verb); 10] = [
     (b"log", Verb::Log),
     (b"stats", Verb::Stats),
     (b"waiting", Verb::Waiting),
+    (b"show", Verb::Show),
     (b"pump", Verb::Pump),
 ];
 

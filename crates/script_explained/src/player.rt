@@ -52,6 +52,7 @@ impl<F: MissFile> Player for Explained<F> {
             | Command::Log(_)
             | Command::Stats
             | Command::Waiting
+            | Command::Show
             | Command::Pump(_) => self.machine.run(command, out),
         }
     }

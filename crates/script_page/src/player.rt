@@ -169,6 +169,7 @@ fn line_named(command: Command) -> Option<LineAddr>
         | Command::Log(_)
         | Command::Stats
         | Command::Waiting
+        | Command::Show
         | Command::Pump(_) => None,
     }
 }

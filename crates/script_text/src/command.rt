@@ -40,6 +40,7 @@ pub fn write_command<W: Write>(command: Command, out: &mut W) -> fmt::Result
         }
         Command::Stats => writeln!(out, "stats"),
         Command::Waiting => writeln!(out, "waiting"),
+        Command::Show => writeln!(out, "show"),
         Command::Pump(calls) => writeln!(out, "pump {calls}"),
     }
 }

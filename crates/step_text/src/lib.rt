@@ -13,7 +13,7 @@ pub use deeds::Done;
 pub use delivery::Delivery;
 pub use issue::{Eviction, Issue};
 pub use message::MessageName;
-pub use performed::Performed;
+pub use performed::{Asked, Performed};
 
 mod case;
 mod cores;

@@ -23,11 +23,11 @@ impl fmt::Display for Performed {
     }
 }
 
-/// What an access asks for.
+/// What an access asks for, in a script's words.
 #[derive(Clone, Copy)]
-struct Asked {
-    word: WordAddr,
-    op: Op,
+pub struct Asked {
+    pub word: WordAddr,
+    pub op: Op,
 }
 
 impl fmt::Display for Asked {

@@ -20,7 +20,8 @@ no_verb name other verbs.State = other.1.1.1.1.1.0
 no_verb name other verbs.Log = other.1.1.1.1.1.1.0
 no_verb name other verbs.Stats = other.1.1.1.1.1.1.1.0
 no_verb name other verbs.Waiting = other.1.1.1.1.1.1.1.1.0
-no_verb name other verbs.Pump = other.1.1.1.1.1.1.1.1.1.0
+no_verb name other verbs.Show = other.1.1.1.1.1.1.1.1.1.0
+no_verb name other verbs.Pump = other.1.1.1.1.1.1.1.1.1.1.0
 
 pub returns-clause-found : goal.returns-clause-found
 returns-clause-found c =

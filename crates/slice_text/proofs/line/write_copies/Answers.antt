@@ -1,8 +1,8 @@
 use Rattle.std.proofs.Common.{refl}
 use Rattle.std.proofs.Output.{writes_in_calls_append}
 use Rattle.script_text.proofs.Pieces.{next_piece}
-use Rattle.litmus_script.specs.Shown.{text_of_states}
-use Rattle.litmus_script.proofs.line.write_copies.Goals as goal
+use Rattle.slice_text.specs.Line.{text_of_states}
+use Rattle.slice_text.proofs.line.write_copies.Goals as goal
 
 pub loop-state-init : goal.loop-state-init
 loop-state-init g c = λ new more. writes_in_calls_append g.W.Write.write_str_gives _ _ _ _ _ c.in_ok-write.ensures.writes more

@@ -1,6 +1,6 @@
 ghost use Rattle.std.specs.Prelude.{◌++◌, OnOk, codes};
 ghost use Rattle.std.specs.Fmt.{WritesInCalls};
-ghost use Rattle.litmus_script.specs.Shown.{text_of_entry, text_of_line, text_of_owner, text_of_states, text_of_words};
+ghost use Rattle.slice_text.specs.Line.{text_of_entry, text_of_line, text_of_owner, text_of_states, text_of_words};
 
 use address_map::{CoreId, CoreSet, LineAddr};
 use cache_table::CopyState;
@@ -42,7 +42,14 @@ fn write_home<W: Write>(home: &[u64], out: &mut W) -> fmt::Result
     ensures { OnOk result (WritesInCalls W.write_str_gives out.old (codes " home" ++ text_of_words home.now) out.new) }
 {
     write!(out, " home")?;
-    for word in home {
+    write_words(home, out)
+}
+
+/// Writes the words of a block.
+pub(crate) fn write_words<W: Write>(words: &[u64], out: &mut W) -> fmt::Result
+    ensures { OnOk result (WritesInCalls W.write_str_gives out.old (text_of_words words.now) out.new) }
+{
+    for word in words {
         write!(out, " {word}")?;
     }
     Ok(())

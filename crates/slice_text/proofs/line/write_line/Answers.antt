@@ -1,6 +1,6 @@
 use Rattle.std.proofs.lemmas.Result.{on_ok_weaker}
 use Rattle.std.proofs.Output.{writes_in_calls_append}
-use Rattle.litmus_script.proofs.line.write_line.Goals as goal
+use Rattle.slice_text.proofs.line.write_line.Goals as goal
 
 pub returns : goal.returns
 returns g c =

@@ -1,8 +1,8 @@
 use Rattle.std.proofs.Common.{◌++◌, drop}
 use Rattle.std.specs.Prelude.{codes}
 use Rattle.std.specs.Fmt.{WritesInCalls}
-use Rattle.litmus_script.specs.Shown.{text_of_states}
-use Rattle.litmus_script.proofs.line.write_copies.Given as goal
+use Rattle.slice_text.specs.Line.{text_of_states}
+use Rattle.slice_text.proofs.line.write_copies.Given as goal
 
 -- who writes those that are left has written all
 abbrev pub invariant-loop-state : goal.invariant-loop-state

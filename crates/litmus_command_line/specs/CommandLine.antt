@@ -32,7 +32,11 @@ flag_rule name = record (new_rule name) { long = Some name; action = Some SetTru
 -- the subcommand that runs a script
 abbrev pub script_app : App
 script_app =
-    with_rule (with_rule (with_rule (new_app (codes "script")) file_rule) (flag_rule (codes "echo"))) (flag_rule (codes "explain"))
+    with_rule
+    (with_rule
+    (with_rule (with_rule (new_app (codes "script")) file_rule) (flag_rule (codes "echo")))
+    (flag_rule (codes "explain")))
+    (flag_rule (codes "beside"))
 
 -- the subcommand that answers a script's lines one by one, behind a text that may be left out
 abbrev pub try_app : App
@@ -206,9 +210,9 @@ IsNumberIfGiven name rows (Some n) = IsNumberOf name rows n
 
 -- the subcommand of this name, with these values, is what the line holds
 abbrev pub IsLine : Text → List Row → CommandLine → Type 0
-IsLine name rows (lines.Script file echo explain) =
+IsLine name rows (lines.Script file echo explain beside) =
     (name ≡ codes "script") × (first_of (codes "FILE") rows ≡ Some file.now) × (echo ≡ is_given (codes "echo") rows)
-    × (explain ≡ is_given (codes "explain") rows)
+    × (explain ≡ is_given (codes "explain") rows) × (beside ≡ is_given (codes "beside") rows)
 IsLine name rows (lines.Try file) =
     (name ≡ codes "try") × (option_map (λ f. f.now) file ≡ first_of (codes "FILE") rows)
 IsLine name rows (lines.Chart file) = (name ≡ codes "chart") × (first_of (codes "FILE") rows ≡ Some file.now)

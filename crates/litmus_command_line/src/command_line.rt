@@ -16,12 +16,13 @@ use std::alloc::{AllocError, Global};
 /// What the program's command line asks for.
 #[derive(Clone, Copy, Debug, PartialEq, Eq)]
 pub enum CommandLine<'a> {
-    /// Run the script in this file. With `echo`, print each command's line before its answer; with `explain`, what
-    /// happened behind it.
+    /// Run the script in this file. With `echo`, print each command's line before its answer, and with `beside` on its
+    /// left; with `explain`, what happened behind it.
     Script {
         file: &'a str,
         echo: bool,
         explain: bool,
+        beside: bool,
     },
     /// Answer a script's lines one by one, behind the script in this file if one is named.
     Try {
@@ -123,10 +124,12 @@ fn script_line<'a>(given: &ArgMatches<'a>) -> Option<CommandLine<'a>>
     let file = file_of(given)?;
     let echo = is_given(given, "echo");
     let explain = is_given(given, "explain");
+    let beside = is_given(given, "beside");
     Some(CommandLine::Script {
         file,
         echo,
         explain,
+        beside,
     })
 }
 
@@ -308,7 +311,12 @@ fn script<'a>(alloc: Global) -> Result<Command<'a>, AllocError>
         .after_help(help::SCRIPT)
         .arg(file(alloc, "The script: one command a line; - is standard input"))?
         .arg(flag(alloc, "echo", "Print each command's line before its answer"))?
-        .arg(flag(alloc, "explain", "Print behind each answer what happened"))
+        .arg(flag(alloc, "explain", "Print behind each answer what happened"))?
+        .arg(flag(
+            alloc,
+            "beside",
+            "Print each answer beside its command's line",
+        ))
 }
 
 fn prompt<'a>(alloc: Global) -> Result<Command<'a>, AllocError>

@@ -8,8 +8,8 @@
 use clap::Error;
 use clap::error::ErrorKind;
 use litmus::{
-    CommandLine, read_line, run_chart, run_check, run_explained, run_export, run_litmus, run_page,
-    run_script, run_table, run_test, run_walk, write_walk,
+    CommandLine, read_line, run_beside, run_chart, run_check, run_explained, run_export,
+    run_litmus, run_page, run_script, run_table, run_test, run_walk, write_walk,
 };
 use litmus_text::TextFault;
 use progress::Shown;
@@ -142,6 +142,11 @@ where
     let is_watched = people.watch;
     let shown = &mut Shown { rt, is_watched };
     match line {
+        CommandLine::Script {
+            explain,
+            beside: true,
+            ..
+        } => run_beside(alloc, input, explain, out),
         CommandLine::Script {
             echo,
             explain: true,

@@ -46,11 +46,13 @@ fn reads_a_script(rt: HostRuntime) -> Result<(), Fail> {
         file,
         echo: false,
         explain: false,
+        beside: false,
     };
     let echo = CommandLine::Script {
         file,
         echo: true,
         explain: false,
+        beside: false,
     };
     assert!(rt; is_read(rt.alloc(), &["lockup", "script", file], plain)?);
     assert!(rt; is_read(rt.alloc(), &["lockup", "script", "--echo", file], echo)?);
@@ -65,6 +67,7 @@ fn reads_a_script_to_be_explained(rt: HostRuntime) -> Result<(), Fail> {
         file,
         echo: false,
         explain: true,
+        beside: false,
     };
     assert!(rt;
         is_read(
@@ -73,6 +76,19 @@ fn reads_a_script_to_be_explained(rt: HostRuntime) -> Result<(), Fail> {
             explained
         )?
     );
+    Ok(())
+}
+
+#[test]
+fn reads_a_script_with_answers_beside_it(rt: HostRuntime) -> Result<(), Fail> {
+    let file = "first.txt";
+    let beside = CommandLine::Script {
+        file,
+        echo: false,
+        explain: false,
+        beside: true,
+    };
+    assert!(rt; is_read(rt.alloc(), &["lockup", "script", "--beside", file], beside)?);
     Ok(())
 }
 

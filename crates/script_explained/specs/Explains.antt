@@ -1,8 +1,8 @@
 -- What a command does to a machine, and what is written of it where answers are explained.
-use Rattle.std.specs.Prelude.{ℕ, ◌%◌, List, Option}
+use Rattle.std.specs.Prelude.{◌≡◌, ℕ, ◌/◌, ◌%◌, List, Option}
 use Rattle.address_map.specs.Place.{line_of as line_of_word}
 use Rattle.address_map.specs.declared.config.Config.{Config}
-use Rattle.litmus_script.specs.Machine.{OneSlice}
+use Rattle.litmus_script.specs.Machine.{HasAt, OneSlice}
 use Rattle.litmus_script.specs.Prints.{IsPrinted}
 use Rattle.litmus_script.specs.Script.{Playing}
 use Rattle.litmus_text.specs.declared.command.Command.{Command}
@@ -10,6 +10,7 @@ use Rattle.litmus_text.specs.declared.command.Command.TheVariants as commands
 use Rattle.script_explained.specs.Delivery.{ExplainsDelivery}
 use Rattle.script_explained.specs.Hand.{ExplainsHand}
 use Rattle.script_explained.specs.Issue.{ExplainsEviction, ExplainsIssue}
+use Rattle.script_explained.specs.Unrest.{ExplainsWord}
 use Rattle.slice_core_plan.specs.Parts.{PartsView}
 use Rattle.slice_queues_message.specs.Pick.{line_of}
 
@@ -24,6 +25,8 @@ Explains config (commands.Deliver pick) old new before after =
     let slice = (line_of pick).0 % config.slices in OneSlice slice (ExplainsDelivery slice pick before after) old new
 Explains config (commands.Hand core slice) old new before after =
     OneSlice slice.0 (ExplainsHand core before after) old new
+Explains config (commands.Word word) old new before after =
+    (new ≡ old) × HasAt old (word.0 / 8 % config.slices) (λ state. ExplainsWord word before after state.view)
 Explains config command old new before after = IsPrinted config command old new before after
 
 pub record IsExplained (config : Config) (command : Command) (old new : List PartsView) (before after : Option (List ℕ)) : Type 0 where

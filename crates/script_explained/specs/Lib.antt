@@ -4,3 +4,4 @@ pub mod Hand
 pub mod Issue
 pub mod Look
 pub mod Named
+pub mod Unrest

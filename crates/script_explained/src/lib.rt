@@ -15,3 +15,4 @@ mod look;
 mod named;
 mod player;
 mod style;
+mod unrest;

@@ -1,4 +1,4 @@
-ghost use Rattle.std.specs.Prelude.{◌≡◌, ◌<◌, length, IfErr, OnOk};
+ghost use Rattle.std.specs.Prelude.{◌≡◌, ◌/◌, ◌<◌, length, IfErr, OnOk};
 ghost use Rattle.litmus_script.specs.Machine.{OneSlice};
 ghost use Rattle.litmus_script.specs.Play.{IsOfRun};
 ghost use Rattle.litmus_text.specs.Command.{HasCore};
@@ -7,8 +7,8 @@ ghost use Rattle.script_explained.specs.Delivery.{ExplainsDelivery};
 ghost use Rattle.script_explained.specs.Explains.{IsExplained};
 ghost use Rattle.script_explained.specs.Issue.{ExplainsIssue};
 
-use super::{delivery, hand, issue};
-use address_map::{Checked, CoreId, LineAddr, Request, SliceId};
+use super::{delivery, hand, issue, unrest};
+use address_map::{Checked, CoreId, LineAddr, Request, SliceId, WordAddr};
 use litmus_script::{Machine, Player};
 use litmus_text::{Command, Statement, TextFault};
 use mshr_file::MissFile;
@@ -47,8 +47,8 @@ impl<F: MissFile> Player for Explained<F> {
             Command::Evict { core, line } => self.evict(core, line, out),
             Command::Deliver(pick) => self.deliver(pick, out),
             Command::Hand { core, slice } => self.hand(core, slice, out),
-            Command::Word(_)
-            | Command::State(_)
+            Command::Word(word) => self.word(word, out),
+            Command::State(_)
             | Command::Log(_)
             | Command::Stats
             | Command::Waiting
@@ -153,5 +153,17 @@ impl<F: MissFile> Explained<F> {
             self.old.machine.slices.items self.new.machine.slices.items (W.contents out.old) (W.contents out.new)) }
     {
         hand::hand(&mut self.machine.slices[slice.0 as usize], core, out)
+    }
+
+    fn word<W: Write>(&self, word: WordAddr, out: &mut W) -> Result<(), TextFault>
+        requires { word.0 / 8 < self.now.machine.config.lines }
+        ensures fault { IfErr result IsOfRun }
+        ensures told { OnOk result (IsExplained self.now.machine.config (commands.Word word)
+            self.now.machine.slices.items self.now.machine.slices.items (W.contents out.old) (W.contents out.new)) }
+    {
+        let Machine { config, slices, .. } = &self.machine;
+        let shown = self.machine.word_now(word);
+        let slice = self.machine.slice_of(word.line());
+        unrest::write_word(config, &slices[slice], shown, out)
     }
 }

@@ -8,7 +8,7 @@
 use clap::Error;
 use clap::error::ErrorKind;
 use litmus::{
-    CommandLine, read_line, run_beside, run_chart, run_check, run_explained, run_export,
+    CommandLine, expected, read_line, run_beside, run_chart, run_check, run_explained, run_export,
     run_litmus, run_page, run_script, run_table, run_test, run_walk, write_walk,
 };
 use litmus_text::TextFault;
@@ -76,10 +76,32 @@ where
     match print_answers(rt, line, &input, people) {
         Ok(status) => status,
         Err(fault) => {
-            complain(rt, fault);
+            complain_of(rt, line, &input, fault);
             fault.status()
         }
     }
+}
+
+/// Complains of a fault, and where answers are explained, of what the line at fault was expected to say.
+fn complain_of<R>(rt: &R, line: CommandLine<'_>, input: &[u8], fault: TextFault)
+where
+    R: AllocGlobal + Eprint,
+{
+    if !is_explained(line) {
+        return complain(rt, fault);
+    }
+    match expected(rt.alloc(), input, fault) {
+        Some(misfit) => complain(rt, format_args!("{fault}   {misfit}")),
+        None => complain(rt, fault),
+    }
+}
+
+/// Whether answers are explained.
+const fn is_explained(line: CommandLine<'_>) -> bool {
+    matches!(
+        line,
+        CommandLine::Script { explain: true, .. } | CommandLine::Try { .. }
+    )
 }
 
 /// The file of the text that a command line names.

@@ -1,0 +1,261 @@
+//! What a line at fault was expected to say.
+//!
+//! This is a hint for who reads a fault, and no contract says which it is: `tests/expected` tries it.
+
+use address_map::Checked;
+use litmus_script::Script;
+use litmus_text::{LineFault, Statements, TextFault, parse_number, value_named};
+use std::alloc::Global;
+use std::fmt;
+use std::str::from_utf8;
+
+/// What stands at a place of a line: a keyword, or a number.
+#[derive(Clone, Copy)]
+enum Slot {
+    Name,
+    Channel,
+    Access,
+    Policy,
+    Misses,
+    Setting,
+    Core,
+    Line,
+    Slice,
+    Word,
+    Tag,
+    Number,
+}
+
+/// A keyword, and what stands behind it.
+type Keyword = (&'static [u8], &'static [Slot]);
+
+/// The lines of a script.
+static NAMES: [Keyword; 23] = [
+    (b"issue", &[Slot::Core, Slot::Tag, Slot::Access]),
+    (b"evict", &[Slot::Core, Slot::Line]),
+    (b"deliver", &[Slot::Channel]),
+    (b"pump", &[Slot::Number]),
+    (b"hand", &[Slot::Core, Slot::Slice]),
+    (b"word", &[Slot::Word]),
+    (b"state", &[Slot::Line]),
+    (b"waiting", &[]),
+    (b"stats", &[]),
+    (b"log", &[Slot::Slice]),
+    (b"cores", &[Slot::Number]),
+    (b"slices", &[Slot::Number]),
+    (b"lines", &[Slot::Number]),
+    (b"sets", &[Slot::Number]),
+    (b"ways", &[Slot::Number]),
+    (b"mshrs", &[Slot::Number]),
+    (b"targets", &[Slot::Number]),
+    (b"writebacks", &[Slot::Number]),
+    (b"policy", &[Slot::Policy]),
+    (b"misses", &[Slot::Misses]),
+    (b"exclusive", &[Slot::Setting]),
+    (b"init", &[Slot::Number, Slot::Number]),
+    (b"counter", &[Slot::Number]),
+];
+
+static CHANNELS: [Keyword; 5] = [
+    (b"req", &[Slot::Line, Slot::Core]),
+    (b"fwd", &[Slot::Line, Slot::Core]),
+    (b"data", &[Slot::Line, Slot::Core]),
+    (b"ack", &[Slot::Line, Slot::Core, Slot::Core]),
+    (b"home", &[Slot::Line]),
+];
+
+static ACCESSES: [Keyword; 4] = [
+    (b"load", &[Slot::Number]),
+    (b"store", &[Slot::Number, Slot::Number]),
+    (b"add", &[Slot::Number, Slot::Number]),
+    (b"cas", &[Slot::Number, Slot::Number, Slot::Number]),
+];
+
+static POLICIES: [Keyword; 3] = [(b"lru", &[]), (b"fifo", &[]), (b"random", &[Slot::Number])];
+
+static MISSES: [Keyword; 2] = [(b"explicit", &[]), (b"inverted", &[])];
+
+static SETTINGS: [Keyword; 2] = [(b"on", &[]), (b"off", &[])];
+
+/// The largest tag that can be written.
+const LAST_TAG: u64 = 255;
+
+/// What a line's numbers are judged by: the fault that the line has, and the machine, where there is one.
+#[derive(Drop)]
+struct Judge {
+    fault: LineFault,
+    config: Option<Checked>,
+}
+
+impl Judge {
+    /// The largest number that can stand there, where that isn't any.
+    fn most(&self, slot: Slot) -> Option<u64> {
+        if let Slot::Tag = slot {
+            return Some(LAST_TAG);
+        }
+        let config = self.config.as_ref()?;
+        let many = match slot {
+            Slot::Core => config.cores() as u64,
+            Slot::Slice => config.slices() as u64,
+            Slot::Line => config.lines() as u64,
+            Slot::Word => (config.lines() as u64).saturating_mul(8),
+            _ => return None,
+        };
+        Some(many.saturating_sub(1))
+    }
+
+    /// Whether a word can stand for a number, as far as this fault goes.
+    fn takes(&self, slot: Slot, word: &[u8]) -> bool {
+        let number = parse_number(word);
+        match (self.fault, number) {
+            (LineFault::BadNumber, None) => false,
+            (LineFault::BadNumber, Some(number)) => {
+                !matches!(slot, Slot::Tag) || number <= LAST_TAG
+            }
+            (LineFault::OutOfRange, Some(number)) => match self.most(slot) {
+                Some(most) => number <= most,
+                None => true,
+            },
+            _ => true,
+        }
+    }
+
+    /// What stands behind the word, where it can stand there itself.
+    fn behind(&self, slot: Slot, rest: &'static [Slot], word: &[u8]) -> Option<&'static [Slot]> {
+        match slot {
+            Slot::Name => value_named(&NAMES, word),
+            Slot::Channel => value_named(&CHANNELS, word),
+            Slot::Access => value_named(&ACCESSES, word),
+            Slot::Policy => value_named(&POLICIES, word),
+            Slot::Misses => value_named(&MISSES, word),
+            Slot::Setting => value_named(&SETTINGS, word),
+            _ if self.takes(slot, word) => Some(rest),
+            _ => None,
+        }
+    }
+
+    /// The first word that can't stand where it does, or the end of a line that lacks one.
+    fn first_misfit<'a>(&self, words: &[&'a [u8]]) -> Option<Misfit<'a>> {
+        let mut slots: &'static [Slot] = &[Slot::Name];
+        for word in words {
+            let Some((slot, rest)) = slots.split_first() else {
+                return Some(Misfit {
+                    found: Some(word),
+                    wanted: Wanted::End,
+                });
+            };
+            match self.behind(*slot, rest, word) {
+                Some(behind) => slots = behind,
+                None => return Some(self.wanted(Some(word), *slot)),
+            }
+        }
+        let slot = slots.first()?;
+        Some(self.wanted(None, *slot))
+    }
+
+    fn wanted<'a>(&self, found: Option<&'a [u8]>, slot: Slot) -> Misfit<'a> {
+        Misfit {
+            found,
+            wanted: Wanted::Slot(slot, self.most(slot)),
+        }
+    }
+}
+
+/// What was wanted where a word, or the end of the line, was found.
+#[derive(Clone, Copy)]
+enum Wanted {
+    /// This, up to a number where it has a last one.
+    Slot(Slot, Option<u64>),
+    End,
+    /// A place before the first command.
+    Earlier,
+}
+
+/// The first word of a line that fits nothing, and what could stand there.
+#[derive(Clone, Copy)]
+pub struct Misfit<'a> {
+    found: Option<&'a [u8]>,
+    wanted: Wanted,
+}
+
+/// What the line at fault was expected to say, where the fault is a line's.
+pub fn expected(alloc: Global, input: &[u8], fault: TextFault) -> Option<Misfit<'_>> {
+    let TextFault::Line { number, fault } = fault else {
+        return None;
+    };
+    for statement in Statements::of(input) {
+        if statement.number == number {
+            return expected_of(alloc, input, statement.words.as_slice(), fault);
+        }
+    }
+    None
+}
+
+fn expected_of<'a>(
+    alloc: Global,
+    input: &[u8],
+    words: &[&'a [u8]],
+    fault: LineFault,
+) -> Option<Misfit<'a>> {
+    if let LineFault::LateConfiguration = fault {
+        return Some(Misfit {
+            found: Some(words.first()?),
+            wanted: Wanted::Earlier,
+        });
+    }
+    let config = match Script::read(alloc, input) {
+        Ok(Some(Script { config, .. })) => Some(config),
+        _ => None,
+    };
+    let judge = Judge { fault, config };
+    judge.first_misfit(words)
+}
+
+impl Slot {
+    const fn text(self) -> &'static str {
+        match self {
+            Slot::Name => {
+                "issue, evict, deliver, pump, hand, word, state, waiting, stats, log, or a field of the configuration"
+            }
+            Slot::Channel => "req, fwd, data, ack or home",
+            Slot::Access => "load, store, add or cas",
+            Slot::Policy => "lru, fifo or random",
+            Slot::Misses => "explicit or inverted",
+            Slot::Setting => "on or off",
+            Slot::Core => "a core",
+            Slot::Line => "a line",
+            Slot::Slice => "a slice",
+            Slot::Word => "a word",
+            Slot::Tag => "a tag",
+            Slot::Number => "a number",
+        }
+    }
+}
+
+impl fmt::Display for Misfit<'_> {
+    fn fmt<W: fmt::Write>(&self, f: &mut fmt::Formatter<W>) -> fmt::Result {
+        match self.found {
+            Some(word) => write_word(word, f)?,
+            None => f.write_str("end of the line")?,
+        }
+        match self.wanted {
+            Wanted::Slot(slot, most) => {
+                let text = slot.text();
+                match most {
+                    Some(most) => write!(f, ": {text}, 0 to {most}"),
+                    None => write!(f, ": {text}"),
+                }
+            }
+            Wanted::End => f.write_str(": the end of the line"),
+            Wanted::Earlier => f.write_str(": before the first command"),
+        }
+    }
+}
+
+/// Writes a word, where all of it is printed.
+fn write_word<W: fmt::Write>(word: &[u8], f: &mut fmt::Formatter<W>) -> fmt::Result {
+    match from_utf8(word) {
+        Ok(text) if word.iter().all(|byte| byte.is_ascii_graphic()) => write!(f, "'{text}'"),
+        _ => f.write_str("a word that isn't printed"),
+    }
+}

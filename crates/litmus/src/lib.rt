@@ -8,6 +8,7 @@
 //! - [`run_test`] tests a script against the answers that it wants.
 //! - [`run_litmus`] runs a litmus test over threads, and [`run_walk`] on random schedules without any; each counts the
 //!   outcomes, and tells a [`Progress`] how far it is. [`write_walk`] prints a round of such a schedule as a script.
+//! - [`run_programs`] runs programs on a random schedule, and reports what each core and each line met.
 //! - [`run_check`] judges a trace, and writes what it comes to.
 //! - [`run_table`] prints a table of the protocol, and [`run_export`] the protocol of one line as a model.
 //!
@@ -20,6 +21,7 @@ pub use litmus_chart::run_chart;
 pub use litmus_command_line::{CommandLine, ModelCores, Table, read_line};
 pub use litmus_script::run_script;
 pub use litmus_test::Progress;
+pub use program_run::{Form, run_programs};
 pub use script_beside::run_beside;
 pub use script_explained::{expected, run_explained};
 pub use script_page::run_page;

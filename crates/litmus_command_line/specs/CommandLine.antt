@@ -78,6 +78,13 @@ walk_app =
     (number_rule_or (codes "seed") (codes "1")))
     (flag_rule (codes "script"))
 
+-- the subcommand that runs programs
+abbrev pub run_app : App
+run_app =
+    with_rule
+    (with_rule (with_rule (new_app (codes "run")) file_rule) (number_rule_or (codes "seed") (codes "1")))
+    (flag_rule (codes "json"))
+
 -- the subcommand that tests a script
 abbrev pub test_app : App
 test_app = with_rule (new_app (codes "test")) file_rule
@@ -127,10 +134,12 @@ table_program names =
     (with_subcommand
     (with_subcommand
     (with_subcommand
+    (with_subcommand
     (with_subcommand (with_subcommand (with_subcommand top_app script_app.top) try_app.top) chart_app.top)
     page_app.top)
     litmus_app.top)
     walk_app.top)
+    run_app.top)
     test_app.top)
     check_app.top)
     (table_app names).top
@@ -224,6 +233,9 @@ IsLine name rows (lines.Walk file rounds seed script) =
     (name ≡ codes "walk") × (first_of (codes "FILE") rows ≡ Some file.now)
     × IsNumberIfGiven (codes "rounds") rows rounds × IsNumberOf (codes "seed") rows seed
     × (script ≡ is_given (codes "script") rows)
+IsLine name rows (lines.Run file seed json) =
+    (name ≡ codes "run") × (first_of (codes "FILE") rows ≡ Some file.now) × IsNumberOf (codes "seed") rows seed
+    × (json ≡ is_given (codes "json") rows)
 IsLine name rows (lines.Test file) = (name ≡ codes "test") × (first_of (codes "FILE") rows ≡ Some file.now)
 IsLine name rows (lines.Check file) = (name ≡ codes "check") × (first_of (codes "FILE") rows ≡ Some file.now)
 IsLine name rows (lines.Table table exclusive) =

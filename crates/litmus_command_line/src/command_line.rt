@@ -3,7 +3,7 @@ ghost use Rattle.clap.specs.declared.builder.command.Command.TheViews.{out-Comma
 ghost use Rattle.litmus_command_line.specs.CommandLine.{IsAsked, IsLine, IsLockup, IsRead, IsTable, IsWith, chart_app, check_app};
 ghost use Rattle.litmus_command_line.specs.CommandLine.{file_rule, flag_rule, is_given, page_app, script_app, test_app, top_app, word_of};
 ghost use Rattle.litmus_command_line.specs.CommandLine.{IsNumberOf, IsNumberIfGiven, litmus_app, number_rule};
-ghost use Rattle.litmus_command_line.specs.CommandLine.{IsExport, number_rule_or, try_app, walk_app, word_of_number};
+ghost use Rattle.litmus_command_line.specs.CommandLine.{IsExport, number_rule_or, run_app, try_app, walk_app, word_of_number};
 ghost use Rattle.std.specs.Option.{option_map};
 ghost use Rattle.clap.specs.Words.{app_of, found_of, rows_of, rule_of, first_of, subcommand_rows_of};
 
@@ -50,6 +50,12 @@ pub enum CommandLine<'a> {
         rounds: Option<u64>,
         seed: u64,
         script: bool,
+    },
+    /// Run the programs in this file in the order that the seed draws. With `json`, report as a value of JSON.
+    Run {
+        file: &'a str,
+        seed: u64,
+        json: bool,
     },
     /// Test the script in this file against the answers that it wants.
     Test {
@@ -110,6 +116,7 @@ fn asked<'a>(matches: &ArgMatches<'a>) -> Option<CommandLine<'a>>
         "page" => page_line(given),
         "litmus" => litmus_line(given),
         "walk" => walk_line(given),
+        "run" => run_line(given),
         "test" => test_line(given),
         "check" => check_line(given),
         "table" => table_line(given),
@@ -176,6 +183,15 @@ fn walk_line<'a>(given: &ArgMatches<'a>) -> Option<CommandLine<'a>>
         seed,
         script,
     })
+}
+
+fn run_line<'a>(given: &ArgMatches<'a>) -> Option<CommandLine<'a>>
+    ensures { IfSome result (IsLine (codes "run") (rows_of (found_of given.now))) }
+{
+    let file = file_of(given)?;
+    let seed = number_of(given, "seed")?;
+    let json = is_given(given, "json");
+    Some(CommandLine::Run { file, seed, json })
 }
 
 fn test_line<'a>(given: &ArgMatches<'a>) -> Option<CommandLine<'a>>
@@ -275,6 +291,7 @@ fn lockup<'a>(alloc: Global) -> Result<Command<'a>, AllocError>
     let program = with(program, page(alloc))?;
     let program = with(program, litmus(alloc))?;
     let program = with(program, walk(alloc))?;
+    let program = with(program, run(alloc))?;
     let program = with(program, test(alloc))?;
     let program = with(program, check(alloc))?;
     let program = with(program, table(alloc))?;
@@ -386,6 +403,25 @@ fn walk<'a>(alloc: Global) -> Result<Command<'a>, AllocError>
             "1",
         ))?
         .arg(flag(alloc, "script", "Print the round of this seed, as a script"))
+}
+
+fn run<'a>(alloc: Global) -> Result<Command<'a>, AllocError>
+    ensures reads { IfOk result (λ c. app_of c ≡ run_app) }
+    ensures plain { IfOk result (λ c. (fields_of c).has_globals ≡ false) }
+{
+    Command::new(alloc, "run")
+        .about(
+            "Runs a program for each core, and counts its hits, its messages and its misses by cause",
+        )
+        .after_help(help::RUN)
+        .arg(file(alloc, "The programs; - is standard input"))?
+        .arg(number_or(
+            alloc,
+            "seed",
+            "Seeds the order of accesses and deliveries",
+            "1",
+        ))?
+        .arg(flag(alloc, "json", "Report as one value of JSON"))
 }
 
 fn test<'a>(alloc: Global) -> Result<Command<'a>, AllocError>

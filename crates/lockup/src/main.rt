@@ -8,8 +8,9 @@
 use clap::Error;
 use clap::error::ErrorKind;
 use litmus::{
-    CommandLine, expected, read_line, run_beside, run_chart, run_check, run_explained, run_export,
-    run_litmus, run_page, run_script, run_table, run_test, run_walk, write_walk,
+    CommandLine, Form, expected, read_line, run_beside, run_chart, run_check, run_explained,
+    run_export, run_litmus, run_page, run_programs, run_script, run_table, run_test, run_walk,
+    write_walk,
 };
 use litmus_text::TextFault;
 use progress::Shown;
@@ -113,6 +114,7 @@ fn file_of<'a>(line: CommandLine<'a>) -> Option<&'a str> {
         | CommandLine::Test { file }
         | CommandLine::Litmus { file, .. }
         | CommandLine::Walk { file, .. }
+        | CommandLine::Run { file, .. }
         | CommandLine::Check { file } => Some(file),
         CommandLine::Try { file } => file,
         CommandLine::Table { .. } | CommandLine::Export { .. } => None,
@@ -190,6 +192,12 @@ where
         CommandLine::Walk { rounds, seed, .. } => {
             run_walk(alloc, input, rounds, seed, shown, out)
         }
+        CommandLine::Run {
+            seed,
+            json: true,
+            ..
+        } => run_programs(alloc, input, seed, Form::Json, out),
+        CommandLine::Run { seed, .. } => run_programs(alloc, input, seed, Form::Table, out),
         CommandLine::Check { .. } => run_check(alloc, input, out),
         CommandLine::Table { table, exclusive } => run_table(table, exclusive, out),
         CommandLine::Export { cores, exclusive } => run_export(cores, exclusive, out),

@@ -73,6 +73,25 @@ Documents: docs/TEXTS.md (the lines of a litmus test), docs/EXAMPLES.md (tests t
 
 Example: lockup walk examples/litmus/sb.txt --rounds 1000";
 
+/// What stands below the options of `run`.
+pub const RUN: &str = "\
+A text of programs says what each core asks for, one access after another:
+
+  core 0
+  repeat 100
+    add 0 1            (or load 0, store 0 VALUE, cas 0 EXPECTED NEW)
+    load 8..15         each of these words
+  end
+
+Accesses and deliveries come in an order that is drawn from the seed. The report has a row for each
+core and for each line. A miss is counted by its cause: cold (the core never had the line), replaced
+(it gave the line up), upgrade (it may read the line and is to write it), and true or false (it lost
+the line to another's write; true where another core wrote the very word since).
+
+Documents: docs/TEXTS.md (the lines of programs, the columns of the report)
+
+Example: lockup run examples/programs/false_sharing.txt";
+
 /// What stands below the options of `test`.
 pub const TEST: &str = "\
 A line of the script may end in '=' and the answer that is wanted of its command; further lines of

@@ -17,12 +17,14 @@ returns c =
     c.in_ok-program-5.ensures in
     let six = with_known c.walk.result _ _ _ _ five c.walk.ensures.reads c.walk.ensures.plain
     c.in_ok-program-6.ensures in
-    let seven = with_known c.test.result _ _ _ _ six c.test.ensures.reads c.test.ensures.plain
+    let seven = with_known c.run.result _ _ _ _ six c.run.ensures.reads c.run.ensures.plain
     c.in_ok-program-7.ensures in
-    let eight = with_known c.check.result _ _ _ _ seven c.check.ensures.reads c.check.ensures.plain
+    let eight = with_known c.test.result _ _ _ _ seven c.test.ensures.reads c.test.ensures.plain
     c.in_ok-program-8.ensures in
-    let nine = with_table c.table.result _ _ _ eight (λ names. refl) c.table.ensures.reads c.table.ensures.plain
+    let nine = with_known c.check.result _ _ _ _ eight c.check.ensures.reads c.check.ensures.plain
     c.in_ok-program-9.ensures in
-    IfOk-weaker c.with-10.result _ _
-    (λ made. with_export c.export.result _ _ nine c.export.ensures.reads c.export.ensures.plain)
-    c.with-10.ensures
+    let ten = with_table c.table.result _ _ _ nine (λ names. refl) c.table.ensures.reads c.table.ensures.plain
+    c.in_ok-program-10.ensures in
+    IfOk-weaker c.with-11.result _ _
+    (λ made. with_export c.export.result _ _ ten c.export.ensures.reads c.export.ensures.plain)
+    c.with-11.ensures

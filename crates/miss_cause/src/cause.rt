@@ -1,0 +1,38 @@
+use address_map::{CoreId, LineAddr, WordAddr};
+
+/// Why an access missed.
+#[derive(Clone, Copy, Debug, PartialEq, Eq)]
+pub enum Cause {
+    /// The core never had the line before.
+    Cold,
+    /// The core gave the line up.
+    Replaced,
+    /// The core has the line, and may not write it.
+    Upgrade,
+    /// The core lost the line to another's write, and since then another core wrote the word.
+    TrueSharing,
+    /// The core lost the line to another's write, and no other core wrote the word since.
+    FalseSharing,
+}
+
+/// What happens to a core's copies and to words.
+#[derive(Clone, Copy, Debug, PartialEq, Eq)]
+pub enum Event {
+    /// The core has the line from now on.
+    Took(CoreId, LineAddr),
+    /// The core gives the line up to make room.
+    GaveUp(CoreId, LineAddr),
+    /// The core gives the line up to another core that writes it.
+    Lost(CoreId, LineAddr),
+    /// The core writes the word.
+    Wrote(CoreId, WordAddr),
+}
+
+/// What became last of a core's copy of a line.
+#[derive(Clone, Copy, Debug, PartialEq, Eq)]
+pub enum Fate {
+    Never,
+    Held,
+    Replaced,
+    Lost,
+}

@@ -30,7 +30,7 @@ enum Slot {
 type Keyword = (&'static [u8], &'static [Slot]);
 
 /// The lines of a script.
-static NAMES: [Keyword; 23] = [
+static NAMES: [Keyword; 24] = [
     (b"issue", &[Slot::Core, Slot::Tag, Slot::Access]),
     (b"evict", &[Slot::Core, Slot::Line]),
     (b"deliver", &[Slot::Channel]),
@@ -39,6 +39,7 @@ static NAMES: [Keyword; 23] = [
     (b"word", &[Slot::Word]),
     (b"state", &[Slot::Line]),
     (b"waiting", &[]),
+    (b"show", &[]),
     (b"stats", &[]),
     (b"log", &[Slot::Slice]),
     (b"cores", &[Slot::Number]),
@@ -215,7 +216,7 @@ impl Slot {
     const fn text(self) -> &'static str {
         match self {
             Slot::Name => {
-                "issue, evict, deliver, pump, hand, word, state, waiting, stats, log, or a field of the configuration"
+                "issue, evict, deliver, pump, hand, word, state, waiting, show, stats, log, or a field of the configuration"
             }
             Slot::Channel => "req, fwd, data, ack or home",
             Slot::Access => "load, store, add or cas",

@@ -1,7 +1,7 @@
 //! What the word `help` prints.
 
 pub(crate) const HELP: &str = "\
-Each line of a script is played: issue, evict, deliver, pump, hand, word, state, waiting, stats, log.
+Each line of a script is played: issue, evict, deliver, pump, hand, word, state, waiting, show, stats, log.
 Lines that configure the machine come before them.
   load C W            core C asks for word W, under its lowest free tag
   store C W V         .. writes V

@@ -57,12 +57,7 @@ pub(crate) fn is_gone(state: CopyState) -> bool
     matches!(state, CopyState::I)
 }
 
-fn write_held<W: Write>(
-    core: CoreId,
-    line: LineAddr,
-    copy: &CacheCopy,
-    out: &mut W,
-) -> fmt::Result
+fn write_held<W: Write>(core: CoreId, line: LineAddr, copy: &CacheCopy, out: &mut W) -> fmt::Result
     ensures { OnOk result (WritesInCalls W.write_str_gives out.old (text_of_held core line copy.now) out.new) }
 {
     write_name(core, line, copy.state, out)?;
@@ -72,12 +67,7 @@ fn write_held<W: Write>(
     writeln!(out)
 }
 
-fn write_name<W: Write>(
-    core: CoreId,
-    line: LineAddr,
-    state: CopyState,
-    out: &mut W,
-) -> fmt::Result
+fn write_name<W: Write>(core: CoreId, line: LineAddr, state: CopyState, out: &mut W) -> fmt::Result
     ensures { OnOk result (WritesInCalls W.write_str_gives out.old (text_of_name core line state) out.new) }
 {
     let CoreId(core) = core;
@@ -110,16 +100,17 @@ fn write_targets<W: Write>(
     Ok(())
 }
 
-fn write_target<W: Write>(
-    core: CoreId,
-    line: LineAddr,
-    target: Target,
-    out: &mut W,
-) -> fmt::Result
+fn write_target<W: Write>(core: CoreId, line: LineAddr, target: Target, out: &mut W) -> fmt::Result
     requires { line.0 < 65536 }
     ensures { OnOk result (WritesInCalls W.write_str_gives out.old (text_of_target core line target) out.new) }
 {
-    let Target { op, seq, since, offset, tag } = target;
+    let Target {
+        op,
+        seq,
+        since,
+        offset,
+        tag,
+    } = target;
     let word = WordAddr(8 * line.0 + offset.0 as u64);
     write_access(core, tag, Asked { word, op }, out)?;
     write_order(seq, since, out)

@@ -3,7 +3,7 @@
 //! - [`read_line`] reads what the program's own words ask for.
 //! - [`run_script`] runs a script, [`run_explained`] tells what happened behind each answer, [`run_beside`] prints each
 //!   answer beside its command, [`run_chart`] draws the run as a sequence diagram, and [`run_page`] writes it as a page
-//!   for a browser. [`expected`] tells what a line at fault was to say.
+//!   for a browser, [`run_waves`] as waves for a wave viewer. [`expected`] tells what a line at fault was to say.
 //! - [`run_prompt`] answers a script's lines one by one, and gives a [`Saver`] the script so far.
 //! - [`run_test`] tests a script against the answers that it wants.
 //! - [`run_litmus`] runs a litmus test over threads, and [`run_walk`] on random schedules without any; each counts the
@@ -27,6 +27,7 @@ pub use script_explained::{expected, run_explained};
 pub use script_page::run_page;
 pub use script_prompt::{Saver, run_prompt};
 pub use script_test::run_test;
+pub use script_waves::run_waves;
 pub use table::run_table;
 pub use tests::{run_litmus, run_walk, write_walk};
 

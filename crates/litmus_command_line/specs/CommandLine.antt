@@ -34,9 +34,11 @@ abbrev pub script_app : App
 script_app =
     with_rule
     (with_rule
+    (with_rule
     (with_rule (with_rule (new_app (codes "script")) file_rule) (flag_rule (codes "echo")))
     (flag_rule (codes "explain")))
-    (flag_rule (codes "beside"))
+    (flag_rule (codes "beside")))
+    (flag_rule (codes "vcd"))
 
 -- the subcommand that answers a script's lines one by one, behind a text that may be left out
 abbrev pub try_app : App
@@ -219,9 +221,10 @@ IsNumberIfGiven name rows (Some n) = IsNumberOf name rows n
 
 -- the subcommand of this name, with these values, is what the line holds
 abbrev pub IsLine : Text → List Row → CommandLine → Type 0
-IsLine name rows (lines.Script file echo explain beside) =
+IsLine name rows (lines.Script file echo explain beside vcd) =
     (name ≡ codes "script") × (first_of (codes "FILE") rows ≡ Some file.now) × (echo ≡ is_given (codes "echo") rows)
     × (explain ≡ is_given (codes "explain") rows) × (beside ≡ is_given (codes "beside") rows)
+    × (vcd ≡ is_given (codes "vcd") rows)
 IsLine name rows (lines.Try file) =
     (name ≡ codes "try") × (option_map (λ f. f.now) file ≡ first_of (codes "FILE") rows)
 IsLine name rows (lines.Chart file) = (name ≡ codes "chart") × (first_of (codes "FILE") rows ≡ Some file.now)

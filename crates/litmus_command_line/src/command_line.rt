@@ -17,12 +17,13 @@ use std::alloc::{AllocError, Global};
 #[derive(Clone, Copy, Debug, PartialEq, Eq)]
 pub enum CommandLine<'a> {
     /// Run the script in this file. With `echo`, print each command's line before its answer, and with `beside` on its
-    /// left; with `explain`, what happened behind it.
+    /// left; with `explain`, what happened behind it; with `vcd`, the run as waves in place of answers.
     Script {
         file: &'a str,
         echo: bool,
         explain: bool,
         beside: bool,
+        vcd: bool,
     },
     /// Answer a script's lines one by one, behind the script in this file if one is named.
     Try {
@@ -132,11 +133,13 @@ fn script_line<'a>(given: &ArgMatches<'a>) -> Option<CommandLine<'a>>
     let echo = is_given(given, "echo");
     let explain = is_given(given, "explain");
     let beside = is_given(given, "beside");
+    let vcd = is_given(given, "vcd");
     Some(CommandLine::Script {
         file,
         echo,
         explain,
         beside,
+        vcd,
     })
 }
 
@@ -333,6 +336,11 @@ fn script<'a>(alloc: Global) -> Result<Command<'a>, AllocError>
             alloc,
             "beside",
             "Print each answer beside its command's line",
+        ))?
+        .arg(flag(
+            alloc,
+            "vcd",
+            "Print the run as waves for a wave viewer, in place of answers",
         ))
 }
 

@@ -1,2 +1,2 @@
-mod Named
+mod PlacedLemmas
 mod StepsLemmas

@@ -42,12 +42,14 @@ pub record Texts : Type 0 where
   pub answer : List ℕ
   pub states : List ℕ
   pub waiting : List ℕ
+  pub shown : List ℕ
 
 -- a step as an object of JSON
 abbrev pub text_of_step : Texts → List ℕ
 text_of_step texts =
     codes "{\"command\":" ++ (json_of texts.command ++ (codes ",\"answer\":" ++ (json_of texts.answer
-    ++ (codes ",\"states\":" ++ (json_of texts.states ++ (codes ",\"waiting\":" ++ (json_of texts.waiting ++ codes "},\n")))))))
+    ++ (codes ",\"states\":" ++ (json_of texts.states ++ (codes ",\"waiting\":" ++ (json_of texts.waiting
+    ++ (codes ",\"shown\":" ++ (json_of texts.shown ++ codes "},\n")))))))))
 
 -- what a page knows of a run: its slices, and the lines that were named
 pub record Shown : Type 0 where
@@ -55,7 +57,7 @@ pub record Shown : Type 0 where
   pub named : List LineAddr
 
 -- The command is played and its answer told with what happened; of the machine behind it stand there what `state` prints
--- of each line named so far, and what `waiting` prints.
+-- of each line named so far, and what `waiting` and `show` print.
 pub record IsStep (config : Config) (line : List ℕ) (command : Command) (old new : Shown) (before after : Option (List ℕ)) : Type 0 where
   pub texts : Texts
   pub command_of : texts.command ≡ line
@@ -63,4 +65,5 @@ pub record IsStep (config : Config) (line : List ℕ) (command : Command) (old n
   pub names : Names config (line_named command) old.named new.named
   pub states : ShowsStates config new.slices new.named (Some []) (Some texts.states)
   pub waiting : IsPrinted config commands.Waiting new.slices new.slices (Some []) (Some texts.waiting)
+  pub shown : IsPrinted config commands.Show new.slices new.slices (Some []) (Some texts.shown)
   pub written : Appends before after (text_of_step texts)

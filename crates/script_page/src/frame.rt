@@ -18,7 +18,7 @@ input { width: 6rem; }
 main { display: grid; grid-template-columns: minmax(16rem, 26rem) 1fr; gap: 1rem; padding: 1rem; }
 main > * { min-width: 0; }
 h2 { font-size: 1rem; margin: 0 0 .4rem; }
-code, pre, #script, .word, td, th { font-family: ui-monospace, monospace; font-size: .88rem; }
+code, pre, #script, .word, .held, .rest, td, th { font-family: ui-monospace, monospace; font-size: .88rem; }
 #script { max-height: calc(100vh - 6rem); overflow: auto; border: 1px solid var(--edge); border-radius: 6px;
     position: sticky; top: 4.5rem; }
 #script div { padding: .05rem .5rem; white-space: pre-wrap; content-visibility: auto;
@@ -29,6 +29,7 @@ code, pre, #script, .word, td, th { font-family: ui-monospace, monospace; font-s
 #script [aria-current] { background: var(--lit); font-weight: bold; border-left: 4px solid; }
 #now { border: 1px solid var(--edge); border-radius: 6px; padding: .5rem .8rem; margin-bottom: 1rem; }
 #now pre { margin: .2rem 0; white-space: pre-wrap; }
+#now small { display: block; }
 .line { border: 1px solid var(--edge); border-radius: 6px; padding: .5rem .8rem; margin-bottom: 1rem; }
 .line.asked { border-width: 3px; }
 .boxes { display: flex; flex-wrap: wrap; gap: .5rem; margin: .3rem 0; }
@@ -124,6 +125,28 @@ function messagesAt(number) {
     return steps[number - 1].waiting.split('\n').filter(it => it !== '' && it !== 'none').map(messageOf);
 }
 
+// What `show` prints at a step: what each core has of a line with the accesses that wait there, under the line's and the
+// core's number; and the replies and the order of lines.
+function heldAt(number) {
+    const held = new Map();
+    const rest = [];
+    const texts = number === 0 ? [] : steps[number - 1].shown.split('\n');
+    let last = [];
+    for (const text of texts) {
+        const copy = /^core (\d+) line (\d+) \S+(?: (acks \d+ of \d+))? (block .*)$/.exec(text);
+        const target = /^core \d+ (tag \d+ awaits .*) seq \d+ since \d+$/.exec(text);
+        if (copy) {
+            last = [copy[4], copy[3]].filter(it => it);
+            held.set(copy[2] + ' ' + copy[1], last);
+        } else if (target) {
+            last.push(target[1]);
+        } else if (/^core \d+ tag \d+ reply |^slice \d+ ring ./.test(text)) {
+            rest.push(text);
+        }
+    }
+    return { held, rest };
+}
+
 // what a copy in a state may do
 const READ = ['S', 'SM_AD', 'SM_A'];
 const WRITTEN = ['M', 'E'];
@@ -161,6 +184,8 @@ function isRowFor(row, entry, core, exclusive) {
 function caseOf(number) {
     if (number === 0) return null;
     const { command, answer } = steps[number - 1];
+    // a pump meets a case with each of its deliveries
+    if (/^\s*pump\s/.test(command)) return null;
     const found = /^[^]*?   (core|dir) \d+ \(([^,]+), (.*?)\)(?=: )(: to (\w+))?/.exec(answer);
     if (!found) return null;
     const [, who, state, event, , next] = found;
@@ -214,7 +239,7 @@ function boxOf(name, state, before, remark, kind) {
     return box;
 }
 
-function cardOf(line, before, messages, isAsked) {
+function cardOf(line, before, messages, held, isAsked) {
     const card = made('div', 'line' + (isAsked ? ' asked' : ''));
     card.dataset.line = line.line;
     card.append(made('h2', '', 'line ' + line.line));
@@ -224,7 +249,10 @@ function cardOf(line, before, messages, isAsked) {
     boxes.append(boxOf('directory', line.dir, before && before.dir, who, 'home'));
     line.cores.forEach((state, core) => {
         const [kind, remark] = may(state);
-        boxes.append(boxOf('core ' + core, state, before && before.cores[core], remark, kind));
+        const box = boxOf('core ' + core, state, before && before.cores[core], remark, kind);
+        const own = held.get(line.line + ' ' + core) || [];
+        box.append(...own.map(it => made('small', 'held', it)));
+        boxes.append(box);
     });
     const kind = before && before.home !== line.home ? 'word changed' : 'word';
     const home = made('div', kind, 'home copy ' + line.home);
@@ -242,11 +270,15 @@ function showLines() {
     const lines = linesAt(now);
     const before = linesAt(Math.max(now - 1, 0));
     const messages = messagesAt(now);
+    const { held } = heldAt(now);
     const followed = at('follow').value;
     const asked = now === 0 ? '' : namedBy(steps[now - 1].command);
     const cards = [...lines.values()].sort((a, b) => a.line - b.line)
         .filter(it => followed === '' || it.line === followed)
-        .map(it => cardOf(it, before.get(it.line), messages.filter(one => one.line === it.line), it.line === asked));
+        .map(it => {
+            const own = messages.filter(one => one.line === it.line);
+            return cardOf(it, before.get(it.line), own, held, it.line === asked);
+        });
     at('lines').replaceChildren(...cards);
 }
 
@@ -266,7 +298,8 @@ function showNow() {
         return;
     }
     const { command, answer } = steps[now - 1];
-    box.replaceChildren(made('pre', '', command), made('pre', '', answer.replace(/\n$/, '')));
+    const rest = heldAt(now).rest.map(it => made('small', 'rest', it));
+    box.replaceChildren(made('pre', '', command), made('pre', '', answer.replace(/\n$/, '')), ...rest);
 }
 
 function tableOf(rows, met) {

@@ -45,7 +45,8 @@ fn write_as<W: Write>(plain: bool, byte: u8, out: &mut W) -> fmt::Result
     write_ascii(hex_digit(byte % 16), out)
 }
 
-fn write_ascii<W: Write>(byte: u8, out: &mut W) -> fmt::Result
+/// Writes a byte that is a character of ASCII.
+pub fn write_ascii<W: Write>(byte: u8, out: &mut W) -> fmt::Result
     requires { byte < 128 }
     ensures { OnOk result (WritesInCalls W.write_str_gives out.old (byte ∷ []) out.new) }
 {

@@ -1,5 +1,5 @@
 //! What plays a script's commands for a page.
-ghost use Rattle.std.specs.Prelude.{◌≡◌, ◌<◌, ◌↔◌, [], All, Contains, IfErr, IfOk, IsTrue, OnOk, Some};
+ghost use Rattle.std.specs.Prelude.{◌≡◌, [], All, IfErr, IfOk, OnOk, Some};
 ghost use Rattle.litmus_script.specs.Play.{IsOfRun};
 ghost use Rattle.litmus_script.specs.Prints.{IsPrinted};
 ghost use Rattle.litmus_text.specs.Command.{HasLine, IsInRange};
@@ -7,6 +7,7 @@ ghost use Rattle.litmus_text.specs.declared.command.Command.TheVariants as comma
 ghost use Rattle.script_explained.specs.Explains.{IsExplained};
 ghost use Rattle.script_page.specs.Step.{Names, ShowsStates, line_named};
 
+use super::named::note_line;
 use super::step::{Texts, write_step};
 use address_map::{Checked, LineAddr};
 use litmus_script::{Answers, Machine, Player, written};
@@ -50,11 +51,13 @@ impl<F: MissFile> Player for Paged<F> {
         self.name(command)?;
         let states = self.states()?;
         let waiting = self.waiting()?;
+        let shown = self.shown()?;
         let texts = Texts {
             command: statement.line,
             answer: answer.as_slice(),
             states: states.as_slice(),
             waiting: waiting.as_slice(),
+            shown: shown.as_slice(),
         };
         let mut answers = Answers { out };
         written(write_step(&texts, &mut answers))
@@ -95,23 +98,8 @@ impl<F: MissFile> Paged<F> {
         ensures names { OnOk result (Names self.old.explained.machine.config (line_named command) self.old.named.items self.new.named.items) }
         ensures fault { IfErr result IsOfRun }
     {
-        let Some(line) = line_named(command) else {
-            return Ok(());
-        };
-        if !self.is_new(line) {
-            return Ok(());
-        }
-        match self.named.push(line) {
-            Ok(()) => Ok(()),
-            Err(_) => Err(TextFault::NoMemory),
-        }
-    }
-
-    /// Whether it is a line of the memory that wasn't named yet.
-    fn is_new(&self, line: LineAddr) -> bool
-        ensures { IsTrue result ↔ HasLine self.now.explained.machine.config line × ¬ Contains self.now.named.items line }
-    {
-        line.0 < self.explained.machine.config.lines() as u64 && !self.named.contains(&line)
+        let Paged { explained, named } = self;
+        note_line(&explained.machine.config, command, named)
     }
 
     /// What `state` prints of each line that was named.
@@ -139,6 +127,19 @@ impl<F: MissFile> Paged<F> {
             Err(_) => Err(TextFault::NoMemory),
         }
     }
+
+    /// What `show` prints.
+    fn shown(&self) -> Result<Vec<u8>, TextFault>
+        ensures shown { IfOk result (λ shown. IsPrinted self.now.explained.machine.config commands.Show
+            self.now.explained.machine.slices.items self.now.explained.machine.slices.items (Some []) (Some shown.items)) }
+        ensures fault { IfErr result IsOfRun }
+    {
+        let mut shown = Vec::new(self.explained.alloc);
+        match self.explained.machine.run_show(&mut shown) {
+            Ok(()) => Ok(shown),
+            Err(_) => Err(TextFault::NoMemory),
+        }
+    }
 }
 
 /// Writes what `state` prints of each of these lines.
@@ -154,22 +155,4 @@ fn show_states<F: MissFile, W: Write>(
         machine.run_state(*line, out)?;
     }
     Ok(())
-}
-
-/// The line that a command is about, if it is about one.
-fn line_named(command: Command) -> Option<LineAddr>
-    ensures { result ≡ line_named command }
-{
-    match command {
-        Command::Issue { request, .. } => Some(request.word.line()),
-        Command::Evict { line, .. } | Command::State(line) => Some(line),
-        Command::Deliver(pick) => Some(pick.line()),
-        Command::Word(word) => Some(word.line()),
-        Command::Hand { .. }
-        | Command::Log(_)
-        | Command::Stats
-        | Command::Waiting
-        | Command::Show
-        | Command::Pump(_) => None,
-    }
 }

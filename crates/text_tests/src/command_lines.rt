@@ -47,12 +47,14 @@ fn reads_a_script(rt: HostRuntime) -> Result<(), Fail> {
         echo: false,
         explain: false,
         beside: false,
+        vcd: false,
     };
     let echo = CommandLine::Script {
         file,
         echo: true,
         explain: false,
         beside: false,
+        vcd: false,
     };
     assert!(rt; is_read(rt.alloc(), &["lockup", "script", file], plain)?);
     assert!(rt; is_read(rt.alloc(), &["lockup", "script", "--echo", file], echo)?);
@@ -68,6 +70,7 @@ fn reads_a_script_to_be_explained(rt: HostRuntime) -> Result<(), Fail> {
         echo: false,
         explain: true,
         beside: false,
+        vcd: false,
     };
     assert!(rt;
         is_read(
@@ -87,8 +90,23 @@ fn reads_a_script_with_answers_beside_it(rt: HostRuntime) -> Result<(), Fail> {
         echo: false,
         explain: false,
         beside: true,
+        vcd: false,
     };
     assert!(rt; is_read(rt.alloc(), &["lockup", "script", "--beside", file], beside)?);
+    Ok(())
+}
+
+#[test]
+fn reads_a_script_to_be_shown_as_waves(rt: HostRuntime) -> Result<(), Fail> {
+    let file = "first.txt";
+    let waves = CommandLine::Script {
+        file,
+        echo: false,
+        explain: false,
+        beside: false,
+        vcd: true,
+    };
+    assert!(rt; is_read(rt.alloc(), &["lockup", "script", "--vcd", file], waves)?);
     Ok(())
 }
 

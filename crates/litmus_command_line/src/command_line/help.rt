@@ -13,6 +13,7 @@ Commands:
   word 8              shows word 8, once its slice is quiet
   state 1             shows the directory's entry of line 1, and each core's copy
   waiting             shows the messages in flight, and whether each can be delivered
+  show                shows all that isn't at rest: copies, what waits for them, replies
   stats               shows what was counted
   log 0               shows what slice 0 performed, as a trace for 'lockup check'
 

@@ -10,9 +10,10 @@ returns-clause-reads c =
     let file = c.in_ok-arg.ensures.shape c.file.ensures.plain ∙ ap₂ with_rule named c.file.ensures.rule in
     let echo = c.in_ok-arg-2.ensures.shape c.flag.ensures.plain ∙ ap₂ with_rule file c.flag.ensures.rule in
     let explain = c.in_ok-arg-3.ensures.shape c.flag-2.ensures.plain ∙ ap₂ with_rule echo c.flag-2.ensures.rule in
-    IfOk-weaker c.arg-4.result _ _
-    (λ made adds. adds.shape c.flag-3.ensures.plain ∙ ap₂ with_rule explain c.flag-3.ensures.rule)
-    c.arg-4.ensures
+    let beside = c.in_ok-arg-4.ensures.shape c.flag-3.ensures.plain ∙ ap₂ with_rule explain c.flag-3.ensures.rule in
+    IfOk-weaker c.arg-5.result _ _
+    (λ made adds. adds.shape c.flag-4.ensures.plain ∙ ap₂ with_rule beside c.flag-4.ensures.rule)
+    c.arg-5.ensures
 
 pub returns-clause-plain : goal.returns-clause-plain
 returns-clause-plain c =
@@ -20,6 +21,7 @@ returns-clause-plain c =
     let file = c.in_ok-arg.ensures.globals ∙ ap₂ (λ a b. a || b) none c.file.ensures.plain in
     let echo = c.in_ok-arg-2.ensures.globals ∙ ap₂ (λ a b. a || b) file c.flag.ensures.plain in
     let explain = c.in_ok-arg-3.ensures.globals ∙ ap₂ (λ a b. a || b) echo c.flag-2.ensures.plain in
-    IfOk-weaker c.arg-4.result _ _
-    (λ made adds. adds.globals ∙ ap₂ (λ a b. a || b) explain c.flag-3.ensures.plain)
-    c.arg-4.ensures
+    let beside = c.in_ok-arg-4.ensures.globals ∙ ap₂ (λ a b. a || b) explain c.flag-3.ensures.plain in
+    IfOk-weaker c.arg-5.result _ _
+    (λ made adds. adds.globals ∙ ap₂ (λ a b. a || b) beside c.flag-4.ensures.plain)
+    c.arg-5.ensures

@@ -27,6 +27,7 @@ returns-clause-plays g c =
           answer = c.as_slice.result.now;
           states = c.as_slice-2.result.now;
           waiting = c.as_slice-3.result.now;
+          shown = c.as_slice-4.result.now;
         };
         command_of = refl;
         played = subst (λ text. IsExplained config command old.explained.machine.slices.items slices (Some []) (Some text))
@@ -42,6 +43,9 @@ returns-clause-plays g c =
         waiting = subst (λ text. IsPrinted config commands.Waiting slices slices (Some []) (Some text)) (sym c.as_slice-3.ensures.value)
             (subst (λ config. IsPrinted config commands.Waiting slices slices (Some []) (Some c.in_ok-waiting.waiting.items)) same
             c.in_ok-waiting.ensures.waiting);
+        shown = subst (λ text. IsPrinted config commands.Show slices slices (Some []) (Some text)) (sym c.as_slice-4.ensures.value)
+            (subst (λ config. IsPrinted config commands.Show slices slices (Some []) (Some c.in_ok-shown.shown.items)) same
+            c.in_ok-shown.ensures.shown);
         written = search rules;
       },
     ))

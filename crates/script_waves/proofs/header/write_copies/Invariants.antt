@@ -1,0 +1,14 @@
+use Rattle.std.proofs.Common.{drop}
+use Rattle.std.specs.Fmt.{WritesInCalls}
+use Rattle.std.specs.List.{flat_map, range_with_len}
+use Rattle.script_waves.specs.Signals.{text_of_copies, text_of_signal}
+use Rattle.script_waves.specs.declared.signal.Signal.TheVariants as signals
+use Rattle.script_waves.proofs.header.write_copies.Given as goal
+
+-- who writes those that are left has written all
+abbrev pub invariant-loop-core : goal.invariant-loop-core
+invariant-loop-core g l =
+    let took = g.W.Write.write_str_gives in
+    (new : g.row.W.Denot)
+    → WritesInCalls took l.out (flat_map (λ core. text_of_signal l.line (signals.Copy core)) (drop l.core (range_with_len 0 l.cores))) new
+    → WritesInCalls took l.fn.out (text_of_copies l.line l.cores) new

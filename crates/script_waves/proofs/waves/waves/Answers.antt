@@ -1,0 +1,64 @@
+use Rattle.std.proofs.Common.{◌≡◌, ℕ, [], List, Some, ap, inl, inr, refl, sym, subst, ◌∙◌}
+use Rattle.std.proofs.lemmas.Result.{on_ok_weaker}
+use Rattle.address_map.specs.declared.config.Config.{Config}
+use Rattle.litmus_script.proofs.PlayLemmas.{all_shown, up_to_shown}
+use Rattle.litmus_script.specs.Play.{PlaysAll, PlaysUpTo}
+use Rattle.litmus_script.specs.Script.{commands_of}
+use Rattle.script_waves.specs.Waves.{IsTick, IsWritten, Shown, Ticks, begun, next}
+use Rattle.script_waves.proofs.WavesLemmas.{played_from, stopped_from}
+use Rattle.script_waves.proofs.waves.waves.Goals as goal
+
+pub returns-in-Ok-clause-waves : goal.returns-in-Ok-clause-waves
+returns-in-Ok-clause-waves g c =
+    let config = c.args.machine.config in
+    let contents = g.W.Write.contents in
+    let new = c.new-player.ensures in
+    let is = ap (λ machine. machine.config) new.machine in
+    let fresh : record { slices = c.new-player.result.machine.slices.items; named = c.new-player.result.named.items; played = c.new-player.result.played }
+    ≡ begun c.args.machine.slices.items = rw (new.machine, new.named, new.played) refl in
+    let played = all_shown (λ p. record { slices = p.machine.slices.items; named = p.named.items; played = p.played })
+    (λ p. p.machine.config ≡ config) _ (Ticks config)
+    (λ old new line command before after same made. (
+      made.0 ∙ same,
+      subst (λ k. IsTick k line command (record { slices = old.machine.slices.items; named = old.named.items; played = old.played })
+          (record { slices = new.machine.slices.items; named = new.named.items; played = new.played }) before after) same made.1,
+    ))
+    _ _ _ _ _ _ is c.in-Ok.ensures.played in
+    let last = c.play.new.player in
+    let end : Shown = record { slices = last.machine.slices.items; named = last.named.items; played = last.played } in
+    on_ok_weaker c.write_all.result (λ written. record {
+      end = end;
+      ticks = c.play.new.out.items;
+      played = subst (λ (text : List ℕ). PlaysAll (Ticks config) config (commands_of c.args.commands) (begun c.args.machine.slices.items) end
+          (Some text) (Some c.play.new.out.items)) c.new-ticks.ensures.items
+          (played_from config _ (commands_of c.args.commands) _ c.args.machine.slices.items _ (Some c.play.new.out.items)
+          is fresh end played);
+      written = subst (λ (k : Config). IsWritten k.cores end.named c.play.new.out.items (next end.played) (contents c.args.out.now) (contents c.write_all.new.out))
+          (c.play.ensures.config ∙ is)
+          (subst (λ (ticks : List ℕ). IsWritten last.machine.config.cores end.named ticks (next end.played) (contents c.args.out.now) (contents c.write_all.new.out))
+          c.as_slice.ensures.value written);
+    }) c.write_all.ensures.written
+
+pub returns-clause-fault : goal.returns-clause-fault
+returns-clause-fault g c =
+    let config = c.args.machine.config in
+    let contents = g.W.Write.contents in
+    let new = c.new-player.ensures in
+    let is = ap (λ machine. machine.config) new.machine in
+    let fresh : record { slices = c.new-player.result.machine.slices.items; named = c.new-player.result.named.items; played = c.new-player.result.played }
+    ≡ begun c.args.machine.slices.items = rw (new.machine, new.named, new.played) refl in
+    let stopped = up_to_shown (λ p. record { slices = p.machine.slices.items; named = p.named.items; played = p.played })
+    (λ p. p.machine.config ≡ config) _ (Ticks config)
+    (λ old new line command before after same made. (
+      made.0 ∙ same,
+      subst (λ k. IsTick k line command (record { slices = old.machine.slices.items; named = old.named.items; played = old.played })
+          (record { slices = new.machine.slices.items; named = new.named.items; played = new.played }) before after) same made.1,
+    ))
+    _ _ _ _ _ c.in-Err.fault is c.in-Err.ensures.fault in
+    inr (record {
+      ticks = Some c.play.new.out.items;
+      stopped = subst (λ (text : List ℕ). PlaysUpTo (Ticks config) config (commands_of c.args.commands) (begun c.args.machine.slices.items)
+          (Some text) (Some c.play.new.out.items) c.in-Err.fault) c.new-ticks.ensures.items
+          (stopped_from config _ (commands_of c.args.commands) _ c.args.machine.slices.items _ (Some c.play.new.out.items)
+          is fresh c.in-Err.fault stopped);
+    })

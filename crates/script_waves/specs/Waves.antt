@@ -1,0 +1,89 @@
+-- A script's run as waves: what its lines' signals are behind each command.
+use Rattle.std.specs.Prelude.{◌≡◌, ◌⊎◌, ℕ, ◌+◌, ◌%◌, ◌^◌, List, [], ◌++◌, Option, Some}
+use Rattle.std.specs.Io.KnownBytes.{Appends}
+use Rattle.address_map.specs.declared.address.LineAddr.{LineAddr}
+use Rattle.address_map.specs.declared.config.Config.{Config}
+use Rattle.litmus_script.specs.Machine.{IsNewMachine}
+use Rattle.litmus_script.specs.Play.{IsOfRun, PlaysAll, PlaysUpTo}
+use Rattle.litmus_script.specs.Prints.{IsPrinted}
+use Rattle.litmus_script.specs.Script.{IsNotConfigured, IsSetUp}
+use Rattle.litmus_text.specs.declared.command.Command.{Command}
+use Rattle.litmus_text.specs.declared.fault.TextFault.{TextFault}
+use Rattle.mshr_file.specs.Miss.{Bound}
+use Rattle.script_page.specs.Step.{Names, line_named}
+use Rattle.script_waves.specs.Signals.{text_of_header}
+use Rattle.script_waves.specs.Values.{text_of_command, text_of_lines, text_of_time}
+use Rattle.slice_core_plan.specs.Parts.{PartsView}
+
+-- what is known of a run: the machine's slices, the lines that were named, and how many commands were played
+pub record Shown : Type 0 where
+  pub slices : List PartsView
+  pub named : List LineAddr
+  pub played : ℕ
+
+-- one more than a count of 64 bits
+abbrev pub next : ℕ → ℕ
+next count = (count + 1) % 2 ^ 64
+
+-- behind a command on this line: the time, the command, and what the slices then have of each line named so far
+abbrev pub text_of_tick : Config → List ℕ → Shown → List ℕ
+text_of_tick config line shown =
+    text_of_time shown.played ++ (text_of_command line ++ text_of_lines config shown.slices shown.named)
+
+-- The command is played, as it is where its answer is printed, and takes one unit of time.
+pub record IsTick (config : Config) (line : List ℕ) (command : Command) (old new : Shown) (before after : Option (List ℕ)) : Type 0 where
+  pub answer : List ℕ
+  pub made : IsPrinted config command old.slices new.slices (Some []) (Some answer)
+  pub names : Names config (line_named command) old.named new.named
+  pub counted : new.played ≡ next old.played
+  pub written : Appends before after (text_of_tick config line new)
+
+-- .. as what a player does of it
+abbrev pub Ticks : Config → Shown → List ℕ → Command → Option (List ℕ) → Option (List ℕ) → Shown → Type 0
+Ticks config old line command before after new = IsTick config line command old new before after
+
+-- nothing was played yet
+abbrev pub begun : List PartsView → Shown
+begun slices = record { slices = slices; named = []; played = 0 }
+
+-- the signals of these lines are written, then these values of them, and the time at which the last ones end
+pub record IsWritten (cores : ℕ) (named : List LineAddr) (ticks : List ℕ) (time : ℕ) (before after : Option (List ℕ)) : Type 0 where
+  pub first : Option (List ℕ)
+  pub header : Appends before first (text_of_header cores named)
+  pub last : Option (List ℕ)
+  pub told : Appends first last ticks
+  pub ended : Appends last after (text_of_time time)
+
+-- The commands are played from these slices on. The signals of the lines that they name stand first, then what each
+-- command made of them, and the time at which the last one's ends.
+pub record HasWaves (config : Config) (commands : List (ℕ × List (List ℕ))) (start : List PartsView)
+    (before after : Option (List ℕ)) : Type 0 where
+  pub end : Shown
+  pub ticks : List ℕ
+  pub played : PlaysAll (Ticks config) config commands (begun start) end (Some []) (Some ticks)
+  pub written : IsWritten config.cores end.named ticks (next end.played) before after
+
+-- .. on a new machine
+pub record IsWavesOf (config : Config) (bound : Bound) (commands : List (ℕ × List (List ℕ))) (before after : Option (List ℕ)) : Type 0 where
+  pub start : List PartsView
+  pub fresh : IsNewMachine config bound start
+  pub waves : HasWaves config commands start before after
+
+-- A script's waves. One that says nothing has none.
+abbrev pub IsWaves : List (ℕ × List (List ℕ)) → Option (List ℕ) → Option (List ℕ) → Type 0
+IsWaves all before after =
+    ((all ≡ []) × (after ≡ before))
+    ⊎ ((config : Config) × (bound : Bound) × (commands : List (ℕ × List (List ℕ)))
+    × IsSetUp all config bound commands × IsWavesOf config bound commands before after)
+
+-- the commands are played up to one that can't be, from these slices on
+pub record StopsAt (config : Config) (commands : List (ℕ × List (List ℕ))) (start : List PartsView) (fault : TextFault) : Type 0 where
+  pub ticks : Option (List ℕ)
+  pub stopped : PlaysUpTo (Ticks config) config commands (begun start) (Some []) ticks fault
+
+-- why a script has no waves: as in scripts, or they couldn't be written
+abbrev pub IsWavesFault : List (ℕ × List (List ℕ)) → TextFault → Type 0
+IsWavesFault all fault =
+    IsNotConfigured all fault ⊎ IsOfRun fault
+    ⊎ ((config : Config) × (bound : Bound) × (commands : List (ℕ × List (List ℕ))) × (start : List PartsView)
+    × IsSetUp all config bound commands × IsNewMachine config bound start × StopsAt config commands start fault)

@@ -1,0 +1,53 @@
+//! What a file of waves calls its signals.
+use address_map::LineAddr;
+use std::fmt;
+
+/// One of a line's signals.
+#[derive(Clone, Copy)]
+pub(crate) enum Signal {
+    /// The state of the directory's entry.
+    Directory,
+    /// The state of the copy of the core with this number.
+    Copy(usize),
+    /// The channels in which a message waits.
+    Channels,
+}
+
+/// A signal's name, within its line.
+impl fmt::Display for Signal {
+    ghost use Rattle.std.specs.Prelude.{Some};
+    ghost use Rattle.script_waves.specs.Signals.{name_of};
+
+    ghost output = { λ signal. Some (name_of signal) };
+
+    fn fmt<W: fmt::Write>(&self, f: &mut fmt::Formatter<W>) -> fmt::Result {
+        match self {
+            Signal::Directory => f.write_str("directory"),
+            Signal::Copy(core) => write!(f, "core{core}"),
+            Signal::Channels => f.write_str("in_flight"),
+        }
+    }
+}
+
+/// The code by which the file tells a line's signal from all others.
+#[derive(Clone, Copy)]
+pub(crate) struct Code {
+    pub(crate) line: LineAddr,
+    pub(crate) signal: Signal,
+}
+
+impl fmt::Display for Code {
+    ghost use Rattle.std.specs.Prelude.{Some};
+    ghost use Rattle.script_waves.specs.Signals.{code_of};
+
+    ghost output = { λ code. Some (code_of code.line code.signal) };
+
+    fn fmt<W: fmt::Write>(&self, f: &mut fmt::Formatter<W>) -> fmt::Result {
+        let LineAddr(line) = self.line;
+        match self.signal {
+            Signal::Directory => write!(f, "{line}.d"),
+            Signal::Copy(core) => write!(f, "{line}.{core}"),
+            Signal::Channels => write!(f, "{line}.m"),
+        }
+    }
+}

@@ -1,0 +1,132 @@
+//! A script's waves.
+ghost use Rattle.std.specs.Prelude.{◌≡◌, ◌⊎◌, List, IfErr, IfOk, OnOk};
+ghost use Rattle.std.specs.Io.KnownBytes.{Appends};
+ghost use Rattle.std.specs.Str.Lines.{lines};
+ghost use Rattle.litmus_script.specs.Machine.{IsNewMachine, bound_of};
+ghost use Rattle.litmus_script.specs.Play.{IsOfRun};
+ghost use Rattle.litmus_script.specs.Script.{commands_of};
+ghost use Rattle.litmus_text.specs.Statement.{statements_from};
+ghost use Rattle.script_waves.specs.Signals.{text_of_header};
+ghost use Rattle.script_waves.specs.Values.{text_of_time};
+ghost use Rattle.script_waves.specs.Waves.{HasWaves, IsWaves, IsWavesFault, IsWavesOf, IsWritten, StopsAt, next};
+ghost use Rattle.slice_core_plan.specs.Parts.{PartsView};
+
+use super::command::write_time;
+use super::header::write_header;
+use super::player::Waved;
+use address_map::{Checked, LineAddr};
+use litmus_script::{Answers, Commands, Machine, Script, written};
+use litmus_text::{MissKind, TextFault};
+use mshr_file::{ExplicitFile, InvertedFile, MissFile};
+use stats_report::write_text;
+use std::alloc::Global;
+use std::io::Write;
+
+/// Writes a script's run as waves. Answers the exit status. A script at fault has none: its lines are known only once it
+/// has run, and they stand first.
+pub fn run_waves<W: Write>(alloc: Global, input: &[u8], out: &mut W) -> Result<u8, TextFault>
+    ensures status { IfOk result (λ status. status ≡ 0) }
+    ensures printed { OnOk result (IsWaves (statements_from 0 (lines input.now)) (W.contents out.old) (W.contents out.new)) }
+    ensures fault { IfErr result (IsWavesFault (statements_from 0 (lines input.now))) }
+{
+    let Some(script) = Script::read(alloc, input)? else {
+        return Ok(0);
+    };
+    waves_of(alloc, script, out)?;
+    Ok(0)
+}
+
+fn waves_of<W: Write>(alloc: Global, script: Script<'_>, out: &mut W) -> Result<(), TextFault>
+    ensures waves { OnOk result (IsWavesOf script.entry.config (bound_of script.entry.misses script.entry.config)
+        (commands_of script.entry.commands) (W.contents out.old) (W.contents out.new)) }
+    ensures fault { IfErr result (λ fault. IsOfRun fault ⊎ ((start : List PartsView)
+        × IsNewMachine script.entry.config (bound_of script.entry.misses script.entry.config) start
+        × StopsAt script.entry.config (commands_of script.entry.commands) start fault)) }
+{
+    let Script {
+        config,
+        misses,
+        commands,
+    } = script;
+    match misses {
+        MissKind::Explicit => waves_on::<ExplicitFile, W>(alloc, config, commands, out),
+        MissKind::Inverted => waves_on::<InvertedFile, W>(alloc, config, commands, out),
+    }
+}
+
+/// The waves of commands on a new machine with miss registers of type `F`.
+fn waves_on<F: MissFile, W: Write>(
+    alloc: Global,
+    config: Checked,
+    commands: Commands<'_>,
+    out: &mut W,
+) -> Result<(), TextFault>
+    ensures waves { OnOk result (IsWavesOf config (F.bound_by config) (commands_of commands.entry)
+        (W.contents out.old) (W.contents out.new)) }
+    ensures fault { IfErr result (λ fault. IsOfRun fault ⊎ ((start : List PartsView)
+        × IsNewMachine config (F.bound_by config) start × StopsAt config (commands_of commands.entry) start fault)) }
+{
+    let machine: Machine<F> = Machine::build(alloc, config)?;
+    waves(alloc, machine, commands, out)
+}
+
+fn waves<F: MissFile, W: Write>(
+    alloc: Global,
+    machine: Machine<F>,
+    commands: Commands<'_>,
+    out: &mut W,
+) -> Result<(), TextFault>
+    ensures waves { OnOk result (HasWaves machine.config (commands_of commands.entry) machine.slices.items
+        (W.contents out.old) (W.contents out.new)) }
+    ensures fault { IfErr result (λ fault. IsOfRun fault ⊎ StopsAt machine.config (commands_of commands.entry) machine.slices.items fault) }
+{
+    let mut player = Waved::new(alloc, machine);
+    let mut ticks = Vec::new(alloc);
+    match commands.play(&mut player, &mut ticks) {
+        Ok(()) => write_all(&player, ticks.as_slice(), out),
+        // writing to memory fails for want of it
+        Err(TextFault::CannotWrite) => Err(TextFault::NoMemory),
+        Err(fault) => Err(fault),
+    }
+}
+
+/// Writes the signals of the lines that were named, then what the commands made of them, and the end.
+fn write_all<F: MissFile, W: Write>(
+    player: &Waved<F>,
+    ticks: &[u8],
+    out: &mut W,
+) -> Result<(), TextFault>
+    ensures written { OnOk result (IsWritten player.now.machine.config.cores player.now.named.items ticks.now
+        (next player.now.played) (W.contents out.old) (W.contents out.new)) }
+    ensures fault { IfErr result IsOfRun }
+{
+    begin(player.machine.config.cores(), player.named.as_slice(), out)?;
+    tell(ticks, out)?;
+    end(player.played.wrapping_add(1), out)
+}
+
+fn begin<W: Write>(cores: usize, named: &[LineAddr], out: &mut W) -> Result<(), TextFault>
+    ensures header { OnOk result (Appends (W.contents out.old) (W.contents out.new) (text_of_header cores named.now)) }
+    ensures fault { IfErr result IsOfRun }
+{
+    let mut answers = Answers { out };
+    written(write_header(cores, named, &mut answers))
+}
+
+fn tell<W: Write>(ticks: &[u8], out: &mut W) -> Result<(), TextFault>
+    ensures told { OnOk result (Appends (W.contents out.old) (W.contents out.new) ticks.now) }
+    ensures fault { IfErr result IsOfRun }
+{
+    match write_text(out, ticks) {
+        Ok(()) => Ok(()),
+        Err(_) => Err(TextFault::CannotWrite),
+    }
+}
+
+fn end<W: Write>(time: u64, out: &mut W) -> Result<(), TextFault>
+    ensures ended { OnOk result (Appends (W.contents out.old) (W.contents out.new) (text_of_time time)) }
+    ensures fault { IfErr result IsOfRun }
+{
+    let mut answers = Answers { out };
+    written(write_time(time, &mut answers))
+}

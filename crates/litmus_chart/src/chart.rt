@@ -5,14 +5,15 @@ ghost use Rattle.litmus_text.specs.Command.{HasCore, IsInRange};
 use super::arrow::{Fate, Participant};
 use super::note::{begin_cross, begin_note, write_participants};
 use super::picture::Picture;
+use super::seen::{Flight, Seen};
 use address_map::{Checked, CoreId, LineAddr, Request, SliceId};
 use litmus_script::{
-    Answers, Issued, Machine, Player, Script, copy_of, write_delivered, write_evicted,
-    write_handed, write_issued, write_pumped, written,
+    Answers, Deliverer, Issued, Machine, Player, Script, pump_slices, write_delivered,
+    write_evicted, write_handed, write_issued, write_pumped, written,
 };
 use litmus_text::{Command, MissKind, Settings, Statement, TextFault};
 use mshr_file::{ExplicitFile, InvertedFile, MissFile};
-use slice_core::{Delivered, Pick};
+use slice_core::{Class, Delivered, DeliveredNext, NextPick, Pick};
 use std::alloc::Global;
 use std::fmt;
 use std::io::Write;
@@ -48,7 +49,7 @@ fn chart_of<W: Write>(
     }
 }
 
-/// Draws a script on machines with miss registers of type `F`.
+/// Draws a script on a machine with miss registers of type `F`.
 fn chart_on<F: MissFile, W: Write>(
     alloc: Global,
     script: Script<'_>,
@@ -82,22 +83,19 @@ fn note_issued<W: Write>(
 /// A player that draws what each command does.
 #[derive(Drop)]
 struct Chart<F: MissFile> {
-    /// Does each command as a script does.
-    ahead: Machine<F>,
-    /// Does the same, one call later.
-    picture: Picture<F>,
+    machine: Machine<F>,
+    picture: Picture,
     alloc: Global,
-    ghost alike: { picture.behind.config ≡ ahead.config },
 }
 
 impl<F: MissFile> Player for Chart<F> {
-    ghost config_of = { λ chart. chart.ahead.config };
+    ghost config_of = { λ chart. chart.machine.config };
 
     // What is drawn isn't said.
     ghost plays = { λ old line command before after new. Unit {0} };
 
     fn config(&self) -> &Checked {
-        &self.ahead.config
+        &self.machine.config
     }
 
     fn play<W: Write>(
@@ -120,12 +118,37 @@ impl<F: MissFile> Player for Chart<F> {
     }
 }
 
+impl<F: MissFile> Deliverer for Chart<F> {
+    ghost config_of = { λ chart. chart.machine.config };
+
+    // What is drawn isn't said.
+    ghost delivers = { λ old slice answer before after new. Unit {0} };
+
+    fn slices(&self) -> usize {
+        self.machine.slices()
+    }
+
+    fn deliver_next<W: Write>(
+        &mut self,
+        slice: usize,
+        out: &mut W,
+    ) -> Result<DeliveredNext, TextFault> {
+        let NextPick::Move(pick) = self.machine.slices[slice].next(Class::Any) else {
+            return self.machine.deliver_next(slice, out);
+        };
+        let flight = Flight::of(&self.machine, pick);
+        let delivered = self.machine.deliver_next(slice, out)?;
+        let out = &mut Answers { out };
+        self.picture.deliver(&self.machine, &flight, out)?;
+        Ok(delivered)
+    }
+}
+
 impl<F: MissFile> Chart<F> {
     fn new(alloc: Global, config: Checked) -> Result<Self, TextFault> {
-        let twin = copy_of(alloc, &config)?;
         Ok(Chart {
-            ahead: Machine::build(alloc, config)?,
-            picture: Picture::new(alloc, twin)?,
+            machine: Machine::build(alloc, config)?,
+            picture: Picture::new(alloc),
             alloc,
         })
     }
@@ -138,13 +161,13 @@ impl<F: MissFile> Chart<F> {
         line: LineAddr,
         out: &mut Answers<'_, W>,
     ) -> Result<(), TextFault>
-        requires { IsInRange self.old.ahead.config command }
-        ensures config { self.new.ahead.config ≡ self.old.ahead.config }
+        requires { IsInRange self.old.machine.config command }
+        ensures config { self.new.machine.config ≡ self.old.machine.config }
         ensures fault { IfErr result IsOfRun }
     {
-        let directory = Participant::Directory(self.ahead.slice_of(line));
+        let directory = Participant::Directory(self.machine.slice_of(line));
         written(begin_note(directory, statement, out))?;
-        self.ahead.run(command, out.out)
+        self.machine.run(command, out.out)
     }
 
     fn issue<W: Write>(
@@ -154,21 +177,21 @@ impl<F: MissFile> Chart<F> {
         request: Request,
         out: &mut Answers<'_, W>,
     ) -> Result<(), TextFault>
-        requires { HasCore self.old.ahead.config core }
-        ensures config { self.new.ahead.config ≡ self.old.ahead.config }
+        requires { HasCore self.old.machine.config core }
+        ensures config { self.new.machine.config ≡ self.old.machine.config }
         ensures fault { IfErr result IsOfRun }
     {
-        let issued = self.ahead.issue(core, request)?;
+        let line = request.word.line();
+        let before = self.picture.look(self.alloc, &self.machine, core, line)?;
+        let issued = self.machine.issue(core, request)?;
         written(note_issued(core, statement, issued, out))?;
         if let Issued::Pending(_) = issued {
-            self.picture.name(core, request.word.line())?;
+            self.picture.name(core, line, before.as_slice())?;
         }
         written(
             self.picture
-                .write_access(&self.ahead, core, request.word.line(), out),
-        )?;
-        self.picture.behind.issue(core, request)?;
-        Ok(())
+                .write_access(&self.machine, core, line, before.as_slice(), out),
+        )
     }
 
     fn evict<W: Write>(
@@ -178,16 +201,15 @@ impl<F: MissFile> Chart<F> {
         line: LineAddr,
         out: &mut Answers<'_, W>,
     ) -> Result<(), TextFault>
-        requires { HasCore self.old.ahead.config core }
-        ensures config { self.new.ahead.config ≡ self.old.ahead.config }
+        requires { HasCore self.old.machine.config core }
+        ensures config { self.new.machine.config ≡ self.old.machine.config }
         ensures fault { IfErr result IsOfRun }
     {
-        let evicted = self.ahead.evict(core, line);
+        let before = Seen::of(&self.machine, line);
+        let evicted = self.machine.evict(core, line);
         written(begin_note(Participant::Core(core), statement, out))?;
         written(write_evicted(evicted, out))?;
-        written(self.picture.write_change(&self.ahead, line, out))?;
-        self.picture.behind.evict(core, line);
-        Ok(())
+        written(before.write_change(&self.machine, out))
     }
 
     /// Where nothing waits, a note says so.
@@ -197,18 +219,19 @@ impl<F: MissFile> Chart<F> {
         pick: Pick,
         out: &mut Answers<'_, W>,
     ) -> Result<(), TextFault>
-        ensures config { self.new.ahead.config ≡ self.old.ahead.config }
+        ensures config { self.new.machine.config ≡ self.old.machine.config }
         ensures fault { IfErr result IsOfRun }
     {
-        let delivered = self.ahead.deliver(pick);
+        let flight = Flight::of(&self.machine, pick);
+        let delivered = self.machine.deliver(pick);
         match delivered {
-            Delivered::Moved => self.picture.deliver(pick, out),
-            Delivered::Blocked => written(self.picture.write_arrow(pick, Fate::Blocked, out)),
+            Delivered::Moved => self.picture.deliver(&self.machine, &flight, out),
+            Delivered::Blocked => written(self.picture.write_arrow(&flight, Fate::Blocked, out)),
             Delivered::Broken(cell) => {
-                written(self.picture.write_arrow(pick, Fate::Broken(cell), out))
+                written(self.picture.write_arrow(&flight, Fate::Broken(cell), out))
             }
             Delivered::Nothing => {
-                written(begin_note(self.picture.receiver(pick), statement, out))?;
+                written(begin_note(flight.receiver(), statement, out))?;
                 written(write_delivered(delivered, out))
             }
         }
@@ -221,36 +244,28 @@ impl<F: MissFile> Chart<F> {
         slice: SliceId,
         out: &mut Answers<'_, W>,
     ) -> Result<(), TextFault>
-        requires core { HasCore self.old.ahead.config core }
-        requires slice { slice.0 < self.old.ahead.config.slices }
-        ensures config { self.new.ahead.config ≡ self.old.ahead.config }
+        requires core { HasCore self.old.machine.config core }
+        requires slice { slice.0 < self.old.machine.config.slices }
+        ensures config { self.new.machine.config ≡ self.old.machine.config }
         ensures fault { IfErr result IsOfRun }
     {
-        let handed = self.ahead.hand(core, slice);
+        let handed = self.machine.hand(core, slice);
         written(begin_note(Participant::Core(core), statement, out))?;
-        written(write_handed(handed, out))?;
-        self.picture.behind.hand(core, slice);
-        Ok(())
+        written(write_handed(handed, out))
     }
 
-    /// Which messages are delivered is known only afterwards.
+    /// Draws each delivery, and then what is left.
     fn pump<W: Write>(
         &mut self,
         statement: &Statement<'_>,
         calls: u64,
         out: &mut Answers<'_, W>,
     ) -> Result<(), TextFault>
-        ensures config { self.new.ahead.config ≡ self.old.ahead.config }
+        ensures config { self.new.machine.config ≡ self.old.machine.config }
         ensures fault { IfErr result IsOfRun }
     {
-        let mut moved = Vec::new(self.alloc);
-        let Ok(pumped) = self.ahead.pump(calls, &mut moved) else {
-            return Err(TextFault::NoMemory);
-        };
-        for pick in &moved {
-            self.picture.deliver(*pick, out)?;
-        }
-        let last = self.ahead.config.cores() - 1;
+        let pumped = pump_slices(self, calls, out.out)?;
+        let last = self.machine.config.cores() - 1;
         written(begin_note(format_args!("dir0,core{last}"), statement, out))?;
         written(write_pumped(pumped, out))
     }

@@ -1,14 +1,14 @@
-ghost use Rattle.std.specs.Prelude.{◌≡◌, IfErr, IfOk};
+ghost use Rattle.std.specs.Prelude.{IfErr};
 ghost use Rattle.litmus_script.specs.Play.{IsOfRun};
 
-use super::arrow::{Arrow, Fate, Participant, receiver, sender};
+use super::arrow::{Arrow, Fate, sender};
 use super::names::Names;
-use super::note::write_changes;
-use address_map::{Checked, CoreId, LineAddr};
+use super::seen::{Flight, Seen};
+use address_map::{CoreId, LineAddr};
 use litmus_script::{Answers, Machine, written};
 use litmus_text::TextFault;
 use mshr_file::MissFile;
-use slice_core::{CopyState, ForwardedMessage, Message, Pick};
+use slice_core::{ForwardedMessage, Message, Pick};
 use std::alloc::Global;
 use std::fmt;
 use std::fmt::Write as _;
@@ -21,94 +21,98 @@ struct Sent {
     by: CoreId,
 }
 
-/// What a chart knows of the machine that it draws, up to the call that is drawn next.
+/// What a chart knows of a run beside the machine.
 #[derive(Drop)]
-pub struct Picture<F: MissFile> {
-    pub behind: Machine<F>,
+pub struct Picture {
     names: Names,
     sent: Vec<Sent>,
 }
 
-impl<F: MissFile> Picture<F> {
-    pub fn new(alloc: Global, config: Checked) -> Result<Self, TextFault>
-        ensures { IfOk result (λ picture. picture.behind.config ≡ config) }
-    {
-        Ok(Picture {
-            behind: Machine::build(alloc, config)?,
+impl Picture {
+    pub fn new(alloc: Global) -> Self {
+        Picture {
             names: Names::new(alloc),
             sent: Vec::new(alloc),
-        })
+        }
     }
 
-    /// A core has asked for the line.
-    pub fn name(&mut self, core: CoreId, line: LineAddr) -> Result<(), TextFault>
-        ensures same { self.new.behind ≡ self.old.behind }
+    /// What an access of a core can change: the line itself, and the core's lines in the same set, of which one may have to
+    /// leave for it.
+    pub fn look<F: MissFile>(
+        &self,
+        alloc: Global,
+        machine: &Machine<F>,
+        core: CoreId,
+        line: LineAddr,
+    ) -> Result<Vec<Seen>, TextFault>
         ensures fault { IfErr result IsOfRun }
     {
-        let behind = &self.behind;
+        let mut seen = Vec::new(alloc);
+        note(&mut seen, Seen::of(machine, line))?;
+        for named in self.names.held_by(core) {
+            if named.line != line && shares_set(machine, line, named.line) {
+                note(&mut seen, Seen::of(machine, named.line))?;
+            }
+        }
+        Ok(seen)
+    }
+
+    /// A core has asked for the line. Before that these lines were looked at.
+    pub fn name(&mut self, core: CoreId, line: LineAddr, before: &[Seen]) -> Result<(), TextFault>
+        ensures fault { IfErr result IsOfRun }
+    {
         // those that left the set since then
         if let Some(held) = self.names.held.get_mut(core.0 as usize) {
-            held.retain(|named| {
-                !shares_set(behind, line, named.line) || has_copy(behind, core, named.line)
+            held.retain(|named| match seen_of(before, named.line) {
+                Some(seen) => seen.has_copy(core.0),
+                None => true,
             });
         }
         self.names.name(core, line)
     }
 
-    /// Draws what an access of a core changed on the machine that is one call ahead: the line itself, and the one that had
-    /// to leave for it, in the order in which they were first asked for. The one that leaves is of the core's lines in
-    /// the same set.
-    pub fn write_access<W: Write>(
+    /// Draws what an access of a core changed: the line itself, and the one that had to leave for it, in the order in which
+    /// they were first asked for.
+    pub fn write_access<F: MissFile, W: Write>(
         &self,
-        ahead: &Machine<F>,
+        now: &Machine<F>,
         core: CoreId,
         line: LineAddr,
+        before: &[Seen],
         out: &mut Answers<'_, W>,
     ) -> fmt::Result {
         let Some(rank) = self.names.rank(line) else {
             return Ok(());
         };
-        for named in self.names.held_by(core) {
-            if named.rank < rank && shares_set(&self.behind, line, named.line) {
-                self.write_change(ahead, named.line, out)?;
+        let held = self.names.held_by(core);
+        for named in held {
+            if named.rank < rank {
+                write_change(now, named.line, before, out)?;
             }
         }
-        self.write_change(ahead, line, out)?;
-        for named in self.names.held_by(core) {
-            if named.rank > rank && shares_set(&self.behind, line, named.line) {
-                self.write_change(ahead, named.line, out)?;
+        write_change(now, line, before, out)?;
+        for named in held {
+            if named.rank > rank {
+                write_change(now, named.line, before, out)?;
             }
         }
         Ok(())
     }
 
-    /// Draws what is different of a line on the machine that is one call ahead.
-    pub fn write_change<W: Write>(
-        &self,
-        ahead: &Machine<F>,
-        line: LineAddr,
-        out: &mut Answers<'_, W>,
-    ) -> fmt::Result {
-        if let (Some(before), Some(after)) = (self.behind.view(line), ahead.view(line)) {
-            let directory = Participant::Directory(self.behind.slice_of(line));
-            write_changes(directory, line, &before, &after, out)?;
-        }
-        Ok(())
-    }
-
-    /// Draws the message in front of a channel. There is none where nothing waits.
+    /// Draws a message in front of its channel. There is none where nothing waits.
     pub fn write_arrow<W: Write>(
         &self,
-        pick: Pick,
+        flight: &Flight,
         fate: Fate,
         out: &mut Answers<'_, W>,
     ) -> fmt::Result {
-        let Some(message) = self.behind.front(pick) else {
+        let Some(message) = flight.message else {
             return Ok(());
         };
+        let pick = flight.pick;
         let arrow = Arrow {
-            from: sender(self.slice(pick), pick, self.core_that_sent(pick)),
-            to: self.receiver(pick),
+            from: sender(flight.slice, pick, self.core_that_sent(pick)),
+            to: flight.receiver(),
             message,
             line: pick.line(),
             fate,
@@ -116,35 +120,27 @@ impl<F: MissFile> Picture<F> {
         writeln!(out, "    {arrow}")
     }
 
-    /// Draws the delivery of a message, and makes it.
-    pub fn deliver<W: Write>(
+    /// Draws a message that was delivered, and what that changed.
+    pub fn deliver<F: MissFile, W: Write>(
         &mut self,
-        pick: Pick,
+        now: &Machine<F>,
+        flight: &Flight,
         out: &mut Answers<'_, W>,
     ) -> Result<(), TextFault>
-        ensures config { self.new.behind.config ≡ self.old.behind.config }
         ensures fault { IfErr result IsOfRun }
     {
-        let line = pick.line();
-        written(self.write_arrow(pick, Fate::Delivered, out))?;
-        self.forget(pick);
-        self.expect(pick)?;
-        let before = self.behind.view(line);
-        let _ = self.behind.deliver(pick);
-        if let (Some(before), Some(after)) = (before, self.behind.view(line)) {
-            let directory = Participant::Directory(self.slice(pick));
-            written(write_changes(directory, line, &before, &after, out))?;
-        }
-        Ok(())
+        written(self.write_arrow(flight, Fate::Delivered, out))?;
+        self.forget(flight.pick);
+        self.expect(flight)?;
+        written(flight.line.write_change(now, out))
     }
 
-    /// Notes who will have sent the data that a message asks its receiver for.
-    fn expect(&mut self, pick: Pick) -> Result<(), TextFault>
-        ensures same { self.new.behind ≡ self.old.behind }
+    /// Notes who has sent the data that a message asked its receiver for.
+    fn expect(&mut self, flight: &Flight) -> Result<(), TextFault>
         ensures fault { IfErr result IsOfRun }
     {
-        let line = pick.line();
-        match (pick, self.behind.front(pick)) {
+        let line = flight.pick.line();
+        match (flight.pick, flight.message) {
             (Pick::Fwd(_, by), Some(Message::Forwarded(ForwardedMessage::FwdGetS(requester)))) => {
                 self.send(Pick::Data(line, requester), by)?;
                 self.send(Pick::Home(line), by)
@@ -156,7 +152,6 @@ impl<F: MissFile> Picture<F> {
     }
 
     fn send(&mut self, pick: Pick, by: CoreId) -> Result<(), TextFault>
-        ensures same { self.new.behind ≡ self.old.behind }
         ensures fault { IfErr result IsOfRun }
     {
         self.sent
@@ -164,9 +159,7 @@ impl<F: MissFile> Picture<F> {
             .map_err(|_| TextFault::NoMemory)
     }
 
-    fn forget(&mut self, pick: Pick)
-        ensures { self.new.behind ≡ self.old.behind }
-    {
+    fn forget(&mut self, pick: Pick) {
         if let Some(at) = self.sent.iter().position(|sent| sent.pick == pick) {
             self.sent.swap_remove(at);
         }
@@ -178,14 +171,29 @@ impl<F: MissFile> Picture<F> {
             .find(|sent| sent.pick == pick)
             .map(|sent| sent.by)
     }
+}
 
-    /// Who takes the messages of a channel.
-    pub fn receiver(&self, pick: Pick) -> Participant {
-        receiver(self.slice(pick), pick)
-    }
+fn note(seen: &mut Vec<Seen>, one: Seen) -> Result<(), TextFault>
+    ensures fault { IfErr result IsOfRun }
+{
+    seen.push(one).map_err(|_| TextFault::NoMemory)
+}
 
-    fn slice(&self, pick: Pick) -> usize {
-        self.behind.slice_of(pick.line())
+/// What was seen of a line, if it was looked at.
+fn seen_of(seen: &[Seen], line: LineAddr) -> Option<&Seen> {
+    seen.iter().find(|one| one.line == line)
+}
+
+/// Draws what is different of a line, if it was looked at.
+fn write_change<F: MissFile, W: Write>(
+    now: &Machine<F>,
+    line: LineAddr,
+    before: &[Seen],
+    out: &mut Answers<'_, W>,
+) -> fmt::Result {
+    match seen_of(before, line) {
+        Some(seen) => seen.write_change(now, out),
+        None => Ok(()),
     }
 }
 
@@ -194,15 +202,4 @@ fn shares_set<F: MissFile>(machine: &Machine<F>, line: LineAddr, other: LineAddr
     let slices = machine.config.slices() as u64;
     let sets = machine.config.sets() as u64;
     line.0 % slices == other.0 % slices && line.0 / slices % sets == other.0 / slices % sets
-}
-
-/// Whether the core has a copy of the line.
-fn has_copy<F: MissFile>(machine: &Machine<F>, core: CoreId, line: LineAddr) -> bool {
-    match machine.view(line) {
-        Some(view) => view
-            .copies
-            .get(core.0 as usize)
-            .is_some_and(|copy| *copy != CopyState::I),
-        None => false,
-    }
 }

@@ -6,7 +6,7 @@ use Rattle.address_map.specs.declared.config.Config.{Config}
 use Rattle.litmus_script.specs.Answer.{text_of_delivered, text_of_handed, text_of_issued, text_of_pumped, text_of_word}
 use Rattle.litmus_script.specs.Issued.{IsIssued}
 use Rattle.litmus_script.specs.Machine.{IsAnswered, IsShownLine, IsShownWord, counts_in, init_at, log_at}
-use Rattle.litmus_script.specs.Pump.{Pumps}
+use Rattle.litmus_script.specs.Pump.{Pumps, Silently, Telling}
 use Rattle.litmus_script.specs.Shown.{text_of_trace}
 use Rattle.litmus_script.specs.Waiting.{text_of_waiting}
 use Rattle.litmus_script.specs.declared.answers.Issued.{Issued}
@@ -29,6 +29,13 @@ use Rattle.stats_report.specs.Report.{report_of}
 -- what is written grows by this text and the end of its line
 abbrev pub Adds : Option (List ℕ) → Option (List ℕ) → List ℕ → Type 0
 Adds before after text = Appends before after (text ++ codes "\n")
+
+-- a pump's deliveries are told like this, and then what is left is written
+pub record PrintsPump (tells : Telling) (slices calls : ℕ) (old new : List PartsView) (before after : Option (List ℕ)) : Type 0 where
+  pub pumped : Pumped
+  pub middle : Option (List ℕ)
+  pub pumps : Pumps tells slices calls pumped old new before middle
+  pub said : Adds middle after (text_of_pumped pumped)
 
 -- The command's call of its slice, and what is written of the slice's answer behind what was written before. What only
 -- shows something leaves the machine as it was, and its text is that of what the machine has.
@@ -56,8 +63,7 @@ Prints config (commands.Log slice) old new before after =
 Prints config commands.Stats old new before after = (new ≡ old) × Appends before after (report_of (counts_in old))
 Prints config commands.Waiting old new before after = (new ≡ old) × Appends before after (text_of_waiting old)
 Prints config commands.Show old new before after = (new ≡ old) × Appends before after (text_of_machine config old)
-Prints config (commands.Pump calls) old new before after =
-    (pumped : Pumped) × Pumps config.slices calls pumped old new × Adds before after (text_of_pumped pumped)
+Prints config (commands.Pump calls) old new before after = PrintsPump Silently config.slices calls old new before after
 
 -- The command's answer is printed. As a record it isn't unfolded where it is handed on.
 pub record IsPrinted (config : Config) (command : Command) (old new : List PartsView) (before after : Option (List ℕ)) : Type 0 where

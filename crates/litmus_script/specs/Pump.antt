@@ -1,5 +1,5 @@
 -- What a pump does: deliveries in one slice after another, round and round.
-use Rattle.std.specs.Prelude.{◌≡◌, ◌⊎◌, ℕ, zero, suc, ◌+◌, ◌*◌, ◌<◌, ◌≤◌, Bool, true, false, List, [], ◌∷◌, length, if◌then◌else◌}
+use Rattle.std.specs.Prelude.{◌≡◌, ◌⊎◌, ℕ, zero, suc, ◌+◌, ◌*◌, ◌<◌, ◌≤◌, Bool, true, false, List, [], ◌∷◌, length, if◌then◌else◌, Option}
 use Rattle.std.specs.List.{list_all, list_any}
 use Rattle.slice_core.specs.declared.run.Call.TheVariants as calls
 use Rattle.slice_core.specs.declared.run.CallAnswer.TheVariants as answers
@@ -17,11 +17,23 @@ use Rattle.litmus_script.specs.declared.pump.Round.TheVariants as rounds
 abbrev pub IsDelivered : ℕ → DeliveredNext → List PartsView → List PartsView → Type 0
 IsDelivered slice answer old new = IsAnswered slice (calls.DeliverNext classes.Any) (answers.DeliverNext answer) old new
 
--- from this slice on, one slice after another was asked for a delivery, and gave these answers
-abbrev pub Delivers : ℕ → List DeliveredNext → List PartsView → List PartsView → Type 0
-Delivers slice [] old new = new ≡ old
-Delivers slice (answer ∷ more) old new =
-    (next : List PartsView) × IsDelivered slice answer old next × Delivers (slice + 1) more next new
+-- A telling of deliveries: what the next delivery of a slice, by its answer, does to the slices of a machine, and what is
+-- written of it behind what was written before.
+abbrev pub Telling : Type 1
+Telling = List PartsView → ℕ → DeliveredNext → Option (List ℕ) → Option (List ℕ) → List PartsView → Type 0
+
+-- nothing is written
+abbrev pub Silently : Telling
+Silently old slice answer before after new = IsDelivered slice answer old new × (after ≡ before)
+
+-- From this slice on, a delivery was made in one slice after another, by these answers. Each begins at the machine, and
+-- behind the text, that the one before it left.
+abbrev pub Delivers : {D : Type 0} → (D → ℕ → DeliveredNext → Option (List ℕ) → Option (List ℕ) → D → Type 0) → ℕ
+    → List DeliveredNext → D → D → Option (List ℕ) → Option (List ℕ) → Type 0
+Delivers tells slice [] old new before after = (new ≡ old) × (after ≡ before)
+Delivers {D} tells slice (answer ∷ more) old new before after =
+    (next : D) × (middle : Option (List ℕ)) × tells old slice answer before middle next
+    × Delivers tells (slice + 1) more next new middle after
 
 -- a message was delivered
 abbrev pub is_moved : DeliveredNext → Bool
@@ -34,20 +46,25 @@ is_nothing deliveries.Nothing = true
 is_nothing answer = false
 
 -- each of the first so many slices was asked, and gave these answers
-pub record IsRound (slices : ℕ) (given : List DeliveredNext) (old new : List PartsView) : Type 0 where
+pub record IsRound {D : Type 0} (tells : D → ℕ → DeliveredNext → Option (List ℕ) → Option (List ℕ) → D → Type 0)
+    (slices : ℕ) (given : List DeliveredNext) (old new : D) (before after : Option (List ℕ)) : Type 0 where
   pub whole : length given ≡ slices
-  pub made : Delivers 0 given old new
+  pub made : Delivers tells 0 given old new before after
 
 -- a round over all slices in which a message was delivered
-pub record Moves (slices : ℕ) (old new : List PartsView) : Type 0 where
+pub record Moves {D : Type 0} (tells : D → ℕ → DeliveredNext → Option (List ℕ) → Option (List ℕ) → D → Type 0)
+    (slices : ℕ) (old new : D) (before after : Option (List ℕ)) : Type 0 where
   pub given : List DeliveredNext
-  pub round : IsRound slices given old new
+  pub round : IsRound tells slices given old new before after
   pub moved : list_any is_moved given ≡ true
 
 -- so many of them, one after another
-abbrev pub MovesTimes : ℕ → ℕ → List PartsView → List PartsView → Type 0
-MovesTimes slices zero old new = new ≡ old
-MovesTimes slices (suc n) old new = (mid : List PartsView) × MovesTimes slices n old mid × Moves slices mid new
+abbrev pub MovesTimes : {D : Type 0} → (D → ℕ → DeliveredNext → Option (List ℕ) → Option (List ℕ) → D → Type 0) → ℕ → ℕ
+    → D → D → Option (List ℕ) → Option (List ℕ) → Type 0
+MovesTimes tells slices zero old new before after = (new ≡ old) × (after ≡ before)
+MovesTimes {D} tells slices (suc n) old new before after =
+    (mid : D) × (middle : Option (List ℕ)) × MovesTimes tells slices n old mid before middle
+    × Moves tells slices mid new middle after
 
 -- A round over all slices ended it, in which none was delivered. Whether a message waited in some slice is said.
 pub record EndsStill (slices calls before : ℕ) (given : List DeliveredNext) (pumped : Pumped) : Type 0 where
@@ -64,15 +81,17 @@ pub record EndsOut (slices calls before : ℕ) (given : List DeliveredNext) (pum
 
 -- A pump of so many calls at most: rounds over all slices, each of which delivers a message, and then the calls that end
 -- it. What is said is `left`, but where the last round found no message in any slice.
-pub record Pumps (slices calls : ℕ) (pumped : Pumped) (old new : List PartsView) : Type 0 where
-  pub before : ℕ
-  pub mid : List PartsView
+pub record Pumps {D : Type 0} (tells : D → ℕ → DeliveredNext → Option (List ℕ) → Option (List ℕ) → D → Type 0)
+    (slices calls : ℕ) (pumped : Pumped) (old new : D) (before after : Option (List ℕ)) : Type 0 where
+  pub turns : ℕ
+  pub mid : D
+  pub middle : Option (List ℕ)
   pub given : List DeliveredNext
-  pub moves : MovesTimes slices before old mid
-  pub made : Delivers 0 given mid new
-  pub ends : EndsStill slices calls before given pumped ⊎ EndsOut slices calls before given pumped
+  pub moves : MovesTimes tells slices turns old mid before middle
+  pub made : Delivers tells 0 given mid new middle after
+  pub ends : EndsStill slices calls turns given pumped ⊎ EndsOut slices calls turns given pumped
 
--- ---- a machine's own words
+-- ---- a pump's own words
 
 -- what a round came to
 abbrev pub round_of : List DeliveredNext → Round
@@ -87,13 +106,16 @@ round_after rounds.Moved answer = rounds.Moved
 round_after round answer = rounds.Stuck
 
 -- a round over the first so many slices, and what it came to
-pub record ComesTo (slices : ℕ) (round : Round) (old new : List PartsView) : Type 0 where
+pub record ComesTo {D : Type 0} (tells : D → ℕ → DeliveredNext → Option (List ℕ) → Option (List ℕ) → D → Type 0)
+    (slices : ℕ) (round : Round) (old new : D) (before after : Option (List ℕ)) : Type 0 where
   pub given : List DeliveredNext
-  pub made : IsRound slices given old new
+  pub made : IsRound tells slices given old new before after
   pub came : round ≡ round_of given
 
 -- Of so many rounds all delivered a message, or a round that delivered none was the last.
-abbrev pub AreRounds : ℕ → ℕ → Round → List PartsView → List PartsView → Type 0
-AreRounds slices count rounds.Moved old new = MovesTimes slices count old new
-AreRounds slices count last old new =
-    (before : ℕ) × (mid : List PartsView) × (before < count) × MovesTimes slices before old mid × ComesTo slices last mid new
+abbrev pub AreRounds : {D : Type 0} → (D → ℕ → DeliveredNext → Option (List ℕ) → Option (List ℕ) → D → Type 0) → ℕ → ℕ → Round
+    → D → D → Option (List ℕ) → Option (List ℕ) → Type 0
+AreRounds tells slices count rounds.Moved old new before after = MovesTimes tells slices count old new before after
+AreRounds {D} tells slices count last old new before after =
+    (turns : ℕ) × (mid : D) × (middle : Option (List ℕ)) × (turns < count)
+    × MovesTimes tells slices turns old mid before middle × ComesTo tells slices last mid new middle after

@@ -7,7 +7,7 @@
 //! - [`Answers`] is where answers go, and the functions beside it write the text of each.
 //! - [`issue`] is an access of one slice, with what became of it as it is printed.
 //! - [`copy_of`] makes an equal configuration, for another machine.
-//! - A [`Watcher`] is told of each message that [`Machine::pump`] delivers.
+//! - [`pump_slices`] has a [`Deliverer`], which the [`Machine`] is, deliver whatever waits, round and round over the slices.
 #![tactic(auto)]
 
 pub use answers::{
@@ -16,15 +16,17 @@ pub use answers::{
 };
 pub use calls::issue;
 pub use copy::copy_of;
+pub use deliverer::Deliverer;
 pub use echo::Echo;
 pub use machine::Machine;
 pub use player::Player;
+pub use pump::pump_slices;
 pub use script::{Commands, Plain, Script, Style, run_in_style, run_script};
-pub use watcher::Watcher;
 
 mod answers;
 mod calls;
 mod copy;
+mod deliverer;
 mod echo;
 mod machine;
 mod player;
@@ -34,4 +36,3 @@ mod script;
 mod show;
 mod trace;
 mod waiting;
-mod watcher;

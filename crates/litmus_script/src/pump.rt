@@ -1,14 +1,16 @@
 //! Deliveries in one slice after another, round and round.
-ghost use Rattle.std.specs.Prelude.{◌≡◌, ◌<◌, ◌≤◌, IfOk};
-ghost use Rattle.litmus_script.specs.Pump.{AreRounds, ComesTo, IsDelivered, Pumps, round_after};
+ghost use Rattle.std.specs.Prelude.{◌≡◌, ◌≤◌, IfErr, IfOk};
+ghost use Rattle.litmus_script.specs.Play.{IsOfRun};
+ghost use Rattle.litmus_script.specs.Pump.{AreRounds, ComesTo, Pumps, round_after};
 
 use super::answers::Pumped;
 use super::calls;
+use super::deliverer::Deliverer;
 use super::machine::Machine;
-use super::watcher::Watcher;
+use litmus_text::TextFault;
 use mshr_file::MissFile;
 use slice_core::DeliveredNext;
-use std::alloc::AllocError;
+use std::io::Write;
 
 /// What a round of deliveries over the slices came to.
 #[derive(Clone, Copy)]
@@ -34,63 +36,89 @@ impl Round {
     }
 }
 
-impl<F: MissFile> Machine<F> {
-    /// Delivers messages, by so many calls at most, round and round over the slices.
-    pub fn pump<T: Watcher>(&mut self, calls: u64, watcher: &mut T) -> Result<Pumped, AllocError>
-        ensures config { self.new.config ≡ self.old.config }
-        ensures pumped { IfOk result (λ pumped. Pumps self.old.config.slices calls pumped
-            self.old.slices.items self.new.slices.items) }
-    {
-        let slices = self.config.slices();
-        match self.rounds(calls / slices as u64, watcher)? {
-            Round::Empty => Ok(Pumped::Empty),
-            Round::Stuck => Ok(Pumped::Left),
-            // the calls that are left make no whole round
-            Round::Moved => {
-                self.round((calls % slices as u64) as usize, watcher)?;
-                Ok(Pumped::Left)
-            }
+/// Delivers messages, by so many calls at most, round and round over the slices.
+pub fn pump_slices<D: Deliverer, W: Write>(
+    deliverer: &mut D,
+    calls: u64,
+    out: &mut W,
+) -> Result<Pumped, TextFault>
+    ensures config { D.config_of deliverer.new ≡ D.config_of deliverer.old }
+    ensures pumped { IfOk result (λ pumped. Pumps D.delivers (D.config_of deliverer.old).slices calls pumped
+        deliverer.old deliverer.new (W.contents out.old) (W.contents out.new)) }
+    ensures fault { IfErr result IsOfRun }
+{
+    let slices = deliverer.slices();
+    match make_rounds(deliverer, calls / slices as u64, out)? {
+        Round::Empty => Ok(Pumped::Empty),
+        Round::Stuck => Ok(Pumped::Left),
+        // the calls that are left make no whole round
+        Round::Moved => {
+            make_round(deliverer, (calls % slices as u64) as usize, out)?;
+            Ok(Pumped::Left)
         }
     }
+}
 
-    /// Makes so many rounds over all slices, up to one that moves nothing. Answers what the last came to.
-    fn rounds<T: Watcher>(&mut self, count: u64, watcher: &mut T) -> Result<Round, AllocError>
-        ensures config { self.new.config ≡ self.old.config }
-        ensures made { IfOk result (λ last. AreRounds self.old.config.slices count last
-            self.old.slices.items self.new.slices.items) }
-    {
-        let slices = self.config.slices();
-        for made in 0..count {
-            match self.round(slices, watcher)? {
-                Round::Moved => {}
-                last => return Ok(last),
-            }
+/// Makes so many rounds over all slices, up to one that moves nothing. Answers what the last came to.
+fn make_rounds<D: Deliverer, W: Write>(
+    deliverer: &mut D,
+    count: u64,
+    out: &mut W,
+) -> Result<Round, TextFault>
+    ensures config { D.config_of deliverer.new ≡ D.config_of deliverer.old }
+    ensures made { IfOk result (λ last. AreRounds D.delivers (D.config_of deliverer.old).slices count last
+        deliverer.old deliverer.new (W.contents out.old) (W.contents out.new)) }
+    ensures fault { IfErr result IsOfRun }
+{
+    let slices = deliverer.slices();
+    for made in 0..count {
+        match make_round(deliverer, slices, out)? {
+            Round::Moved => {}
+            last => return Ok(last),
         }
-        Ok(Round::Moved)
+    }
+    Ok(Round::Moved)
+}
+
+/// Makes a delivery in each of the first slices, where one can be made.
+fn make_round<D: Deliverer, W: Write>(
+    deliverer: &mut D,
+    count: usize,
+    out: &mut W,
+) -> Result<Round, TextFault>
+    requires { count ≤ (D.config_of deliverer.old).slices }
+    ensures config { D.config_of deliverer.new ≡ D.config_of deliverer.old }
+    ensures made { IfOk result (λ round. ComesTo D.delivers count round
+        deliverer.old deliverer.new (W.contents out.old) (W.contents out.new)) }
+    ensures fault { IfErr result IsOfRun }
+{
+    let mut round = Round::Empty;
+    for slice in 0..count {
+        let delivered = deliverer.deliver_next(slice, out)?;
+        round = round.after(delivered);
+    }
+    Ok(round)
+}
+
+/// A machine says nothing of its deliveries.
+impl<F: MissFile> Deliverer for Machine<F> {
+    ghost use Rattle.std.specs.Prelude.{◌≡◌};
+    ghost use Rattle.litmus_script.specs.Pump.{Silently};
+
+    ghost config_of = { λ machine. machine.config };
+
+    ghost delivers = { λ old slice answer before after new. (new.config ≡ old.config)
+        × Silently old.slices.items slice answer before after new.slices.items };
+
+    fn slices(&self) -> usize {
+        self.config.slices()
     }
 
-    /// Makes a delivery in each of the first slices, where one can be made.
-    fn round<T: Watcher>(&mut self, count: usize, watcher: &mut T) -> Result<Round, AllocError>
-        requires { count ≤ self.old.config.slices }
-        ensures config { self.new.config ≡ self.old.config }
-        ensures made { IfOk result (λ round. ComesTo count round self.old.slices.items self.new.slices.items) }
-    {
-        let mut round = Round::Empty;
-        for slice in 0..count {
-            let delivered = self.deliver_next(slice);
-            round = round.after(delivered);
-            if let DeliveredNext::Moved(pick) = delivered {
-                watcher.moved(pick)?;
-            }
-        }
-        Ok(round)
-    }
-
-    fn deliver_next(&mut self, slice: usize) -> DeliveredNext
-        requires { slice < self.old.config.slices }
-        ensures config { self.new.config ≡ self.old.config }
-        ensures delivered { IsDelivered slice result self.old.slices.items self.new.slices.items }
-    {
-        calls::deliver_next(&mut self.slices[slice])
+    fn deliver_next<W: Write>(
+        &mut self,
+        slice: usize,
+        _out: &mut W,
+    ) -> Result<DeliveredNext, TextFault> {
+        Ok(calls::deliver_next(&mut self.slices[slice]))
     }
 }

@@ -10,8 +10,8 @@ use super::answers::{
     written,
 };
 use super::machine::Machine;
+use super::pump::pump_slices;
 use super::trace::write_trace;
-use super::watcher::Nobody;
 use address_map::{CoreId, LineAddr, Request, SliceId, WordAddr};
 use litmus_text::{Command, TextFault};
 use mshr_file::MissFile;
@@ -162,9 +162,7 @@ impl<F: MissFile> Machine<F> {
         ensures printed { OnOk result (IsPrinted self.old.config (commands.Pump calls)
             self.old.slices.items self.new.slices.items (W.contents out.old) (W.contents out.new)) }
     {
-        let Ok(pumped) = self.pump(calls, &mut Nobody) else {
-            return Err(TextFault::NoMemory);
-        };
+        let pumped = pump_slices(self, calls, out)?;
         let mut answers = Answers { out };
         written(write_pumped(pumped, &mut answers))
     }

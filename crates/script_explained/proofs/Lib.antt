@@ -1,4 +1,5 @@
 pub mod CopyLemmas
+pub mod NextLemmas
 pub mod Pieces
 pub mod PlayerLemmas
 pub mod SliceLemmas

@@ -1,20 +1,27 @@
 -- What is said of a delivery: the case that the message in front of the channel met, what was planned for it, and what was
 -- done of that.
-use Rattle.std.specs.Prelude.{ℕ, List, ◌++◌, codes, length, Option, Some, None}
+use Rattle.std.specs.Prelude.{ℕ, List, [], ◌++◌, codes, length, Option, Some, None}
+use Rattle.std.specs.Io.KnownBytes.{Appends}
 use Rattle.std.specs.Option.{option_map}
 use Rattle.address_map.specs.declared.address.CoreId.{CoreId}
 use Rattle.litmus_script.specs.Answer.{text_of_delivered}
 use Rattle.litmus_script.specs.Machine.{Answers}
 use Rattle.litmus_script.specs.Prints.{Adds}
+use Rattle.litmus_text.specs.Command.{parts_of}
+use Rattle.litmus_text.specs.declared.command.Command.TheVariants as commands
 use Rattle.script_explained.specs.Look.{copy_at, entry_of, message_at}
+use Rattle.script_text.specs.Line.{text_of_parts}
 use Rattle.slice_core.specs.declared.run.Call.TheVariants as calls
 use Rattle.slice_core.specs.declared.run.CallAnswer.TheVariants as answers
 use Rattle.slice_core_answer.specs.declared.answer.Delivered.{Delivered}
+use Rattle.slice_core_answer.specs.declared.answer.DeliveredNext.{DeliveredNext}
+use Rattle.slice_core_answer.specs.declared.answer.DeliveredNext.TheVariants as deliveries
 use Rattle.slice_core_plan.specs.Parts.{PartsView, core_of}
 use Rattle.slice_core_plan.specs.Plan.{planned_at}
 use Rattle.slice_core_plan.specs.View.{View}
 use Rattle.slice_core_plan.specs.declared.decide.Plan.{Plan}
 use Rattle.slice_queues_message.specs.Pick.{channel_of, line_of}
+use Rattle.slice_queues_message.specs.declared.channel.Class.TheVariants as classes
 use Rattle.slice_queues_message.specs.declared.channel.Pick.{Pick}
 use Rattle.slice_queues_message.specs.declared.channel.Pick.TheVariants as picks
 use Rattle.step_text.specs.Delivery.{text_of_delivery}
@@ -69,3 +76,20 @@ pub record ExplainsDelivery (slice : ℕ) (pick : Pick) (before after : Option (
   pub answer : Delivered
   pub answered : Answers (calls.Deliver pick) (answers.Deliver answer) old new
   pub written : Adds before after (text_of_delivered answer ++ codes "   " ++ told_of_delivery (delivery_of slice pick old.view new.view))
+
+-- ---- a delivery that a pump makes
+
+-- the command that makes it, and what is said of it
+abbrev pub text_of_made : Pick → Option Delivery → List ℕ
+text_of_made pick delivery =
+    text_of_parts (parts_of (commands.Deliver pick)) ++ codes "   " ++ told_of_delivery delivery ++ codes "\n"
+
+-- what is said of the next delivery of a slice, by its answer: nothing where none was made
+abbrev pub text_of_next : ℕ → DeliveredNext → View → View → List ℕ
+text_of_next slice (deliveries.Moved pick) old new = text_of_made pick (delivery_of slice pick old new)
+text_of_next slice answer old new = []
+
+-- a state of a slice made its next delivery, where one could be made, and what there is to say of it was written
+pub record ExplainsNext (slice : ℕ) (answer : DeliveredNext) (before after : Option (List ℕ)) (old new : PartsView) : Type 0 where
+  pub answered : Answers (calls.DeliverNext classes.Any) (answers.DeliverNext answer) old new
+  pub written : Appends before after (text_of_next slice answer old.view new.view)

@@ -1,18 +1,23 @@
 //! Deliveries.
-ghost use Rattle.std.specs.Prelude.{◌≡◌, ◌++◌, IfErr, OnOk, codes};
+ghost use Rattle.std.specs.Prelude.{◌≡◌, ◌++◌, IfErr, IfOk, OnOk, codes};
+ghost use Rattle.std.specs.Fmt.{WritesInCalls};
+ghost use Rattle.std.specs.Io.KnownBytes.{Appends};
 ghost use Rattle.litmus_script.specs.Answer.{WritesLine, text_of_delivered};
 ghost use Rattle.litmus_script.specs.Play.{IsOfRun};
-ghost use Rattle.script_explained.specs.Delivery.{ExplainsDelivery, case_at, delivery_at, done_at, told_of_delivery, who_takes};
+ghost use Rattle.script_explained.specs.Delivery.{ExplainsDelivery, ExplainsNext, case_at, delivery_at, done_at, text_of_made, told_of_delivery, who_takes};
 ghost use Rattle.slice_core.specs.Facts.{IsSameSlice};
-ghost use Rattle.slice_core_plan.specs.Parts.{core_of};
+ghost use Rattle.slice_core_plan.specs.Parts.{core_of, next_pick};
+ghost use Rattle.slice_core_plan.specs.declared.decide.NextPick.TheVariants as next_picks;
 ghost use Rattle.slice_queues_message.specs.Pick.{channel_of};
+ghost use Rattle.slice_queues_message.specs.declared.channel.Class.TheVariants as classes;
 
 use super::look;
 use address_map::CoreId;
 use litmus_script::{Answers, written};
 use litmus_text::TextFault;
 use mshr_file::MissFile;
-use slice_core::{Delivered, Pick, Plan, SliceState};
+use script_text::Delivery as Command;
+use slice_core::{Class, Delivered, DeliveredNext, NextPick, Pick, Plan, SliceState};
 use std::fmt;
 use std::io::Write;
 use step_text::{Case, Delivery, Done, Event, Who};
@@ -36,6 +41,64 @@ pub(crate) fn deliver<F: MissFile, W: Write>(
     let told = told(slice, pick, case, plan, done);
     let mut answers = Answers { out };
     written(write(delivered, told, &mut answers))
+}
+
+/// Makes the next delivery of the slice with this number, where one can be made, and writes the command that makes it and
+/// what became of it.
+pub(crate) fn deliver_next<F: MissFile, W: Write>(
+    state: &mut SliceState<F>,
+    slice: usize,
+    out: &mut W,
+) -> Result<DeliveredNext, TextFault>
+    ensures same { IsSameSlice state.old state.new }
+    ensures told { IfOk result (λ answer. ExplainsNext slice answer (W.contents out.old) (W.contents out.new) state.old state.new) }
+    ensures fault { IfErr result IsOfRun }
+{
+    match state.next(Class::Any) {
+        NextPick::Move(pick) => deliver_picked(state, slice, pick, out),
+        _ => Ok(state.deliver_next(Class::Any)),
+    }
+}
+
+/// Makes the next delivery of a slice, which is at this pick, and tells it.
+fn deliver_picked<F: MissFile, W: Write>(
+    state: &mut SliceState<F>,
+    slice: usize,
+    pick: Pick,
+    out: &mut W,
+) -> Result<DeliveredNext, TextFault>
+    requires { next_pick state.old classes.Any ≡ next_picks.Move pick }
+    ensures same { IsSameSlice state.old state.new }
+    ensures told { IfOk result (λ answer. ExplainsNext slice answer (W.contents out.old) (W.contents out.new) state.old state.new) }
+    ensures fault { IfErr result IsOfRun }
+{
+    let case = case(state, slice, pick);
+    let plan = state.plan(pick);
+    let first = state.log().len();
+    let delivered = state.deliver_next(Class::Any);
+    let done = done(state, first, pick);
+    let told = told(slice, pick, case, plan, done);
+    tell_made(pick, told, out)?;
+    Ok(delivered)
+}
+
+/// Writes the command that makes a delivery, and what there is to say of it.
+fn tell_made<W: Write>(pick: Pick, told: Option<Delivery>, out: &mut W) -> Result<(), TextFault>
+    ensures told { OnOk result (Appends (W.contents out.old) (W.contents out.new) (text_of_made pick told)) }
+    ensures fault { IfErr result IsOfRun }
+{
+    let mut answers = Answers { out };
+    written(write_made(pick, told, &mut answers))
+}
+
+fn write_made<W: fmt::Write>(pick: Pick, told: Option<Delivery>, out: &mut W) -> fmt::Result
+    ensures { OnOk result (WritesInCalls W.write_str_gives out.old (text_of_made pick told) out.new) }
+{
+    let command = Command(pick);
+    match told {
+        Some(told) => writeln!(out, "{command}   {told}"),
+        None => writeln!(out, "{command}   no message waits"),
+    }
 }
 
 /// The delivery of the message that met a case, if one did.

@@ -1,18 +1,18 @@
-ghost use Rattle.std.specs.Prelude.{◌≡◌, ◌/◌, ◌<◌, length, IfErr, OnOk};
+ghost use Rattle.std.specs.Prelude.{◌≡◌, ◌/◌, ◌<◌, length, IfErr, IfOk, OnOk};
 ghost use Rattle.litmus_script.specs.Machine.{OneSlice};
 ghost use Rattle.litmus_script.specs.Play.{IsOfRun};
 ghost use Rattle.litmus_text.specs.Command.{HasCore};
 ghost use Rattle.litmus_text.specs.declared.command.Command.TheVariants as commands;
-ghost use Rattle.script_explained.specs.Delivery.{ExplainsDelivery};
+ghost use Rattle.script_explained.specs.Delivery.{ExplainsDelivery, ExplainsNext};
 ghost use Rattle.script_explained.specs.Explains.{IsExplained};
 ghost use Rattle.script_explained.specs.Issue.{ExplainsIssue};
 
 use super::{delivery, hand, issue, unrest};
 use address_map::{Checked, CoreId, LineAddr, Request, SliceId, WordAddr};
-use litmus_script::{Machine, Player};
+use litmus_script::{Answers, Deliverer, Machine, Player, pump_slices, write_pumped, written};
 use litmus_text::{Command, Statement, TextFault};
 use mshr_file::MissFile;
-use slice_core::Pick;
+use slice_core::{DeliveredNext, Pick};
 use std::alloc::Global;
 use std::io::Write;
 
@@ -48,13 +48,35 @@ impl<F: MissFile> Player for Explained<F> {
             Command::Deliver(pick) => self.deliver(pick, out),
             Command::Hand { core, slice } => self.hand(core, slice, out),
             Command::Word(word) => self.word(word, out),
+            Command::Pump(calls) => self.pump(calls, out),
             Command::State(_)
             | Command::Log(_)
             | Command::Stats
             | Command::Waiting
-            | Command::Show
-            | Command::Pump(_) => self.machine.run(command, out),
+            | Command::Show => self.machine.run(command, out),
         }
+    }
+}
+
+impl<F: MissFile> Deliverer for Explained<F> {
+    ghost use Rattle.std.specs.Prelude.{◌≡◌};
+    ghost use Rattle.script_explained.specs.Explains.{TellsNext};
+
+    ghost config_of = { λ player. player.machine.config };
+
+    ghost delivers = { λ old slice answer before after new. (new.machine.config ≡ old.machine.config)
+        × TellsNext old.machine.slices.items slice answer before after new.machine.slices.items };
+
+    fn slices(&self) -> usize {
+        self.machine.config.slices()
+    }
+
+    fn deliver_next<W: Write>(
+        &mut self,
+        slice: usize,
+        out: &mut W,
+    ) -> Result<DeliveredNext, TextFault> {
+        self.deliver_next_in(slice, out)
     }
 }
 
@@ -142,6 +164,33 @@ impl<F: MissFile> Explained<F> {
             self.old.machine.slices.items self.new.machine.slices.items) }
     {
         delivery::deliver(&mut self.machine.slices[slice], slice, pick, out)
+    }
+
+    fn deliver_next_in<W: Write>(
+        &mut self,
+        slice: usize,
+        out: &mut W,
+    ) -> Result<DeliveredNext, TextFault>
+        requires { slice < self.old.machine.config.slices }
+        ensures config { self.new.machine.config ≡ self.old.machine.config }
+        ensures fault { IfErr result IsOfRun }
+        ensures told { IfOk result (λ answer. OneSlice slice
+            (ExplainsNext slice answer (W.contents out.old) (W.contents out.new))
+            self.old.machine.slices.items self.new.machine.slices.items) }
+    {
+        delivery::deliver_next(&mut self.machine.slices[slice], slice, out)
+    }
+
+    /// Tells each delivery, and then what is left.
+    fn pump<W: Write>(&mut self, calls: u64, out: &mut W) -> Result<(), TextFault>
+        ensures config { self.new.machine.config ≡ self.old.machine.config }
+        ensures fault { IfErr result IsOfRun }
+        ensures told { OnOk result (IsExplained self.old.machine.config (commands.Pump calls)
+            self.old.machine.slices.items self.new.machine.slices.items (W.contents out.old) (W.contents out.new)) }
+    {
+        let pumped = pump_slices(self, calls, out)?;
+        let mut answers = Answers { out };
+        written(write_pumped(pumped, &mut answers))
     }
 
     fn hand<W: Write>(&mut self, core: CoreId, slice: SliceId, out: &mut W) -> Result<(), TextFault>

@@ -1,0 +1,77 @@
+//! What a chart looks at before a call, which may change it.
+use super::arrow::{Participant, receiver};
+use super::note::write_changes;
+use address_map::LineAddr;
+use litmus_script::Machine;
+use mshr_file::MissFile;
+use slice_core::{CopyState, LineView, Message, Pick};
+use std::fmt;
+use std::fmt::Write;
+
+/// What its slice had of a line.
+#[derive(Drop)]
+pub struct Seen {
+    pub line: LineAddr,
+    /// None for a line that the memory doesn't have.
+    view: Option<LineView>,
+}
+
+impl Seen {
+    pub fn of<F: MissFile>(machine: &Machine<F>, line: LineAddr) -> Self {
+        Seen {
+            line,
+            view: machine.view(line),
+        }
+    }
+
+    /// Whether the core with this number had a copy of the line.
+    pub fn has_copy(&self, core: u8) -> bool {
+        match &self.view {
+            Some(view) => view
+                .copies
+                .get(core as usize)
+                .is_some_and(|copy| *copy != CopyState::I),
+            None => false,
+        }
+    }
+
+    /// Draws what is different of the line now.
+    pub fn write_change<F: MissFile, W: Write>(
+        &self,
+        now: &Machine<F>,
+        out: &mut W,
+    ) -> fmt::Result {
+        if let (Some(before), Some(after)) = (&self.view, &now.view(self.line)) {
+            let directory = Participant::Directory(now.slice_of(self.line));
+            write_changes(directory, self.line, before, after, out)?;
+        }
+        Ok(())
+    }
+}
+
+/// A message in front of a channel, and its line.
+#[derive(Drop)]
+pub struct Flight {
+    pub pick: Pick,
+    pub slice: usize,
+    /// None where nothing waits.
+    pub message: Option<Message>,
+    pub line: Seen,
+}
+
+impl Flight {
+    pub fn of<F: MissFile>(machine: &Machine<F>, pick: Pick) -> Self {
+        let line = pick.line();
+        Flight {
+            pick,
+            slice: machine.slice_of(line),
+            message: machine.front(pick),
+            line: Seen::of(machine, line),
+        }
+    }
+
+    /// Who takes the messages of the channel.
+    pub fn receiver(&self) -> Participant {
+        receiver(self.slice, self.pick)
+    }
+}

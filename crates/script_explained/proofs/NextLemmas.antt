@@ -1,0 +1,28 @@
+-- What is said of a slice's next delivery, which is the one that was named before it was made.
+use Rattle.std.proofs.Common.{◌≡◌, ◌≢◌, ℕ, List, [], refl, subst, sym}
+use Rattle.script_explained.specs.Delivery.{delivery_of, text_of_made, text_of_next}
+use Rattle.slice_core_answer.specs.declared.answer.DeliveredNext.{DeliveredNext}
+use Rattle.slice_core_answer.specs.declared.answer.DeliveredNext.TheVariants as deliveries
+use Rattle.slice_core_plan.specs.Parts.{told}
+use Rattle.slice_core_plan.specs.View.{View}
+use Rattle.slice_core_plan.specs.declared.decide.NextPick.{NextPick}
+use Rattle.slice_core_plan.specs.declared.decide.NextPick.TheVariants as next_picks
+use Rattle.slice_queues_message.specs.declared.channel.Pick.{Pick}
+
+-- where none could be made, nothing
+pub nothing_next : (slice : ℕ) (answer : DeliveredNext) (next : NextPick) (old new : View) → told answer ≡ next
+    → ((pick : Pick) → next ≢ next_picks.Move pick) → text_of_next slice answer old new ≡ []
+nothing_next slice (deliveries.Moved pick) next old new is none = absurd (none pick (sym is))
+nothing_next slice deliveries.Nothing next old new is none = refl
+nothing_next slice deliveries.Blocked next old new is none = refl
+nothing_next slice (deliveries.Broken cell) next old new is none = refl
+
+-- where one was, the command that makes it and what happened
+pub made_next : (slice : ℕ) (answer : DeliveredNext) (next : NextPick) (pick : Pick) (old new : View) → told answer ≡ next
+    → next ≡ next_picks.Move pick → text_of_next slice answer old new ≡ text_of_made pick (delivery_of slice pick old new)
+made_next slice (deliveries.Moved other) next pick old new is move =
+    let same : other ≡ pick = cc (is, move) in
+    subst (λ (p : Pick). text_of_made other (delivery_of slice other old new) ≡ text_of_made p (delivery_of slice p old new)) same refl
+made_next slice deliveries.Nothing next pick old new is move = absurd (cc (is, move))
+made_next slice deliveries.Blocked next pick old new is move = absurd (cc (is, move))
+made_next slice (deliveries.Broken cell) next pick old new is move = absurd (cc (is, move))

@@ -4,6 +4,7 @@
 //! - [`run_script`] runs a script, [`run_explained`] tells what happened behind each answer, [`run_beside`] prints each
 //!   answer beside its command, [`run_chart`] draws the run as a sequence diagram, and [`run_page`] writes it as a page
 //!   for a browser, [`run_waves`] as waves for a wave viewer. [`expected`] tells what a line at fault was to say.
+//! - [`run_trace`] writes a model checker's trace as a script.
 //! - [`run_prompt`] answers a script's lines one by one, and gives a [`Saver`] the script so far.
 //! - [`run_test`] tests a script against the answers that it wants.
 //! - [`run_litmus`] runs a litmus test over threads, and [`run_walk`] on random schedules without any; each counts the
@@ -21,6 +22,7 @@ pub use litmus_chart::run_chart;
 pub use litmus_command_line::{CommandLine, ModelCores, Table, read_line};
 pub use litmus_script::run_script;
 pub use litmus_test::Progress;
+pub use murphi_trace::run_trace;
 pub use program_run::{Form, run_programs};
 pub use script_beside::run_beside;
 pub use script_explained::{expected, run_explained};

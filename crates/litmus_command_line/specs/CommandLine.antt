@@ -29,16 +29,18 @@ table_rule names = record (new_rule (codes "TABLE")) { required = true; parser =
 abbrev pub flag_rule : Text → Rule
 flag_rule name = record (new_rule name) { long = Some name; action = Some SetTrue }
 
--- the subcommand that runs a script
-abbrev pub script_app : App
-script_app =
+-- the subcommand that runs a script, with the options that say how its answers are printed
+abbrev pub answering_app : App
+answering_app =
     with_rule
-    (with_rule
     (with_rule
     (with_rule (with_rule (new_app (codes "script")) file_rule) (flag_rule (codes "echo")))
     (flag_rule (codes "explain")))
-    (flag_rule (codes "beside")))
-    (flag_rule (codes "vcd"))
+    (flag_rule (codes "beside"))
+
+-- .. and with those that print something else in their place
+abbrev pub script_app : App
+script_app = with_rule (with_rule answering_app (flag_rule (codes "vcd"))) (flag_rule (codes "from-murphi"))
 
 -- the subcommand that answers a script's lines one by one, behind a text that may be left out
 abbrev pub try_app : App
@@ -221,10 +223,10 @@ IsNumberIfGiven name rows (Some n) = IsNumberOf name rows n
 
 -- the subcommand of this name, with these values, is what the line holds
 abbrev pub IsLine : Text → List Row → CommandLine → Type 0
-IsLine name rows (lines.Script file echo explain beside vcd) =
+IsLine name rows (lines.Script file echo explain beside vcd from_murphi) =
     (name ≡ codes "script") × (first_of (codes "FILE") rows ≡ Some file.now) × (echo ≡ is_given (codes "echo") rows)
     × (explain ≡ is_given (codes "explain") rows) × (beside ≡ is_given (codes "beside") rows)
-    × (vcd ≡ is_given (codes "vcd") rows)
+    × (vcd ≡ is_given (codes "vcd") rows) × (from_murphi ≡ is_given (codes "from-murphi") rows)
 IsLine name rows (lines.Try file) =
     (name ≡ codes "try") × (option_map (λ f. f.now) file ≡ first_of (codes "FILE") rows)
 IsLine name rows (lines.Chart file) = (name ≡ codes "chart") × (first_of (codes "FILE") rows ≡ Some file.now)

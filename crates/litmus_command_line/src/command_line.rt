@@ -1,7 +1,7 @@
 ghost use Rattle.std.specs.Prelude.{◌≡◌, map, IfOk, IfSome, IsOkAnd, string_bytes, codes, false};
 ghost use Rattle.clap.specs.declared.builder.command.Command.TheViews.{out-Command as fields_of};
 ghost use Rattle.litmus_command_line.specs.CommandLine.{IsAsked, IsLine, IsLockup, IsRead, IsTable, IsWith, chart_app, check_app};
-ghost use Rattle.litmus_command_line.specs.CommandLine.{file_rule, flag_rule, is_given, page_app, script_app, test_app, top_app, word_of};
+ghost use Rattle.litmus_command_line.specs.CommandLine.{answering_app, file_rule, flag_rule, is_given, page_app, script_app, test_app, top_app, word_of};
 ghost use Rattle.litmus_command_line.specs.CommandLine.{IsNumberOf, IsNumberIfGiven, litmus_app, number_rule};
 ghost use Rattle.litmus_command_line.specs.CommandLine.{IsExport, number_rule_or, run_app, try_app, walk_app, word_of_number};
 ghost use Rattle.std.specs.Option.{option_map};
@@ -17,13 +17,15 @@ use std::alloc::{AllocError, Global};
 #[derive(Clone, Copy, Debug, PartialEq, Eq)]
 pub enum CommandLine<'a> {
     /// Run the script in this file. With `echo`, print each command's line before its answer, and with `beside` on its
-    /// left; with `explain`, what happened behind it; with `vcd`, the run as waves in place of answers.
+    /// left; with `explain`, what happened behind it; with `vcd`, the run as waves in place of answers. With `from_murphi`
+    /// the file is a model checker's trace: print it as a script.
     Script {
         file: &'a str,
         echo: bool,
         explain: bool,
         beside: bool,
         vcd: bool,
+        from_murphi: bool,
     },
     /// Answer a script's lines one by one, behind the script in this file if one is named.
     Try {
@@ -134,12 +136,14 @@ fn script_line<'a>(given: &ArgMatches<'a>) -> Option<CommandLine<'a>>
     let explain = is_given(given, "explain");
     let beside = is_given(given, "beside");
     let vcd = is_given(given, "vcd");
+    let from_murphi = is_given(given, "from-murphi");
     Some(CommandLine::Script {
         file,
         echo,
         explain,
         beside,
         vcd,
+        from_murphi,
     })
 }
 
@@ -326,6 +330,25 @@ fn script<'a>(alloc: Global) -> Result<Command<'a>, AllocError>
     ensures reads { IfOk result (λ c. app_of c ≡ script_app) }
     ensures plain { IfOk result (λ c. (fields_of c).has_globals ≡ false) }
 {
+    let answering = answering(alloc)?;
+    answering
+        .arg(flag(
+            alloc,
+            "vcd",
+            "Print the run as waves for a wave viewer, in place of answers",
+        ))?
+        .arg(flag(
+            alloc,
+            "from-murphi",
+            "FILE is a trace of the model: print it as a script",
+        ))
+}
+
+/// The same with the options that say how answers are printed alone.
+fn answering<'a>(alloc: Global) -> Result<Command<'a>, AllocError>
+    ensures reads { IfOk result (λ c. app_of c ≡ answering_app) }
+    ensures plain { IfOk result (λ c. (fields_of c).has_globals ≡ false) }
+{
     Command::new(alloc, "script")
         .about("Runs a script on the state of each slice, without threads, and prints its answers")
         .after_help(help::SCRIPT)
@@ -336,11 +359,6 @@ fn script<'a>(alloc: Global) -> Result<Command<'a>, AllocError>
             alloc,
             "beside",
             "Print each answer beside its command's line",
-        ))?
-        .arg(flag(
-            alloc,
-            "vcd",
-            "Print the run as waves for a wave viewer, in place of answers",
         ))
 }
 

@@ -9,8 +9,8 @@ use clap::Error;
 use clap::error::ErrorKind;
 use litmus::{
     CommandLine, Form, expected, read_line, run_beside, run_chart, run_check, run_explained,
-    run_export, run_litmus, run_page, run_programs, run_script, run_table, run_test, run_walk,
-    run_waves, write_walk,
+    run_export, run_litmus, run_page, run_programs, run_script, run_table, run_test, run_trace,
+    run_walk, run_waves, write_walk,
 };
 use litmus_text::TextFault;
 use progress::Shown;
@@ -166,6 +166,10 @@ where
     let is_watched = people.watch;
     let shown = &mut Shown { rt, is_watched };
     match line {
+        CommandLine::Script {
+            from_murphi: true,
+            ..
+        } => run_trace(input, out),
         CommandLine::Script { vcd: true, .. } => run_waves(alloc, input, out),
         CommandLine::Script {
             explain,

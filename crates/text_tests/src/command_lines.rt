@@ -48,6 +48,7 @@ fn reads_a_script(rt: HostRuntime) -> Result<(), Fail> {
         explain: false,
         beside: false,
         vcd: false,
+        from_murphi: false,
     };
     let echo = CommandLine::Script {
         file,
@@ -55,6 +56,7 @@ fn reads_a_script(rt: HostRuntime) -> Result<(), Fail> {
         explain: false,
         beside: false,
         vcd: false,
+        from_murphi: false,
     };
     assert!(rt; is_read(rt.alloc(), &["lockup", "script", file], plain)?);
     assert!(rt; is_read(rt.alloc(), &["lockup", "script", "--echo", file], echo)?);
@@ -71,6 +73,7 @@ fn reads_a_script_to_be_explained(rt: HostRuntime) -> Result<(), Fail> {
         explain: true,
         beside: false,
         vcd: false,
+        from_murphi: false,
     };
     assert!(rt;
         is_read(
@@ -91,6 +94,7 @@ fn reads_a_script_with_answers_beside_it(rt: HostRuntime) -> Result<(), Fail> {
         explain: false,
         beside: true,
         vcd: false,
+        from_murphi: false,
     };
     assert!(rt; is_read(rt.alloc(), &["lockup", "script", "--beside", file], beside)?);
     Ok(())
@@ -105,8 +109,30 @@ fn reads_a_script_to_be_shown_as_waves(rt: HostRuntime) -> Result<(), Fail> {
         explain: false,
         beside: false,
         vcd: true,
+        from_murphi: false,
     };
     assert!(rt; is_read(rt.alloc(), &["lockup", "script", "--vcd", file], waves)?);
+    Ok(())
+}
+
+#[test]
+fn reads_a_trace_of_the_model(rt: HostRuntime) -> Result<(), Fail> {
+    let file = "trace.txt";
+    let trace = CommandLine::Script {
+        file,
+        echo: false,
+        explain: false,
+        beside: false,
+        vcd: false,
+        from_murphi: true,
+    };
+    assert!(rt;
+        is_read(
+            rt.alloc(),
+            &["lockup", "script", "--from-murphi", file],
+            trace
+        )?
+    );
     Ok(())
 }
 

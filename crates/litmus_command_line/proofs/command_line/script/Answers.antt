@@ -1,27 +1,18 @@
-use Rattle.std.proofs.Common.{◌≡◌, ◌∙◌, ◌||◌, false, rules, ap₂, codes}
+use Rattle.std.proofs.Common.{◌∙◌, ◌||◌, ap₂}
 use Rattle.std.proofs.lemmas.Result.{IfOk-weaker}
-use Rattle.clap.specs.declared.builder.command.Command.TheViews.{out-Command as fields_of}
-use Rattle.clap.specs.Words.{app_of, new_app, with_rule}
+use Rattle.clap.specs.Words.{with_rule}
 use Rattle.litmus_command_line.proofs.command_line.script.Goals as goal
 
 pub returns-clause-reads : goal.returns-clause-reads
 returns-clause-reads c =
-    let named : app_of c.after_help.result ≡ new_app (codes "script") = search rules in
-    let file = c.in_ok-arg.ensures.shape c.file.ensures.plain ∙ ap₂ with_rule named c.file.ensures.rule in
-    let echo = c.in_ok-arg-2.ensures.shape c.flag.ensures.plain ∙ ap₂ with_rule file c.flag.ensures.rule in
-    let explain = c.in_ok-arg-3.ensures.shape c.flag-2.ensures.plain ∙ ap₂ with_rule echo c.flag-2.ensures.rule in
-    let beside = c.in_ok-arg-4.ensures.shape c.flag-3.ensures.plain ∙ ap₂ with_rule explain c.flag-3.ensures.rule in
-    IfOk-weaker c.arg-5.result _ _
-    (λ made adds. adds.shape c.flag-4.ensures.plain ∙ ap₂ with_rule beside c.flag-4.ensures.rule)
-    c.arg-5.ensures
+    let vcd = c.in_ok-arg.ensures.shape c.flag.ensures.plain ∙ ap₂ with_rule c.in_ok-answering.ensures.reads c.flag.ensures.rule in
+    IfOk-weaker c.arg-2.result _ _
+    (λ made adds. adds.shape c.flag-2.ensures.plain ∙ ap₂ with_rule vcd c.flag-2.ensures.rule)
+    c.arg-2.ensures
 
 pub returns-clause-plain : goal.returns-clause-plain
 returns-clause-plain c =
-    let none : (fields_of c.after_help.result).has_globals ≡ false = search rules in
-    let file = c.in_ok-arg.ensures.globals ∙ ap₂ (λ a b. a || b) none c.file.ensures.plain in
-    let echo = c.in_ok-arg-2.ensures.globals ∙ ap₂ (λ a b. a || b) file c.flag.ensures.plain in
-    let explain = c.in_ok-arg-3.ensures.globals ∙ ap₂ (λ a b. a || b) echo c.flag-2.ensures.plain in
-    let beside = c.in_ok-arg-4.ensures.globals ∙ ap₂ (λ a b. a || b) explain c.flag-3.ensures.plain in
-    IfOk-weaker c.arg-5.result _ _
-    (λ made adds. adds.globals ∙ ap₂ (λ a b. a || b) beside c.flag-4.ensures.plain)
-    c.arg-5.ensures
+    let vcd = c.in_ok-arg.ensures.globals ∙ ap₂ (λ a b. a || b) c.in_ok-answering.ensures.plain c.flag.ensures.plain in
+    IfOk-weaker c.arg-2.result _ _
+    (λ made adds. adds.globals ∙ ap₂ (λ a b. a || b) vcd c.flag-2.ensures.plain)
+    c.arg-2.ensures

@@ -1,0 +1,11 @@
+//! Reads what a model checker prints of a run of the protocol's model, and writes the run as a script.
+//!
+//! [`run_trace`] takes each line that tells of a rule which fired, by the rule's name and its cores, and writes the command
+//! that does the same on a machine: so a counterexample or a walk of the model can be replayed. The names are those that
+//! `protocol_murphi` gives the rules.
+#![tactic(auto)]
+
+pub use replay::run_trace;
+
+mod replay;
+mod rule;

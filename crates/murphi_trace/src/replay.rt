@@ -1,7 +1,7 @@
 //! A trace as a script.
 ghost use Rattle.std.specs.Prelude.{◌≡◌, IfOk};
 
-use super::rule::{LINE, Rule, name_of};
+use super::rule::{Fired, LINE, Rule};
 use address_map::{CoreId, Op, Request, WordAddr};
 use bstr::ByteSlice;
 use litmus_script::{Answers, written};
@@ -41,7 +41,7 @@ fn write_machine<W: Write>(trace: &[u8], out: &mut Answers<'_, W>) -> fmt::Resul
 fn core_count(trace: &[u8]) -> u8 {
     let mut last = 0;
     for line in Lines::of(trace) {
-        if let Some(rule) = Rule::told_by(line) {
+        if let Some(rule) = Fired::told_by(line).and_then(Rule::of) {
             last = rule.last_core().max(last);
         }
     }
@@ -51,7 +51,7 @@ fn core_count(trace: &[u8]) -> u8 {
 /// Whether a rule that fired sends or takes the exclusive state's message.
 fn is_exclusive(trace: &[u8]) -> bool {
     for line in Lines::of(trace) {
-        if name_of(line).is_some_and(|name| name.find(b"Data-E").is_some()) {
+        if Fired::told_by(line).is_some_and(|fired| fired.name.find(b"Data-E").is_some()) {
             return true;
         }
     }
@@ -61,19 +61,27 @@ fn is_exclusive(trace: &[u8]) -> bool {
 fn write_rules<W: Write>(trace: &[u8], out: &mut Answers<'_, W>) -> fmt::Result {
     let mut tags = [0; 10];
     for line in Lines::of(trace) {
-        if let Some(rule) = Rule::told_by(line) {
-            write_name(line, out)?;
-            write_rule(rule, &mut tags, out)?;
+        if let Some(fired) = Fired::told_by(line) {
+            write_fired(fired, &mut tags, out)?;
         }
     }
     Ok(())
 }
 
-/// Writes a rule's name as a comment.
-fn write_name<W: Write>(line: &[u8], out: &mut Answers<'_, W>) -> fmt::Result {
+/// Writes a rule's name as a comment, and the command that does the same, if the rule is one by which something happens.
+fn write_fired<W: Write>(
+    fired: Fired<'_>,
+    tags: &mut [u8; 10],
+    out: &mut Answers<'_, W>,
+) -> fmt::Result {
+    let Some(rule) = Rule::of(fired) else {
+        return Ok(());
+    };
     out.write_str("# ")?;
-    out.write_bytes(name_of(line).unwrap_or(line))?;
-    out.write_str("\n")
+    out.write_bytes(fired.name)?;
+    out.write_bytes(fired.cores)?;
+    out.write_str("\n")?;
+    write_rule(rule, tags, out)
 }
 
 /// Writes the command that does what a rule does. An access has the core's next tag.

@@ -6,6 +6,23 @@ use slice_queues_message::Pick;
 /// The line of the model, of which there is one.
 pub(crate) const LINE: LineAddr = LineAddr(0);
 
+/// What a line tells of a rule that fired.
+#[derive(Clone, Copy)]
+pub(crate) struct Fired<'a> {
+    pub(crate) name: &'a [u8],
+    /// For which cores: `, c: CORE, f: CORE`, or nothing.
+    pub(crate) cores: &'a [u8],
+}
+
+impl<'a> Fired<'a> {
+    /// `Rule "NAME", c: CORE fired.`
+    pub(crate) fn told_by(line: &'a [u8]) -> Option<Fired<'a>> {
+        let told = line.strip_prefix(b"Rule \"")?.strip_suffix(b" fired.")?;
+        let (name, cores) = told.split_once_str(b"\"")?;
+        Some(Fired { name, cores })
+    }
+}
+
 /// What a rule of the model does.
 #[derive(Clone, Copy, Debug, PartialEq, Eq)]
 pub(crate) enum Rule {
@@ -16,12 +33,11 @@ pub(crate) enum Rule {
 }
 
 impl Rule {
-    /// The rule that a line tells of, if it tells of one by which something happens.
-    pub(crate) fn told_by(line: &[u8]) -> Option<Rule> {
-        let told = name_of(line)?;
-        match told.strip_prefix(b"directory ") {
+    /// The rule of this name, for these cores, if it is one by which something happens.
+    pub(crate) fn of(fired: Fired<'_>) -> Option<Rule> {
+        match fired.name.strip_prefix(b"directory ") {
             Some(entry) => of_directory(entry),
-            None => of_core(told),
+            None => of_core(fired),
         }
     }
 
@@ -36,11 +52,6 @@ impl Rule {
     }
 }
 
-/// The name and the cores of the rule that fired, if a line tells of one.
-pub(crate) fn name_of(line: &[u8]) -> Option<&[u8]> {
-    line.strip_prefix(b"Rule ")?.strip_suffix(b" fired.")
-}
-
 /// `ENTRY; EVENT: what is done`. An event is a request, `GetS of 1`, or the block that comes home.
 fn of_directory(told: &[u8]) -> Option<Rule> {
     let (_, event) = told.split_once_str(b"; ")?;
@@ -51,11 +62,11 @@ fn of_directory(told: &[u8]) -> Option<Rule> {
     }
 }
 
-/// `STATE, EVENT: what is done, c: CORE`, and `, f: CORE` behind it where another core takes part.
-fn of_core(told: &[u8]) -> Option<Rule> {
-    let (cell, does) = told.split_once_str(b": ")?;
+/// `STATE, EVENT: what is done`, for the core `c`, and `f` where another core takes part.
+fn of_core(fired: Fired<'_>) -> Option<Rule> {
+    let (cell, _) = fired.name.split_once_str(b": ")?;
     let (_, event) = cell.split_once_str(b", ")?;
-    let (_, cores) = does.split_once_str(b", c: ")?;
+    let (_, cores) = fired.cores.split_once_str(b"c: ")?;
     let core = core_of(cores)?;
     match Event::named(first_part(event))? {
         Event::Load => Some(Rule::Load(core)),

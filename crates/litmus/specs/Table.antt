@@ -1,11 +1,12 @@
 -- What is printed as a table of the protocol.
-use Rattle.std.specs.Prelude.{Bool, ℕ, List}
+use Rattle.std.specs.Prelude.{Bool, ℕ, List, ◌++◌}
+use Rattle.litmus.specs.declared.legend.TheConstants.{CACHE, DIRECTORY}
 use Rattle.litmus_command_line.specs.declared.table.Table.{Table}
 use Rattle.litmus_command_line.specs.declared.table.Table.TheVariants as tables
 use Rattle.protocol_tables.specs.Cache.{table_of as cache_table}
 use Rattle.protocol_tables.specs.Directory.{table_of as directory_table}
 
--- the text of a table, with what the exclusive state adds to it or without that
+-- the text of a table, with what the exclusive state adds to it or without that, and behind it what its words mean
 abbrev pub text_of_table : Table → Bool → List ℕ
-text_of_table tables.Cache exclusive = cache_table exclusive
-text_of_table tables.Directory exclusive = directory_table exclusive
+text_of_table tables.Cache exclusive = cache_table exclusive ++ CACHE.now
+text_of_table tables.Directory exclusive = directory_table exclusive ++ DIRECTORY.now

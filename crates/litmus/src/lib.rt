@@ -11,7 +11,7 @@
 //!   outcomes, and tells a [`Progress`] how far it is. [`write_walk`] prints a round of such a schedule as a script.
 //! - [`run_programs`] runs programs on a random schedule, and reports what each core and each line met.
 //! - [`run_check`] judges a trace, and writes what it comes to.
-//! - [`run_table`] prints a table of the protocol, and [`run_export`] the protocol of one line as a model.
+//! - [`run_table`] prints a table of the protocol with its legend, and [`run_export`] the protocol of one line as a model.
 //!
 //! Running, drawing, reading and walking are crates of their own.
 #![tactic(auto)]
@@ -35,5 +35,6 @@ pub use tests::{run_litmus, run_walk, write_walk};
 
 mod check;
 mod export;
+mod legend;
 mod table;
 mod tests;

@@ -2,7 +2,9 @@ ghost use Rattle.std.specs.Prelude.{◌≡◌, IfOk, OnOk};
 ghost use Rattle.std.specs.Fmt.{WritesInCalls};
 ghost use Rattle.std.specs.Io.KnownBytes.{Appends};
 ghost use Rattle.litmus.specs.Table.{text_of_table};
+ghost use Rattle.litmus_command_line.specs.declared.table.Table.TheVariants as tables;
 
+use super::legend;
 use litmus_command_line::Table;
 use litmus_script::Answers;
 use litmus_text::TextFault;
@@ -10,7 +12,8 @@ use protocol_tables::{write_cache_table, write_directory_table};
 use std::fmt;
 use std::io::Write;
 
-/// Prints a table, with what the exclusive state adds to it or without that. Answers the exit status.
+/// Prints a table, with what the exclusive state adds to it or without that, and what its words mean. Answers the exit
+/// status.
 pub fn run_table<W: Write>(table: Table, exclusive: bool, out: &mut W) -> Result<u8, TextFault>
     ensures status { IfOk result (λ status. status ≡ 0) }
     ensures printed { OnOk result (Appends (W.contents out.old) (W.contents out.new) (text_of_table table exclusive)) }
@@ -26,7 +29,21 @@ fn write_table<W: fmt::Write>(table: Table, exclusive: bool, out: &mut W) -> fmt
     ensures { OnOk result (WritesInCalls W.write_str_gives out.old (text_of_table table exclusive) out.new) }
 {
     match table {
-        Table::Cache => write_cache_table(exclusive, out),
-        Table::Directory => write_directory_table(exclusive, out),
+        Table::Cache => write_cache(exclusive, out),
+        Table::Directory => write_directory(exclusive, out),
     }
+}
+
+fn write_cache<W: fmt::Write>(exclusive: bool, out: &mut W) -> fmt::Result
+    ensures { OnOk result (WritesInCalls W.write_str_gives out.old (text_of_table tables.Cache exclusive) out.new) }
+{
+    write_cache_table(exclusive, out)?;
+    write!(out, "{}", legend::CACHE)
+}
+
+fn write_directory<W: fmt::Write>(exclusive: bool, out: &mut W) -> fmt::Result
+    ensures { OnOk result (WritesInCalls W.write_str_gives out.old (text_of_table tables.Directory exclusive) out.new) }
+{
+    write_directory_table(exclusive, out)?;
+    write!(out, "{}", legend::DIRECTORY)
 }

@@ -1,5 +1,5 @@
 -- Where a word stands: lines are dealt out to the slices in turn, and each slice numbers its own lines from 0.
-use Rattle.std.specs.Prelude.{◌<◌, ◌+◌, ◌*◌, ◌/◌, ◌%◌, nat_lt, if◌then◌else◌, Option, Some, None}
+use Rattle.std.specs.Prelude.{ℕ, ◌<◌, ◌+◌, ◌*◌, ◌/◌, ◌%◌, ◌==◌, nat_lt, if◌then◌else◌, filter, Bool, List, Option, Some, None}
 use Rattle.address_map.specs.declared.address.WordAddr.{WordAddr}
 use Rattle.address_map.specs.declared.address.LineAddr.{LineAddr}
 use Rattle.address_map.specs.declared.address.Local.{Local}
@@ -16,10 +16,23 @@ line_of word = record { 0 = word.0 / 8 }
 abbrev pub offset_of : WordAddr → Offset
 offset_of word = record { 0 = word.0 % 8 }
 
--- the slice that has a line, and the line's place among that slice's lines
+-- the slice that has a line
 abbrev pub slice_of : Config → LineAddr → SliceId
 slice_of c line = record { 0 = line.0 % c.slices }
 
+-- whether the slice of this number has the word
+abbrev pub is_of_slice : Config → ℕ → WordAddr → Bool
+is_of_slice c number word = word.0 / 8 % c.slices == number
+
+-- the counters of a slice, in the configured order
+abbrev pub counters_of : Config → ℕ → List WordAddr
+counters_of c number = filter (is_of_slice c number) c.counters
+
+-- the configured initial values of a slice's words, in the configured order
+abbrev pub init_of : Config → ℕ → List (WordAddr × ℕ)
+init_of c number = filter (λ pair. is_of_slice c number pair.0) c.init
+
+-- the line's place among the lines of its slice
 abbrev pub local_of : Config → LineAddr → Local
 local_of c line = record { 0 = line.0 / c.slices }
 

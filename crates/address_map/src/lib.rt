@@ -13,7 +13,7 @@ pub use block::Block;
 pub use config::{Checked, Config, ConfigError, MOST_CORES, PolicyKind, is_counter};
 pub use core_set::CoreSet;
 pub use locator::Locator;
-pub use place::{Place, join, split};
+pub use place::{Place, counters_of, init_of, is_of_slice, join, slice_of, split};
 pub use request::{Op, Request};
 pub use words::{CounterWords, InitialValues};
 

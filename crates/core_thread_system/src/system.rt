@@ -12,7 +12,7 @@ use super::blanks::SystemBlanks;
 use super::error::BuildError;
 use super::names::SystemNames;
 use super::port_set::{PortSet, deal};
-use address_map::{Checked, Config, LineAddr, SliceId};
+use address_map::{Checked, Config, LineAddr, SliceId, slice_of};
 use mshr_file::MissFile;
 use receipt_ledger::Port;
 use receipt_shares::{Blanks, SliceNames};
@@ -173,7 +173,7 @@ impl<F: MissFile, M: SystemNames> System<F, M> {
         ensures slice { result ≡ slice_of M.setup line }
         ensures configured { result.0 < M.setup.slices }
     {
-        SliceId((line.0 % self.config.slices() as u64) as u8)
+        slice_of(&self.config, line)
     }
 
     /// The number of the slice after this one; after the last comes slice 0.

@@ -19,7 +19,7 @@ use Rattle.receipt_ledger.specs.Port.{AreOwn, entries_of}
 use Rattle.receipt_ledger.specs.declared.receipt.Receipt.{Receipt}
 use Rattle.slice_core_log.specs.Log.{added, added_by, named}
 use Rattle.slice_core_log.specs.declared.entry.Entry.{Entry}
-use Rattle.slice_core_plan.specs.Initial.{is_of_slice}
+use Rattle.address_map.specs.Place.{is_of_slice}
 
 -- what the receipts add to a word
 abbrev pub adds_to : WordAddr → List Receipt → ℕ

@@ -10,7 +10,7 @@ use Rattle.drain.specs.Valued.{home_of, settled_counter, settled_value, with_sli
 use Rattle.drain.specs.declared.report.CounterValue.{CounterValue}
 use Rattle.drain.proofs.InPlace.{all-changed, changed, changed-more, map-at, next-unchanged, rank, rank-more, rank-most, rank-within, ranked, unchanged-more}
 use Rattle.drain.proofs.Valued.{in_slice, map-same, map-twice}
-use Rattle.slice_core_plan.specs.Initial.{is_of_slice}
+use Rattle.address_map.specs.Place.{is_of_slice}
 use Rattle.slice_lock.specs.Settled.{AreSettled}
 
 -- The first of the counters have their values, and the next of the slice's values is the one of this place.

@@ -10,7 +10,7 @@ use Rattle.drain.specs.declared.report.CounterValue.{CounterValue}
 use Rattle.receipt_ledger.specs.Port.{entries_of}
 use Rattle.receipt_ledger.specs.declared.receipt.Receipt.{Receipt}
 use Rattle.slice_core_log.specs.Log.{named}
-use Rattle.slice_core_plan.specs.Initial.{is_of_slice}
+use Rattle.address_map.specs.Place.{is_of_slice}
 use Rattle.slice_lock.specs.Settled.{AreSettled}
 
 -- The slice of this number is settled with the cores' ports: the receipts that they have of it are exactly a log, each

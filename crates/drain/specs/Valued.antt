@@ -9,7 +9,7 @@ use Rattle.drain.specs.declared.report.CounterValue.{CounterValue}
 use Rattle.receipt_ledger.specs.History.{receipts_in}
 use Rattle.receipt_ledger.specs.Port.{entries_of}
 use Rattle.slice_core_log.specs.Log.{named}
-use Rattle.slice_core_plan.specs.Initial.{is_of_slice}
+use Rattle.address_map.specs.Place.{is_of_slice}
 
 -- the number of the slice that has the word
 abbrev pub home_of : Config → WordAddr → ℕ

@@ -6,7 +6,7 @@ ghost use Rattle.drain.specs.Whole.{AreWhole};
 
 use super::fault::AuditError;
 use super::report::CounterValue;
-use address_map::SliceId;
+use address_map::{SliceId, is_of_slice};
 use core_thread_system::{Core, System, SystemNames};
 use mshr_file::MissFile;
 use slice_lock::Unsettled;
@@ -63,12 +63,11 @@ fn settle_slice<'a, F: MissFile, M: SystemNames, R: Wait>(
     ensures words { map (λ counter. counter.word) counters.new ≡ M.setup.counters }
     ensures cores { cores.new ≡ cores.old }
 {
-    let slices = system.config().slices() as u64;
     let values = Core::settle(rt, system, slice, cores)?;
     let mut next = 0;
     for place in 0..counters.len() {
         let word = counters[place].word;
-        if word.0 / 8 % slices == u64::from(slice.0) {
+        if is_of_slice(system.config(), slice, word) {
             counters[place] = CounterValue {
                 word,
                 value: values[next],

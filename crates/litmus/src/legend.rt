@@ -8,8 +8,9 @@ hit      the access is performed: S, SM_AD and SM_A may be read, M and E read an
 joins    the access waits in the line's miss register, behind those that wait there
 stalls   the access isn't taken before the line has left
 busy     the eviction isn't taken before what the line awaits has come
+not held the eviction isn't taken, since there is no copy
 blocked  the message waits in its channel
--        under eviction: there is no copy; under a message: it never comes in this state
+-        it never comes in this state
 
 Data in IS_D: where a write has joined, the core goes on from S as at write, in the same step.
 Fwd-GetS, Fwd-GetM, Inv and Put-Ack come by one channel, first in first out: a Put-Ack that overtook one

@@ -4,7 +4,7 @@ ghost use Rattle.std.specs.List.{range_with_len};
 ghost use Rattle.address_map.specs.Place.{line_of, slice_of};
 ghost use Rattle.litmus_outcomes.specs.Sought.{requests_in, sought_at, sought_of, IsOf, IsIn};
 
-use address_map::{Checked, CoreId, SliceId, WordAddr};
+use address_map::{Checked, CoreId, SliceId, WordAddr, is_of_slice, slice_of};
 use litmus_test::{Action, LitmusTest, Thread};
 use slice_core_log::Entry;
 use std::alloc::{AllocError, Global};
@@ -48,7 +48,7 @@ impl Sought {
         let Action::Access(word, _) = *thread.steps.get(step)? else {
             return None;
         };
-        let slice = slice_of(config, word);
+        let slice = slice_of(config, word.line());
         Some(Sought {
             core: thread.core,
             slice,
@@ -69,13 +69,6 @@ pub fn each_name_is_sought()
     ensures { (test : LitmusTest) (name : ℕ) → name < length test.names.items → IsSome (sought_of test name) }
 {}
 
-// The slice that has the word.
-fn slice_of(config: &Checked, word: WordAddr) -> SliceId
-    ensures { result ≡ slice_of config.now (line_of word) }
-{
-    SliceId((word.line().0 % config.slices() as u64) as u8)
-}
-
 // How many of the steps are accesses to words of the slice.
 fn count_in(config: &Checked, slice: SliceId, steps: &[Action]) -> u64
     ensures { result ≡ length (requests_in config.now slice.0 steps.now) }
@@ -93,7 +86,7 @@ fn is_in(config: &Checked, slice: SliceId, step: Action) -> bool
     ensures { IsTrue result ↔ IsIn config.now slice.0 step }
 {
     match step {
-        Action::Access(word, _) => slice_of(config, word) == slice,
+        Action::Access(word, _) => is_of_slice(config, slice, word),
         Action::Settle | Action::Evict(_) => false,
     }
 }

@@ -13,7 +13,7 @@ ghost use Rattle.litmus_script.specs.Machine.{IsAnswered, IsMachine, IsNewMachin
 use super::answers::Issued;
 use super::calls;
 use super::player::Player;
-use address_map::{Checked, CoreId, LineAddr, Request, SliceId, WordAddr};
+use address_map::{Checked, CoreId, LineAddr, Request, SliceId, WordAddr, slice_of};
 use litmus_text::{Command, Statement, TextFault};
 use mshr_file::MissFile;
 use slice_core::{
@@ -201,6 +201,6 @@ impl<F: MissFile> Machine<F> {
         ensures known { result < length self.now.slices.items }
         ensures allowed { IsAllowed self.now.config }
     {
-        (line.0 % self.config.slices() as u64) as usize
+        usize::from(slice_of(&self.config, line).0)
     }
 }

@@ -36,11 +36,15 @@ text_of_deed events.Write sends.Nothing = codes "hit; "
 text_of_deed (events.InvAck n k) sent = codes "k + 1; "
 text_of_deed event sent = text_of_sends sent
 
+-- where the table has no row: an eviction is refused, since there is no copy, and anything else never comes
+abbrev pub text_of_none : CacheEvent → List ℕ
+text_of_none event = if is_eviction event then codes "not held" else codes "-"
+
 -- a row at an event: what is done, and the next state
 abbrev pub text_of_row : CacheEvent → Row → List ℕ
 text_of_row event (rows.Go next sent) = text_of_deed event sent ++ name_of next
 text_of_row event rows.Blocked = codes "blocked"
-text_of_row event rows.NoEntry = codes "-"
+text_of_row event rows.NoEntry = text_of_none event
 
 -- what becomes of an access or an eviction that never comes to the table: the line has a miss register, or leaves
 abbrev pub before_the_table : CopyState → CacheEvent → Option (List ℕ)

@@ -3,7 +3,7 @@
 ghost use Rattle.std.specs.Prelude.{◌≡◌, OnOk, option_map};
 ghost use Rattle.std.specs.Fmt.{WritesInCalls};
 ghost use Rattle.protocol_tables.specs.Cache.{all_states, answered, before_the_table, cells_of, columns_of, heading_of, line_of, lines_of};
-ghost use Rattle.protocol_tables.specs.Cache.{needs_exclusive, part_of, rules_of, setting_of, shown_line, table_of, text_of_deed, text_of_sends, titles_of};
+ghost use Rattle.protocol_tables.specs.Cache.{needs_exclusive, part_of, rules_of, setting_of, shown_line, table_of, text_of_deed, text_of_none, text_of_sends, titles_of};
 
 use cache_table::{CacheEvent, CacheSends, CopyState, Row, cache_row};
 use std::fmt;
@@ -87,8 +87,18 @@ impl fmt::Display for Cell {
         match cache_row(self.state, self.event) {
             Row::Go(next, sends) => write!(f, "{}{next}", text_of_deed(self.event, sends)),
             Row::Blocked => f.write_str("blocked"),
-            Row::NoEntry => f.write_str("-"),
+            Row::NoEntry => f.write_str(text_of_none(self.event)),
         }
+    }
+}
+
+/// What is said where the table has no row.
+const fn text_of_none(event: CacheEvent) -> &'static str
+    ensures { result.now ≡ text_of_none event }
+{
+    match event {
+        CacheEvent::Eviction => "not held",
+        _ => "-",
     }
 }
 

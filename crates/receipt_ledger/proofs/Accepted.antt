@@ -12,7 +12,7 @@ use Rattle.receipt_ledger.proofs.Numbered.{as-many, below, below-all, below-more
 use Rattle.receipt_ledger.proofs.Picked.{at_most_one, count-all, count-at, count-contained, count-none, one-picked, one_if}
 use Rattle.receipt_ledger.proofs.Targets.{one-target, target-counted, target-found}
 use Rattle.receipt_ledger.specs.Accepted.{AcceptedAreTheCores, accepted_by}
-use Rattle.receipt_ledger.specs.Counted.{IsCounted}
+use Rattle.receipt_ledger.specs.Counted.{AreMarked}
 use Rattle.receipt_shares.specs.Totals.{Totals}
 use Rattle.slice_core.specs.Facts.{IsStanding}
 use Rattle.slice_core_log.specs.declared.entry.Entry.{Entry}
@@ -34,7 +34,7 @@ accepted_by-push [] side = omega arith
 accepted_by-push (first ∷ sides) side = let later = accepted_by-push sides side in omega (arith, later)
 
 module _ (v : View) (standing : IsStanding v) (waiting : List Asked) (marks : List Bool)
-    (counted : IsCounted (shown v) waiting marks) where
+    (counted : AreMarked (shown v) waiting marks) where
   -- A request of the core that waits is one of the core's targets.
   record IsTarget (core : CoreId) (r : Asked) : Type 0 where
     local : Local

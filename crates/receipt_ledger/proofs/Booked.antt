@@ -9,7 +9,7 @@ use Rattle.receipt_ledger.proofs.Marks.{OneMore, handed_out-marked, handed_out-w
 use Rattle.receipt_ledger.specs.Booked.{IsBooked, IsServed}
 use Rattle.receipt_ledger.specs.Counted.{handed_out}
 use Rattle.receipt_shares.proofs.Totals.{together_assoc, totals_accepted, totals_append, totals_cons, totals_nil}
-use Rattle.receipt_shares.specs.Names.{counters_of}
+use Rattle.address_map.specs.Place.{counters_of}
 use Rattle.receipt_shares.specs.Totals.{Totals, nothing, only_accepted, only_handed, together, totals}
 use Rattle.slice_core_log.proofs.Pushes.{slice_get-push}
 use Rattle.slice_core_log.specs.declared.entry.Entry.{Entry}

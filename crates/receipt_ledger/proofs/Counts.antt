@@ -10,10 +10,10 @@ use Rattle.std.proofs.lemmas.List.Quantifiers.{all_pairs_push, all_pairs_remove}
 use Rattle.slice_core_log.specs.declared.entry.Entry.{Entry}
 use Rattle.slice_core_machine.specs.Machine.{Asked, Can, IsSame, Machine, accept, after, entry_for, hand, new_machine, perform}
 use Rattle.receipt_ledger.proofs.Removed.{not-contained, still-contained, was-contained}
-use Rattle.receipt_ledger.specs.Counted.{IsCounted, is_handed}
+use Rattle.receipt_ledger.specs.Counted.{AreMarked, is_handed}
 
 -- Where nothing was asked for, nothing waits and nothing is logged.
-pub new-counted : IsCounted new_machine [] []
+pub new-counted : AreMarked new_machine [] []
 new-counted = record {
   waits = λ r. (λ none. absurd none, λ there. let inside = there.1 in absurd (omega (arith, inside)));
   once = λ i j d before inside. absurd (omega (arith, inside));
@@ -21,9 +21,9 @@ new-counted = record {
   replies = λ number. (λ none. absurd none, λ waits. absurd (false≢true (sym waits)));
 }
 
-module _ (m : Machine) (waiting : List Asked) (marks : List Bool) (counted : IsCounted m waiting marks) where
+module _ (m : Machine) (waiting : List Asked) (marks : List Bool) (counted : AreMarked m waiting marks) where
   -- A machine that is the same has the same counts.
-  pub same-counted : (n : Machine) → IsSame m n → IsCounted n waiting marks
+  pub same-counted : (n : Machine) → IsSame m n → AreMarked n waiting marks
   same-counted n same = record {
     waits = λ r. (
       λ waits. (counted.waits r).0 ((same.waiting r).1 waits),
@@ -39,7 +39,7 @@ module _ (m : Machine) (waiting : List Asked) (marks : List Bool) (counted : IsC
 
   -- A request that is accepted is one more that waits.
   pub accept-counted : (initial : ℕ → ℕ) (r : Asked) → Can m (accept r)
-      → IsCounted (after initial m (accept r)) (waiting ++ r ∷ []) marks
+      → AreMarked (after initial m (accept r)) (waiting ++ r ∷ []) marks
   accept-counted initial r can = record {
     waits = λ other. (
       λ waits.
@@ -63,7 +63,7 @@ module _ (m : Machine) (waiting : List Asked) (marks : List Bool) (counted : IsC
   -- A request that is performed waits no more, and its reply does.
   pub perform-counted : (initial : ℕ → ℕ) (r : Asked) → Can m (perform r)
       → (left : List Asked) × (length left + 1 ≡ length waiting)
-      × IsCounted (after initial m (perform r)) left (marks ++ false ∷ [])
+      × AreMarked (after initial m (perform r)) left (marks ++ false ∷ [])
   perform-counted initial r can =
       let there = (counted.waits r).0 can.0 in
       let i = there.0 in (
@@ -121,7 +121,7 @@ module _ (m : Machine) (waiting : List Asked) (marks : List Bool) (counted : IsC
 
   -- A reply that is handed out waits no more.
   pub hand-counted : (initial : ℕ → ℕ) (given : ℕ) → Can m (hand given)
-      → IsCounted (after initial m (hand given)) waiting (set marks given true)
+      → AreMarked (after initial m (hand given)) waiting (set marks given true)
   hand-counted initial given can = record {
     waits = counted.waits;
     once = counted.once;

@@ -5,7 +5,7 @@ use Rattle.std.proofs.lemmas.Bool.{false_from_ne_true, leb-false, leb-true, ltb-
 use Rattle.std.proofs.lemmas.Nat.{div-add-mod'}
 use Rattle.address_map.specs.Config.{IsAllowed, word_count}
 use Rattle.address_map.specs.Locator.{Lines, is_past, lines_of, local_at}
-use Rattle.address_map.specs.Place.{line_of}
+use Rattle.address_map.specs.Place.{counters_of, is_of_slice, line_of}
 use Rattle.address_map.specs.declared.address.CoreId.{CoreId}
 use Rattle.address_map.specs.declared.address.Local.{Local}
 use Rattle.address_map.specs.declared.address.WordAddr.{WordAddr}
@@ -14,11 +14,9 @@ use Rattle.address_map.specs.declared.request.Request.{Request}
 use Rattle.receipt_ledger.proofs.Values.{word-here}
 use Rattle.receipt_ledger.specs.Answers.{IsAtSlice, IsJudged}
 use Rattle.receipt_ledger.specs.Booked.{stores_to}
-use Rattle.receipt_shares.specs.Names.{counters_of}
 use Rattle.slice_core_answer.specs.declared.answer.Issue.{Issue}
 use Rattle.slice_core_answer.specs.declared.answer.Refused.{Refused}
 use Rattle.slice_core_answer.specs.declared.answer.Refused.TheVariants as refusals
-use Rattle.slice_core_plan.specs.Initial.{is_of_slice}
 use Rattle.slice_core_plan.specs.Parts.{PartsView, AfterAccess, AfterIssue}
 use Rattle.slice_core_plan.specs.View.{side_at}
 use Rattle.slice_core_plan.specs.declared.decide.Decision.{Decision}

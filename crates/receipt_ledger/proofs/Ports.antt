@@ -10,7 +10,7 @@ use Rattle.address_map.specs.declared.request.Request.{Request}
 use Rattle.receipt_ledger.specs.Port.{AreFreshPorts, HasRoom, IsOwn, IsPort, IsWithRoom, PortView, Room, entries_of, fresh_port, held_by, seen_of, with_receipt, with_request, with_seen}
 use Rattle.receipt_ledger.specs.declared.receipt.Receipt.{Receipt}
 use Rattle.receipt_shares.proofs.Totals.{totals_accepted, totals_nil, totals_push}
-use Rattle.receipt_shares.specs.Names.{counters_of}
+use Rattle.address_map.specs.Place.{counters_of}
 use Rattle.receipt_shares.specs.Totals.{Amounts, Totals, nothing, only_accepted, only_handed, together, totals}
 use Rattle.slice_core_log.proofs.Pushes.{slice_get-push}
 

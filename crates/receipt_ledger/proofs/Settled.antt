@@ -3,7 +3,7 @@ use Rattle.std.proofs.Common.{◌≡◌, ℕ, suc, ◌+◌, ◌<◌, ◌%◌, �
 use Rattle.std.specs.Prelude.{Contains, slice_get, IsSome, Option, None}
 use Rattle.address_map.specs.Config.{word_count}
 use Rattle.address_map.specs.Locator.{local_at}
-use Rattle.address_map.specs.Place.{line_of}
+use Rattle.address_map.specs.Place.{counters_of, is_of_slice, line_of}
 use Rattle.address_map.specs.declared.address.Local.{Local}
 use Rattle.slice_core.specs.Facts.{ShowsLast}
 use Rattle.receipt_ledger.specs.Slice.{IsSliceOf}
@@ -27,13 +27,11 @@ use Rattle.receipt_ledger.specs.declared.receipt.Receipt.{Receipt}
 use Rattle.receipt_shares.proofs.CounterWords.{counters_allowed}
 use Rattle.receipt_shares.proofs.Totals.{totals_append, totals_nil}
 use Rattle.receipt_shares.proofs.Sums.{at_sums}
-use Rattle.receipt_shares.specs.Names.{counters_of}
 use Rattle.receipt_shares.specs.Sums.{at, sums}
 use Rattle.receipt_shares.specs.Totals.{Totals, together, totals}
 use Rattle.slice_core_log.specs.Log.{IsLegal, IsOrdered, initially, named, value}
 use Rattle.slice_core_log.specs.declared.entry.Entry.{Entry}
 use Rattle.slice_core_machine.specs.Machine.{Asked}
-use Rattle.slice_core_plan.specs.Initial.{is_of_slice}
 use Rattle.slice_core_plan.specs.Parts.{PartsView}
 use Rattle.slice_core_plan.specs.View.{View, IsQuiet}
 

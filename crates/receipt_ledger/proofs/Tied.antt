@@ -13,7 +13,7 @@ use Rattle.receipt_ledger.proofs.Placed.{issued-judged}
 use Rattle.receipt_ledger.specs.Booked.{IsServed, IsTied}
 use Rattle.receipt_ledger.specs.Port.{IsEntryOf}
 use Rattle.receipt_ledger.specs.Slice.{IsBuiltAs, IsSliceOf}
-use Rattle.receipt_shares.specs.Names.{counters_of}
+use Rattle.address_map.specs.Place.{counters_of, is_of_slice}
 use Rattle.receipt_shares.specs.Totals.{Totals, only_accepted, only_handed, together}
 use Rattle.slice_core.specs.Facts.{IsSameSlice}
 use Rattle.slice_core_answer.specs.declared.answer.Issue.{Issue}
@@ -23,7 +23,6 @@ use Rattle.slice_core_log.specs.declared.entry.Entry.{Entry}
 use Rattle.slice_core_machine.specs.Machine.{Asked, accept, after, entry_for, hand, perform}
 use Rattle.slice_core_machine.specs.Shows.{Leads, Performs, issue_steps, next_of, shown}
 use Rattle.slice_core_log.specs.declared.entry.Numbered.{Numbered}
-use Rattle.slice_core_plan.specs.Initial.{is_of_slice}
 use Rattle.slice_core_plan.specs.Parts.{AfterHand, AfterIssue, PartsView}
 use Rattle.slice_core.specs.Shape.{shape_of}
 use Rattle.slice_core_plan.specs.View.{View, no_side}

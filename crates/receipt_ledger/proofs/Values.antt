@@ -9,7 +9,7 @@ use Rattle.std.proofs.lemmas.List.Sums.{sum_by_push}
 use Rattle.std.proofs.lemmas.Option.{same_Some}
 use Rattle.address_map.specs.Config.{IsAllowed, IsSliceCount}
 use Rattle.address_map.specs.Locator.{lines_of, local_at}
-use Rattle.address_map.specs.Place.{line_of}
+use Rattle.address_map.specs.Place.{is_of_slice, line_of}
 use Rattle.address_map.specs.Words.{initial_value}
 use Rattle.address_map.specs.declared.address.WordAddr.{WordAddr}
 use Rattle.address_map.specs.declared.config.Config.{Config}
@@ -20,7 +20,6 @@ use Rattle.slice_core_log.proofs.Values.{value-push}
 use Rattle.slice_core_log.specs.Log.{added, named, stored, stored_by, value, value_past}
 use Rattle.slice_core_log.specs.declared.entry.Entry.{Entry}
 use Rattle.slice_core_plan.specs.Decision.{overwrites}
-use Rattle.slice_core_plan.specs.Initial.{is_of_slice}
 
 -- ---- stores
 

@@ -4,15 +4,14 @@ use Rattle.std.specs.List.{list_any}
 use Rattle.address_map.specs.declared.address.WordAddr.{WordAddr}
 use Rattle.address_map.specs.declared.config.Config.{Config}
 use Rattle.address_map.specs.declared.request.Op.{Op}
-use Rattle.receipt_ledger.specs.Counted.{IsCounted, handed_out}
+use Rattle.receipt_ledger.specs.Counted.{AreMarked, handed_out}
 use Rattle.receipt_ledger.specs.Slice.{IsSliceOf}
-use Rattle.receipt_shares.specs.Names.{counters_of}
+use Rattle.address_map.specs.Place.{counters_of, is_of_slice}
 use Rattle.receipt_shares.specs.Totals.{Totals, totals}
 use Rattle.slice_core_log.specs.declared.entry.Entry.{Entry}
 use Rattle.slice_core_machine.specs.Machine.{Asked, Machine}
 use Rattle.slice_core_machine.specs.Shows.{shown}
 use Rattle.slice_core_plan.specs.Decision.{overwrites}
-use Rattle.slice_core_plan.specs.Initial.{is_of_slice}
 use Rattle.slice_core_plan.specs.Parts.{PartsView}
 
 -- whether the access stores to one of the counters
@@ -29,7 +28,7 @@ pub record IsServed (c : Config) (number : ℕ) (op : Op) (word : WordAddr) : Ty
 pub record IsBooked (c : Config) (number : ℕ) (t : Totals) (m : Machine) : Type 0 where
   pub waiting : List Asked
   pub marks : List Bool
-  pub counted : IsCounted m waiting marks
+  pub counted : AreMarked m waiting marks
   pub totals_are : t ≡ totals (counters_of c number) (length waiting + length m.log) (handed_out m.log marks)
   pub asked : (r : Asked) → m.waiting r → IsServed c number r.op r.word
   pub logged : (place : ℕ) (e : Entry) → slice_get m.log place ≡ Some e → IsServed c number e.op e.word

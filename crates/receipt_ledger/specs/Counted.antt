@@ -16,7 +16,7 @@ handed_out (entry ∷ log) (false ∷ marks) = handed_out log marks
 
 -- The requests that wait are these, each listed once; and the log's entries are marked, by number, as handed out
 -- where no reply of theirs waits.
-pub record IsCounted (m : Machine) (waiting : List Asked) (marks : List Bool) : Type 0 where
+pub record AreMarked (m : Machine) (waiting : List Asked) (marks : List Bool) : Type 0 where
   pub waits : (r : Asked) → (m.waiting r → Contains waiting r) × (Contains waiting r → m.waiting r)
   pub once : AllPairs (λ r other. r ≢ other) waiting
   pub sized : length marks ≡ length m.log

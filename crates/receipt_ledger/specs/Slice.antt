@@ -1,11 +1,10 @@
 -- Which slice a state is of.
-use Rattle.std.specs.Prelude.{◌≡◌, ℕ, ◌<◌, length, filter, replicate}
+use Rattle.std.specs.Prelude.{◌≡◌, ℕ, ◌<◌, length, replicate}
 use Rattle.address_map.specs.Config.{IsAllowed}
 use Rattle.address_map.specs.Locator.{lines_of}
 use Rattle.address_map.specs.declared.address.CoreId.{CoreId}
 use Rattle.address_map.specs.declared.config.Config.{Config}
-use Rattle.receipt_shares.specs.Names.{counters_of}
-use Rattle.slice_core_plan.specs.Initial.{is_of_slice}
+use Rattle.address_map.specs.Place.{counters_of, init_of}
 use Rattle.slice_core.specs.Shape.{Shape, shape_of}
 use Rattle.slice_core_plan.specs.View.{View, side_at}
 
@@ -21,7 +20,7 @@ pub record IsSliceOf (c : Config) (number : ℕ) (v : View) : Type 0 where
   pub allowed : IsAllowed c
   pub named : number < c.slices
   pub lines : v.lines ≡ lines_of c (record { 0 = number })
-  pub init : v.init ≡ filter (λ pair. is_of_slice c number pair.0) c.init
+  pub init : v.init ≡ init_of c number
   pub counters : v.counters ≡ counters_of c number
   pub cores : length v.sides ≡ c.cores
   pub parts : (core : CoreId) → core.0 < c.cores → IsBuiltAs c (shape_of (side_at v core))

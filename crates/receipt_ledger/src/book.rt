@@ -5,7 +5,7 @@ ghost use Rattle.receipt_ledger.specs.Answers.{answer_steps, reply_steps};
 ghost use Rattle.receipt_ledger.specs.Booked.{IsTied};
 ghost use Rattle.receipt_ledger.specs.History.{request_of};
 ghost use Rattle.receipt_ledger.specs.Port.{HasRoom, IsEntryOf, with_request, with_seen};
-ghost use Rattle.receipt_shares.specs.Names.{counters_of};
+ghost use Rattle.address_map.specs.Place.{counters_of};
 ghost use Rattle.receipt_shares.specs.Totals.{only_accepted, together};
 ghost use Rattle.slice_core.specs.Facts.{IsSameSlice};
 ghost use Rattle.slice_core_log.specs.declared.entry.Entry.{Entry};
@@ -19,6 +19,7 @@ use receipt_shares::{Books, SliceNames};
 use slice_core::SliceState;
 use slice_core_answer::{Issue, Refused};
 use slice_core_log::Entry;
+use std::boxed::BoxedSlice;
 use std::marker::Model;
 
 /// What the ports of a slice hold together: its book lies beside the slice's state, and a port's share moves only with
@@ -27,7 +28,7 @@ use std::marker::Model;
 pub struct Book<N: SliceNames> {
     pub(crate) books: Books<N>,
     /// The slice's counters, in the configured order.
-    pub(crate) counters: Vec<WordAddr>,
+    pub(crate) counters: BoxedSlice<WordAddr>,
 }
 
 impl<N: SliceNames> Model for Book<N> {
@@ -35,11 +36,12 @@ impl<N: SliceNames> Model for Book<N> {
 
     ghost Value = { Totals };
 
+    ghost use Rattle.std.specs.Box.{boxed_slice_items};
     ghost use Rattle.receipt_shares.specs.Names.{AreCounters};
 
     ghost view = { λ b. b.books };
 
-    ghost invariant = { λ b. AreCounters N.setup N.number b.counters.items };
+    ghost invariant = { λ b. AreCounters N.setup N.number (boxed_slice_items b.counters) };
 }
 
 impl<N: SliceNames> Book<N> {

@@ -1,16 +1,15 @@
-ghost use Rattle.std.specs.Prelude.{◌≡◌, ◌<◌, ◌≤◌, filter, IfOk};
+ghost use Rattle.std.specs.Prelude.{◌≡◌, ◌<◌, ◌≤◌, IfOk};
 ghost use Rattle.receipt_ledger.specs.Booked.{IsTied};
 ghost use Rattle.receipt_ledger.specs.Port.{AreFreshPorts};
 ghost use Rattle.receipt_shares.specs.Names.{AreLedgersOf};
 ghost use Rattle.receipt_shares.specs.Totals.{nothing};
 ghost use Rattle.slice_core_machine.specs.Machine.{IsSame, new_machine};
 ghost use Rattle.slice_core_machine.specs.Shows.{shown};
-ghost use Rattle.slice_core_plan.specs.Initial.{is_of_slice};
 ghost use Rattle.slice_core_plan.specs.Parts.{IsNew};
 
 use super::book::Book;
 use super::port::Port;
-use address_map::{Checked, CoreId, SliceId, WordAddr};
+use address_map::{Checked, CoreId, SliceId, counters_of};
 use mshr_file::MissFile;
 use receipt_shares::{Blanks, Books, Shares, SliceNames};
 use slice_core::SliceState;
@@ -35,28 +34,11 @@ impl<N: SliceNames> Book<N> {
         ensures ports { IfOk result (λ r. AreFreshPorts slice N.setup.cores r.2.items) }
     {
         let state = SliceState::build(alloc, config, slice)?;
-        let counters = counters_of_slice(alloc, config, slice)?;
+        let counters = counters_of(alloc, config, slice)?;
         let (books, shares) = Books::open(blanks);
         let ports = cut_ports(alloc, config.cores(), slice, shares)?;
         Ok((state, Book { books, counters }, ports))
     }
-}
-
-fn counters_of_slice(
-    alloc: Global,
-    config: &Checked,
-    slice: SliceId,
-) -> Result<Vec<WordAddr>, AllocError>
-    requires { slice.0 < config.now.slices }
-    ensures { IfOk result (λ v. v.items ≡ filter (is_of_slice config.now slice.0) config.now.counters) }
-{
-    let slices = config.slices() as u64;
-    config
-        .counters()
-        .iter()
-        .copied()
-        .filter(|word| word.0 / 8 % slices == u64::from(slice.0))
-        .collect(alloc)
 }
 
 // A port for each core, each with one part of a share that has all.

@@ -3,7 +3,7 @@ ghost use Rattle.receipt_ledger.specs.Booked.{IsTied};
 ghost use Rattle.receipt_ledger.specs.History.{AreHeld};
 ghost use Rattle.receipt_ledger.specs.Port.{held_by};
 ghost use Rattle.receipt_ledger.specs.Settled.{held_in, IsSettled};
-ghost use Rattle.receipt_shares.specs.Names.{counters_of};
+ghost use Rattle.address_map.specs.Place.{counters_of};
 ghost use Rattle.receipt_shares.specs.Totals.{together};
 ghost use Rattle.slice_core_log.specs.Log.{initially, value};
 ghost use Rattle.slice_core_plan.specs.View.{IsQuiet};
@@ -13,6 +13,7 @@ use super::gather::gather;
 use super::held::are_held;
 use super::lends::Lends;
 use super::port::Port;
+use address_map::WordAddr;
 use arrayvec::ArrayVec;
 use mshr_file::MissFile;
 use receipt_shares::SliceNames;
@@ -89,8 +90,9 @@ impl<N: SliceNames> Book<N> {
         requires quiet { IsQuiet state.now.view }
         ensures { result.items ≡ map (λ word. value (initially state.now.view.init word.0) state.now.view.log word.0) (counters_of N.setup N.number) }
     {
+        let counters: &[WordAddr] = &self.counters;
         let mut values = ArrayVec::new();
-        for word in &self.counters {
+        for word in counters {
             values.push(state.word_now(*word));
         }
         values

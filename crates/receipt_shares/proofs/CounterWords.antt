@@ -5,9 +5,9 @@ use Rattle.std.proofs.lemmas.List.Sums.{length-filter, count_by-le-length}
 use Rattle.address_map.specs.declared.address.WordAddr.{WordAddr}
 use Rattle.address_map.specs.declared.config.Config.{Config}
 use Rattle.address_map.specs.Config.{IsAllowed}
-use Rattle.address_map.specs.Place.{line_of, slice_of}
+use Rattle.address_map.specs.Place.{counters_of, line_of, slice_of}
 use Rattle.address_map.specs.Words.{IsAscendingBy}
-use Rattle.receipt_shares.specs.Names.{counters_of, AreCounters}
+use Rattle.receipt_shares.specs.Names.{AreCounters}
 
 pub counters_allowed : (c : Config) (number : ℕ) (words : List WordAddr)
     → IsAllowed c → words ≡ counters_of c number → AreCounters c number words

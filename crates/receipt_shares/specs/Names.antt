@@ -1,13 +1,9 @@
 -- Which configuration's words a slice counts, and which ledgers its ten are.
-use Rattle.std.specs.Prelude.{◌≡◌, ℕ, ◌<◌, ◌≤◌, ◌==◌, List, length, filter, slice_index_or}
+use Rattle.std.specs.Prelude.{◌≡◌, ℕ, ◌<◌, ◌≤◌, List, length, slice_index_or}
 use Rattle.address_map.specs.declared.address.WordAddr.{WordAddr}
 use Rattle.address_map.specs.declared.config.Config.{Config}
-use Rattle.address_map.specs.Place.{line_of, slice_of}
+use Rattle.address_map.specs.Place.{counters_of}
 use Rattle.address_map.specs.Words.{IsAscendingBy}
-
--- the counters of a slice, in the configured order
-abbrev pub counters_of : Config → ℕ → List WordAddr
-counters_of c number = filter (λ word. (slice_of c (line_of word)).0 == number) c.counters
 
 -- the words are the counters of that slice: no more than eight, each named once
 pub record AreCounters (c : Config) (number : ℕ) (words : List WordAddr) : Type 0 where

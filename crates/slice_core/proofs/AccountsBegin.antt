@@ -19,7 +19,7 @@ use Rattle.slice_core_side.specs.Side.{SideView, new_side}
 use Rattle.slice_core_standing.proofs.Begins.{account-begins}
 use Rattle.slice_core_standing.specs.Standing.{waiting}
 use Rattle.slice_core.proofs.AccountsKept.{Keeps}
-use Rattle.slice_core.specs.Sound.{HasAccounts, IsCounted}
+use Rattle.slice_core.specs.Sound.{HasAccounts, HasFittingCounts}
 use Rattle.slice_queues.specs.Line.{LineChannels, empty_line, no_messages}
 
 -- The lines of a slice of a configured machine are those of a slice that a machine can have.
@@ -69,7 +69,7 @@ module _ (c : Config) (bound : Bound) (slice : SliceId) (p : PartsView) (new : I
           let none = ap (λ (s : SideView). waiting s.misses) (same ∙ side-begins (record { 0 = k }) inside) in
           omega (arith, none)
 
-  counted-begins : slice.0 < c.slices → IsCounted p
+  counted-begins : slice.0 < c.slices → HasFittingCounts p
   counted-begins within = record {
     shaped = shaped-begins;
     machine = rw new.lines (of-machine c slice new.allowed within);

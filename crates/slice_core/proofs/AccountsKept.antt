@@ -25,13 +25,13 @@ use Rattle.slice_core_standing.specs.Standing.{waiting}
 use Rattle.slice_core.proofs.AccountsSteps.{accounts-posted, accounts-step, own-more, own-none}
 use Rattle.slice_core.proofs.CountedStats.{counts-same, waiting-within}
 use Rattle.slice_core.proofs.CountedSteps.{Counts, CountsSame, after_step, counted-posted, counted-step}
-use Rattle.slice_core.specs.Sound.{HasAccounts, HasLinks, IsCounted, IsSound}
+use Rattle.slice_core.specs.Sound.{HasAccounts, HasLinks, HasFittingCounts, IsSound}
 use Rattle.slice_core_coherence.specs.Newest.{IsFaithful}
 use Rattle.target_list.specs.declared.target.Target.{Target}
 
 -- The counts are right, and each core's requests are accounted for.
 pub record Keeps (p : PartsView) : Type 0 where
-  pub counted : IsCounted p
+  pub counted : HasFittingCounts p
   pub accounts : HasAccounts p.view
 
 -- That is the invariant but for the links and the lines.
@@ -77,7 +77,7 @@ pub record HasSame (old new : SideView) : Type 0 where
   pub accepted : new.accepted ≡ old.accepted
 
 -- the counts of a core before its step
-pub counts-before : (p : PartsView) (core : CoreId) → IsCounted p → core.0 < length p.view.sides
+pub counts-before : (p : PartsView) (core : CoreId) → HasFittingCounts p → core.0 < length p.view.sides
     → (core.0 < length p.stats.cores) × (accepted_of (counts_of p.stats core) ≡ (side_at p.view core).accepted)
 counts-before p core c known = let sized = c.stats in (omega (arith, known, sized), c.accepted core known)
 

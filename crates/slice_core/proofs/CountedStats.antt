@@ -12,11 +12,11 @@ use Rattle.slice_core_plan.specs.View.{no_side, side_at}
 use Rattle.slice_core_side.specs.Side.{SideView}
 use Rattle.slice_core_standing.specs.Standing.{is_of, waiting}
 use Rattle.slice_core.proofs.CountedSteps.{Counts, CountsSame}
-use Rattle.slice_core.specs.Sound.{HasAccounts, IsCounted}
+use Rattle.slice_core.specs.Sound.{HasAccounts, HasFittingCounts}
 use Rattle.slice_queues_message.specs.declared.channel.Channel.{Channel}
 
 -- No more targets wait for a core than wait in all.
-pub waiting-within : (p : PartsView) (core : CoreId) → IsCounted p → core.0 < length p.view.sides
+pub waiting-within : (p : PartsView) (core : CoreId) → HasFittingCounts p → core.0 < length p.view.sides
     → waiting (side_at p.view core).misses ≤ p.pending
 waiting-within p core c known =
     let one = get_or-le-sum_by (λ (s : SideView). waiting s.misses) p.view.sides core.0 no_side known in
@@ -24,7 +24,7 @@ waiting-within p core c known =
     omega (arith, one, all)
 
 -- What a core had accepted waits or was performed, so there was room for it.
-pub accepted-within : (p : PartsView) (core : CoreId) → IsCounted p → HasAccounts p.view
+pub accepted-within : (p : PartsView) (core : CoreId) → HasFittingCounts p → HasAccounts p.view
     → core.0 < length p.view.sides → (side_at p.view core).accepted < 2 ^ 63
 accepted-within p core c has known =
     let all = (has.accounts core known).standing.counted in

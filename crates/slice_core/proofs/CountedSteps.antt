@@ -13,7 +13,7 @@ use Rattle.slice_core_plan.specs.Parts.{PartsView}
 use Rattle.slice_core_plan.specs.View.{View, channels_at, no_side, side_at, with_channels, with_entry, with_side, IsShaped}
 use Rattle.slice_core_side.specs.Side.{SideView}
 use Rattle.slice_core_standing.specs.Standing.{waiting}
-use Rattle.slice_core.specs.Sound.{IsCounted}
+use Rattle.slice_core.specs.Sound.{HasFittingCounts}
 use Rattle.slice_queues.specs.Line.{LineChannels, empty_line}
 
 -- ---- one core's side
@@ -50,10 +50,10 @@ pub record Counts (p : PartsView) (core : CoreId) (accepted : ℕ) (stats : Stat
 -- A core's step leaves the counts right where as many wait as wait in its registers, and the log has room for them.
 pub counted-step : (p : PartsView) (core : CoreId) (side : SideView) (log : List Entry) (stats : StatsView)
     (pending room : ℕ)
-    → IsCounted p → core.0 < length p.view.sides
+    → HasFittingCounts p → core.0 < length p.view.sides
     → pending + waiting (side_at p.view core).misses ≡ p.pending + waiting side.misses
     → length log + pending ≤ room → room < 2 ^ 63 → Counts p core side.accepted stats
-    → IsCounted (after_step p core side log stats pending room)
+    → HasFittingCounts (after_step p core side log stats pending room)
 counted-step p core side log stats pending room c known waits fits bounded counts = record {
   shaped = record {
     entries = c.shaped.entries;
@@ -130,7 +130,7 @@ pub record CountsSame (p : PartsView) (stats : StatsView) : Type 0 where
 -- A view with the same sides, log and lines has the same counts then.
 pub counted-posted : (p : PartsView) (view : View) (stats : StatsView)
     → view.lines ≡ p.view.lines → view.sides ≡ p.view.sides → view.log ≡ p.view.log
-    → CountsSame p stats → IsShaped view → IsCounted p → IsCounted (record p { view = view; stats = stats })
+    → CountsSame p stats → IsShaped view → HasFittingCounts p → HasFittingCounts (record p { view = view; stats = stats })
 counted-posted p view stats lines sides log same shaped c = record {
   shaped = shaped;
   machine = rw lines c.machine;

@@ -15,7 +15,7 @@ use Rattle.slice_core_plan.specs.Plan.{event_of_forwarded, is_put_ack, plan_of, 
 use Rattle.slice_core_plan.specs.Sends.{cache_room, cache_sent}
 use Rattle.slice_core_plan.specs.Steps.{after_forwarded}
 use Rattle.slice_core_plan.specs.View.{View, channels_at, side_at, IsShaped}
-use Rattle.slice_core_plan.specs.Within.{Stands}
+use Rattle.slice_core_plan.specs.Within.{HasCopy}
 use Rattle.slice_core_plan.specs.declared.decide.Plan.{Plan}
 use Rattle.slice_core_plan.specs.declared.decide.Plan.TheVariants as plans
 use Rattle.slice_core_side.proofs.Found.{advanced_copy, advanced_leaving, changes-advance, moved_to}
@@ -122,7 +122,7 @@ misses_on side local next = by (is_some (array_at side.array local)) (is_gone ne
 pub links_forwarded : (v : View) (local : Local) (core : CoreId) (next : CopyState) (sent : CacheSends)
     (requester : CoreId) →
     IsShaped v → HasLinks v → core.0 < length v.sides → local.0 < v.lines.lines →
-    plan_of v local (channels.Fwd core) ≡ plans.Forwarded next sent requester → Stands (side_at v core) local →
+    plan_of v local (channels.Fwd core) ≡ plans.Forwarded next sent requester → HasCopy (side_at v core) local →
     HasLinks (after_forwarded v local core next sent requester)
 links_forwarded v local core next sent requester shaped links there within is stands =
     let side = side_at v core in

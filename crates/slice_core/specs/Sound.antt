@@ -23,7 +23,7 @@ use Rattle.slice_queues_message.specs.declared.message.RequestMessage.TheVariant
 -- ---- sizes and counts
 
 -- The slice is whole, and its counts fit: the log has room for all that waits.
-pub record IsCounted (p : PartsView) : Type 0 where
+pub record HasFittingCounts (p : PartsView) : Type 0 where
   pub shaped : IsShaped p.view
   pub machine : IsOfMachine p.view.lines
   pub some_core : 0 < length p.view.sides
@@ -70,7 +70,7 @@ pub record HasLinks (v : View) : Type 0 where
 -- All of it; and each line stands, with its blocks, as one that the protocol's machine can come to, and the log is
 -- legal.
 pub record IsSound (p : PartsView) : Type 0 where
-  pub counted : IsCounted p
+  pub counted : HasFittingCounts p
   pub accounts : HasAccounts p.view
   pub links : HasLinks p.view
   pub faithful : IsFaithful p.view

@@ -17,7 +17,8 @@ use Rattle.slice_core_coherence.specs.Stands.{copies_at}
 use Rattle.slice_core_log.proofs.Pushes.{IsLegal-nil}
 use Rattle.slice_core_log.proofs.Values.{value-nil}
 use Rattle.slice_core_log.specs.Log.{IsLegal, initially}
-use Rattle.slice_core_plan.specs.Initial.{IsInitialBlock, is_of_slice, unowned}
+use Rattle.address_map.specs.Place.{is_of_slice}
+use Rattle.slice_core_plan.specs.Initial.{IsInitialBlock, unowned}
 use Rattle.slice_core_plan.specs.Parts.{IsNew, PartsView}
 use Rattle.slice_core_plan.specs.View.{channels_at}
 use Rattle.slice_core_protocol.specs.Machine.{first}

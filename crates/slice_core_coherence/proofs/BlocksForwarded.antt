@@ -25,7 +25,7 @@ use Rattle.slice_core_plan.specs.Plan.{event_of_forwarded, plan_of, requester_of
 use Rattle.slice_core_plan.specs.Sends.{cache_sent}
 use Rattle.slice_core_plan.specs.Steps.{after_forwarded}
 use Rattle.slice_core_plan.specs.View.{View, IsShaped, channels_at, entry_at, first_word, side_at}
-use Rattle.slice_core_plan.specs.Within.{Stands as HasCopy}
+use Rattle.slice_core_plan.specs.Within.{HasCopy}
 use Rattle.slice_core_plan.specs.declared.decide.Plan.TheVariants as plans
 use Rattle.slice_core_protocol.proofs.Each.{each_state, each_state-at, implies-at, not-at}
 use Rattle.slice_core_protocol.proofs.ValueSteps.{without_blocks}

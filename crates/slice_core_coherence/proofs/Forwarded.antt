@@ -30,7 +30,7 @@ use Rattle.slice_core_plan.specs.Plan.{asks, by_forwarded_row, event_of_forwarde
 use Rattle.slice_core_plan.specs.Sends.{cache_room, cache_sent}
 use Rattle.slice_core_plan.specs.Steps.{after_forwarded}
 use Rattle.slice_core_plan.specs.View.{View, IsShaped, channels_at, entry_at, side_at}
-use Rattle.slice_core_plan.specs.Within.{Stands as HasCopy}
+use Rattle.slice_core_plan.specs.Within.{HasCopy}
 use Rattle.slice_core_plan.specs.declared.decide.Plan.{Plan}
 use Rattle.slice_core_plan.specs.declared.decide.Plan.TheVariants as plans
 use Rattle.slice_core_answer.specs.declared.answer.Cell.TheVariants as cells

@@ -23,7 +23,7 @@ use Rattle.slice_core_answer.specs.declared.answer.Cell.TheVariants as cells
 use Rattle.slice_core_plan.specs.Plan.{ack_plan, acknowledge_at, asks, by_ack_row, by_data_row, by_directory_row, by_forwarded_row, by_home_row, data_by, data_plan, event_of_data, event_of_forwarded, event_of_request, fill_at, forwarded_by, forwarded_plan, home_plan, is_put_ack, plan_of, request_by, request_plan, requester_of, stands_at}
 use Rattle.slice_core_plan.specs.Sends.{cache_room, directory_room}
 use Rattle.slice_core_plan.specs.View.{View, IsShaped, channels_at, entry_at, side_at}
-use Rattle.slice_core_plan.specs.Within.{Stands as HasCopy}
+use Rattle.slice_core_plan.specs.Within.{HasCopy}
 use Rattle.slice_core_plan.specs.declared.decide.Plan.{Plan}
 use Rattle.slice_core_plan.specs.declared.decide.Plan.TheVariants as plans
 use Rattle.slice_core_side.specs.Copy.{found_in}

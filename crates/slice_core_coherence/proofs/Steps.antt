@@ -16,7 +16,7 @@ use Rattle.directory_table.specs.declared.state.DirState.{DirState}
 use Rattle.mshr_file.specs.declared.registers.Register.{Register}
 use Rattle.mshr_file.specs.Miss.{has_miss, targets_of, AddsTarget, TakesTargets}
 use Rattle.slice_core_coherence.proofs.Accesses.{HasPlaceFor, HasVictimFor, sends_for}
-use Rattle.slice_core_plan.specs.Within.{Stands as HasCopy}
+use Rattle.slice_core_plan.specs.Within.{HasCopy}
 use Rattle.slice_core_plan.specs.Parts.{filled_by}
 use Rattle.slice_core_plan.specs.Plan.{plan_of}
 use Rattle.slice_core_plan.specs.Steps.{after_directory, after_evict, after_forwarded, after_hand, after_hit, after_home, after_join, after_open, after_settling}

@@ -1,19 +1,14 @@
 -- What a slice begins with, by its machine's configuration.
-use Rattle.std.specs.Prelude.{◌≡◌, ℕ, ◌/◌, ◌%◌, ◌^◌, ◌<◌, ◌==◌, Bool, List, length, slice_index, slice_index_or}
+use Rattle.std.specs.Prelude.{◌≡◌, ℕ, ◌^◌, ◌<◌, List, length, slice_index, slice_index_or}
 use Rattle.address_map.specs.Locator.{Lines, word_at}
 use Rattle.address_map.specs.Words.{initial_value}
 use Rattle.address_map.specs.declared.address.Local.{Local}
-use Rattle.address_map.specs.declared.address.WordAddr.{WordAddr}
 use Rattle.address_map.specs.declared.block.Block.{Block}
 use Rattle.address_map.specs.declared.config.Config.{Config}
 use Rattle.directory_table.specs.declared.state.DirEntry.{DirEntry}
 use Rattle.slice_core_side.specs.Side.{SideView, new_side}
 use Rattle.mshr_file.specs.Miss.{Bound}
 use Rattle.slice_core_plan.specs.View.{no_entry, no_side}
-
--- the word is one of the slice's
-abbrev pub is_of_slice : Config → ℕ → WordAddr → Bool
-is_of_slice c slice word = word.0 / 8 % c.slices == slice
 
 -- the block has the initial values of the line's words, of 64 bits each
 pub record IsInitialBlock (c : Config) (own : Lines) (local : Local) (block : Block) : Type 0 where

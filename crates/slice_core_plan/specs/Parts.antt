@@ -1,6 +1,6 @@
 -- What each call of a slice relies on, answers and leaves. What is done of a request stands in Hit.antt, Join.antt and
 -- PrimaryMiss.antt, what an eviction does in Eviction.antt, and what a delivery does in Delivery.antt.
-use Rattle.std.specs.Prelude.{◌≡◌, ℕ, ◌+◌, ◌^◌, ◌<◌, ◌≤◌, ◌⊎◌, true, [], length, replicate, filter, All, IsSome, IsTrue, slice_get, Option, Some, None, Result, Ok, Err}
+use Rattle.std.specs.Prelude.{◌≡◌, ℕ, ◌+◌, ◌^◌, ◌<◌, ◌≤◌, ◌⊎◌, true, [], length, replicate, All, IsSome, IsTrue, slice_get, Option, Some, None, Result, Ok, Err}
 use Rattle.address_map.specs.Config.{IsAllowed, slice_lines}
 use Rattle.address_map.specs.Locator.{lines_of}
 use Rattle.address_map.specs.declared.address.CoreId.{CoreId}
@@ -23,7 +23,8 @@ use Rattle.slice_core_plan.specs.Decision.{decision_of}
 pub use Rattle.slice_core_plan.specs.Delivery.{Moves, Settles, filled_by, core_of, AfterPlan, local_in, AfterDelivery}
 pub use Rattle.slice_core_plan.specs.Eviction.{AfterEvict}
 use Rattle.slice_core_plan.specs.Hit.{AfterHit}
-use Rattle.slice_core_plan.specs.Initial.{AreInitialEntries, AreNewSides, is_of_slice}
+use Rattle.address_map.specs.Place.{counters_of, init_of}
+use Rattle.slice_core_plan.specs.Initial.{AreInitialEntries, AreNewSides}
 use Rattle.slice_core_plan.specs.Join.{AfterJoin}
 pub use Rattle.slice_core_plan.specs.Join.{target_for}
 use Rattle.slice_core_plan.specs.Plan.{plan_of, planned_at}
@@ -61,8 +62,8 @@ pub record IsNew (c : Config) (bound : Bound) (slice : SliceId) (p : PartsView) 
   pub channels_are : p.view.channels ≡ replicate (slice_lines c) (empty_line c.cores)
   pub sides : AreNewSides c bound slice.0 c.cores p.view.sides
   pub log : p.view.log ≡ []
-  pub init : p.view.init ≡ filter (λ pair. is_of_slice c slice.0 pair.0) c.init
-  pub counters : p.view.counters ≡ filter (is_of_slice c slice.0) c.counters
+  pub init : p.view.init ≡ init_of c slice.0
+  pub counters : p.view.counters ≡ counters_of c slice.0
   pub exclusive : p.view.exclusive ≡ c.exclusive
   pub stats : p.stats ≡ no_stats c.cores c.exclusive
   pub pending : p.pending ≡ 0

@@ -16,8 +16,8 @@ use Rattle.slice_queues_message.specs.declared.channel.Channel.TheVariants as ch
 use Rattle.writeback_buffer.specs.Buffer.{held_at as buffer_at}
 
 -- the core has a copy of the line, in its array or its write-back buffer
-abbrev pub Stands : SideView → Local → Type 0
-Stands side local = IsSome (array_at side.array local) ⊎ IsSome (buffer_at side.buffer.entries local.0)
+abbrev pub HasCopy : SideView → Local → Type 0
+HasCopy side local = IsSome (array_at side.array local) ⊎ IsSome (buffer_at side.buffer.entries local.0)
 
 -- the copy stands in this place of its set
 abbrev pub StandsAt : SideView → Local → ℕ → Type 0
@@ -39,7 +39,7 @@ IsPlanned v local (channels.Req core) (plans.Directory state owner sharers sent 
     × (directory_room (channels_at v local) core sent ≡ true)
 IsPlanned v local channels.Home (plans.Home state owner sharers) = IsSome (channels_at v local).home
 IsPlanned v local (channels.Fwd core) (plans.Forwarded next sent requester) =
-    (core.0 < length v.sides) × Stands (side_at v core) local
+    (core.0 < length v.sides) × HasCopy (side_at v core) local
     × (cache_room (channels_at v local) core requester sent ≡ true)
 IsPlanned v local (channels.Data core) (plans.Fill place next) =
     (core.0 < length v.sides) × StandsAt (side_at v core) local place

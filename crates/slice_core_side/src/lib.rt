@@ -14,7 +14,7 @@
 
 pub use access::{Access, Ask, Way, event_of};
 pub use copy::CacheCopy;
-pub use side::{Look, Side};
+pub use side::{CopyLook, Side};
 pub use tags::TagState;
 
 mod access;

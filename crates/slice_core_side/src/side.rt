@@ -17,7 +17,7 @@ mod issue;
 mod look;
 mod message;
 
-pub use look::Look;
+pub use look::CopyLook;
 
 /// What one core has in the slice.
 #[derive(Drop)]

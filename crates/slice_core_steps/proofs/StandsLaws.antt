@@ -9,7 +9,7 @@ use Rattle.cache_table.specs.declared.state.CopyState.{CopyState}
 use Rattle.cache_table.specs.declared.state.CopyState.TheVariants as states
 use Rattle.slice_core_plan.specs.Plan.{event_of_forwarded}
 use Rattle.slice_core_plan.specs.View.{no_side}
-use Rattle.slice_core_plan.specs.Within.{Stands}
+use Rattle.slice_core_plan.specs.Within.{HasCopy}
 use Rattle.slice_core_side.specs.Copy.{found_in}
 use Rattle.slice_core_side.specs.Side.{SideView, copy_of}
 use Rattle.slice_core_side.specs.declared.copy.CacheCopy.{CacheCopy}
@@ -39,7 +39,7 @@ none_forwarded forwards.PutAck next sends e = cc
 
 pub stands_forwarded : (side : SideView) (local : Local) (message : ForwardedMessage) (next : CopyState)
     (sends : CacheSends) →
-    row_of (copy_of side local).state (event_of_forwarded message) ≡ rows.Go next sends → Stands side local
+    row_of (copy_of side local).state (event_of_forwarded message) ≡ rows.Go next sends → HasCopy side local
 stands_forwarded side local message next sends =
     found (array_at side.array local) (buffer_at side.buffer.entries local.0)
   where

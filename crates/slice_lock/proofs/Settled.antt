@@ -4,10 +4,10 @@ use Rattle.address_map.specs.declared.address.WordAddr.{WordAddr}
 use Rattle.address_map.specs.declared.config.Config.{Config}
 use Rattle.receipt_ledger.specs.Port.{PortView}
 use Rattle.receipt_ledger.specs.Settled.{IsSettled}
-use Rattle.receipt_shares.specs.Names.{counters_of}
+use Rattle.address_map.specs.Place.{counters_of, init_of}
 use Rattle.slice_core_log.specs.Log.{IsLegal, initially, value}
 use Rattle.slice_core_plan.specs.View.{View}
-use Rattle.slice_lock.specs.Settled.{AreSettled, init_of}
+use Rattle.slice_lock.specs.Settled.{AreSettled}
 
 pub settled : (c : Config) (number : ℕ) (v : View) (ports : List PortView) (values : List ℕ)
     → v.init ≡ init_of c number → IsSettled c number v ports values → AreSettled c number ports values

@@ -1,22 +1,17 @@
 -- What all ports of a slice have together once it is settled.
-use Rattle.std.specs.Prelude.{◌≡◌, ℕ, ◌+◌, ◌%◌, ◌^◌, List, filter, length, map}
+use Rattle.std.specs.Prelude.{◌≡◌, ℕ, ◌+◌, ◌%◌, ◌^◌, List, length, map}
 use Rattle.address_map.specs.Words.{initial_value}
 use Rattle.address_map.specs.declared.address.WordAddr.{WordAddr}
 use Rattle.address_map.specs.declared.config.Config.{Config}
 use Rattle.receipt_ledger.specs.History.{AreHeld, AreHistory, receipts_in}
 use Rattle.receipt_ledger.specs.Port.{PortView, entries_of}
 use Rattle.receipt_ledger.specs.Settled.{accepted_in}
-use Rattle.receipt_shares.specs.Names.{counters_of}
+use Rattle.address_map.specs.Place.{counters_of, init_of}
 use Rattle.slice_core_log.specs.Log.{IsLegal, IsOrdered, initially, named, value}
 use Rattle.slice_core_log.specs.declared.entry.Entry.{Entry}
-use Rattle.slice_core_plan.specs.Initial.{is_of_slice}
 use Rattle.slice_core_plan.specs.View.{View, IsQuiet}
 use Rattle.slice_lock.specs.declared.slice.Unsettled.{Unsettled}
 use Rattle.slice_lock.specs.declared.slice.Unsettled.TheVariants as faults
-
--- the configured initial values of the slice's words
-abbrev pub init_of : Config → ℕ → List (WordAddr × ℕ)
-init_of c number = filter (λ pair. is_of_slice c number pair.0) c.init
 
 -- As many receipts as requests were accepted. By number they are exactly a log, which is legal and in each core's order.
 -- And these are the values of the slice's counters, ascending by word: each is what the log leaves there, and that is its

@@ -9,7 +9,7 @@ use Rattle.std.proofs.lemmas.List.Elements.{All-from_get_or}
 use Rattle.std.proofs.lemmas.List.Folds.{sum_by-replicate}
 use Rattle.slice_queues.specs.declared.count.MailCount.{MailCount}
 use Rattle.slice_queues.specs.Line.{LineChannels, empty_line, has_mail}
-use Rattle.slice_queues.specs.Count.{one_where, IsCounted}
+use Rattle.slice_queues.specs.Count.{one_where, IsMailCounted}
 use Rattle.slice_queues.proofs.SliceLaws.{IsEmptyLine-empty_line}
 use Rattle.slice_queues.proofs.MailLaws.{no_mail-from_IsEmptyLine}
 
@@ -30,7 +30,7 @@ count-with lines lent there =
 
 -- another line is lent
 pub counted-lend : (lines : List LineChannels) (count : MailCount) (local : ℕ) →
-    local < length lines → IsCounted lines count →
+    local < length lines → IsMailCounted lines count →
     count.others + one_where (has_mail (get_or lines count.lent (empty_line 0)))
     - one_where (has_mail (get_or lines local (empty_line 0)))
     ≡ count_by has_mail (set lines local (empty_line 0))
@@ -40,7 +40,7 @@ counted-lend lines count local there counted =
 
 -- what is counted is no more than the lines, and no less than what is taken off
 pub count-fits : (lines : List LineChannels) (count : MailCount) (local : ℕ) →
-    local < length lines → IsCounted lines count →
+    local < length lines → IsMailCounted lines count →
     (count.others + one_where (has_mail (get_or lines count.lent (empty_line 0))) ≤ length lines)
     × (one_where (has_mail (get_or lines local (empty_line 0)))
     ≤ count.others + one_where (has_mail (get_or lines count.lent (empty_line 0))))
@@ -51,9 +51,9 @@ count-fits lines count local there counted =
     )
 
 -- the line that is lent may change
-pub IsCounted-lent : (lines : List LineChannels) (count : MailCount) (local : ℕ) (line : LineChannels) →
-    count.lent ≡ local → IsCounted lines count → IsCounted (set lines local line) count
-IsCounted-lent lines count local line lent counted = record {
+pub IsMailCounted-lent : (lines : List LineChannels) (count : MailCount) (local : ℕ) (line : LineChannels) →
+    count.lent ≡ local → IsMailCounted lines count → IsMailCounted (set lines local line) count
+IsMailCounted-lent lines count local line lent counted = record {
   here = λ some. let same = length-set lines local line in
       let there = counted.here (omega (arith, some, same)) in omega (arith, there, same);
   counted = counted.counted
@@ -63,9 +63,9 @@ IsCounted-lent lines count local line lent counted = record {
 }
 
 -- a slice in which nothing waits
-pub IsCounted-replicate : (lines cores : ℕ) →
-    IsCounted (replicate lines (empty_line cores)) (record { lent = 0; others = 0 })
-IsCounted-replicate lines cores = record {
+pub IsMailCounted-replicate : (lines cores : ℕ) →
+    IsMailCounted (replicate lines (empty_line cores)) (record { lent = 0; others = 0 })
+IsMailCounted-replicate lines cores = record {
   here = λ some. some;
   counted = none lines;
 }
@@ -82,7 +82,7 @@ IsCounted-replicate lines cores = record {
         omega (arith, e, count-empty 0, all n)
 
 -- where no line has a message, none is counted
-pub others-none : (lines : List LineChannels) (count : MailCount) → IsCounted lines count →
+pub others-none : (lines : List LineChannels) (count : MailCount) → IsMailCounted lines count →
     ((local : ℕ) → has_mail (get_or lines local (empty_line 0)) ≡ false) → count.others ≡ 0
 others-none lines count counted quiet =
     elim (cases_lt 0 (length lines)) [
@@ -98,7 +98,7 @@ others-none lines count counted quiet =
     ]
 
 -- neither the line that is lent nor another has a message
-pub no_mail-from_others : (lines : List LineChannels) (count : MailCount) → IsCounted lines count →
+pub no_mail-from_others : (lines : List LineChannels) (count : MailCount) → IsMailCounted lines count →
     count.others ≡ 0 → has_mail (get_or lines count.lent (empty_line 0)) ≡ false → (local : ℕ) →
     has_mail (get_or lines local (empty_line 0)) ≡ false
 no_mail-from_others lines count counted none quiet local =

@@ -18,6 +18,11 @@ use Rattle.slice_queues.specs.Line.{CoreChannels, LineChannels, no_messages, cor
 use Rattle.slice_queues.specs.Mail.{no_marks, all_marked, Marks, IsMarked, IsLine}
 use Rattle.slice_queues.proofs.LineLaws.{IsWithinCores-set, IsWithinCores-with_ack, IsWithinCores-without_ack, IsWithinCores-empty, IsEmptyLine-from_cores, cores-from_IsEmptyLine, None-from_home, read_default, read-replicate}
 
+-- what is quiet has no mail
+pub not-flips : (quiet mail : Bool) → quiet ≡ not mail → not quiet ≡ mail
+not-flips quiet true is = ap not is
+not-flips quiet false is = ap not is
+
 -- a core that got a message is marked
 pub Marks-with : (test : CoreChannels → Bool) (marks : ℕ) (cores : List CoreChannels) (core : ℕ) (new : CoreChannels) →
     core < 64 → core < length cores → test new ≡ true →

@@ -8,6 +8,6 @@ abbrev pub one_where : Bool → ℕ
 one_where holds = if holds then 1 else 0
 
 -- the line that was lent last is one of the lines, and so many others have a message
-pub record IsCounted (lines : List LineChannels) (count : MailCount) : Type 0 where
+pub record IsMailCounted (lines : List LineChannels) (count : MailCount) : Type 0 where
   pub here : 0 < length lines → count.lent < length lines
   pub counted : count.others ≡ count_by has_mail (slice_set lines count.lent (empty_line 0))

@@ -1,6 +1,6 @@
 ghost use Rattle.std.specs.Prelude.{◌≡◌, ℕ, ◌<◌, ◌↔◌, false, length, slice_index_or, IsTrue};
 ghost use Rattle.slice_queues.specs.Line.{has_mail, empty_line};
-ghost use Rattle.slice_queues.specs.Count.{one_where, IsCounted};
+ghost use Rattle.slice_queues.specs.Count.{one_where, IsMailCounted};
 
 use super::line_queues::LineQueues;
 use address_map::Local;
@@ -16,9 +16,9 @@ impl MailCount {
     /// It is now this line that is lent.
     pub fn lend(&mut self, lines: &[LineQueues], local: Local)
         requires line { local.0 < length lines.now }
-        requires counted { IsCounted lines.now self.old }
+        requires counted { IsMailCounted lines.now self.old }
         ensures lent { self.new.lent ≡ local.0 }
-        ensures counted { IsCounted lines.now self.new }
+        ensures counted { IsMailCounted lines.now self.new }
     {
         if local.0 != self.lent {
             let before = one_where(lines[self.lent].has_mail());
@@ -30,7 +30,7 @@ impl MailCount {
 
     /// Whether no line has a message.
     pub fn is_zero(&self, lines: &[LineQueues]) -> bool
-        requires { IsCounted lines.now self.now }
+        requires { IsMailCounted lines.now self.now }
         ensures { IsTrue result ↔ ((local : ℕ) → has_mail (slice_index_or lines.now local (empty_line 0)) ≡ false) }
     {
         self.others == 0

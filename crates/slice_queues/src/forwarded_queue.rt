@@ -1,4 +1,4 @@
-ghost use Rattle.std.specs.Prelude.{◌≡◌, ◌<◌, ◌++◌, [], ◌∷◌, length, slice_get, drop, IsTrue, ◌↔◌};
+ghost use Rattle.std.specs.Prelude.{◌≡◌, ◌<◌, ◌++◌, [], ◌∷◌, length, nat_lt, slice_get, drop, IsTrue, ◌↔◌};
 ghost use Rattle.std.specs.Option.{option_copied};
 
 use slice_queues_message::ForwardedMessage;
@@ -13,6 +13,12 @@ pub enum ForwardedQueue {
 
 impl ForwardedQueue {
     ghost use Rattle.slice_queues.specs.Forwarded.{queued};
+
+    pub fn holds_any(&self) -> bool
+        ensures { result ≡ nat_lt 0 (length (queued self.now)) }
+    {
+        !matches!(self, ForwardedQueue::Empty)
+    }
 
     pub fn is_full(&self) -> bool
         ensures { IsTrue result ↔ (length (queued self.now) ≡ 2) }

@@ -100,7 +100,7 @@ impl LineQueues {
         requires { HasChannel self.now (channels.Req core) }
         ensures { option_copied result ≡ (core_at self.now core.0).request }
     {
-        self.cores[core.0 as usize].request()
+        self.cores[core.0 as usize].request.as_ref()
     }
 
     /// Sends a core's request to the directory.
@@ -109,7 +109,7 @@ impl LineQueues {
         requires room { HasRoom self.old (channels.Req core) }
         ensures { self.new ≡ after_send self.old (channels.Req core) (messages.Request message) }
     {
-        self.cores[core.0 as usize].put_request(message);
+        self.cores[core.0 as usize].request = Some(message);
         self.mail.requests.insert(core);
     }
 
@@ -120,7 +120,7 @@ impl LineQueues {
         ensures rest { self.new ≡ after_take self.old (channels.Req core) }
     {
         self.mail.requests.remove(core);
-        self.cores[core.0 as usize].take_request()
+        self.cores[core.0 as usize].request.take()
     }
 
     /// Takes a core's request without a look at it.
@@ -129,7 +129,7 @@ impl LineQueues {
         ensures { self.new ≡ after_take self.old (channels.Req core) }
     {
         self.mail.requests.remove(core);
-        self.cores[core.0 as usize].drop_request();
+        self.cores[core.0 as usize].request = None;
     }
 
     /// The oldest forwarded message that waits for the core.
@@ -137,7 +137,7 @@ impl LineQueues {
         requires { HasChannel self.now (channels.Fwd core) }
         ensures { option_copied result ≡ slice_get (core_at self.now core.0).forwarded 0 }
     {
-        self.cores[core.0 as usize].forwarded()
+        self.cores[core.0 as usize].forwarded.front()
     }
 
     /// Forwards a message to the core, behind the one that may wait.
@@ -146,7 +146,7 @@ impl LineQueues {
         requires room { HasRoom self.old (channels.Fwd core) }
         ensures { self.new ≡ after_send self.old (channels.Fwd core) (messages.Forwarded message) }
     {
-        self.cores[core.0 as usize].push_forwarded(message);
+        self.cores[core.0 as usize].forwarded.push(message);
         self.mail.forwarded.insert(core);
     }
 
@@ -157,8 +157,9 @@ impl LineQueues {
         ensures rest { self.new ≡ after_take self.old (channels.Fwd core) }
     {
         let queues = &mut self.cores[core.0 as usize];
-        let taken = queues.take_forwarded();
-        self.mail.forwarded = without_unless(self.mail.forwarded, core, queues.has_forwarded());
+        let taken = queues.forwarded.pop();
+        let waits = queues.forwarded.holds_any();
+        self.mail.forwarded = without_unless(self.mail.forwarded, core, waits);
         taken
     }
 
@@ -167,7 +168,7 @@ impl LineQueues {
         requires { HasChannel self.now (channels.Fwd core) }
         ensures { IsTrue result ↔ HasRoom self.now (channels.Fwd core) }
     {
-        self.cores[core.0 as usize].takes_forwarded()
+        !self.cores[core.0 as usize].forwarded.is_full()
     }
 
     /// The data that wait for the core.
@@ -175,7 +176,7 @@ impl LineQueues {
         requires { HasChannel self.now (channels.Data core) }
         ensures { option_copied result ≡ (core_at self.now core.0).data }
     {
-        self.cores[core.0 as usize].data_message()
+        self.cores[core.0 as usize].data_message.as_ref()
     }
 
     /// Sends data to the core.
@@ -184,7 +185,7 @@ impl LineQueues {
         requires room { HasRoom self.old (channels.Data core) }
         ensures { self.new ≡ after_send self.old (channels.Data core) (messages.Data message) }
     {
-        self.cores[core.0 as usize].put_data(message);
+        self.cores[core.0 as usize].data_message = Some(message);
         self.mail.data_messages.insert(core);
     }
 
@@ -195,7 +196,7 @@ impl LineQueues {
         ensures rest { self.new ≡ after_take self.old (channels.Data core) }
     {
         self.mail.data_messages.remove(core);
-        self.cores[core.0 as usize].take_data()
+        self.cores[core.0 as usize].data_message.take()
     }
 
     /// Takes the core's data without a look at them.
@@ -204,7 +205,7 @@ impl LineQueues {
         ensures { self.new ≡ after_take self.old (channels.Data core) }
     {
         self.mail.data_messages.remove(core);
-        self.cores[core.0 as usize].drop_data();
+        self.cores[core.0 as usize].data_message = None;
     }
 
     /// Whether an acknowledgement from the one core waits for the other.
@@ -212,7 +213,7 @@ impl LineQueues {
         requires { HasChannel self.now (channels.Ack to from) }
         ensures { result ≡ has (core_at self.now to.0).acks from.0 }
     {
-        self.cores[to.0 as usize].acks().has(from)
+        self.cores[to.0 as usize].acks.has(from)
     }
 
     /// Acknowledges an invalidation to the core that asked for it.
@@ -222,7 +223,7 @@ impl LineQueues {
         ensures after { self.new ≡ after_send self.old (channels.Ack to from) messages.InvAck }
         ensures sent { SendsOnly self.old self.new (channels.Ack to from) messages.InvAck }
     {
-        self.cores[to.0 as usize].put_ack(from);
+        self.cores[to.0 as usize].acks.insert(from);
         self.mail.acks.insert(to);
     }
 
@@ -233,9 +234,10 @@ impl LineQueues {
         ensures rest { self.new ≡ after_take self.old (channels.Ack to from) }
     {
         let queues = &mut self.cores[to.0 as usize];
-        let waited = queues.acks().has(from);
-        queues.take_ack(from);
-        self.mail.acks = without_unless(self.mail.acks, to, queues.has_acks());
+        let waited = queues.acks.has(from);
+        queues.acks.remove(from);
+        let waits = queues.acks.bits() > 0;
+        self.mail.acks = without_unless(self.mail.acks, to, waits);
         waited
     }
 
@@ -274,14 +276,14 @@ impl LineQueues {
         ensures empty { IsTrue result ↔ IsEmptyLine self.now }
         ensures mail { result ≡ not (has_mail self.now) }
     {
-        self.home.is_none() && self.mail.cores().is_empty()
+        !self.has_mail()
     }
 
     /// Whether a message waits in some channel of the line.
     pub fn has_mail(&self) -> bool
         ensures { result ≡ has_mail self.now }
     {
-        !self.is_empty()
+        self.home.is_some() || !self.mail.cores().is_empty()
     }
 
     /// Whether all of these are cores of the line, and each one's forwarded channel takes another message.

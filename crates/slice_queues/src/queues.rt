@@ -24,7 +24,7 @@ pub struct Queues {
 impl Model for Queues {
     ghost use Rattle.std.specs.Box.{boxed_slice_items};
     ghost use Rattle.slice_queues.specs.Ring.{QueuesView, IsQueues};
-    ghost use Rattle.slice_queues.specs.Count.{IsCounted};
+    ghost use Rattle.slice_queues.specs.Count.{IsMailCounted};
 
     ghost Value = { QueuesView };
 
@@ -38,7 +38,7 @@ impl Model for Queues {
 
     ghost invariant = { λ queues.
         IsQueues (boxed_slice_items queues.lines) queues.ring queues.locator
-        × IsCounted (boxed_slice_items queues.lines) queues.count };
+        × IsMailCounted (boxed_slice_items queues.lines) queues.count };
 }
 
 /// The lines by their places in the slice, and the ring.

@@ -174,7 +174,8 @@ fn waiting_of(cores: &[CoreQueues], mail: Mail, core: CoreId) -> CoreWaiting
     ensures { result ≡ core_left mail cores.now core.0 }
 {
     let acks = if mail.acks.has(core) {
-        cores[core.0 as usize].acks()
+        let queues = &cores[core.0 as usize];
+        queues.acks
     } else {
         CoreSet::none()
     };

@@ -154,12 +154,12 @@ impl fmt::Display for Numbers {
 }
 
 #[derive(Clone, Copy)]
-pub(crate) struct Asked {
+pub(crate) struct AskedOfDirectory {
     pub(crate) slice: usize,
     pub(crate) done: Done,
 }
 
-impl fmt::Display for Asked {
+impl fmt::Display for AskedOfDirectory {
     ghost use Rattle.std.specs.Prelude.{Some};
     ghost use Rattle.step_text.specs.Deeds.{text_of_asked};
 

@@ -1,5 +1,5 @@
 use super::case::Case;
-use super::deeds::{Asked, Done, Entry, FromCore, FromDirectory, Numbers, awaited, broken, home};
+use super::deeds::{AskedOfDirectory, Done, Entry, FromCore, FromDirectory, Numbers, awaited, broken, home};
 use address_map::CoreId;
 use slice_core_plan::Plan;
 use std::fmt;
@@ -74,7 +74,7 @@ impl fmt::Display for Delivery {
                 write!(f, "{case}: to {next}{sent}")
             }
             Plan::Fill { next, .. } => {
-                let asked = Asked { slice, done };
+                let asked = AskedOfDirectory { slice, done };
                 write!(f, "{case}: to {next}{numbers}{asked}")
             }
             Plan::Acknowledge { next, .. } => write!(f, "{case}: to {next}; k + 1{numbers}"),

@@ -4,7 +4,6 @@ ghost use Rattle.cache_array.specs.Set.{holds};
 ghost use Rattle.mshr_file.specs.Miss.{has_miss, can_open, can_join, AddsTarget, IsMissFile};
 ghost use Rattle.writeback_buffer.specs.Buffer.{held_at as buffer_at};
 ghost use Rattle.slice_core_log.specs.Op.{reply_of};
-ghost use Rattle.slice_core_side.specs.Access.{is_silent};
 ghost use Rattle.slice_core_side.specs.Copy.{word_at};
 
 use super::Side;
@@ -60,7 +59,8 @@ impl<F: MissFile> Side<F> {
         let state = self.array.value(local, place).state;
         let (next, ask) = match cache_row(state, event_of(op)) {
             Row::Go(next, CacheSends::Nothing) => {
-                let silent = is_silent(state, next);
+                // a write to an exclusive copy changes it, and nobody is told
+                let silent = matches!((state, next), (CopyState::E, CopyState::M));
                 return Access::Hit {
                     place,
                     next,
@@ -210,11 +210,4 @@ impl<F: MissFile> Side<F> {
             tag: request.tag,
         }
     }
-}
-
-// Whether a write to an exclusive copy changed it: nobody is told.
-const fn is_silent(state: CopyState, next: CopyState) -> bool
-    ensures { result ≡ is_silent state next }
-{
-    matches!((state, next), (CopyState::E, CopyState::M))
 }

@@ -14,7 +14,7 @@ use mshr_file::{MissFile, Target};
 
 /// What a message looks at of a core's copy: all but its block.
 #[derive(Clone, Copy, Debug, PartialEq, Eq)]
-pub struct Look {
+pub struct CopyLook {
     /// Where the copy stands in its set, if the array holds it.
     pub place: Option<usize>,
     pub state: CopyState,
@@ -27,7 +27,7 @@ impl<F: MissFile> Side<F> {
     ghost use Rattle.slice_core_side.specs.Side.{copy_of};
 
     /// The core's copy of a line but for its block. It stands in the array, or in the write-back buffer, or nowhere.
-    pub fn look(&self, local: Local) -> Look
+    pub fn look(&self, local: Local) -> CopyLook
         ensures place { result.place ≡ position (holds local) (slots_at self.now.array local) }
         ensures state { result.state ≡ (copy_of self.now local).state }
         ensures wants { result.wants ≡ (copy_of self.now local).wants }
@@ -35,7 +35,7 @@ impl<F: MissFile> Side<F> {
     {
         if let Some(place) = self.array.find(local) {
             let copy = self.array.value(local, place);
-            return Look {
+            return CopyLook {
                 place: Some(place),
                 state: copy.state,
                 wants: copy.wants,
@@ -46,7 +46,7 @@ impl<F: MissFile> Side<F> {
             Some(leaving) => leaving.state,
             None => CopyState::I,
         };
-        Look {
+        CopyLook {
             place: None,
             state,
             wants: 0,

@@ -1,10 +1,12 @@
 ghost use Rattle.std.specs.Box.{boxed_slice_items};
-ghost use Rattle.std.specs.Prelude.{◌≡◌, ◌%◌, ◌/◌, ◌<◌, ◌==◌, IfOk, filter};
-ghost use Rattle.slice_core_plan.specs.Initial.{IsInitialBlock, AreInitialEntries, AreNewSides, is_of_slice};
+ghost use Rattle.std.specs.Prelude.{◌≡◌, ◌<◌, IfOk};
+ghost use Rattle.slice_core_plan.specs.Initial.{IsInitialBlock, AreInitialEntries, AreNewSides};
 ghost use Rattle.slice_core_plan.specs.Parts.{PartsView, IsNew};
 
 use super::Parts;
-use address_map::{Block, Checked, CoreId, CoreSet, Local, Locator, Offset, SliceId, WordAddr};
+use address_map::{
+    Block, Checked, CoreId, CoreSet, Local, Locator, Offset, SliceId, counters_of, init_of,
+};
 use directory_table::{DirEntry, DirState};
 use mshr_file::MissFile;
 use slice_core_answer::Stats;
@@ -26,8 +28,8 @@ impl<F: MissFile> Parts<F> {
             sides: new_sides(alloc, config, slice)?,
             log: Vec::new(alloc),
             stats: Stats::new(alloc, config.cores(), config.exclusive())?,
-            init: init_of_slice(alloc, config, slice)?,
-            counters: counters_of_slice(alloc, config, slice)?,
+            init: init_of(alloc, config, slice)?,
+            counters: counters_of(alloc, config, slice)?,
             lines,
             pending: 0,
             exclusive: config.exclusive(),
@@ -79,38 +81,4 @@ fn new_sides<F: MissFile>(
         all.push(Side::make(alloc, config, slice, CoreId(core as u8))?)?;
     }
     Ok(all.into_boxed_slice())
-}
-
-fn init_of_slice(
-    alloc: Global,
-    config: &Checked,
-    slice: SliceId,
-) -> Result<BoxedSlice<(WordAddr, u64)>, AllocError>
-    requires { slice.0 < config.now.slices }
-    ensures { IfOk result (λ v. boxed_slice_items v ≡ filter (λ pair. is_of_slice config.now slice.0 pair.0) config.now.init) }
-{
-    let slices = config.slices() as u64;
-    config
-        .init()
-        .iter()
-        .copied()
-        .filter(|pair| pair.0.0 / 8 % slices == u64::from(slice.0))
-        .collect(alloc)
-}
-
-fn counters_of_slice(
-    alloc: Global,
-    config: &Checked,
-    slice: SliceId,
-) -> Result<BoxedSlice<WordAddr>, AllocError>
-    requires { slice.0 < config.now.slices }
-    ensures { IfOk result (λ v. boxed_slice_items v ≡ filter (is_of_slice config.now slice.0) config.now.counters) }
-{
-    let slices = config.slices() as u64;
-    config
-        .counters()
-        .iter()
-        .copied()
-        .filter(|word| word.0 / 8 % slices == u64::from(slice.0))
-        .collect(alloc)
 }

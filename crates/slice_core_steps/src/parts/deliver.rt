@@ -8,7 +8,7 @@ ghost use Rattle.slice_core_plan.specs.Parts.{AfterDelivery, AfterPlan, CanDeliv
 ghost use Rattle.slice_core_plan.specs.Sends.{cache_room, directory_room, directory_sent};
 ghost use Rattle.slice_core_plan.specs.Steps.{after_directory, after_forwarded, after_home, asked_by, block_in};
 ghost use Rattle.slice_core_plan.specs.View.{channels_at, side_at, IsShaped};
-ghost use Rattle.slice_core_plan.specs.Within.{IsPlanned, Stands, StandsAt, is_shared};
+ghost use Rattle.slice_core_plan.specs.Within.{IsPlanned, HasCopy, StandsAt, is_shared};
 ghost use Rattle.slice_queues.specs.Line.{after_take, core_at};
 ghost use Rattle.slice_queues_message.specs.declared.channel.Channel.TheVariants as channels;
 
@@ -45,37 +45,43 @@ impl<F: MissFile> Parts<F> {
         requires planned { IsPlanned self.old.view local channel plan }
         ensures { AfterPlan plan self.old local channel result self.new }
     {
-        match plan {
-            Plan::Nothing => return Delivered::Nothing,
-            Plan::Blocked => return Delivered::Blocked,
-            Plan::Broken(cell) => return Delivered::Broken(cell),
-            Plan::Directory {
-                state,
-                owner,
-                sharers,
-                sends,
-                writes_home,
-            } => {
-                let core = channel_core(channel);
-                self.serve(local, core, state, owner, sharers, sends, writes_home);
+        match (plan, channel) {
+            (Plan::Nothing, _) => return Delivered::Nothing,
+            (Plan::Blocked, _) => return Delivered::Blocked,
+            (Plan::Broken(cell), _) => return Delivered::Broken(cell),
+            (
+                Plan::Directory {
+                    state,
+                    owner,
+                    sharers,
+                    sends,
+                    writes_home,
+                },
+                Channel::Req(core),
+            ) => self.serve(local, core, state, owner, sharers, sends, writes_home),
+            (
+                Plan::Home {
+                    state,
+                    owner,
+                    sharers,
+                },
+                Channel::Home,
+            ) => self.take_home(local, state, owner, sharers),
+            (
+                Plan::Forwarded {
+                    next,
+                    sends,
+                    requester,
+                },
+                Channel::Fwd(core),
+            ) => self.forward(local, core, next, sends, requester),
+            (Plan::Fill { place, next }, Channel::Data(core)) => {
+                self.fill(local, core, place, next);
             }
-            Plan::Home {
-                state,
-                owner,
-                sharers,
-            } => self.take_home(local, state, owner, sharers),
-            Plan::Forwarded {
-                next,
-                sends,
-                requester,
-            } => self.forward(local, channel_core(channel), next, sends, requester),
-            Plan::Fill { place, next } => self.fill(local, channel_core(channel), place, next),
-            Plan::Acknowledge { place, next } => {
-                let Channel::Ack { to, from } = channel else {
-                    unreachable!();
-                };
+            (Plan::Acknowledge { place, next }, Channel::Ack { to, from }) => {
                 self.acknowledge(local, to, from, place, next);
             }
+            _ => unreachable!(),
         }
         Delivered::Moved
     }
@@ -138,7 +144,7 @@ impl<F: MissFile> Parts<F> {
         requires line { local.0 < self.old.view.lines.lines }
         requires core { core.0 < length self.old.view.sides }
         requires shaped { IsShaped self.old.view }
-        requires stands { Stands (side_at self.old.view core) local }
+        requires stands { HasCopy (side_at self.old.view core) local }
         requires room { cache_room (channels_at self.old.view local) core requester sends ≡ true }
         ensures { Moves self.old local (channels.Fwd core)
             (after_forwarded self.old.view local core next sends requester) self.new }
@@ -196,17 +202,6 @@ impl<F: MissFile> Parts<F> {
         let first = self.lines.word_at(local, Offset(0)).0;
         let log = &mut self.log;
         let _ = settle_copy(side, log, &mut self.pending, to, local, place, first);
-    }
-}
-
-// The core at a channel of a core.
-fn channel_core(channel: Channel) -> CoreId
-    ensures { result ≡ core_of channel }
-{
-    match channel {
-        Channel::Req(core) | Channel::Fwd(core) | Channel::Data(core) => core,
-        Channel::Ack { to, .. } => to,
-        Channel::Home => CoreId(0),
     }
 }
 

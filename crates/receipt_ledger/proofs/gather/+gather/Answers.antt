@@ -5,7 +5,7 @@ use Rattle.receipt_ledger.specs.Port.{entries_of, held_by}
 use Rattle.receipt_ledger.specs.Settled.{held_in}
 use Rattle.receipt_ledger.specs.declared.receipt.Receipt.{Receipt}
 use Rattle.receipt_shares.proofs.Totals.{together_assoc, together_cancel, together_nothing}
-use Rattle.receipt_shares.specs.Names.{counters_of}
+use Rattle.address_map.specs.Place.{counters_of}
 use Rattle.receipt_shares.specs.Totals.{Amounts, together, totals}
 use Rattle.receipt_ledger.proofs.gather.+gather.Goals as goal
 

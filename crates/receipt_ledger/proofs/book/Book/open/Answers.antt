@@ -1,4 +1,5 @@
 use Rattle.std.proofs.Common.{subst, sym}
+use Rattle.std.specs.Box.{boxed_slice_items}
 use Rattle.receipt_ledger.proofs.New.{new-tied}
 use Rattle.receipt_ledger.specs.Booked.{IsTied}
 use Rattle.receipt_shares.proofs.CounterWords.{counters_allowed}
@@ -8,7 +9,7 @@ use Rattle.receipt_ledger.proofs.book.Book.open.Goals as goal
 
 pub invariant_of-result : goal.invariant_of-result
 invariant_of-result g c =
-    let words = c.in_ok-counters.counters.items in
+    let words = boxed_slice_items c.in_ok-counters.counters in
     subst (λ setup. AreCounters setup g.N.SliceNames.number words) c.requires.setup
     (subst (λ number. AreCounters c.args.config.now number words) c.requires.number
     (counters_allowed c.args.config.now c.args.slice.0 words c.cores.ensures.allowed c.in_ok-counters.ensures))

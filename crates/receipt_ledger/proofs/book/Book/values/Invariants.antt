@@ -1,5 +1,5 @@
 use Rattle.std.specs.Prelude.{◌≡◌, ◌≤◌, length, map, take}
-use Rattle.receipt_shares.specs.Names.{counters_of}
+use Rattle.address_map.specs.Place.{counters_of}
 use Rattle.slice_core_log.specs.Log.{initially, value}
 use Rattle.receipt_ledger.proofs.book.Book.values.Given as goal
 

@@ -1,4 +1,4 @@
-use Rattle.std.proofs.Common.{◌<◌, ap, arith, length}
+use Rattle.std.proofs.Common.{◌<◌, ap, arith, length, refl, sym}
 use Rattle.slice_queues.proofs.MailLaws.{IsLine-sent_request}
 use Rattle.slice_queues.proofs.line_queues.LineQueues.send_request.Goals as goal
 
@@ -6,5 +6,5 @@ pub invariant_of-self : goal.invariant_of-self
 invariant_of-self c =
     let there : c.args.core.0 < length c.self.inside.cores.items.items =
     omega (arith, ap (λ l. length l.cores) c.self.view_is, c.requires.there) in
-    IsLine-sent_request _ _ c.args.core.0 c.index_mut.result.now _ c.args.message _ there c.index_mut.ensures.value
-    c.put_request.ensures c.insert.ensures c.self.invariant
+    IsLine-sent_request _ _ c.args.core.0 _ _ c.args.message _ there (rw (sym c.behind-self.view_is) at c.index_mut.ensures.value)
+    refl c.insert.ensures c.self.invariant

@@ -1,10 +1,18 @@
-use Rattle.std.proofs.Common.{◌<◌, ap, arith, length}
+use Rattle.std.proofs.Common.{◌<◌, ap, arith, length, sym}
+use Rattle.slice_queues.specs.Forwarded.{queued}
+use Rattle.slice_queues.specs.Line.{CoreChannels}
 use Rattle.slice_queues.proofs.MailLaws.{IsLine-taken_request}
 use Rattle.slice_queues.proofs.line_queues.LineQueues.take_request.Goals as goal
 
 pub invariant_of-self : goal.invariant_of-self
 invariant_of-self c =
+    let old : CoreChannels = record {
+      request = c.behind-self.inside.request;
+      forwarded = queued c.behind-self.inside.forwarded;
+      «data» = c.behind-self.inside.data_message;
+      acks = c.behind-self.inside.acks;
+    } in
     let there : c.args.core.0 < length c.self.inside.cores.items.items =
     omega (arith, ap (λ l. length l.cores) c.self.view_is, c.requires) in
-    IsLine-taken_request _ _ c.args.core.0 c.index_mut.result.now _ _ there c.index_mut.ensures.value
-    c.take_request.ensures.rest c.remove.ensures c.self.invariant
+    IsLine-taken_request _ _ c.args.core.0 old _ _ there (rw (sym c.behind-self.view_is) at c.index_mut.ensures.value)
+    (ap (λ message. record old { request = message }) c.take.ensures.after) c.remove.ensures c.self.invariant

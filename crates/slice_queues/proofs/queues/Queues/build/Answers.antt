@@ -1,7 +1,7 @@
 use Rattle.std.proofs.Common.{◌≡◌, ◌∙◌, ap, arith, length}
 use Rattle.std.proofs.lemmas.List.{length-replicate}
 use Rattle.slice_queues.specs.Line.{empty_line}
-use Rattle.slice_queues.proofs.CountLaws.{IsCounted-replicate}
+use Rattle.slice_queues.proofs.CountLaws.{IsMailCounted-replicate}
 use Rattle.slice_queues.proofs.RingLaws.{no_mail-replicate}
 use Rattle.slice_queues.proofs.queues.Queues.build.Goals as goal
 
@@ -16,5 +16,5 @@ invariant_of-result c =
         ring_for_all = omega (arith, count, ap (λ r. r.lines) c.in_ok-ring.ensures);
         quiet = λ local apart. rw all (no_mail-replicate c.loop-line.line c.args.cores local);
       },
-      rw all (IsCounted-replicate c.loop-line.line c.args.cores),
+      rw all (IsMailCounted-replicate c.loop-line.line c.args.cores),
     )

@@ -7,7 +7,7 @@ use Rattle.directory_table.specs.declared.row.DirRow.TheVariants as rows
 use Rattle.slice_core_answer.specs.declared.answer.Cell.TheVariants as cells
 use Rattle.slice_core_plan.specs.Plan.{by_directory_row}
 use Rattle.slice_core_plan.specs.Sends.{directory_room}
-use Rattle.slice_core_plan.specs.Parts.{AfterPlan, PartsView, Settles, core_of, filled_by}
+use Rattle.slice_core_plan.specs.Parts.{AfterPlan, PartsView, Settles, filled_by}
 use Rattle.slice_core_plan.specs.View.{View, channels_at, side_at}
 use Rattle.slice_core_answer.specs.declared.answer.Delivered.TheVariants as delivered
 use Rattle.cache_table.specs.declared.state.CopyState.{CopyState}
@@ -35,20 +35,11 @@ planned_request v local core (rows.Go state owner sharers sent writes) there wai
     by_room false e = tt
 
 -- what is left by the step of a plan is what its plan says, at the one kind of channel that it is for
-pub after_fill : (old new : PartsView) (local : Local) (channel : Channel) (place : ℕ) (next : CopyState) →
-    IsPlanned old.view local channel (plans.Fill place next) →
-    Settles old local (core_of channel) (channels.Data (core_of channel))
-    (filled_by
-    (array_copy (side_at old.view (core_of channel)) local)
-    (core_at (channels_at old.view local) (core_of channel).0).data
-    next)
-    new →
-    AfterPlan (plans.Fill place next) old local channel delivered.Moved new
-after_fill old new local (channels.Data core) place next within settled = (refl, settled)
-after_fill old new local (channels.Req core) place next within settled = absurd within
-after_fill old new local (channels.Fwd core) place next within settled = absurd within
-after_fill old new local (channels.Ack to from) place next within settled = absurd within
-after_fill old new local channels.Home place next within settled = absurd within
+pub after_fill : (old new : PartsView) (local : Local) (core : CoreId) (place : ℕ) (next : CopyState) →
+    Settles old local core (channels.Data core)
+    (filled_by (array_copy (side_at old.view core) local) (core_at (channels_at old.view local) core.0).data next) new →
+    AfterPlan (plans.Fill place next) old local (channels.Data core) delivered.Moved new
+after_fill old new local core place next settled = (refl, settled)
 
 pub after_acknowledge : (old new : PartsView) (local : Local) (to from : CoreId) (place : ℕ) (next : CopyState) →
     Settles old local to (channels.Ack to from) (acknowledged (array_copy (side_at old.view to) local) next) new →

@@ -4,7 +4,7 @@ ghost use Rattle.slice_core_side.specs.Perform.{asks_to_write, entries_of, perfo
 ghost use Rattle.slice_core_side.specs.Side.{array_copy};
 ghost use Rattle.slice_core_side.specs.Steps.{acknowledged, after_change, after_settle};
 ghost use Rattle.slice_core_side.specs.Targets.{IsPerformable};
-ghost use Rattle.slice_core_plan.specs.Parts.{AfterDelivery, AfterPlan, CanDeliver, Moves, Settles, core_of, filled_by};
+ghost use Rattle.slice_core_plan.specs.Parts.{AfterDelivery, AfterPlan, CanDeliver, Moves, Settles, filled_by};
 ghost use Rattle.slice_core_plan.specs.Sends.{cache_room, directory_room, directory_sent};
 ghost use Rattle.slice_core_plan.specs.Steps.{after_directory, after_forwarded, after_home, asked_by, block_in};
 ghost use Rattle.slice_core_plan.specs.View.{channels_at, side_at, IsShaped};
@@ -45,43 +45,49 @@ impl<F: MissFile> Parts<F> {
         requires planned { IsPlanned self.old.view local channel plan }
         ensures { AfterPlan plan self.old local channel result self.new }
     {
-        match (plan, channel) {
-            (Plan::Nothing, _) => return Delivered::Nothing,
-            (Plan::Blocked, _) => return Delivered::Blocked,
-            (Plan::Broken(cell), _) => return Delivered::Broken(cell),
-            (
-                Plan::Directory {
-                    state,
-                    owner,
-                    sharers,
-                    sends,
-                    writes_home,
-                },
-                Channel::Req(core),
-            ) => self.serve(local, core, state, owner, sharers, sends, writes_home),
-            (
-                Plan::Home {
-                    state,
-                    owner,
-                    sharers,
-                },
-                Channel::Home,
-            ) => self.take_home(local, state, owner, sharers),
-            (
-                Plan::Forwarded {
-                    next,
-                    sends,
-                    requester,
-                },
-                Channel::Fwd(core),
-            ) => self.forward(local, core, next, sends, requester),
-            (Plan::Fill { place, next }, Channel::Data(core)) => {
+        match plan {
+            Plan::Nothing => return Delivered::Nothing,
+            Plan::Blocked => return Delivered::Blocked,
+            Plan::Broken(cell) => return Delivered::Broken(cell),
+            Plan::Directory {
+                state,
+                owner,
+                sharers,
+                sends,
+                writes_home,
+            } => {
+                let Channel::Req(core) = channel else {
+                    unreachable!();
+                };
+                self.serve(local, core, state, owner, sharers, sends, writes_home);
+            }
+            Plan::Home {
+                state,
+                owner,
+                sharers,
+            } => self.take_home(local, state, owner, sharers),
+            Plan::Forwarded {
+                next,
+                sends,
+                requester,
+            } => {
+                let Channel::Fwd(core) = channel else {
+                    unreachable!();
+                };
+                self.forward(local, core, next, sends, requester);
+            }
+            Plan::Fill { place, next } => {
+                let Channel::Data(core) = channel else {
+                    unreachable!();
+                };
                 self.fill(local, core, place, next);
             }
-            (Plan::Acknowledge { place, next }, Channel::Ack { to, from }) => {
+            Plan::Acknowledge { place, next } => {
+                let Channel::Ack { to, from } = channel else {
+                    unreachable!();
+                };
                 self.acknowledge(local, to, from, place, next);
             }
-            _ => unreachable!(),
         }
         Delivered::Moved
     }

@@ -157,8 +157,9 @@ impl Memory {
 
     /// Whether the core has the line: it took it last.
     pub fn holds(&self, core: CoreId, line: LineAddr) -> bool
-        ensures { core.0 < 64 → line.0 < self.now.lines → (before : List Event) → Recalls before self.now
+        ensures held { core.0 < 64 → line.0 < self.now.lines → (before : List Event) → Recalls before self.now
             → IsTrue result ↔ fate_of core.0 line.0 before ≡ fates.Held }
+        ensures place { IsTrue result → (core.0 < 64) × (line.0 < self.now.lines) }
     {
         self.has_line(core, line) && self.fate(core, line) == Fate::Held
     }

@@ -1,3 +1,6 @@
+ghost use Rattle.std.specs.Prelude.{◌≡◌};
+ghost use Rattle.program_run.specs.Column.{core_columns, count_in, line_columns, name_of};
+
 use super::tally::Counts;
 
 /// A column of the report, by what it counts.
@@ -38,18 +41,24 @@ static COLUMNS: [Column; 14] = [
 ];
 
 /// The columns of a core.
-pub(crate) fn core_columns() -> &'static [Column] {
+pub(crate) fn core_columns() -> &'static [Column]
+    ensures { result.now ≡ core_columns }
+{
     &COLUMNS[..13]
 }
 
 /// The columns of a line, and of all lines.
-pub(crate) fn line_columns() -> &'static [Column] {
+pub(crate) fn line_columns() -> &'static [Column]
+    ensures { result.now ≡ line_columns }
+{
     &COLUMNS
 }
 
 impl Column {
     /// What its heading says.
-    pub fn name(self) -> &'static str {
+    pub fn name(self) -> &'static str
+        ensures { result.now ≡ name_of self }
+    {
         match self {
             Column::Requests => "requests",
             Column::Hits => "hits",
@@ -69,7 +78,9 @@ impl Column {
     }
 
     /// The count that it shows.
-    pub fn count(self, counts: &Counts) -> u64 {
+    pub fn count(self, counts: &Counts) -> u64
+        ensures { result ≡ count_in self counts.now }
+    {
         match self {
             Column::Requests => counts.requests(),
             Column::Hits => counts.hits,

@@ -4,9 +4,14 @@
 //! each as likely as the others ([`Xoshiro256++`] of the seed): the next access of a core, where it doesn't stall, or the
 //! next delivery of a slice, where one can be made. So the same seed runs the same way on every machine.
 //!
-//! - src/runner.rt: the machine, where each core is, and what may come next.
-//! - src/tally.rt: what is counted, for each core and for each line. A miss is counted under its cause (`miss_cause`).
-//! - src/report.rt and src/json.rt write what was counted.
+//! - src/runner.rt: the machine, where each program stands, and what a move does (`Makes` of specs/Run.antt).
+//! - src/moves.rt: what may come next (`moves_of`). src/victim.rt: which line left to make room for another.
+//! - src/observer.rt: what is seen of each call: what becomes of the cores' copies, and what is counted
+//!   (specs/History.antt). A miss is counted under its cause (`miss_cause`).
+//! - src/tally.rt: the counts, for each core and for each line (specs/Tally.antt).
+//! - src/report.rt and src/json.rt write what was counted (specs/Report.antt, specs/Json.antt).
+//!
+//! [`run_programs`] is proved to print the report of what the moves of one such run counted (`IsProgramsRun`).
 //!
 //! [`Xoshiro256++`]: rand_xoshiro::Xoshiro256PlusPlus
 #![tactic(auto)]
@@ -15,7 +20,10 @@ pub use run::{Form, run_programs};
 
 mod column;
 mod json;
+mod moves;
+mod observer;
 mod report;
 mod run;
 mod runner;
 mod tally;
+mod victim;

@@ -1,54 +1,100 @@
+ghost use Rattle.std.specs.Prelude.{◌≡◌, OnOk, decimal};
+ghost use Rattle.std.specs.Fmt.{WritesInCalls};
+ghost use Rattle.stats_report.specs.Report.{right_in_10};
+ghost use Rattle.program_run.specs.Column.{name_of};
+ghost use Rattle.program_run.specs.Report.{core_rows, counts_of, heading_of, line_row, line_rows, names_of, report_of, row_of};
+
 use super::column::{Column, core_columns, line_columns};
 use super::tally::{Counts, Tally};
 use std::fmt;
 use std::fmt::Write;
 
 /// Writes a table of the cores, and one of the lines that were asked for, which ends with the sums.
-pub(crate) fn write_report<W: Write>(tally: &Tally, seed: u64, out: &mut W) -> fmt::Result {
+pub(crate) fn write_report<W: Write>(tally: &Tally, seed: u64, out: &mut W) -> fmt::Result
+    ensures { OnOk result (WritesInCalls W.write_str_gives out.old (report_of tally.now seed) out.new) }
+{
     writeln!(out, "seed {seed}")?;
-    write_heading("core", core_columns(), out)?;
-    for (core, counts) in tally.cores.iter().enumerate() {
-        write_row(core as u64, core_columns(), counts, out)?;
-    }
-    write_heading("line", line_columns(), out)?;
-    for (line, counts) in tally.lines.iter().enumerate() {
-        if counts.requests() > 0 {
-            write_row(line as u64, line_columns(), counts, out)?;
-        }
-    }
-    write_name("all", out)?;
-    write_cells(line_columns(), &tally.all(), out)
-}
-
-fn write_heading<W: Write>(name: &str, columns: &[Column], out: &mut W) -> fmt::Result {
-    write_name(name, out)?;
-    for column in columns {
-        write_name(column.name(), out)?;
-    }
+    write_heading("      core", core_columns(), out)?;
+    write_cores(tally.cores(), out)?;
+    write_heading("      line", line_columns(), out)?;
+    write_lines(tally.lines(), out)?;
+    write!(out, "       all")?;
+    write_counts(line_columns(), &tally.all(), out)?;
     writeln!(out)
 }
 
-fn write_name<W: Write>(name: &str, out: &mut W) -> fmt::Result {
+fn write_heading<W: Write>(title: &str, columns: &[Column], out: &mut W) -> fmt::Result
+    ensures { OnOk result (WritesInCalls W.write_str_gives out.old (heading_of title.now columns.now) out.new) }
+{
+    write!(out, "{title}")?;
+    write_names(columns, out)?;
+    writeln!(out)
+}
+
+fn write_names<W: Write>(columns: &[Column], out: &mut W) -> fmt::Result
+    ensures { OnOk result (WritesInCalls W.write_str_gives out.old (names_of columns.now) out.new) }
+{
+    for column in columns {
+        write_name(*column, out)?;
+    }
+    Ok(())
+}
+
+fn write_name<W: Write>(column: Column, out: &mut W) -> fmt::Result
+    ensures { OnOk result (WritesInCalls W.write_str_gives out.old (right_in_10 (name_of column)) out.new) }
+{
+    let name = column.name();
     write!(out, "{name:>10}")
 }
 
-fn write_row<W: Write>(
-    number: u64,
-    columns: &[Column],
-    counts: &Counts,
-    out: &mut W,
-) -> fmt::Result {
-    write_number(number, out)?;
-    write_cells(columns, counts, out)
+fn write_cores<W: Write>(cores: &[Counts], out: &mut W) -> fmt::Result
+    ensures { OnOk result (WritesInCalls W.write_str_gives out.old (core_rows cores.now) out.new) }
+{
+    for (core, counts) in cores.iter().enumerate() {
+        write_row(core as u64, core_columns(), counts, out)?;
+    }
+    Ok(())
 }
 
-fn write_cells<W: Write>(columns: &[Column], counts: &Counts, out: &mut W) -> fmt::Result {
-    for column in columns {
-        write_number(column.count(counts), out)?;
+fn write_lines<W: Write>(lines: &[Counts], out: &mut W) -> fmt::Result
+    ensures { OnOk result (WritesInCalls W.write_str_gives out.old (line_rows lines.now) out.new) }
+{
+    for (line, counts) in lines.iter().enumerate() {
+        write_line(line as u64, counts, out)?;
     }
+    Ok(())
+}
+
+// A line that wasn't asked for has no row.
+fn write_line<W: Write>(line: u64, counts: &Counts, out: &mut W) -> fmt::Result
+    ensures { OnOk result (WritesInCalls W.write_str_gives out.old (line_row line counts.now) out.new) }
+{
+    if counts.requests() == 0 {
+        return Ok(());
+    }
+    write_row(line, line_columns(), counts, out)
+}
+
+fn write_row<W: Write>(number: u64, columns: &[Column], counts: &Counts, out: &mut W) -> fmt::Result
+    ensures { OnOk result
+        (WritesInCalls W.write_str_gives out.old (row_of number columns.now counts.now) out.new) }
+{
+    write_number(number, out)?;
+    write_counts(columns, counts, out)?;
     writeln!(out)
 }
 
-fn write_number<W: Write>(number: u64, out: &mut W) -> fmt::Result {
+fn write_counts<W: Write>(columns: &[Column], counts: &Counts, out: &mut W) -> fmt::Result
+    ensures { OnOk result (WritesInCalls W.write_str_gives out.old (counts_of columns.now counts.now) out.new) }
+{
+    for column in columns {
+        write_number(column.count(counts), out)?;
+    }
+    Ok(())
+}
+
+fn write_number<W: Write>(number: u64, out: &mut W) -> fmt::Result
+    ensures { OnOk result (WritesInCalls W.write_str_gives out.old (right_in_10 (decimal number)) out.new) }
+{
     write!(out, "{number:>10}")
 }

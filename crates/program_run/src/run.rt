@@ -1,6 +1,14 @@
+ghost use Rattle.std.specs.Prelude.{◌≡◌, ◌++◌, [], Contains, IfNone, IfOk, IfSome, OnOk, codes, decimal};
+ghost use Rattle.std.specs.Fmt.{WritesInCalls};
+ghost use Rattle.std.specs.Io.KnownBytes.{Appends};
+ghost use Rattle.litmus_script.specs.Machine.{bound_of};
+ghost use Rattle.program_text.specs.declared.programs.Programs.{Programs};
+ghost use Rattle.program_run.specs.Run.{IsProgramsRun, Leads, Runs, text_of, text_of_stuck};
+
 use super::json::write_json;
+use super::moves::Move;
 use super::report::write_report;
-use super::runner::{Move, Runner};
+use super::runner::Runner;
 use super::tally::Tally;
 use litmus_script::Answers;
 use litmus_text::{MissKind, TextFault};
@@ -9,7 +17,7 @@ use program_text::Programs;
 use rand_core::{Rng, SeedableRng};
 use rand_xoshiro::Xoshiro256PlusPlus;
 use std::alloc::Global;
-use std::fmt::Write as _;
+use std::fmt;
 use std::io::Write;
 
 /// How a report is written.
@@ -27,11 +35,28 @@ pub fn run_programs<W: Write>(
     seed: u64,
     form: Form,
     out: &mut W,
-) -> Result<u8, TextFault> {
+) -> Result<u8, TextFault>
+    ensures { IfOk result (λ status. (programs : Programs) × IsProgramsRun programs.config (bound_of programs.misses programs.config)
+        programs.cores.items form seed status (W.contents out.old) (W.contents out.new)) }
+{
     let programs = Programs::read(alloc, input)?;
+    run_read(alloc, &programs, seed, form, out)
+}
+
+/// The same with programs that are read.
+fn run_read<W: Write>(
+    alloc: Global,
+    programs: &Programs,
+    seed: u64,
+    form: Form,
+    out: &mut W,
+) -> Result<u8, TextFault>
+    ensures { IfOk result (λ status. IsProgramsRun programs.now.config (bound_of programs.now.misses programs.now.config)
+        programs.now.cores.items form seed status (W.contents out.old) (W.contents out.new)) }
+{
     match programs.misses {
-        MissKind::Explicit => run_on::<ExplicitFile, W>(alloc, &programs, seed, form, out),
-        MissKind::Inverted => run_on::<InvertedFile, W>(alloc, &programs, seed, form, out),
+        MissKind::Explicit => run_on::<ExplicitFile, W>(alloc, programs, seed, form, out),
+        MissKind::Inverted => run_on::<InvertedFile, W>(alloc, programs, seed, form, out),
     }
 }
 
@@ -41,11 +66,14 @@ fn run_on<F: MissFile, W: Write>(
     seed: u64,
     form: Form,
     out: &mut W,
-) -> Result<u8, TextFault> {
+) -> Result<u8, TextFault>
+    ensures { IfOk result (λ status. IsProgramsRun programs.now.config (F.bound_by programs.now.config)
+        programs.now.cores.items form seed status (W.contents out.old) (W.contents out.new)) }
+{
     let mut runner: Runner<F> = Runner::new(alloc, programs)?;
     run(alloc, programs, seed, &mut runner)?;
     if runner.is_over(programs) {
-        print_report(&runner.tally, seed, form, out)?;
+        print_report(runner.tally(), seed, form, out)?;
         Ok(0)
     } else {
         print_stuck(seed, out)?;
@@ -59,15 +87,17 @@ fn run<F: MissFile>(
     programs: &Programs,
     seed: u64,
     runner: &mut Runner<F>,
-) -> Result<(), TextFault> {
+) -> Result<(), TextFault>
+    ensures { OnOk result (Leads (Runs runner.old.config programs.now.cores.items) runner.old runner.new) }
+{
     let mut generator = Xoshiro256PlusPlus::seed_from_u64(seed);
     let mut moves = Vec::new(alloc);
-    for _ in 0..u64::MAX {
+    for made in 0..u64::MAX {
         let Ok(()) = runner.list_moves(programs, &mut moves) else {
             return Err(TextFault::NoMemory);
         };
-        let Some(to) = draw(&mut generator, &moves) else {
-            break;
+        let Some(to) = draw(&mut generator, moves.as_slice()) else {
+            return Ok(());
         };
         runner.go(programs, to)?;
     }
@@ -75,13 +105,15 @@ fn run<F: MissFile>(
 }
 
 // One of the moves, each as likely as the others.
-fn draw(generator: &mut Xoshiro256PlusPlus, moves: &[Move]) -> Option<Move> {
+fn draw(generator: &mut Xoshiro256PlusPlus, moves: &[Move]) -> Option<Move>
+    ensures some { IfSome result (Contains moves.now) }
+    ensures none { IfNone result (moves.now ≡ []) }
+{
     if moves.is_empty() {
         return None;
     }
     let place = (generator.next_u64() % moves.len() as u64) as usize;
-    let to = moves.get(place)?;
-    Some(*to)
+    Some(moves[place])
 }
 
 fn print_report<W: Write>(
@@ -89,22 +121,37 @@ fn print_report<W: Write>(
     seed: u64,
     form: Form,
     out: &mut W,
-) -> Result<(), TextFault> {
+) -> Result<(), TextFault>
+    ensures printed { OnOk result (Appends (W.contents out.old) (W.contents out.new) (text_of form tally.now seed)) }
+{
     let mut answers = Answers { out };
-    let written = match form {
-        Form::Table => write_report(tally, seed, &mut answers),
-        Form::Json => write_json(tally, seed, &mut answers),
-    };
-    match written {
+    match write_form(tally, seed, form, &mut answers) {
         Ok(()) => Ok(()),
         Err(_) => Err(TextFault::CannotWrite),
     }
 }
 
-fn print_stuck<W: Write>(seed: u64, out: &mut W) -> Result<(), TextFault> {
+fn write_form<W: fmt::Write>(tally: &Tally, seed: u64, form: Form, out: &mut W) -> fmt::Result
+    ensures { OnOk result (WritesInCalls W.write_str_gives out.old (text_of form tally.now seed) out.new) }
+{
+    match form {
+        Form::Table => write_report(tally, seed, out),
+        Form::Json => write_json(tally, seed, out),
+    }
+}
+
+fn print_stuck<W: Write>(seed: u64, out: &mut W) -> Result<(), TextFault>
+    ensures printed { OnOk result (Appends (W.contents out.old) (W.contents out.new) (text_of_stuck seed)) }
+{
     let mut answers = Answers { out };
-    match writeln!(answers, "stuck seed {seed}") {
+    match write_stuck(seed, &mut answers) {
         Ok(()) => Ok(()),
         Err(_) => Err(TextFault::CannotWrite),
     }
+}
+
+fn write_stuck<W: fmt::Write>(seed: u64, out: &mut W) -> fmt::Result
+    ensures { OnOk result (WritesInCalls W.write_str_gives out.old (text_of_stuck seed) out.new) }
+{
+    writeln!(out, "stuck seed {seed}")
 }

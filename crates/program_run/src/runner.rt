@@ -1,294 +1,304 @@
-ghost use Rattle.std.specs.Prelude.{◌≡◌, ◌<◌};
+ghost use Rattle.std.specs.Prelude.{◌≡◌, ◌++◌, ◌↔◌, ◌%◌, ◌<◌, ℕ, All, IfOk, IsTrue, OnOk, Some, slice_get};
+ghost use Rattle.address_map.specs.Locator.{local_at};
+ghost use Rattle.litmus_script.specs.Machine.{HasAt, log_at};
 ghost use Rattle.litmus_text.specs.Command.{HasCore};
+ghost use Rattle.slice_core.specs.Facts.{front_at};
+ghost use Rattle.slice_core_plan.specs.View.{IsQuiet};
+ghost use Rattle.slice_queues_message.specs.Pick.{channel_of, line_of};
+ghost use Rattle.program_run.specs.History.{History, HasSeen};
+ghost use Rattle.program_run.specs.Run.{
+  Accesses,
+  HandsOut,
+  HasEnded,
+  HaveEnded,
+  Leads,
+  Makes,
+  MakesRoom,
+  Performs,
+  asks_of,
+  deliveries_of,
+  gone_on,
+  makes_room,
+  program_of,
+  woken,
+};
 
+use super::moves::{Move, Place, decide, list_moves, next_access, request_of};
+use super::observer::Observer;
 use super::tally::Tally;
-use address_map::{CoreId, LineAddr, Op, Request, SliceId, WordAddr};
+use super::victim::find_victim;
+use address_map::{CoreId, LineAddr, SliceId};
 use litmus_script::{Issued, Machine, copy_of};
 use litmus_text::TextFault;
-use miss_cause::{Event, Memory};
 use mshr_file::MissFile;
 use program_text::{Access, CoreProgram, Programs};
-use slice_core::{
-    Access as Asked, Class, Decision, Delivered, Entry, ForwardedMessage, Message, NextPick, Pick,
-    Way,
-};
+use slice_core::{Access as Asked, Decision, Delivered, Entry, Message, Pick, Way};
 use std::alloc::{AllocError, Global};
+use std::marker::Model;
 
-/// What may come next.
-#[derive(Clone, Copy, Debug, PartialEq, Eq)]
-pub(crate) enum Move {
-    /// The next access of the program of this number.
-    Ask(usize),
-    Deliver(Pick),
-}
-
-/// Where a core's program stands.
-#[derive(Clone, Copy, Debug, PartialEq, Eq)]
-struct Place {
-    /// How many accesses were asked for.
-    asked: usize,
-    /// Whether the last of them isn't performed yet.
-    waits: bool,
-}
-
-/// A run on its way: the machine, where each program is, and what was counted.
+/// A run on its way: the machine, where each program is, and what was seen.
 #[derive(Drop)]
 pub(crate) struct Runner<F: MissFile> {
     machine: Machine<F>,
     places: Vec<Place>,
-    memory: Memory,
-    pub tally: Tally,
+    observer: Observer,
+}
+
+impl<F: MissFile> Model for Runner<F> {
+    ghost use Rattle.program_run.specs.Run.{RunnerView};
+
+    ghost Value = { RunnerView };
+
+    ghost view = { λ r. record {
+      config = r.machine.config;
+      slices = r.machine.slices.items;
+      places = r.places.items;
+      observer = r.observer;
+    } };
 }
 
 impl<F: MissFile> Runner<F> {
+    ghost use Rattle.program_run.specs.Run.{IsNewRunner};
+
     /// Each program stands before its first access, on a new machine.
-    pub fn new(alloc: Global, programs: &Programs) -> Result<Self, TextFault> {
+    pub fn new(alloc: Global, programs: &Programs) -> Result<Self, TextFault>
+        ensures { IfOk result (IsNewRunner programs.now.config (F.bound_by programs.now.config) programs.now.cores.items) }
+    {
         let config = copy_of(alloc, &programs.config)?;
-        let tally = no_memory(Tally::new(alloc, &config))?;
-        let memory = no_memory(Memory::new(alloc, config.lines()))?;
+        let Ok(observer) = Observer::new(alloc, &config) else {
+            return Err(TextFault::NoMemory);
+        };
         let first = Place {
             asked: 0,
             waits: false,
         };
-        let places = no_memory(vec![in alloc; first; programs.cores.len()])?;
+        let Ok(places) = vec![in alloc; first; programs.cores.len()] else {
+            return Err(TextFault::NoMemory);
+        };
         Ok(Runner {
             machine: Machine::build(alloc, config)?,
             places,
-            memory,
-            tally,
+            observer,
         })
     }
 
-    /// Lists what may come next: accesses in the order of the programs, and then a delivery of each slice.
-    pub fn list_moves(&self, programs: &Programs, moves: &mut Vec<Move>) -> Result<(), AllocError> {
+    /// What was counted.
+    pub fn tally(&self) -> &Tally
+        ensures { result.now ≡ self.now.observer.tally }
+    {
+        &self.observer.tally
+    }
+
+    /// Lists what may come next.
+    pub fn list_moves(&self, programs: &Programs, moves: &mut Vec<Move>) -> Result<(), AllocError>
+        ensures { OnOk result (moves.new.items
+            ≡ asks_of self.now.config programs.now.cores.items self.now.slices self.now.places
+            ++ deliveries_of self.now.slices) }
+    {
         moves.clear();
-        for (number, program) in programs.cores.iter().enumerate() {
-            if self.can_ask(number, program) {
-                moves.push(Move::Ask(number))?;
-            }
-        }
-        for slice in &self.machine.slices {
-            if let NextPick::Move(pick) = slice.next(Class::Any) {
-                moves.push(Move::Deliver(pick))?;
-            }
-        }
-        Ok(())
-    }
-
-    // The next access of a program whose core waits for nothing.
-    fn next_access(&self, number: usize, program: &CoreProgram) -> Option<Access> {
-        let place = self.places.get(number)?;
-        if place.waits {
-            return None;
-        }
-        let access = program.accesses.get(place.asked)?;
-        Some(*access)
-    }
-
-    // Whether the program's next access may be asked for, and wouldn't stall.
-    fn can_ask(&self, number: usize, program: &CoreProgram) -> bool {
-        let Some(access) = self.next_access(number, program) else {
-            return false;
-        };
-        match self.decide(program.core, access) {
-            Some(Decision::Access(_, Asked::Stall(_)) | Decision::Refuse(_)) | None => false,
-            Some(_) => true,
-        }
-    }
-
-    // Whether another line has to leave for the access.
-    fn makes_room(&self, core: CoreId, access: Access) -> bool {
-        matches!(
-            self.decide(core, access),
-            Some(Decision::Access(
-                _,
-                Asked::Open {
-                    way: Way::Victim,
-                    ..
-                }
-            ))
+        list_moves(
+            &self.machine,
+            programs.cores.as_slice(),
+            self.places.as_slice(),
+            moves,
         )
     }
 
-    fn decide(&self, core: CoreId, access: Access) -> Option<Decision> {
-        let slice = self
-            .machine
-            .slices
-            .get(self.machine.slice_of(access.word.line()))?;
-        if core.0 as usize >= slice.cores() {
-            return None;
-        }
-        Some(slice.decide(core, request_of(access)))
-    }
-
     /// Makes the move.
-    pub fn go(&mut self, programs: &Programs, to: Move) -> Result<(), TextFault> {
+    pub fn go(&mut self, programs: &Programs, to: Move) -> Result<(), TextFault>
+        ensures { OnOk result (Leads (Makes self.old.config programs.now.cores.items to) self.old self.new) }
+    {
         match to {
-            Move::Ask(number) => match programs.cores.get(number) {
-                Some(program) => self.ask(number, program),
-                None => Ok(()),
-            },
-            Move::Deliver(pick) => self.deliver(programs, pick),
+            Move::Ask(number) => self.ask(programs.cores.as_slice(), number),
+            Move::Deliver(pick) => {
+                self.deliver(programs.cores.as_slice(), pick);
+                Ok(())
+            }
         }
     }
 
-    fn ask(&mut self, number: usize, program: &CoreProgram) -> Result<(), TextFault> {
-        let Some(access) = self.next_access(number, program) else {
-            return Ok(());
-        };
-        let core = program.core;
-        if core.0 as usize >= self.machine.config.cores() {
-            return Ok(());
+    fn ask(&mut self, programs: &[CoreProgram], number: usize) -> Result<(), TextFault>
+        ensures { OnOk result (Leads (Makes self.old.config programs.now (Move.Ask number)) self.old self.new) }
+    {
+        let cores = self.machine.config.cores();
+        match next_access(cores, programs, self.places.as_slice(), number) {
+            Some((core, access)) => self.access(number, core, access),
+            None => Ok(()),
         }
-        let word = access.word;
-        let makes_room = self.makes_room(core, access);
+    }
+
+    fn access(&mut self, number: usize, core: CoreId, access: Access) -> Result<(), TextFault>
+        requires { HasCore self.old.config core }
+        ensures { OnOk result (Leads (Accesses self.old.config number core access) self.old self.new) }
+    {
+        let room = makes_room(decide(&self.machine, core, access));
         match self.machine.issue(core, request_of(access))? {
             Issued::Done { reply, .. } => {
-                self.tally.count_hit(core, word);
-                self.note_write(core, word, access.op, reply);
-                self.go_on(number, false);
+                self.observer.hit(core, access.word, access.op, reply);
+                go_on(&mut self.places, number, false);
+                Ok(())
             }
             Issued::Pending(_) => {
-                if makes_room {
-                    self.note_victim(core, word.line());
-                }
-                self.go_on(number, true);
+                let line = access.word.line();
+                make_room(room, &self.machine, &mut self.observer, core, line);
+                go_on(&mut self.places, number, true);
+                Ok(())
             }
-            Issued::Stall(_) | Issued::Refused(_) => {}
-        }
-        Ok(())
-    }
-
-    fn go_on(&mut self, number: usize, waits: bool) {
-        if let Some(place) = self.places.get_mut(number) {
-            place.asked = place.asked.saturating_add(1);
-            place.waits = waits;
+            Issued::Stall(_) | Issued::Refused(_) => Ok(()),
         }
     }
 
-    // The line that left to make room for this one: it is of the same set.
-    fn note_victim(&mut self, core: CoreId, line: LineAddr) {
-        let config = &self.machine.config;
-        let step = (config.slices() as u64).saturating_mul(config.sets() as u64);
-        let lines = config.lines() as u64;
-        if step == 0 {
-            return;
-        }
-        let first = line.0 % step;
-        for place in 0..lines / step + 1 {
-            let victim = LineAddr(first.saturating_add(place.saturating_mul(step)));
-            if self.memory.holds(core, victim) && self.is_leaving(core, victim) {
-                self.memory.note(Event::GaveUp(core, victim));
-                self.tally.count_eviction(core, victim);
-                return;
-            }
-        }
-    }
-
-    fn is_leaving(&self, core: CoreId, line: LineAddr) -> bool {
-        let Some(slice) = self.machine.slices.get(self.machine.slice_of(line)) else {
-            return false;
-        };
-        if core.0 as usize >= slice.cores() {
-            return false;
-        }
-        match slice.copy(core, line) {
-            Some(copy) => copy.state.is_leaving(),
-            None => false,
-        }
-    }
-
-    fn deliver(&mut self, programs: &Programs, pick: Pick) -> Result<(), TextFault> {
-        let front = self.machine.front(pick);
+    fn deliver(&mut self, programs: &[CoreProgram], pick: Pick)
+        ensures { Leads (Makes self.old.config programs.now (Move.Deliver pick)) self.old self.new }
+    {
         let slice = SliceId(self.machine.slice_of(pick.line()) as u8);
+        let front = front_of(&self.machine, pick);
         let before = self.machine.log_of(slice).len();
-        if self.machine.deliver(pick) != Delivered::Moved {
-            return Ok(());
-        }
-        self.tally.count_message(pick);
-        self.note_loss(pick, front);
-        if before < self.machine.log_of(slice).len() {
-            let entry = self.machine.log_of(slice)[before];
-            self.perform(programs, slice, entry);
-        }
-        Ok(())
-    }
-
-    // A core that takes this message gives its copy up to the requester.
-    fn note_loss(&mut self, pick: Pick, front: Option<Message>) {
-        let (Pick::Fwd(line, core), Some(Message::Forwarded(message))) = (pick, front) else {
-            return;
-        };
-        match message {
-            ForwardedMessage::Inv(_) | ForwardedMessage::FwdGetM(_) => {
-                if self.memory.holds(core, line) {
-                    self.memory.note(Event::Lost(core, line));
-                }
+        match self.machine.deliver(pick) {
+            Delivered::Moved => {
+                self.observer.deliver(pick, front);
+                self.perform(programs, slice, before);
             }
-            ForwardedMessage::FwdGetS(_) | ForwardedMessage::PutAck => {}
+            Delivered::Blocked | Delivered::Nothing | Delivered::Broken(_) => {}
         }
     }
 
-    // An access that waited is performed: its miss is counted, its reply is handed out, and its core goes on.
-    fn perform(&mut self, programs: &Programs, slice: SliceId, entry: Entry) {
-        let core = entry.core;
-        if core.0 as usize >= self.machine.config.cores()
-            || slice.0 as usize >= self.machine.config.slices()
-        {
+    // What the slice performed behind so many entries is handed out.
+    fn perform(&mut self, programs: &[CoreProgram], slice: SliceId, before: usize)
+        requires { slice.0 < self.old.config.slices }
+        ensures { Leads (Performs self.old.config programs.now slice.0 (slice_get (log_at self.old.slices slice.0) before))
+            self.old self.new }
+    {
+        match entry_at(&self.machine, slice, before) {
+            Some(entry) => self.hand_out(programs, slice, entry),
+            None => {}
+        }
+    }
+
+    // An access that waited is performed: its reply is handed out, and its core goes on.
+    fn hand_out(&mut self, programs: &[CoreProgram], slice: SliceId, entry: Entry)
+        requires { slice.0 < self.old.config.slices }
+        ensures { Leads (Performs self.old.config programs.now slice.0 (Some entry)) self.old self.new }
+    {
+        if entry.core.0 as usize >= self.machine.config.cores() {
             return;
         }
-        let _ = self.machine.hand(core, slice);
-        if let Some(cause) = self.memory.cause(core, entry.word) {
-            self.tally.count_miss(core, entry.word, cause);
-        }
-        self.memory.note(Event::Took(core, entry.word.line()));
-        self.note_write(core, entry.word, entry.op, entry.reply);
-        if let Some(number) = programs
-            .cores
-            .iter()
-            .position(|program| program.core.0 == core.0)
-        {
-            if let Some(place) = self.places.get_mut(number) {
-                place.waits = false;
-            }
-        }
-    }
-
-    fn note_write(&mut self, core: CoreId, word: WordAddr, op: Op, reply: u64) {
-        if writes(op, reply) {
-            self.memory.note(Event::Wrote(core, word));
-        }
+        let _ = self.machine.hand(entry.core, slice);
+        self.observer.perform(entry);
+        wake(&mut self.places, program_of(programs, entry.core));
     }
 
     /// Whether all programs ended, nothing is in flight and each reply is handed out.
-    pub fn is_over(&self, programs: &Programs) -> bool {
-        let mut cores = programs.cores.iter().zip(self.places.iter());
-        cores.all(|(program, place)| place.asked == program.accesses.len())
-            && self.machine.is_quiet()
+    pub fn is_over(&self, programs: &Programs) -> bool
+        ensures { IsTrue result ↔ (HaveEnded programs.now.cores.items self.now.places
+            × All (λ state. IsQuiet state.view) self.now.slices) }
+    {
+        have_ended(programs.cores.as_slice(), self.places.as_slice()) && self.machine.is_quiet()
     }
 }
 
-// Each core has one access at a time, so one tag serves.
-fn request_of(access: Access) -> Request {
-    Request {
-        op: access.op,
-        word: access.word,
-        tag: 0,
+fn makes_room(decision: Decision) -> bool
+    ensures { result ≡ makes_room decision }
+{
+    matches!(
+        decision,
+        Decision::Access(
+            _,
+            Asked::Open {
+                way: Way::Victim,
+                ..
+            }
+        )
+    )
+}
+
+// Where room was made, the line that left is seen.
+fn make_room<F: MissFile>(
+    room: bool,
+    machine: &Machine<F>,
+    observer: &mut Observer,
+    core: CoreId,
+    line: LineAddr,
+)
+    requires { HasCore machine.now.config core }
+    ensures { (history : History) → HasSeen machine.now.config history observer.old → (after : History)
+        × HasSeen machine.now.config after observer.new
+        × MakesRoom machine.now.config room machine.now.slices.items core line history after }
+{
+    if !room {
+        return;
+    }
+    match find_victim(machine, observer, core, line) {
+        Some(left) => observer.evict(core, left),
+        None => {}
     }
 }
 
-// Whether an access with this reply wrote its word.
-fn writes(op: Op, reply: u64) -> bool {
-    match op {
-        Op::Load => false,
-        Op::Store(_) | Op::Add(_) => true,
-        Op::Cas { expect, .. } => reply == expect,
+// The program of this number has asked for one more access.
+fn go_on(places: &mut Vec<Place>, number: usize, waits: bool)
+    ensures { places.new.items ≡ gone_on number waits (slice_get places.old.items number) places.old.items }
+{
+    if number >= places.len() {
+        return;
+    }
+    let place = &mut places[number];
+    place.asked = place.asked.saturating_add(1);
+    place.waits = waits;
+}
+
+// The program of this number waits no more.
+fn wake(places: &mut Vec<Place>, number: Option<usize>)
+    ensures { places.new.items ≡ woken number places.old.items }
+{
+    let Some(number) = number else {
+        return;
+    };
+    if number >= places.len() {
+        return;
+    }
+    let place = &mut places[number];
+    place.waits = false;
+}
+
+fn program_of(programs: &[CoreProgram], core: CoreId) -> Option<usize>
+    ensures { result ≡ program_of programs.now core }
+{
+    programs.iter().position(|program| program.core.0 == core.0)
+}
+
+fn front_of<F: MissFile>(machine: &Machine<F>, pick: Pick) -> Option<Message>
+    ensures { HasAt machine.now.slices.items ((line_of pick).0 % machine.now.config.slices)
+        (λ state. result ≡ front_at state.view (local_at state.view.lines (line_of pick).0) (channel_of pick)) }
+{
+    let slice = machine.slice_of(pick.line());
+    machine.slices[slice].front(pick)
+}
+
+fn entry_at<F: MissFile>(machine: &Machine<F>, slice: SliceId, place: usize) -> Option<Entry>
+    ensures { result ≡ slice_get (log_at machine.now.slices.items slice.0) place }
+{
+    match machine.log_of(slice).get(place) {
+        Some(entry) => Some(*entry),
+        None => None,
     }
 }
 
-fn no_memory<T>(made: Result<T, AllocError>) -> Result<T, TextFault> {
-    match made {
-        Ok(value) => Ok(value),
-        Err(_) => Err(TextFault::NoMemory),
+fn have_ended(programs: &[CoreProgram], places: &[Place]) -> bool
+    ensures { IsTrue result ↔ HaveEnded programs.now places.now }
+{
+    for number in 0..programs.len() {
+        if !has_ended(&programs[number], places, number) {
+            return false;
+        }
+    }
+    true
+}
+
+fn has_ended(program: &CoreProgram, places: &[Place], number: usize) -> bool
+    ensures { IsTrue result ↔ HasEnded program.now (slice_get places.now number) }
+{
+    match places.get(number) {
+        Some(place) => place.asked == program.accesses.len(),
+        None => false,
     }
 }

@@ -1,11 +1,72 @@
-use address_map::{Checked, CoreId, LineAddr, WordAddr};
+ghost use Rattle.std.specs.Prelude.{◌≡◌, IfOk};
+ghost use Rattle.program_run.specs.Tally.{
+  core_of,
+  counted_at,
+  counted_of,
+  counts_together,
+  line_of,
+  misses_of,
+  no_counts,
+  one_more,
+  one_more_miss,
+  requests_of,
+  totals_of,
+};
+ghost use Rattle.slice_core_answer.specs.Stats.{one_more_message};
+ghost use Rattle.slice_queues_message.specs.Pick.{channel_of};
+ghost use Rattle.stats_report.specs.Report.{sum_of};
+
+use address_map::{Checked, CoreId, LineAddr};
 use miss_cause::Cause;
 use slice_core_answer::MessageCounts;
 use slice_queues_message::Pick;
 use std::alloc::{AllocError, Global};
+use std::marker::Model;
+
+/// What is counted once.
+#[derive(Clone, Copy, Debug, PartialEq, Eq)]
+pub(crate) enum Counted {
+    /// An access that was done at once.
+    Hit(CoreId, LineAddr),
+    /// An access that had to wait.
+    Miss(CoreId, LineAddr, Cause),
+    /// A line that left to make room.
+    Eviction(CoreId, LineAddr),
+    /// A message that was delivered.
+    Message(Pick),
+}
+
+impl Counted {
+    /// The core of which it is counted. That of a message is the one that sent the request, or got any other; a block on
+    /// its way home has none.
+    fn core(self) -> Option<CoreId>
+        ensures { result ≡ core_of self }
+    {
+        match self {
+            Counted::Hit(core, _) | Counted::Miss(core, _, _) | Counted::Eviction(core, _) => {
+                Some(core)
+            }
+            Counted::Message(Pick::Req(_, core) | Pick::Fwd(_, core) | Pick::Data(_, core)) => Some(
+                core,
+            ),
+            Counted::Message(Pick::Ack { to, .. }) => Some(to),
+            Counted::Message(Pick::Home(_)) => None,
+        }
+    }
+
+    /// The line of which it is counted.
+    fn line(self) -> LineAddr
+        ensures { result ≡ line_of self }
+    {
+        match self {
+            Counted::Hit(_, line) | Counted::Miss(_, line, _) | Counted::Eviction(_, line) => line,
+            Counted::Message(pick) => pick.line(),
+        }
+    }
+}
 
 /// What was counted of a core, or of a line. A count stops at 2^64 - 1.
-#[derive(Clone, Copy, Debug, Default, PartialEq, Eq)]
+#[derive(Clone, Copy, Debug, PartialEq, Eq)]
 pub(crate) struct Counts {
     pub hits: u64,
     pub cold: u64,
@@ -18,8 +79,26 @@ pub(crate) struct Counts {
 }
 
 impl Counts {
+    /// Nothing is counted.
+    pub fn none() -> Self
+        ensures { result ≡ no_counts }
+    {
+        Counts {
+            hits: 0,
+            cold: 0,
+            replaced: 0,
+            upgrade: 0,
+            true_sharing: 0,
+            false_sharing: 0,
+            evictions: 0,
+            messages: MessageCounts::default(),
+        }
+    }
+
     /// The misses of all causes.
-    pub fn misses(&self) -> u64 {
+    pub fn misses(&self) -> u64
+        ensures { result ≡ misses_of self.now }
+    {
         self.cold
             .saturating_add(self.replaced)
             .saturating_add(self.upgrade)
@@ -28,35 +107,40 @@ impl Counts {
     }
 
     /// The accesses.
-    pub fn requests(&self) -> u64 {
+    pub fn requests(&self) -> u64
+        ensures { result ≡ requests_of self.now }
+    {
         self.hits.saturating_add(self.misses())
     }
 
-    fn count_miss(&mut self, cause: Cause) {
-        let count = match cause {
-            Cause::Cold => &mut self.cold,
-            Cause::Replaced => &mut self.replaced,
-            Cause::Upgrade => &mut self.upgrade,
-            Cause::TrueSharing => &mut self.true_sharing,
-            Cause::FalseSharing => &mut self.false_sharing,
-        };
-        *count = count.saturating_add(1);
+    /// Counts one more.
+    fn count(&mut self, what: Counted)
+        ensures { self.new ≡ one_more what self.old }
+    {
+        match what {
+            Counted::Hit(_, _) => self.hits = self.hits.saturating_add(1),
+            Counted::Miss(_, _, cause) => self.count_miss(cause),
+            Counted::Eviction(_, _) => self.evictions = self.evictions.saturating_add(1),
+            Counted::Message(pick) => count_message(&mut self.messages, pick),
+        }
     }
 
-    fn count_message(&mut self, pick: Pick) {
-        let messages = &mut self.messages;
-        let count = match pick {
-            Pick::Req(_, _) => &mut messages.requests,
-            Pick::Fwd(_, _) => &mut messages.forwarded,
-            Pick::Data(_, _) => &mut messages.data_replies,
-            Pick::Ack { .. } => &mut messages.acknowledgements,
-            Pick::Home(_) => &mut messages.home,
-        };
-        *count = count.saturating_add(1);
+    fn count_miss(&mut self, cause: Cause)
+        ensures { self.new ≡ one_more_miss cause self.old }
+    {
+        match cause {
+            Cause::Cold => self.cold = self.cold.saturating_add(1),
+            Cause::Replaced => self.replaced = self.replaced.saturating_add(1),
+            Cause::Upgrade => self.upgrade = self.upgrade.saturating_add(1),
+            Cause::TrueSharing => self.true_sharing = self.true_sharing.saturating_add(1),
+            Cause::FalseSharing => self.false_sharing = self.false_sharing.saturating_add(1),
+        }
     }
 
     /// Adds other counts.
-    pub fn add(&mut self, other: &Counts) {
+    fn add(&mut self, other: &Counts)
+        ensures { self.new ≡ counts_together self.old other.now }
+    {
         self.hits = self.hits.saturating_add(other.hits);
         self.cold = self.cold.saturating_add(other.cold);
         self.replaced = self.replaced.saturating_add(other.replaced);
@@ -64,90 +148,119 @@ impl Counts {
         self.true_sharing = self.true_sharing.saturating_add(other.true_sharing);
         self.false_sharing = self.false_sharing.saturating_add(other.false_sharing);
         self.evictions = self.evictions.saturating_add(other.evictions);
-        self.add_messages(&other.messages);
-    }
-
-    fn add_messages(&mut self, other: &MessageCounts) {
-        let messages = &mut self.messages;
-        messages.requests = messages.requests.saturating_add(other.requests);
-        messages.forwarded = messages.forwarded.saturating_add(other.forwarded);
-        messages.data_replies = messages.data_replies.saturating_add(other.data_replies);
-        messages.acknowledgements = messages
-            .acknowledgements
-            .saturating_add(other.acknowledgements);
-        messages.home = messages.home.saturating_add(other.home);
+        add_messages(&mut self.messages, &other.messages);
     }
 }
 
-/// What was counted, for each core and for each line of the machine.
+fn count_message(messages: &mut MessageCounts, pick: Pick)
+    ensures { messages.new ≡ one_more_message (channel_of pick) messages.old }
+{
+    match pick {
+        Pick::Req(_, _) => messages.requests = messages.requests.saturating_add(1),
+        Pick::Fwd(_, _) => messages.forwarded = messages.forwarded.saturating_add(1),
+        Pick::Data(_, _) => messages.data_replies = messages.data_replies.saturating_add(1),
+        Pick::Ack { .. } => {
+            messages.acknowledgements = messages.acknowledgements.saturating_add(1);
+        }
+        Pick::Home(_) => messages.home = messages.home.saturating_add(1),
+    }
+}
+
+fn add_messages(messages: &mut MessageCounts, other: &MessageCounts)
+    ensures { messages.new ≡ sum_of messages.old other.now }
+{
+    messages.requests = messages.requests.saturating_add(other.requests);
+    messages.forwarded = messages.forwarded.saturating_add(other.forwarded);
+    messages.data_replies = messages.data_replies.saturating_add(other.data_replies);
+    messages.acknowledgements = messages
+        .acknowledgements
+        .saturating_add(other.acknowledgements);
+    messages.home = messages.home.saturating_add(other.home);
+}
+
+/// What was counted, of each core and of each line of the machine.
 #[derive(Debug, Drop)]
 pub(crate) struct Tally {
-    pub cores: Vec<Counts>,
-    pub lines: Vec<Counts>,
+    cores: Vec<Counts>,
+    lines: Vec<Counts>,
+}
+
+impl Model for Tally {
+    ghost use Rattle.program_run.specs.Tally.{TallyView};
+
+    ghost Value = { TallyView };
+
+    ghost view = { λ own. record { cores = own.cores.items; lines = own.lines.items } };
 }
 
 impl Tally {
-    pub fn new(alloc: Global, config: &Checked) -> Result<Self, AllocError> {
+    ghost use Rattle.program_run.specs.Tally.{new_tally, tally_with};
+
+    /// Nothing is counted.
+    pub fn new(alloc: Global, config: &Checked) -> Result<Self, AllocError>
+        ensures { IfOk result (λ tally. tally ≡ new_tally config.now.cores config.now.lines) }
+    {
         Ok(Tally {
-            cores: vec![in alloc; Counts::default(); config.cores()]?,
-            lines: vec![in alloc; Counts::default(); config.lines()]?,
+            cores: vec![in alloc; Counts::none(); config.cores()]?,
+            lines: vec![in alloc; Counts::none(); config.lines()]?,
         })
     }
 
-    pub fn count_hit(&mut self, core: CoreId, word: WordAddr) {
-        if let Some(counts) = self.cores.get_mut(core.0 as usize) {
-            counts.hits = counts.hits.saturating_add(1);
-        }
-        if let Some(counts) = self.lines.get_mut(word.line().0 as usize) {
-            counts.hits = counts.hits.saturating_add(1);
-        }
+    /// The counts of each core.
+    pub fn cores(&self) -> &[Counts]
+        ensures { result.now ≡ self.now.cores }
+    {
+        self.cores.as_slice()
     }
 
-    pub fn count_miss(&mut self, core: CoreId, word: WordAddr, cause: Cause) {
-        if let Some(counts) = self.cores.get_mut(core.0 as usize) {
-            counts.count_miss(cause);
-        }
-        if let Some(counts) = self.lines.get_mut(word.line().0 as usize) {
-            counts.count_miss(cause);
-        }
+    /// The counts of each line.
+    pub fn lines(&self) -> &[Counts]
+        ensures { result.now ≡ self.now.lines }
+    {
+        self.lines.as_slice()
     }
 
-    pub fn count_eviction(&mut self, core: CoreId, line: LineAddr) {
-        if let Some(counts) = self.cores.get_mut(core.0 as usize) {
-            counts.evictions = counts.evictions.saturating_add(1);
-        }
-        if let Some(counts) = self.lines.get_mut(line.0 as usize) {
-            counts.evictions = counts.evictions.saturating_add(1);
-        }
-    }
-
-    /// Counts a message that was delivered: for its line, and for the core that sent the request or got what came.
-    pub fn count_message(&mut self, pick: Pick) {
-        if let Some(core) = core_of(pick) {
-            if let Some(counts) = self.cores.get_mut(core.0 as usize) {
-                counts.count_message(pick);
-            }
-        }
-        if let Some(counts) = self.lines.get_mut(pick.line().0 as usize) {
-            counts.count_message(pick);
-        }
+    /// Counts one more, of its core and of its line.
+    pub fn count(&mut self, what: Counted)
+        ensures { self.new ≡ tally_with self.old what }
+    {
+        count_of(&mut self.cores, what.core(), what);
+        count_at(&mut self.lines, what.line().0 as usize, what);
     }
 
     /// The sums over all lines.
-    pub fn all(&self) -> Counts {
-        let mut all = Counts::default();
-        for counts in &self.lines {
-            all.add(counts);
-        }
-        all
+    pub fn all(&self) -> Counts
+        ensures { result ≡ totals_of self.now.lines }
+    {
+        total(self.lines.as_slice())
     }
 }
 
-// The core that sent a request, or that got any other message; a block on its way home has none.
-fn core_of(pick: Pick) -> Option<CoreId> {
-    match pick {
-        Pick::Req(_, core) | Pick::Fwd(_, core) | Pick::Data(_, core) => Some(core),
-        Pick::Ack { to, .. } => Some(to),
-        Pick::Home(_) => None,
+fn count_of(cores: &mut Vec<Counts>, core: Option<CoreId>, what: Counted)
+    ensures { cores.new.items ≡ counted_of cores.old.items core what }
+{
+    match core {
+        Some(core) => count_at(cores, core.0 as usize, what),
+        None => {}
     }
+}
+
+fn count_at(all: &mut Vec<Counts>, place: usize, what: Counted)
+    ensures { all.new.items ≡ counted_at all.old.items place what }
+{
+    if place >= all.len() {
+        return;
+    }
+    let counts = &mut all[place];
+    counts.count(what);
+}
+
+fn total(lines: &[Counts]) -> Counts
+    ensures { result ≡ totals_of lines.now }
+{
+    let mut all = Counts::none();
+    for counts in lines {
+        all.add(counts);
+    }
+    all
 }

@@ -1,0 +1,10 @@
+pub mod AskLemmas
+pub mod Commas
+pub mod DeliveryLemmas
+pub mod MoveLemmas
+pub mod Names
+pub mod Numbers
+pub mod RunLemmas
+pub mod Seen
+pub mod Totals
+pub mod VictimLemmas

@@ -1,0 +1,13 @@
+use Rattle.std.proofs.Common.{drop, length}
+use Rattle.std.specs.Fmt.{WritesInCalls}
+use Rattle.std.specs.List.{range_with_len}
+use Rattle.program_run.specs.Json.{line_objects_of, objects_of_lines, with_commas_from}
+use Rattle.program_run.proofs.json.write_lines.Given as goal
+
+-- who writes the objects that are left has written all
+abbrev pub invariant-loop-line : goal.invariant-loop-line
+invariant-loop-line g l =
+    let took = g.W.Write.write_str_gives in
+    (new : g.row.W.Denot)
+    → WritesInCalls took l.out (with_commas_from l.is_first (objects_of_lines l.lines (drop l.line (range_with_len 0 (length l.lines))))) new
+    → WritesInCalls took l.fn.out (line_objects_of l.lines) new

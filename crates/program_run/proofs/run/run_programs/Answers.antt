@@ -1,0 +1,14 @@
+use Rattle.std.proofs.Common.{ℕ}
+use Rattle.std.proofs.lemmas.Result.{IfOk-weaker}
+use Rattle.litmus_script.specs.Machine.{bound_of}
+use Rattle.program_text.specs.declared.programs.Programs.{Programs}
+use Rattle.program_run.specs.Run.{IsProgramsRun}
+use Rattle.program_run.proofs.run.run_programs.Goals as goal
+
+pub returns : goal.returns
+returns g c =
+    let contents = g.W.Write.contents in
+    let runs = λ (programs : Programs) (status : ℕ). IsProgramsRun programs.config (bound_of programs.misses programs.config)
+    programs.cores.items c.args.form c.args.seed status (contents c.args.out.now) (contents c.run_read.new.out) in
+    IfOk-weaker c.run_read.result (runs c.in_ok-programs.programs) (λ status. (programs : Programs) × runs programs status)
+    (λ status is. (c.in_ok-programs.programs, is)) c.run_read.ensures

@@ -1,0 +1,44 @@
+-- The report: the seed, a table of the cores, and one of the lines that were asked for, which ends with the sums.
+use Rattle.std.specs.Prelude.{ℕ, ◌==◌, List, [], ◌++◌, codes, decimal, if◌then◌else◌, length}
+use Rattle.std.specs.List.{flat_map, range_with_len}
+use Rattle.stats_report.specs.Report.{right_in_10}
+use Rattle.program_run.specs.declared.column.Column.{Column}
+use Rattle.program_run.specs.declared.tally.Counts.{Counts}
+use Rattle.program_run.specs.Column.{core_columns, count_in, line_columns, name_of}
+use Rattle.program_run.specs.Tally.{TallyView, counts_at, requests_of, totals_of}
+
+-- the names of columns
+abbrev pub names_of : List Column → List ℕ
+names_of columns = flat_map (λ column. right_in_10 (name_of column)) columns
+
+-- .. behind a title
+abbrev pub heading_of : List ℕ → List Column → List ℕ
+heading_of title columns = title ++ names_of columns ++ codes "\n"
+
+-- what columns show of some counts
+abbrev pub counts_of : List Column → Counts → List ℕ
+counts_of columns counts = flat_map (λ column. right_in_10 (decimal (count_in column counts))) columns
+
+-- .. behind the number of a core or a line
+abbrev pub row_of : ℕ → List Column → Counts → List ℕ
+row_of number columns counts = right_in_10 (decimal number) ++ counts_of columns counts ++ codes "\n"
+
+-- the rows of the cores
+abbrev pub core_rows : List Counts → List ℕ
+core_rows cores = flat_map (λ core. row_of core core_columns (counts_at cores core)) (range_with_len 0 (length cores))
+
+-- the row of a line, where it was asked for
+abbrev pub line_row : ℕ → Counts → List ℕ
+line_row line counts = if requests_of counts == 0 then [] else row_of line line_columns counts
+
+-- the rows of the lines
+abbrev pub line_rows : List Counts → List ℕ
+line_rows lines = flat_map (λ line. line_row line (counts_at lines line)) (range_with_len 0 (length lines))
+
+-- the whole report
+abbrev pub report_of : TallyView → ℕ → List ℕ
+report_of tally seed =
+    codes "seed " ++ decimal seed ++ codes "\n"
+    ++ heading_of (codes "      core") core_columns ++ core_rows tally.cores
+    ++ heading_of (codes "      line") line_columns ++ line_rows tally.lines
+    ++ codes "       all" ++ counts_of line_columns (totals_of tally.lines) ++ codes "\n"

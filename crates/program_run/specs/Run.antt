@@ -1,0 +1,340 @@
+-- A run of programs: what may come next, and what each move does to the machine, to where programs stand, and to what is
+-- seen.
+use Rattle.std.specs.Prelude.{◌≡◌, ◌⊎◌, ℕ, ◌*◌, ◌-◌, ◌^◌, ◌+◌, ◌%◌, ◌<◌, ◌==◌, ◌||◌, nat_lt, not, Bool, true, false, if◌then◌else◌, List, [], ◌∷◌, ◌++◌, length, map, filter, min, position, replicate, slice_get, slice_set, codes, decimal, All, Contains, Option, None, Some}
+use Rattle.std.specs.Io.KnownBytes.{Appends}
+use Rattle.std.specs.List.{flat_map, range_with_len}
+use Rattle.address_map.specs.Locator.{local_at}
+use Rattle.address_map.specs.Place.{line_of}
+use Rattle.address_map.specs.declared.address.CoreId.{CoreId}
+use Rattle.address_map.specs.declared.address.LineAddr.{LineAddr}
+use Rattle.address_map.specs.declared.config.Config.{Config}
+use Rattle.address_map.specs.declared.request.Request.{Request}
+use Rattle.cache_table.specs.CopyState.{is_leaving}
+use Rattle.litmus_script.specs.Issued.{IsIssued}
+use Rattle.litmus_script.specs.Machine.{HasAt, IsAnswered, IsMade, IsNewMachine, log_at}
+use Rattle.litmus_script.specs.declared.answers.Issued.{Issued}
+use Rattle.litmus_script.specs.declared.answers.Issued.TheVariants as issues
+use Rattle.mshr_file.specs.Miss.{Bound}
+use Rattle.program_text.specs.declared.programs.Access.{Access}
+use Rattle.program_text.specs.declared.programs.CoreProgram.{CoreProgram}
+use Rattle.slice_core.specs.Facts.{copy_at, front_at}
+use Rattle.slice_core.specs.declared.run.Call.TheVariants as calls
+use Rattle.slice_core.specs.declared.run.CallAnswer.TheVariants as answers
+use Rattle.slice_core_answer.specs.declared.answer.Delivered.{Delivered}
+use Rattle.slice_core_answer.specs.declared.answer.Delivered.TheVariants as delivered
+use Rattle.slice_core_log.specs.declared.entry.Entry.{Entry}
+use Rattle.slice_core_plan.specs.Decision.{decision_of}
+use Rattle.slice_core_plan.specs.Parts.{PartsView, next_pick}
+use Rattle.slice_core_plan.specs.View.{IsQuiet}
+use Rattle.slice_core_plan.specs.declared.decide.Decision.{Decision}
+use Rattle.slice_core_plan.specs.declared.decide.Decision.TheVariants as decisions
+use Rattle.slice_core_plan.specs.declared.decide.NextPick.{NextPick}
+use Rattle.slice_core_plan.specs.declared.decide.NextPick.TheVariants as next_picks
+use Rattle.slice_core_side.specs.declared.access.Access.TheVariants as accesses
+use Rattle.slice_core_side.specs.declared.access.Way.TheVariants as ways
+use Rattle.slice_core_side.specs.declared.copy.CacheCopy.{CacheCopy}
+use Rattle.slice_queues_message.specs.Pick.{channel_of, line_of as line_of_pick}
+use Rattle.slice_queues_message.specs.declared.channel.Class.TheVariants as classes
+use Rattle.slice_queues_message.specs.declared.channel.Pick.{Pick}
+use Rattle.slice_queues_message.specs.declared.message.Message.{Message}
+use Rattle.program_run.specs.History.{History, HasSeen, after_eviction, after_hit, after_message, after_performing, has_line, no_history}
+use Rattle.program_run.specs.Json.{json_of}
+use Rattle.program_run.specs.Report.{report_of}
+use Rattle.program_run.specs.Tally.{TallyView, new_tally, tally_after}
+use Rattle.program_run.specs.declared.run.Form.{Form}
+use Rattle.program_run.specs.declared.run.Form.TheVariants as forms
+use Rattle.program_run.specs.declared.moves.Move.{Move}
+use Rattle.program_run.specs.declared.moves.Move.TheVariants as moves
+use Rattle.program_run.specs.declared.moves.Place.{Place}
+use Rattle.program_run.specs.declared.observer.Observer.{Observer}
+
+-- the states of the machine's slices, where each program stands, and what was seen
+pub record RunState : Type 0 where
+  pub slices : List PartsView
+  pub places : List Place
+  pub history : History
+
+-- ---- what may come next
+
+-- the request for an access. Each core has one access at a time, so one tag serves.
+abbrev pub request_of : Access → Request
+request_of access = record { op = access.op; word = access.word; tag = 0 }
+
+-- the slice of an access, by its number
+abbrev pub slice_of : Config → Access → ℕ
+slice_of config access = (line_of access.word).0 % config.slices
+
+-- an access of this core, if there is one
+abbrev pub asked_by : CoreId → Option Access → Option (CoreId × Access)
+asked_by core None = None
+asked_by core (Some access) = Some (core, access)
+
+-- the next access of a program that stands there: there is none where its core waits, or isn't one of so many
+abbrev pub next_by : ℕ → Option CoreProgram → Option Place → Option (CoreId × Access)
+next_by cores None place = None
+next_by cores (Some program) None = None
+next_by cores (Some program) (Some place) =
+    if place.waits || not (nat_lt program.core.0 cores) then None
+    else asked_by program.core (slice_get program.accesses.items place.asked)
+
+-- the next access of the program of this number, and its core
+abbrev pub next_of : ℕ → List CoreProgram → List Place → ℕ → Option (CoreId × Access)
+next_of cores programs places number = next_by cores (slice_get programs number) (slice_get places number)
+
+-- what a slice decides of an access
+abbrev pub decided_in : Option PartsView → CoreId → Access → Option Decision
+decided_in None core access = None
+decided_in (Some state) core access = Some (decision_of state.view core (request_of access))
+
+-- what the machine decides of it
+abbrev pub decided : Config → List PartsView → CoreId → Access → Option Decision
+decided config slices core access = decided_in (slice_get slices (slice_of config access)) core access
+
+-- it is neither refused nor put off
+abbrev pub is_taken : Option Decision → Bool
+is_taken None = false
+is_taken (Some (decisions.Refuse refused)) = false
+is_taken (Some (decisions.Access local (accesses.Stall stall))) = false
+is_taken decision = true
+
+-- an access may be asked for
+abbrev pub may_be_asked : Config → List PartsView → Option (CoreId × Access) → Bool
+may_be_asked config slices None = false
+may_be_asked config slices (Some asked) = is_taken (decided config slices asked.0 asked.1)
+
+-- the program of this number may ask for its next access
+abbrev pub may_ask : Config → List CoreProgram → List PartsView → List Place → ℕ → Bool
+may_ask config programs slices places number = may_be_asked config slices (next_of config.cores programs places number)
+
+-- the accesses that may be asked for, in the order of the programs
+abbrev pub asks_of : Config → List CoreProgram → List PartsView → List Place → List Move
+asks_of config programs slices places =
+    map moves.Ask (filter (may_ask config programs slices places) (range_with_len 0 (length programs)))
+
+-- the delivery that is next, where one can be made
+abbrev pub delivery_of : NextPick → List Move
+delivery_of (next_picks.Move pick) = moves.Deliver pick ∷ []
+delivery_of next = []
+
+-- the next delivery of each slice
+abbrev pub deliveries_of : List PartsView → List Move
+deliveries_of slices = flat_map (λ state. delivery_of (next_pick state classes.Any)) slices
+
+-- What may come next.
+abbrev pub moves_of : Config → List CoreProgram → RunState → List Move
+moves_of config programs run = asks_of config programs run.slices run.places ++ deliveries_of run.slices
+
+-- ---- an access
+
+-- a program has asked for one more, and its core waits for it or doesn't
+abbrev pub gone_on : ℕ → Bool → Option Place → List Place → List Place
+gone_on number waits None places = places
+gone_on number waits (Some place) places = slice_set places number (record { asked = min (place.asked + 1) (2 ^ 64 - 1); waits = waits })
+
+-- another line has to leave for the access
+abbrev pub makes_room : Decision → Bool
+makes_room (decisions.Access local (accesses.Open next ask ways.Victim)) = true
+makes_room decision = false
+
+-- the copy is leaving, if there is one
+abbrev pub is_leaving_copy : Option CacheCopy → Bool
+is_leaving_copy None = false
+is_leaving_copy (Some copy) = is_leaving copy.state
+
+-- .. in the slice
+abbrev pub is_leaving_in : Option PartsView → CoreId → LineAddr → Bool
+is_leaving_in None core line = false
+is_leaving_in (Some state) core line = is_leaving_copy (copy_at state.view core (local_at state.view.lines line.0))
+
+-- the core had the line, which is of the same set as the other, and its copy is leaving
+pub record HasLeft (config : Config) (slices : List PartsView) (history : History) (core : CoreId) (line left : LineAddr) : Type 0 where
+  pub same_set : left.0 % (config.slices * config.sets) ≡ line.0 % (config.slices * config.sets)
+  pub had : has_line config.lines core left history ≡ true
+  pub leaves : is_leaving_in (slice_get slices (left.0 % config.slices)) core left ≡ true
+
+-- this line left to make room for the other, or none did
+abbrev pub IsVictim : Config → List PartsView → History → CoreId → LineAddr → Option LineAddr → Type 0
+IsVictim config slices history core line (Some left) = HasLeft config slices history core line left
+IsVictim config slices history core line None = (left : LineAddr) → ¬ HasLeft config slices history core line left
+
+abbrev pub after_leaving : ℕ → CoreId → Option LineAddr → History → History
+after_leaving lines core None history = history
+after_leaving lines core (Some left) history = after_eviction lines core left history
+
+-- Where room was made, the line that left is seen, and counted as an eviction.
+abbrev pub MakesRoom : Config → Bool → List PartsView → CoreId → LineAddr → History → History → Type 0
+MakesRoom config false slices core line old new = new ≡ old
+MakesRoom config true slices core line old new =
+    (left : Option LineAddr) × IsVictim config slices old core line left
+    × (new ≡ after_leaving config.lines core left old)
+
+-- What the answer to an access comes to: one that is done at once is a hit, and the core goes on; one that is pending
+-- makes it wait, and may have made room; and all others are nothing.
+abbrev pub AfterAnswer : Config → ℕ → CoreId → Access → Bool → Issued → RunState → RunState → Type 0
+AfterAnswer config number core access room (issues.Done place reply) old new =
+    (new.places ≡ gone_on number false (slice_get old.places number) old.places)
+    × (new.history ≡ after_hit config.lines core access.word access.op reply old.history)
+AfterAnswer config number core access room (issues.Pending seq) old new =
+    (new.places ≡ gone_on number true (slice_get old.places number) old.places)
+    × MakesRoom config room new.slices core (line_of access.word) old.history new.history
+AfterAnswer config number core access room issued old new = (new.places ≡ old.places) × (new.history ≡ old.history)
+
+-- the access was asked of the machine, which answered it
+pub record Accesses (config : Config) (number : ℕ) (core : CoreId) (access : Access) (old new : RunState) : Type 0 where
+  pub decision : Decision
+  pub judged : decided config old.slices core access ≡ Some decision
+  pub issued : Issued
+  pub asked : IsIssued (slice_of config access) core (request_of access) issued old.slices new.slices
+  pub after : AfterAnswer config number core access (makes_room decision) issued old new
+
+-- the program's next access is asked for, if there is one
+abbrev pub Asks : Config → ℕ → Option (CoreId × Access) → RunState → RunState → Type 0
+Asks config number None old new = new ≡ old
+Asks config number (Some asked) old new = Accesses config number asked.0 asked.1 old new
+
+-- ---- a delivery
+
+-- a core waits no more
+abbrev pub woken : Option ℕ → List Place → List Place
+woken None places = places
+woken (Some number) places = woken_at (slice_get places number)
+  where
+    woken_at : Option Place → List Place
+    woken_at None = places
+    woken_at (Some place) = slice_set places number (record { asked = place.asked; waits = false })
+
+-- the program of a core, by its number
+abbrev pub program_of : List CoreProgram → CoreId → Option ℕ
+program_of programs core = position (λ program. program.core.0 == core.0) programs
+
+-- An access of a core of the machine that waited was performed: its reply is handed out, and the core goes on.
+abbrev pub HandsOut : Bool → Config → List CoreProgram → ℕ → Entry → RunState → RunState → Type 0
+HandsOut false config programs slice entry old new = new ≡ old
+HandsOut true config programs slice entry old new =
+    IsMade slice (calls.Hand entry.core) old.slices new.slices
+    × (new.places ≡ woken (program_of programs entry.core) old.places)
+    × (new.history ≡ after_performing config.lines entry old.history)
+
+abbrev pub Performs : Config → List CoreProgram → ℕ → Option Entry → RunState → RunState → Type 0
+Performs config programs slice None old new = new ≡ old
+Performs config programs slice (Some entry) old new =
+    HandsOut (nat_lt entry.core.0 config.cores) config programs slice entry old new
+
+-- What a delivery comes to: where the message was moved it is counted, and the access that it let be performed, the first
+-- that is new in the slice's log, is seen.
+abbrev pub AfterDelivery : Config → List CoreProgram → Pick → Option Message → Delivered → List PartsView → RunState → RunState → Type 0
+AfterDelivery config programs pick front delivered.Moved slices old new =
+    let slice : ℕ = (line_of_pick pick).0 % config.slices in
+    let moved : RunState = record {
+      slices = slices;
+      places = old.places;
+      history = after_message config.lines pick front old.history;
+    } in
+    Performs config programs slice (slice_get (log_at slices slice) (length (log_at old.slices slice))) moved new
+AfterDelivery config programs pick front answer slices old new = new ≡ record old { slices = slices }
+
+-- a delivery at the pick was asked of the machine, which answered it
+pub record Delivers (config : Config) (programs : List CoreProgram) (pick : Pick) (old new : RunState) : Type 0 where
+  pub front : Option Message
+  pub in_front : HasAt old.slices ((line_of_pick pick).0 % config.slices)
+      (λ state. front ≡ front_at state.view (local_at state.view.lines (line_of_pick pick).0) (channel_of pick))
+  pub answer : Delivered
+  pub slices : List PartsView
+  pub answered : IsAnswered ((line_of_pick pick).0 % config.slices) (calls.Deliver pick) (answers.Deliver answer) old.slices slices
+  pub after : AfterDelivery config programs pick front answer slices old new
+
+-- ---- a run
+
+-- the move is made
+abbrev pub Makes : Config → List CoreProgram → Move → RunState → RunState → Type 0
+Makes config programs (moves.Ask number) old new = Asks config number (next_of config.cores programs old.places number) old new
+Makes config programs (moves.Deliver pick) old new = Delivers config programs pick old new
+
+-- these moves are made, one after another, each one of those that may come next
+abbrev pub MakesAll : Config → List CoreProgram → List Move → RunState → RunState → Type 0
+MakesAll config programs [] old new = new ≡ old
+MakesAll config programs (to ∷ more) old new =
+    (next : RunState) × Contains (moves_of config programs old) to × Makes config programs to old next
+    × MakesAll config programs more next new
+
+-- Some moves are made, up to where none may come next, or 2^64 - 1 of them.
+pub record Runs (config : Config) (programs : List CoreProgram) (old new : RunState) : Type 0 where
+  pub steps : List Move
+  pub made : MakesAll config programs steps old new
+  pub ended : (moves_of config programs new ≡ []) ⊎ (length steps ≡ 2 ^ 64 - 1)
+
+-- a program before its first access
+abbrev pub first_place : Place
+first_place = record { asked = 0; waits = false }
+
+-- a new machine, each program before its first access, and nothing seen
+pub record IsNewRun (config : Config) (bound : Bound) (programs : List CoreProgram) (run : RunState) : Type 0 where
+  pub fresh : IsNewMachine config bound run.slices
+  pub first : run.places ≡ replicate (length programs) first_place
+  pub unseen : run.history ≡ no_history
+
+-- a program that stands there has ended
+abbrev pub HasEnded : CoreProgram → Option Place → Type 0
+HasEnded program None = ⊥
+HasEnded program (Some place) = place.asked ≡ length program.accesses.items
+
+-- each program has ended
+abbrev pub HaveEnded : List CoreProgram → List Place → Type 0
+HaveEnded programs places =
+    (number : ℕ) (program : CoreProgram) → slice_get programs number ≡ Some program
+    → HasEnded program (slice_get places number)
+
+-- all programs have ended, nothing is in flight and each reply is handed out
+abbrev pub IsOver : List CoreProgram → RunState → Type 0
+IsOver programs run = HaveEnded programs run.places × All (λ state. IsQuiet state.view) run.slices
+
+-- ---- a runner
+
+-- a runner's parts
+pub record RunnerView : Type 0 where
+  pub config : Config
+  pub slices : List PartsView
+  pub places : List Place
+  pub observer : Observer
+
+-- a runner of a new machine, each program before its first access, and nothing seen
+pub record IsNewRunner (machine : Config) (bound : Bound) (programs : List CoreProgram) (runner : RunnerView) : Type 0 where
+  pub config : runner.config ≡ machine
+  pub fresh : IsNewMachine machine bound runner.slices
+  pub first : runner.places ≡ replicate (length programs) first_place
+  pub unseen : HasSeen machine no_history runner.observer
+
+-- where the run is, if this was seen so far
+abbrev pub run_of : RunnerView → History → RunState
+run_of runner history = record { slices = runner.slices; places = runner.places; history = history }
+
+-- Whatever was seen of the run so far, something is seen of it now, and it went on in this way.
+pub record Leads (Goes : RunState → RunState → Type 0) (old new : RunnerView) : Type 0 where
+  pub config : new.config ≡ old.config
+  pub goes : (before : History) → HasSeen old.config before old.observer
+      → (after : History) × HasSeen old.config after new.observer × Goes (run_of old before) (run_of new after)
+
+-- ---- what is printed
+
+-- the report in this form
+abbrev pub text_of : Form → TallyView → ℕ → List ℕ
+text_of forms.Table tally seed = report_of tally seed
+text_of forms.Json tally seed = json_of tally seed
+
+-- where nothing may come next before the end
+abbrev pub text_of_stuck : ℕ → List ℕ
+text_of_stuck seed = codes "stuck seed " ++ decimal seed ++ codes "\n"
+
+-- what a run prints, and its status: the report on what was counted where it is over, and else that it is stuck
+pub record PrintsEnd (config : Config) (programs : List CoreProgram) (form : Form) (seed status : ℕ) (run : RunState) (before after : Option (List ℕ)) : Type 0 where
+  pub over : IsOver programs run → (status ≡ 0)
+      × Appends before after (text_of form (tally_after (new_tally config.cores config.lines) run.history.counted) seed)
+  pub stuck : ¬ IsOver programs run → (status ≡ 1) × Appends before after (text_of_stuck seed)
+
+-- The programs are run on a new machine, and what the run's end prints is written.
+pub record IsProgramsRun (config : Config) (bound : Bound) (programs : List CoreProgram) (form : Form) (seed status : ℕ) (before after : Option (List ℕ)) : Type 0 where
+  pub start : RunState
+  pub new : IsNewRun config bound programs start
+  pub end : RunState
+  pub runs : Runs config programs start end
+  pub prints : PrintsEnd config programs form seed status end before after

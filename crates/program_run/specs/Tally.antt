@@ -1,0 +1,146 @@
+-- What is counted, of each core and of each line of a machine. A count stops at 2^64 - 1.
+use Rattle.std.specs.Prelude.{ℕ, ◌+◌, List, [], ◌∷◌, Option, None, Some, replicate, slice_index_or, slice_set, sum_by}
+use Rattle.address_map.specs.declared.address.CoreId.{CoreId}
+use Rattle.address_map.specs.declared.address.LineAddr.{LineAddr}
+use Rattle.miss_cause.specs.declared.cause.Cause.{Cause}
+use Rattle.miss_cause.specs.declared.cause.Cause.TheVariants as causes
+use Rattle.slice_core_answer.specs.Stats.{counted, no_messages, one_more_message}
+use Rattle.slice_queues_message.specs.Pick.{channel_of, line_of as line_of_pick}
+use Rattle.slice_queues_message.specs.declared.channel.Pick.{Pick}
+use Rattle.slice_queues_message.specs.declared.channel.Pick.TheVariants as picks
+use Rattle.stats_report.specs.Report.{capped, sum_of}
+use Rattle.program_run.specs.declared.tally.Counted.{Counted}
+use Rattle.program_run.specs.declared.tally.Counted.TheVariants as counts_as
+use Rattle.program_run.specs.declared.tally.Counts.{Counts}
+
+-- the counts of each core and of each line
+pub record TallyView : Type 0 where
+  pub cores : List Counts
+  pub lines : List Counts
+
+-- nothing is counted
+abbrev pub no_counts : Counts
+no_counts = record {
+  hits = 0;
+  cold = 0;
+  replaced = 0;
+  upgrade = 0;
+  true_sharing = 0;
+  false_sharing = 0;
+  evictions = 0;
+  messages = no_messages;
+}
+
+-- nothing is counted of so many cores and lines
+abbrev pub new_tally : ℕ → ℕ → TallyView
+new_tally cores lines = record { cores = replicate cores no_counts; lines = replicate lines no_counts }
+
+-- ---- one more
+
+-- one more miss of this cause
+abbrev pub one_more_miss : Cause → Counts → Counts
+one_more_miss causes.Cold counts = record counts { cold = counted counts.cold }
+one_more_miss causes.Replaced counts = record counts { replaced = counted counts.replaced }
+one_more_miss causes.Upgrade counts = record counts { upgrade = counted counts.upgrade }
+one_more_miss causes.TrueSharing counts = record counts { true_sharing = counted counts.true_sharing }
+one_more_miss causes.FalseSharing counts = record counts { false_sharing = counted counts.false_sharing }
+
+-- one more of what is counted
+abbrev pub one_more : Counted → Counts → Counts
+one_more (counts_as.Hit core line) counts = record counts { hits = counted counts.hits }
+one_more (counts_as.Miss core line cause) counts = one_more_miss cause counts
+one_more (counts_as.Eviction core line) counts = record counts { evictions = counted counts.evictions }
+one_more (counts_as.Message pick) counts = record counts { messages = one_more_message (channel_of pick) counts.messages }
+
+-- the core of a message: the one that sent the request, or got any other; a block on its way home has none
+abbrev pub core_of_message : Pick → Option CoreId
+core_of_message (picks.Req line core) = Some core
+core_of_message (picks.Fwd line core) = Some core
+core_of_message (picks.Data line core) = Some core
+core_of_message (picks.Ack line to from) = Some to
+core_of_message (picks.Home line) = None
+
+-- the core of which it is counted, if any
+abbrev pub core_of : Counted → Option CoreId
+core_of (counts_as.Hit core line) = Some core
+core_of (counts_as.Miss core line cause) = Some core
+core_of (counts_as.Eviction core line) = Some core
+core_of (counts_as.Message pick) = core_of_message pick
+
+-- the line of which it is counted
+abbrev pub line_of : Counted → LineAddr
+line_of (counts_as.Hit core line) = line
+line_of (counts_as.Miss core line cause) = line
+line_of (counts_as.Eviction core line) = line
+line_of (counts_as.Message pick) = line_of_pick pick
+
+-- the counts at a place
+abbrev pub counts_at : List Counts → ℕ → Counts
+counts_at all place = slice_index_or all place no_counts
+
+-- one more is counted at this place; the other counts stay
+abbrev pub counted_at : List Counts → ℕ → Counted → List Counts
+counted_at all place what = slice_set all place (one_more what (counts_at all place))
+
+-- .. of this core, if it is counted of one
+abbrev pub counted_of : List Counts → Option CoreId → Counted → List Counts
+counted_of cores None what = cores
+counted_of cores (Some core) what = counted_at cores core.0 what
+
+-- one more is counted, of its core and of its line
+abbrev pub tally_with : TallyView → Counted → TallyView
+tally_with tally what = record {
+  cores = counted_of tally.cores (core_of what) what;
+  lines = counted_at tally.lines (line_of what).0 what;
+}
+
+-- these are counted, one after another
+abbrev pub tally_after : TallyView → List Counted → TallyView
+tally_after tally [] = tally
+tally_after tally (what ∷ more) = tally_after (tally_with tally what) more
+
+-- ---- sums
+
+-- the misses of all causes
+abbrev pub misses_of : Counts → ℕ
+misses_of counts = capped (counts.cold + counts.replaced + counts.upgrade + counts.true_sharing + counts.false_sharing)
+
+-- the accesses: hits and misses
+abbrev pub requests_of : Counts → ℕ
+requests_of counts = capped (counts.hits + misses_of counts)
+
+-- two counts together
+abbrev pub counts_together : Counts → Counts → Counts
+counts_together one other = record {
+  hits = capped (one.hits + other.hits);
+  cold = capped (one.cold + other.cold);
+  replaced = capped (one.replaced + other.replaced);
+  upgrade = capped (one.upgrade + other.upgrade);
+  true_sharing = capped (one.true_sharing + other.true_sharing);
+  false_sharing = capped (one.false_sharing + other.false_sharing);
+  evictions = capped (one.evictions + other.evictions);
+  messages = sum_of one.messages other.messages;
+}
+
+-- one count of all lines together
+abbrev pub total_by : (Counts → ℕ) → List Counts → ℕ
+total_by count lines = capped (sum_by count lines)
+
+-- all counts of all lines together
+abbrev pub totals_of : List Counts → Counts
+totals_of lines = record {
+  hits = total_by (λ line. line.hits) lines;
+  cold = total_by (λ line. line.cold) lines;
+  replaced = total_by (λ line. line.replaced) lines;
+  upgrade = total_by (λ line. line.upgrade) lines;
+  true_sharing = total_by (λ line. line.true_sharing) lines;
+  false_sharing = total_by (λ line. line.false_sharing) lines;
+  evictions = total_by (λ line. line.evictions) lines;
+  messages = record {
+    requests = total_by (λ line. line.messages.requests) lines;
+    forwarded = total_by (λ line. line.messages.forwarded) lines;
+    data_replies = total_by (λ line. line.messages.data_replies) lines;
+    acknowledgements = total_by (λ line. line.messages.acknowledgements) lines;
+    home = total_by (λ line. line.messages.home) lines;
+  };
+}

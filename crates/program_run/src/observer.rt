@@ -1,0 +1,177 @@
+ghost use Rattle.std.specs.Prelude.{◌≡◌, IfOk};
+ghost use Rattle.address_map.specs.declared.config.Config.{Config};
+ghost use Rattle.program_run.specs.History.{
+  History,
+  HasSeen,
+  after_eviction,
+  after_hit,
+  after_loss,
+  after_message,
+  after_miss,
+  after_performing,
+  after_taking,
+  after_write,
+  counting,
+  has_line,
+  no_history,
+  noted,
+  takes_away,
+  writes,
+};
+
+use super::tally::{Counted, Tally};
+use address_map::{Checked, CoreId, LineAddr, Op, WordAddr};
+use miss_cause::{Event, Memory};
+use slice_core::{Entry, ForwardedMessage, Message, Pick};
+use std::alloc::{AllocError, Global};
+
+/// Sees what happens in a run: notes what becomes of the cores' copies of lines, and counts.
+#[derive(Drop)]
+pub(crate) struct Observer {
+    memory: Memory,
+    pub tally: Tally,
+}
+
+impl Observer {
+    /// Nothing happened yet.
+    pub fn new(alloc: Global, config: &Checked) -> Result<Self, AllocError>
+        ensures { IfOk result (HasSeen config.now no_history) }
+    {
+        Ok(Observer {
+            memory: Memory::new(alloc, config.lines())?,
+            tally: Tally::new(alloc, config)?,
+        })
+    }
+
+    /// An access was done at once.
+    pub fn hit(&mut self, core: CoreId, word: WordAddr, op: Op, reply: u64)
+        ensures { (config : Config) (history : History) → HasSeen config history self.old
+            → HasSeen config (after_hit config.lines core word op reply history) self.new }
+    {
+        self.count(Counted::Hit(core, word.line()));
+        self.write(core, word, op, reply);
+    }
+
+    /// A line left to make room.
+    pub fn evict(&mut self, core: CoreId, line: LineAddr)
+        ensures { (config : Config) (history : History) → HasSeen config history self.old
+            → HasSeen config (after_eviction config.lines core line history) self.new }
+    {
+        self.count(Counted::Eviction(core, line));
+        self.note(Event::GaveUp(core, line));
+    }
+
+    /// The message that was in front at the pick was delivered.
+    pub fn deliver(&mut self, pick: Pick, front: Option<Message>)
+        ensures { (config : Config) (history : History) → HasSeen config history self.old
+            → HasSeen config (after_message config.lines pick front history) self.new }
+    {
+        self.count(Counted::Message(pick));
+        self.take_away(pick, front);
+    }
+
+    // A core that takes this message may give its copy up to the requester.
+    fn take_away(&mut self, pick: Pick, front: Option<Message>)
+        ensures { (config : Config) (history : History) → HasSeen config history self.old
+            → HasSeen config (after_taking config.lines pick front history) self.new }
+    {
+        match pick {
+            Pick::Fwd(line, core) if takes_away(front) => self.lose(core, line),
+            Pick::Req(_, _)
+            | Pick::Fwd(_, _)
+            | Pick::Data(_, _)
+            | Pick::Ack { .. }
+            | Pick::Home(_) => {}
+        }
+    }
+
+    fn lose(&mut self, core: CoreId, line: LineAddr)
+        ensures { (config : Config) (history : History) → HasSeen config history self.old
+            → HasSeen config (after_loss config.lines core line history) self.new }
+    {
+        if !self.has_line(core, line) {
+            return;
+        }
+        self.note(Event::Lost(core, line));
+    }
+
+    /// An access that waited is performed.
+    pub fn perform(&mut self, entry: Entry)
+        ensures { (config : Config) (history : History) → HasSeen config history self.old
+            → HasSeen config (after_performing config.lines entry history) self.new }
+    {
+        let Entry {
+            core,
+            word,
+            op,
+            reply,
+            ..
+        } = entry;
+        self.miss(core, word);
+        self.note(Event::Took(core, word.line()));
+        self.write(core, word, op, reply);
+    }
+
+    fn miss(&mut self, core: CoreId, word: WordAddr)
+        ensures { (config : Config) (history : History) → HasSeen config history self.old
+            → HasSeen config (after_miss config.lines core word history) self.new }
+    {
+        match self.memory.cause(core, word) {
+            Some(cause) => self.count(Counted::Miss(core, word.line(), cause)),
+            None => {}
+        }
+    }
+
+    fn write(&mut self, core: CoreId, word: WordAddr, op: Op, reply: u64)
+        ensures { (config : Config) (history : History) → HasSeen config history self.old
+            → HasSeen config (after_write config.lines core word op reply history) self.new }
+    {
+        if !writes(op, reply) {
+            return;
+        }
+        self.note(Event::Wrote(core, word));
+    }
+
+    fn count(&mut self, what: Counted)
+        ensures { (config : Config) (history : History) → HasSeen config history self.old
+            → HasSeen config (counting what history) self.new }
+    {
+        self.tally.count(what);
+    }
+
+    fn note(&mut self, event: Event)
+        ensures { (config : Config) (history : History) → HasSeen config history self.old
+            → HasSeen config (noted config.lines event history) self.new }
+    {
+        self.memory.note(event);
+    }
+
+    /// Whether the core has the line: it took it last.
+    pub fn has_line(&self, core: CoreId, line: LineAddr) -> bool
+        ensures { (config : Config) (history : History) → HasSeen config history self.now
+            → result ≡ has_line config.lines core line history }
+    {
+        self.memory.holds(core, line)
+    }
+}
+
+// Whether an access with this reply wrote its word.
+fn writes(op: Op, reply: u64) -> bool
+    ensures { result ≡ writes op reply }
+{
+    match op {
+        Op::Load => false,
+        Op::Store(_) | Op::Add(_) => true,
+        Op::Cas { expect, .. } => reply == expect,
+    }
+}
+
+// Whether the message takes a copy away, for a core that writes.
+fn takes_away(message: Option<Message>) -> bool
+    ensures { result ≡ takes_away message }
+{
+    matches!(
+        message,
+        Some(Message::Forwarded(ForwardedMessage::Inv(_) | ForwardedMessage::FwdGetM(_)))
+    )
+}

@@ -1,7 +1,6 @@
 -- What becomes of a program's next access.
-use Rattle.std.proofs.Common.{◌≡◌, ℕ, List, Option, Some, None, refl, sym, subst}
+use Rattle.std.proofs.Common.{◌≡◌, ℕ, List, Some, None, refl, sym, subst}
 use Rattle.address_map.specs.declared.address.CoreId.{CoreId}
-use Rattle.address_map.specs.declared.config.Config.{Config}
 use Rattle.litmus_script.specs.Issued.{IsIssued}
 use Rattle.litmus_script.specs.declared.answers.Issued.{Issued}
 use Rattle.program_text.specs.declared.programs.Access.{Access}

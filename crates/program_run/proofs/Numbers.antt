@@ -1,5 +1,5 @@
 -- A text that is written piece by piece, one for each number from 0 on.
-use Rattle.std.proofs.Common.{◌≡◌, ℕ, ◌+◌, ◌<◌, ◌≤◌, List, [], ◌∷◌, ◌++◌, get_or, drop, refl, ap, length, arith}
+use Rattle.std.proofs.Common.{◌≡◌, ℕ, ◌+◌, ◌<◌, ◌≤◌, List, ◌++◌, get_or, drop, refl, ap, arith}
 use Rattle.std.proofs.lemmas.List.FromFn.{length-range_with_len, get_or-range_with_len}
 use Rattle.std.specs.Fmt.{WritesInCalls}
 use Rattle.std.specs.List.{flat_map, range_with_len}

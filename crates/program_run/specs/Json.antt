@@ -1,6 +1,6 @@
 -- The report as one value of JSON (RFC 8259).
 use Rattle.std.specs.Prelude.{ℕ, ◌==◌, Bool, true, false, not, List, [], ◌∷◌, ◌++◌, codes, decimal, filter, length, map}
-use Rattle.std.specs.List.{flat_map, range_with_len}
+use Rattle.std.specs.List.{range_with_len}
 use Rattle.program_run.specs.declared.column.Column.{Column}
 use Rattle.program_run.specs.declared.tally.Counts.{Counts}
 use Rattle.program_run.specs.Column.{core_columns, count_in, line_columns, name_of}

@@ -1,6 +1,6 @@
 -- A run of programs: what may come next, and what each move does to the machine, to where programs stand, and to what is
 -- seen.
-use Rattle.std.specs.Prelude.{◌≡◌, ◌⊎◌, ℕ, ◌*◌, ◌-◌, ◌^◌, ◌+◌, ◌%◌, ◌<◌, ◌==◌, ◌||◌, nat_lt, not, Bool, true, false, if◌then◌else◌, List, [], ◌∷◌, ◌++◌, length, map, filter, min, position, replicate, slice_get, slice_set, codes, decimal, All, Contains, Option, None, Some}
+use Rattle.std.specs.Prelude.{◌≡◌, ◌⊎◌, ℕ, ◌*◌, ◌-◌, ◌^◌, ◌+◌, ◌%◌, ◌==◌, ◌||◌, nat_lt, not, Bool, true, false, if◌then◌else◌, List, [], ◌∷◌, ◌++◌, length, map, filter, min, position, replicate, slice_get, slice_set, codes, decimal, All, Contains, Option, None, Some}
 use Rattle.std.specs.Io.KnownBytes.{Appends}
 use Rattle.std.specs.List.{flat_map, range_with_len}
 use Rattle.address_map.specs.Locator.{local_at}

@@ -1,0 +1,4 @@
+pub mod Fired
+pub mod Rule
+pub mod Script
+pub mod Replay

@@ -1,121 +1,183 @@
 //! A trace as a script.
-ghost use Rattle.std.specs.Prelude.{◌≡◌, IfOk};
+ghost use Rattle.std.specs.Prelude.{◌≡◌, ℕ, ◌+◌, ◌<◌, [], ◌∷◌, ◌++◌, IfErr, IfOk, List, OnOk, option_map};
+ghost use Rattle.std.specs.Io.KnownBytes.{Appends};
+ghost use Rattle.std.specs.List.{list_any};
+ghost use Rattle.std.specs.Str.Lines.{lines};
+ghost use Rattle.address_map.specs.declared.request.Op.{Op};
+ghost use Rattle.murphi_trace.specs.declared.rule.Rule.{Rule};
+ghost use Rattle.murphi_trace.specs.Fired.{fired_by, fired_in, name_and_cores};
+ghost use Rattle.murphi_trace.specs.Replay.{AreTags, IsAccess, core_told, data_e_told, last_tag, rules_with, text_of_told};
+ghost use Rattle.murphi_trace.specs.Rule.{last_core};
+ghost use Rattle.murphi_trace.specs.Script.{access_of, accesses_of, commands_of, greatest_core, hand_before, names_data_e, script_of, step_by, steps_in, text_of_commands, text_of_steps};
 
-use super::rule::{Fired, LINE, Rule};
-use address_map::{CoreId, Op, Request, WordAddr};
-use bstr::ByteSlice;
-use litmus_script::{Answers, written};
+use super::fired::{Fired, parted};
+use super::output::{put_command, put_comment, put_machine};
+use super::rule::{LINE, Rule};
+use super::tag::next_tag;
+use address_map::{CoreId, Op, Request, SliceId, WordAddr};
 use litmus_text::{Command, Lines, TextFault};
-use script_text::write_command;
 use std::fmt;
-use std::fmt::Write as _;
 use std::io::Write;
 
-/// How many tags a core has.
-const TAGS: u8 = 64;
+/// One more than the greatest core that a trace can name by a digit.
+const CORES: usize = 10;
 
-/// The word that cores read and write.
+/// The word that cores read and write, and the slice of its line.
 const WORD: WordAddr = WordAddr(0);
+
+const SLICE: SliceId = SliceId(0);
 
 /// Writes the run that a trace tells of as a script: for each rule its name as a comment, and the command that does the
 /// same. The machine has the cores that take part, and the exclusive state where a message of it comes up. All else of a
 /// trace is passed over. Answers the exit status.
 pub fn run_trace<W: Write>(trace: &[u8], out: &mut W) -> Result<u8, TextFault>
     ensures status { IfOk result (λ status. status ≡ 0) }
+    ensures printed { OnOk result (Appends (W.contents out.old) (W.contents out.new) (script_of trace.now)) }
+    ensures fault { IfErr result (λ fault. fault ≡ TextFault.CannotWrite) }
 {
-    let mut answers = Answers { out };
-    written(write_machine(trace, &mut answers))?;
-    written(write_rules(trace, &mut answers))?;
-    Ok(0)
-}
-
-fn write_machine<W: Write>(trace: &[u8], out: &mut Answers<'_, W>) -> fmt::Result {
-    writeln!(out, "cores {}", core_count(trace))?;
-    if is_exclusive(trace) {
-        writeln!(out, "exclusive on")?;
+    match write_script(trace, out) {
+        Ok(()) => Ok(0),
+        Err(_) => Err(TextFault::CannotWrite),
     }
-    Ok(())
 }
 
-/// One more than the greatest number of a core.
-fn core_count(trace: &[u8]) -> u8 {
+fn write_script<W: Write>(trace: &[u8], out: &mut W) -> fmt::Result
+    ensures { OnOk result (Appends (W.contents out.old) (W.contents out.new) (script_of trace.now)) }
+{
+    let last = greatest_core(trace);
+    let exclusive = is_exclusive(trace);
+    put_machine(last + 1, exclusive, out)?;
+    write_steps(trace, out)
+}
+
+/// The greatest number of a core that takes part.
+fn greatest_core(trace: &[u8]) -> u8
+    ensures value { result ≡ greatest_core (steps_in (lines trace.now)) }
+    ensures small { result < 10 }
+{
     let mut last = 0;
     for line in Lines::of(trace) {
-        if let Some(rule) = Fired::told_by(line).and_then(Rule::of) {
-            last = rule.last_core().max(last);
+        let told = core_told(line);
+        if last < told {
+            last = told;
         }
     }
-    last.saturating_add(1)
+    last
+}
+
+fn core_told(line: &[u8]) -> u8
+    ensures value { result ≡ core_told (step_by line.now) }
+    ensures small { result < 10 }
+{
+    let Some(fired) = Fired::told_by(line) else {
+        return 0;
+    };
+    match Rule::of(fired) {
+        Some(rule) => rule.last_core(),
+        None => 0,
+    }
 }
 
 /// Whether a rule that fired sends or takes the exclusive state's message.
-fn is_exclusive(trace: &[u8]) -> bool {
+fn is_exclusive(trace: &[u8]) -> bool
+    ensures { result ≡ list_any names_data_e (fired_in (lines trace.now)) }
+{
     for line in Lines::of(trace) {
-        if Fired::told_by(line).is_some_and(|fired| fired.name.find(b"Data-E").is_some()) {
+        if tells_of_data_e(line) {
             return true;
         }
     }
     false
 }
 
-fn write_rules<W: Write>(trace: &[u8], out: &mut Answers<'_, W>) -> fmt::Result {
-    let mut tags = [0; 10];
+fn tells_of_data_e(line: &[u8]) -> bool
+    ensures { result ≡ data_e_told (fired_by line.now) }
+{
+    match Fired::told_by(line) {
+        Some(fired) => parted(fired.name, b"Data-E").is_some(),
+        None => false,
+    }
+}
+
+/// Writes the steps.
+fn write_steps<W: Write>(trace: &[u8], out: &mut W) -> fmt::Result
+    ensures { OnOk result (Appends (W.contents out.old) (W.contents out.new) (text_of_steps [] (steps_in (lines trace.now)))) }
+{
+    let mut tags = [None; CORES];
     for line in Lines::of(trace) {
-        if let Some(fired) = Fired::told_by(line) {
-            write_fired(fired, &mut tags, out)?;
-        }
+        write_line(line, &mut tags, out)?;
     }
     Ok(())
 }
 
-/// Writes a rule's name as a comment, and the command that does the same, if the rule is one by which something happens.
-fn write_fired<W: Write>(
-    fired: Fired<'_>,
-    tags: &mut [u8; 10],
-    out: &mut Answers<'_, W>,
-) -> fmt::Result {
+/// Writes the step that a line tells of, if it tells of one. Each core's last access had its tag.
+fn write_line<W: Write>(line: &[u8], tags: &mut [Option<u8>; CORES], out: &mut W) -> fmt::Result
+    ensures text { (before : List Rule) → AreTags tags.old before → OnOk result
+        (Appends (W.contents out.old) (W.contents out.new) (text_of_told before (step_by line.now))) }
+    ensures tags { (before : List Rule) → AreTags tags.old before → OnOk result
+        (AreTags tags.new (rules_with before (step_by line.now))) }
+{
+    let Some(fired) = Fired::told_by(line) else {
+        return Ok(());
+    };
     let Some(rule) = Rule::of(fired) else {
         return Ok(());
     };
-    out.write_str("# ")?;
-    out.write_bytes(fired.name)?;
-    out.write_bytes(fired.cores)?;
-    out.write_str("\n")?;
+    put_comment(fired, out)?;
     write_rule(rule, tags, out)
 }
 
-/// Writes the command that does what a rule does. An access has the core's next tag.
-fn write_rule<W: Write>(rule: Rule, tags: &mut [u8; 10], out: &mut Answers<'_, W>) -> fmt::Result {
+/// Writes the commands that do what a rule does.
+fn write_rule<W: Write>(rule: Rule, tags: &mut [Option<u8>; CORES], out: &mut W) -> fmt::Result
+    requires { last_core rule < 10 }
+    ensures text { (before : List Rule) → AreTags tags.old before → OnOk result
+        (Appends (W.contents out.old) (W.contents out.new) (text_of_commands (commands_of before rule))) }
+    ensures tags { (before : List Rule) → AreTags tags.old before → OnOk result
+        (AreTags tags.new (before ++ rule ∷ [])) }
+{
     match rule {
         Rule::Load(core) => write_access(core, Op::Load, tags, out),
         Rule::Write(core) => write_access(core, Op::Add(1), tags, out),
-        Rule::Evict(core) => write_command(Command::Evict { core, line: LINE }, out),
-        Rule::Deliver(pick) => write_command(Command::Deliver(pick), out),
+        Rule::Evict(core) => put_command(Command::Evict { core, line: LINE }, out),
+        Rule::Deliver(pick) => put_command(Command::Deliver(pick), out),
     }
 }
 
-/// Writes an access, and before it the hand-out of a reply, so that tags don't run out.
+/// Writes an access, with the core's next tag.
 fn write_access<W: Write>(
     core: CoreId,
     op: Op,
-    tags: &mut [u8; 10],
-    out: &mut Answers<'_, W>,
-) -> fmt::Result {
-    let CoreId(number) = core;
-    let Some(next) = tags.get_mut(number as usize) else {
-        return Ok(());
-    };
-    let tag = *next;
-    *next = tag.wrapping_add(1) % TAGS;
-    if tag > 0 {
-        writeln!(out, "hand {number} 0")?;
-    }
+    tags: &mut [Option<u8>; CORES],
+    out: &mut W,
+) -> fmt::Result
+    requires { core.0 < 10 }
+    ensures text { (before : List Rule) → AreTags tags.old before → OnOk result
+        (Appends (W.contents out.old) (W.contents out.new) (text_of_commands (access_of (accesses_of core.0 before) core op))) }
+    ensures tags { (before : List Rule) (rule : Rule) → IsAccess core.0 rule → AreTags tags.old before
+        → AreTags tags.new (before ++ rule ∷ []) }
+{
+    let place = core.0 as usize;
+    let last = tags[place];
+    let tag = next_tag(last);
+    tags[place] = Some(tag);
+    write_hand(last, core, out)?;
     let word = WORD;
-    write_command(
+    put_command(
         Command::Issue {
             core,
             request: Request { op, word, tag },
         },
         out,
     )
+}
+
+/// Hands out a reply before an access, if the core made one before, so that tags don't run out.
+fn write_hand<W: Write>(last: Option<u8>, core: CoreId, out: &mut W) -> fmt::Result
+    ensures { (accesses : ℕ) → last ≡ last_tag accesses → OnOk result
+        (Appends (W.contents out.old) (W.contents out.new) (text_of_commands (hand_before accesses core))) }
+{
+    match last {
+        Some(_) => put_command(Command::Hand { core, slice: SLICE }, out),
+        None => Ok(()),
+    }
 }

@@ -1,27 +1,17 @@
 //! The rules that a trace tells of.
+ghost use Rattle.std.specs.Prelude.{◌≡◌, ◌<◌, IfSome};
+ghost use Rattle.murphi_trace.specs.declared.event.Event.{Event};
+ghost use Rattle.murphi_trace.specs.declared.rule.Rule.{Rule};
+ghost use Rattle.murphi_trace.specs.Fired.{name_and_cores};
+ghost use Rattle.murphi_trace.specs.Rule.{copy_rule, core_behind, core_of, directory_event, directory_rule, last_core, rule_at, rule_of};
+
+use super::event::Event;
+use super::fired::{Fired, behind, parted};
 use address_map::{CoreId, LineAddr};
-use bstr::ByteSlice;
 use slice_queues_message::Pick;
 
 /// The line of the model, of which there is one.
 pub(crate) const LINE: LineAddr = LineAddr(0);
-
-/// What a line tells of a rule that fired.
-#[derive(Clone, Copy)]
-pub(crate) struct Fired<'a> {
-    pub(crate) name: &'a [u8],
-    /// For which cores: `, c: CORE, f: CORE`, or nothing.
-    pub(crate) cores: &'a [u8],
-}
-
-impl<'a> Fired<'a> {
-    /// `Rule "NAME", c: CORE fired.`
-    pub(crate) fn told_by(line: &'a [u8]) -> Option<Fired<'a>> {
-        let told = line.strip_prefix(b"Rule \"")?.strip_suffix(b" fired.")?;
-        let (name, cores) = told.split_once_str(b"\"")?;
-        Some(Fired { name, cores })
-    }
-}
 
 /// What a rule of the model does.
 #[derive(Clone, Copy, Debug, PartialEq, Eq)]
@@ -34,104 +24,136 @@ pub(crate) enum Rule {
 
 impl Rule {
     /// The rule of this name, for these cores, if it is one by which something happens.
-    pub(crate) fn of(fired: Fired<'_>) -> Option<Rule> {
-        match fired.name.strip_prefix(b"directory ") {
-            Some(entry) => of_directory(entry),
+    pub(crate) fn of(fired: Fired<'_>) -> Option<Rule>
+        ensures value { result ≡ rule_of (name_and_cores fired.entry) }
+        ensures small { IfSome result (λ rule. last_core rule < 10) }
+    {
+        match behind(fired.name, b"directory ") {
+            Some(told) => of_directory(told),
             None => of_core(fired),
         }
     }
 
     /// The greatest number of a core that takes part.
-    pub(crate) fn last_core(self) -> u8 {
+    pub(crate) fn last_core(self) -> u8
+        ensures { result ≡ last_core self }
+    {
         match self {
             Rule::Load(core) | Rule::Write(core) | Rule::Evict(core) => core.0,
-            Rule::Deliver(Pick::Req(_, core) | Pick::Fwd(_, core) | Pick::Data(_, core)) => core.0,
-            Rule::Deliver(Pick::Ack { to, from, .. }) => to.0.max(from.0),
-            Rule::Deliver(Pick::Home(_)) => 0,
+            Rule::Deliver(pick) => last_core_of(pick),
         }
     }
 }
 
-/// `ENTRY; EVENT: what is done`. An event is a request, `GetS of 1`, or the block that comes home.
-fn of_directory(told: &[u8]) -> Option<Rule> {
-    let (_, event) = told.split_once_str(b"; ")?;
-    let (event, _) = event.split_once_str(b": ")?;
-    match event.split_once_str(b" of ") {
-        Some((_, core)) => Some(Rule::Deliver(Pick::Req(LINE, core_of(core)?))),
-        None => Some(Rule::Deliver(Pick::Home(LINE))),
+/// The greatest number of a core that a channel names.
+fn last_core_of(pick: Pick) -> u8
+    ensures { result ≡ last_core (Rule.Deliver pick) }
+{
+    match pick {
+        Pick::Req(_, core) | Pick::Fwd(_, core) | Pick::Data(_, core) => core.0,
+        Pick::Ack { to, from, .. } => { if to.0 < from.0 { from.0 } else { to.0 } }
+        Pick::Home(_) => 0,
     }
 }
 
+/// `ENTRY; EVENT: what is done`.
+fn of_directory(told: &[u8]) -> Option<Rule>
+    ensures value { result ≡ directory_rule told.now }
+    ensures small { IfSome result (λ rule. last_core rule < 10) }
+{
+    let Some((_, event)) = parted(told, b"; ") else {
+        return None;
+    };
+    let Some((event, _)) = parted(event, b": ") else {
+        return None;
+    };
+    at_directory(event)
+}
+
+/// An event is a request, `GetS of 1`, or the block that comes home.
+fn at_directory(event: &[u8]) -> Option<Rule>
+    ensures value { result ≡ directory_event event.now }
+    ensures small { IfSome result (λ rule. last_core rule < 10) }
+{
+    let Some((_, core)) = parted(event, b" of ") else {
+        return Some(Rule::Deliver(Pick::Home(LINE)));
+    };
+    let Some(core) = core_of(core) else {
+        return None;
+    };
+    Some(Rule::Deliver(Pick::Req(LINE, core)))
+}
+
 /// `STATE, EVENT: what is done`, for the core `c`, and `f` where another core takes part.
-fn of_core(fired: Fired<'_>) -> Option<Rule> {
-    let (cell, _) = fired.name.split_once_str(b": ")?;
-    let (_, event) = cell.split_once_str(b", ")?;
-    let (_, cores) = fired.cores.split_once_str(b"c: ")?;
-    let core = core_of(cores)?;
-    match Event::named(first_part(event))? {
+fn of_core(fired: Fired<'_>) -> Option<Rule>
+    ensures value { result ≡ copy_rule (name_and_cores fired.entry) }
+    ensures small { IfSome result (λ rule. last_core rule < 10) }
+{
+    let Some(event) = Event::of(fired.name) else {
+        return None;
+    };
+    let Some(core) = core_behind(fired.cores, b", c: ") else {
+        return None;
+    };
+    at_core(event, core, fired.cores)
+}
+
+/// The event comes to this core.
+#[tactic(auto, unfolding(crate::specs::Rule::rule_at))]
+fn at_core(event: Event, core: CoreId, cores: &[u8]) -> Option<Rule>
+    requires { core.0 < 10 }
+    ensures value { result ≡ rule_at cores.now event core }
+    ensures small { IfSome result (λ rule. last_core rule < 10) }
+{
+    match event {
         Event::Load => Some(Rule::Load(core)),
         Event::Write => Some(Rule::Write(core)),
         Event::Eviction => Some(Rule::Evict(core)),
         Event::Forwarded => Some(Rule::Deliver(Pick::Fwd(LINE, core))),
         Event::Data => Some(Rule::Deliver(Pick::Data(LINE, core))),
-        Event::InvAck => {
-            let (_, other) = cores.split_once_str(b", f: ")?;
-            Some(Rule::Deliver(Pick::Ack {
-                line: LINE,
-                to: core,
-                from: core_of(other)?,
-            }))
-        }
+        Event::InvAck => acknowledged(core, cores),
     }
 }
 
-/// What comes before the first comma.
-fn first_part(text: &[u8]) -> &[u8] {
-    match text.split_once_str(b",") {
-        Some((first, _)) => first,
-        None => text,
-    }
+/// The acknowledgement of the core `f` comes to this core.
+fn acknowledged(to: CoreId, cores: &[u8]) -> Option<Rule>
+    requires { to.0 < 10 }
+    ensures value { result ≡ rule_at cores.now Event.InvAck to }
+    ensures small { IfSome result (λ rule. last_core rule < 10) }
+{
+    let Some(from) = core_behind(cores, b", f: ") else {
+        return None;
+    };
+    Some(Rule::Deliver(Pick::Ack {
+        line: LINE,
+        to,
+        from,
+    }))
+}
+
+/// The core whose number stands behind a mark.
+fn core_behind(text: &[u8], mark: &[u8]) -> Option<CoreId>
+    ensures value { result ≡ core_behind mark.now text.now }
+    ensures small { IfSome result (λ core. core.0 < 10) }
+{
+    let Some((_, behind)) = parted(text, mark) else {
+        return None;
+    };
+    core_of(behind)
 }
 
 /// The core whose number, of one digit, a text begins with.
-fn core_of(text: &[u8]) -> Option<CoreId> {
-    match text.first() {
-        Some(digit @ b'0'..=b'9') => Some(CoreId(digit - b'0')),
-        _ => None,
-    }
-}
-
-/// What a copy meets.
-#[derive(Clone, Copy, Debug, PartialEq, Eq)]
-enum Event {
-    Load,
-    Write,
-    Eviction,
-    Forwarded,
-    Data,
-    InvAck,
-}
-
-static EVENTS: [(&str, Event); 10] = [
-    ("load", Event::Load),
-    ("write", Event::Write),
-    ("eviction", Event::Eviction),
-    ("Fwd-GetS", Event::Forwarded),
-    ("Fwd-GetM", Event::Forwarded),
-    ("Inv", Event::Forwarded),
-    ("Put-Ack", Event::Forwarded),
-    ("Data", Event::Data),
-    ("Data-E", Event::Data),
-    ("Inv-Ack", Event::InvAck),
-];
-
-impl Event {
-    fn named(name: &[u8]) -> Option<Event> {
-        for (known, event) in &EVENTS {
-            if known.as_bytes() == name {
-                return Some(*event);
-            }
-        }
+fn core_of(text: &[u8]) -> Option<CoreId>
+    ensures value { result ≡ core_of text.now }
+    ensures small { IfSome result (λ core. core.0 < 10) }
+{
+    let Some(first) = text.first() else {
+        return None;
+    };
+    let digit = *first;
+    if digit.is_ascii_digit() {
+        Some(CoreId(digit - b'0'))
+    } else {
         None
     }
 }

@@ -1,0 +1,32 @@
+-- One line more of a trace.
+use Rattle.std.proofs.Common.{◌≡◌, ℕ, Bool, List, [], ◌∷◌, ◌++◌, Option, None, Some, ◌||◌, arith, refl, sym, ap}
+use Rattle.std.specs.Prelude.{max, option_map}
+use Rattle.std.specs.List.{cons_option, list_any}
+use Rattle.murphi_trace.specs.declared.rule.Rule.{Rule}
+use Rattle.murphi_trace.specs.Replay.{core_told, data_e_told, rules_with, text_of_told}
+use Rattle.murphi_trace.specs.Script.{Step, greatest_core, names_data_e, step_by, text_of_steps, with_rule}
+use Rattle.murphi_trace.specs.Fired.{fired_by}
+use Rattle.murphi_trace.specs.Rule.{rule_of}
+use Rattle.murphi_trace.proofs.PartLemmas.{from_some}
+
+pub greatest_more : (step : Option Step) (more : List Step)
+    → greatest_core (cons_option step more) ≡ max (core_told step) (greatest_core more)
+greatest_more None more = omega arith
+greatest_more (Some step) more = refl
+
+pub any_more : (fired : Option (List ℕ × List ℕ)) (more : List (List ℕ × List ℕ))
+    → list_any names_data_e (cons_option fired more) ≡ (data_e_told fired || list_any names_data_e more)
+any_more None more = refl
+any_more (Some fired) more = refl
+
+pub text_more : (before : List Rule) (step : Option Step) (more : List Step)
+    → text_of_steps before (cons_option step more)
+    ≡ text_of_told before step ++ text_of_steps (rules_with before step) more
+text_more before None more = refl
+text_more before (Some step) more = refl
+
+-- a line that tells of a rule is a step
+pub told_step : (line : List ℕ) (fired : List ℕ × List ℕ) (rule : Rule) → Some fired ≡ fired_by line
+    → Some rule ≡ rule_of fired → step_by line ≡ Some (fired, rule)
+told_step line fired rule told is =
+    sym (from_some with_rule (fired_by line) fired (Some (fired, rule)) told (ap (option_map (λ (r : Rule). (fired, r))) is))

@@ -1,0 +1,60 @@
+//! What the lines of a trace tell.
+ghost use Rattle.std.specs.Prelude.{◌≡◌, codes, option_and_then, option_map};
+ghost use Rattle.murphi_trace.specs.Fired.{before, behind, fired_by, name_and_cores, pair_of, parted};
+
+use bstr::ByteSlice;
+
+/// What a line tells of a rule that fired.
+#[derive(Clone, Copy)]
+pub(crate) struct Fired<'a> {
+    pub(crate) name: &'a [u8],
+    /// For which cores: `, c: CORE, f: CORE`, or nothing.
+    pub(crate) cores: &'a [u8],
+}
+
+impl<'a> Fired<'a> {
+    /// `Rule "NAME", c: CORE fired.`
+    pub(crate) fn told_by(line: &'a [u8]) -> Option<Fired<'a>>
+        ensures { option_map name_and_cores result ≡ fired_by line.now }
+    {
+        let Some(told) = between(line) else {
+            return None;
+        };
+        let Some((name, cores)) = parted(told, b"\"") else {
+            return None;
+        };
+        Some(Fired { name, cores })
+    }
+}
+
+/// What a line that tells of a rule which fired has around it.
+fn between(line: &[u8]) -> Option<&[u8]>
+    ensures { option_map (λ told. told.now) result
+        ≡ option_and_then (before (codes " fired.")) (behind (codes "Rule \"") line.now) }
+{
+    let Some(told) = behind(line, b"Rule \"") else {
+        return None;
+    };
+    in_front(told, b" fired.")
+}
+
+/// What stands behind a mark, of a text that begins with it.
+pub(crate) fn behind<'a>(text: &'a [u8], mark: &[u8]) -> Option<&'a [u8]>
+    ensures { option_map (λ rest. rest.now) result ≡ behind mark.now text.now }
+{
+    text.strip_prefix(mark)
+}
+
+/// What stands before a mark, of a text that ends with it.
+fn in_front<'a>(text: &'a [u8], mark: &[u8]) -> Option<&'a [u8]>
+    ensures { option_map (λ front. front.now) result ≡ before mark.now text.now }
+{
+    text.strip_suffix(mark)
+}
+
+/// What stands before a mark's first place in a text, and behind it.
+pub(crate) fn parted<'a>(text: &'a [u8], mark: &[u8]) -> Option<(&'a [u8], &'a [u8])>
+    ensures { option_map pair_of result ≡ parted mark.now text.now }
+{
+    text.split_once_str(mark)
+}

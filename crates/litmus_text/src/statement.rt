@@ -1,10 +1,10 @@
-ghost use Rattle.std.specs.Prelude.{◌≡◌, ℕ, ◌+◌, ◌<◌, ◌^◌, List, length, map};
+ghost use Rattle.std.specs.Prelude.{◌≡◌, ℕ, ◌+◌, ◌<◌, ◌^◌, List, [], ◌∷◌, length, map, true, false};
 ghost use Rattle.std.specs.Iterator.{YieldsFirstBy, item_count};
 ghost use Rattle.std.specs.Str.Lines.{lines};
 ghost use Rattle.litmus_text.specs.Statement.{kept_words, statements_from};
 
 use super::line::Lines;
-use super::row::{MOST_WORDS, first_words};
+use super::row::{MOST_WORDS, fill_row};
 use arrayvec::ArrayVec;
 use std::marker::Model;
 
@@ -16,6 +16,19 @@ pub struct Statement<'a> {
     pub line: &'a [u8],
     pub words: ArrayVec<&'a [u8], MOST_WORDS>,
     ghost words_of_line: { map (λ w. w.now) words.items ≡ kept_words line.now },
+}
+
+impl Statement<'_> {
+    /// No statement yet: a place that statements are read into.
+    pub fn blank() -> Self
+        ensures { result.words.items ≡ [] }
+    {
+        Statement {
+            number: 0,
+            line: &[],
+            words: ArrayVec::new(),
+        }
+    }
 }
 
 /// The statements of a text that are left to read. Lines without words are counted and skipped.
@@ -43,6 +56,25 @@ impl<'a> Statements<'a> {
             number: 0,
         }
     }
+
+    /// Reads the next statement into this one, and answers whether there was one. Whoever goes over a text so has one row of
+    /// words for all its lines, which is neither made anew nor copied.
+    pub fn read(&mut self, statement: &mut Statement<'a>) -> bool
+        ensures read { result ≡ true
+            → self.old ≡ (statement.new.number, map (λ w. w.now) statement.new.words.items) ∷ self.new }
+        ensures end { result ≡ false → (self.old ≡ []) × (self.new ≡ []) }
+    {
+        while let Some(line) = self.lines.next() {
+            self.number += 1;
+            statement.line = line;
+            fill_row(&mut statement.words, line);
+            if !statement.words.is_empty() {
+                statement.number = self.number;
+                return true;
+            }
+        }
+        false
+    }
 }
 
 impl<'a> Iterator for Statements<'a> {
@@ -55,17 +87,11 @@ impl<'a> Iterator for Statements<'a> {
     ghost remaining = { item_count (λ left. left) };
 
     fn next(&mut self) -> Option<Statement<'a>> {
-        while let Some(line) = self.lines.next() {
-            self.number += 1;
-            let words = first_words(line);
-            if !words.is_empty() {
-                return Some(Statement {
-                    number: self.number,
-                    line,
-                    words,
-                });
-            }
+        let mut statement = Statement::blank();
+        if self.read(&mut statement) {
+            Some(statement)
+        } else {
+            None
         }
-        None
     }
 }

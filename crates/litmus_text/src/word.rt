@@ -22,7 +22,7 @@ impl<'a> Words<'a> {
     pub fn of_line(line: &'a [u8]) -> Self
         ensures { result ≡ words_of_line line.now }
     {
-        let is_comment = line.first() == Some(&b'#');
+        let is_comment = matches!(line, [b'#', ..]);
         Words {
             rest: if is_comment { &[] } else { line },
         }
@@ -36,6 +36,7 @@ impl<'a> Iterator for Words<'a> {
 
     ghost remaining = { item_count (λ left. left) };
 
+    #[inline(always)]
     fn next(&mut self) -> Option<&'a [u8]> {
         let (word, rest) = first_word(self.rest)?;
         self.rest = rest;
@@ -43,6 +44,7 @@ impl<'a> Iterator for Words<'a> {
     }
 }
 
+#[inline(always)]
 fn is_blank(byte: u8) -> bool
     ensures { result ≡ is_blank_byte byte }
 {
@@ -50,19 +52,32 @@ fn is_blank(byte: u8) -> bool
 }
 
 /// Where the first word begins.
+#[inline(always)]
 fn word_at(text: &[u8]) -> Option<usize>
     ensures { result ≡ position (λ b. not (is_blank_byte b)) text.now }
 {
-    text.iter().position(|byte| !is_blank(*byte))
+    for (place, byte) in text.iter().enumerate() {
+        if !is_blank(*byte) {
+            return Some(place);
+        }
+    }
+    None
 }
 
+#[inline(always)]
 fn blank_at(text: &[u8]) -> Option<usize>
     ensures { result ≡ position is_blank_byte text.now }
 {
-    text.iter().position(|byte| is_blank(*byte))
+    for (place, byte) in text.iter().enumerate() {
+        if is_blank(*byte) {
+            return Some(place);
+        }
+    }
+    None
 }
 
 /// The first word of a text, and what follows it.
+#[inline(always)]
 fn first_word(text: &[u8]) -> Option<(&[u8], &[u8])>
     ensures { MatchOption result (words text.now ≡ []) (λ p. words text.now ≡ p.0.now ∷ words p.1.now) }
 {
@@ -72,6 +87,7 @@ fn first_word(text: &[u8]) -> Option<(&[u8], &[u8])>
 }
 
 /// The word that a text begins with, and what follows the blank behind it.
+#[inline(always)]
 fn split_word(text: &[u8]) -> (&[u8], &[u8])
     requires some { 0 < length text.now }
     requires begins { is_blank_byte (slice_index text.now 0) ≡ false }

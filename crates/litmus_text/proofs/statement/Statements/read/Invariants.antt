@@ -1,6 +1,6 @@
 use Rattle.std.proofs.Common.{◌≡◌, ◌+◌, ◌<◌, ◌^◌, length}
 use Rattle.litmus_text.specs.Statement.{statements_from}
-use Rattle.litmus_text.proofs.statement.StatementsIterator.next.Given as goal
+use Rattle.litmus_text.proofs.statement.Statements.read.Given as goal
 
 -- what was skipped was no statement
 abbrev pub invariant-loop-line : goal.invariant-loop-line

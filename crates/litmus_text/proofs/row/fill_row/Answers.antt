@@ -3,7 +3,7 @@ use Rattle.std.proofs.lemmas.List.{length-map}
 use Rattle.std.proofs.lemmas.Bool.Decides.{nat_tests}
 use Rattle.litmus_text.specs.declared.row.TheConstants.{MOST_WORDS}
 use Rattle.litmus_text.proofs.RowLemmas.{row_of_few, row_when_full}
-use Rattle.litmus_text.proofs.row.first_words.Goals as goal
+use Rattle.litmus_text.proofs.row.fill_row.Goals as goal
 
 pub returns-in-None : goal.returns-in-None
 returns-in-None c =

@@ -69,14 +69,15 @@ pub fn none_by_since()
 fn check_lines(
     alloc: Global,
     version: Version,
-    statements: Statements<'_>,
+    mut statements: Statements<'_>,
 ) -> Result<Verdict, TextFault>
     ensures judged { IfOk result (AreJudged version statements.entry) }
     ensures refused { IfErr result (IsNoMemoryOr (AreNoTrace version statements.entry)) }
     ensures line { IfErr result (IsAtLine (IsFirstFault (AreSomeTrace version) statements.entry)) }
 {
     let mut check = Check::new(alloc, version);
-    for statement in statements {
+    let mut statement = Statement::blank();
+    'lines: while statements.read(&mut statement) {
         check.take(&statement)?;
     }
     Ok(check.verdict())

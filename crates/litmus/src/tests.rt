@@ -65,7 +65,7 @@ pub fn write_walk<W: Write>(
     out: &mut W,
 ) -> Result<u8, TextFault>
     ensures { IfOk result (λ status. IsOfTest input.now (λ test.
-        PrintsWalk test.config test.misses (bound_of test.misses test.config) status (W.contents out.old) (W.contents out.new))) }
+        PrintsWalk test (bound_of test.misses test.config) status (W.contents out.old) (W.contents out.new))) }
 {
     let test = LitmusTest::read(alloc, input)?;
     let ended = litmus_walk::write_walk(alloc, &test, seed, out);

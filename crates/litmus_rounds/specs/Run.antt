@@ -6,14 +6,17 @@ use Rattle.litmus_outcomes.specs.Table.{IsTableOf, TableView}
 use Rattle.litmus_outcomes.specs.Text.{text_of}
 use Rattle.litmus_rounds.specs.Outcome.{IsOutcome}
 use Rattle.litmus_test.specs.declared.test.LitmusTest.{LitmusTest}
+use Rattle.litmus_walk.specs.Done.{AreDone}
 use Rattle.litmus_walk.specs.Walk.{IsWalkOf, WalkView}
 use Rattle.mshr_file.specs.Miss.{Bound}
 use Rattle.slice_core_plan.specs.View.{IsQuiet}
 
--- the values are the outcome of a walk on a new machine of the test, after which all slices are quiet
+-- the values are the outcome of a walk on a new machine of the test, in which each thread has done all its steps, and
+-- after which all slices are quiet
 pub record IsRound (test : LitmusTest) (bound : Bound) (values : List ℕ) : Type 0 where
   pub walk : WalkView
-  pub walked : IsWalkOf test.config bound walk
+  pub walked : IsWalkOf test bound walk
+  pub done : AreDone test.threads.items walk.calls
   pub quiet : All (λ state. IsQuiet state.view) walk.slices
   pub outcome : IsOutcome test walk.slices values
 

@@ -7,6 +7,7 @@ ghost use Rattle.litmus_outcomes.specs.Text.{text_of};
 ghost use Rattle.litmus_rounds.specs.Outcome.{all_sought};
 ghost use Rattle.litmus_rounds.specs.Run.{AreRounds, IsRound, PrintsRounds, PrintsStuck};
 ghost use Rattle.litmus_script.specs.Machine.{bound_of};
+ghost use Rattle.litmus_walk.specs.Done.{AreDone};
 ghost use Rattle.litmus_walk.specs.Walk.{IsWalkOf};
 ghost use Rattle.slice_core_plan.specs.View.{IsQuiet};
 
@@ -151,7 +152,8 @@ fn add_outcome<F: MissFile>(
 ) -> Result<bool, AllocError>
     requires fits { outcomes.old.rounds + 1 < 2 ^ 64 }
     requires sought { sought.now ≡ all_sought test.now }
-    requires walked { IsWalkOf test.now.config (F.bound_by test.now.config) walked.now.recorded }
+    requires walked { IsWalkOf test.now (F.bound_by test.now.config) walked.now.recorded }
+    requires done { AreDone test.now.threads.items walked.now.recorded.calls }
     requires quiet { All (λ state. IsQuiet state.view) walked.now.recorded.slices }
     ensures { IfOk result (λ added. IsTrue added → (outcome : List ℕ)
         × IsRound test.now (F.bound_by test.now.config) outcome

@@ -3,8 +3,10 @@ use Rattle.std.specs.Prelude.{◌≡◌, ℕ, All, List, [], ◌++◌, codes, de
 use Rattle.std.specs.Io.KnownBytes.{Appends}
 use Rattle.std.specs.List.{flat_map}
 use Rattle.address_map.specs.declared.config.Config.{Config}
+use Rattle.litmus_test.specs.declared.test.LitmusTest.{LitmusTest}
 use Rattle.litmus_text.specs.Command.{parts_of}
 use Rattle.litmus_text.specs.declared.settings.MissKind.{MissKind}
+use Rattle.litmus_walk.specs.Done.{AreDone}
 use Rattle.litmus_walk.specs.declared.place.StepPlace.{StepPlace}
 use Rattle.litmus_walk.specs.declared.recorded.Made.{Made}
 use Rattle.litmus_walk.specs.Walk.{WalkView, IsWalkOf}
@@ -30,8 +32,9 @@ abbrev pub text_of_script : Config → MissKind → List Made → List ℕ
 text_of_script config misses calls = text_of_lines (lines_of_settings config misses) ++ text_of_calls calls
 
 -- A walk is printed as a script, behind what was written before. With status 0 it has come to its end.
-pub record PrintsWalk (config : Config) (misses : MissKind) (bound : Bound) (status : ℕ) (before after : Option (List ℕ)) : Type 0 where
+pub record PrintsWalk (test : LitmusTest) (bound : Bound) (status : ℕ) (before after : Option (List ℕ)) : Type 0 where
   pub walk : WalkView
-  pub walked : IsWalkOf config bound walk
+  pub walked : IsWalkOf test bound walk
   pub over : status ≡ 0 → All (λ state. IsQuiet state.view) walk.slices
-  pub printed : Appends before after (text_of_script config misses walk.calls)
+  pub done : status ≡ 0 → AreDone test.threads.items walk.calls
+  pub printed : Appends before after (text_of_script test.config test.misses walk.calls)

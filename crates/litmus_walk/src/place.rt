@@ -1,4 +1,4 @@
-ghost use Rattle.std.specs.Prelude.{◌<◌, IfSome, length};
+ghost use Rattle.std.specs.Prelude.{◌≡◌, ◌+◌, ◌<◌, ◌^◌, IfSome};
 
 /// A step of a thread. Threads and steps count from 0.
 #[derive(Clone, Copy, Debug, PartialEq, Eq)]
@@ -16,7 +16,9 @@ pub(crate) struct Place {
 
 impl Place {
     /// Before the first step.
-    pub fn first() -> Self {
+    pub fn first() -> Self
+        ensures { result.step ≡ 0 }
+    {
         Place {
             step: 0,
             open: [false; 64],
@@ -36,13 +38,18 @@ impl Place {
         !self.open.contains(&true)
     }
 
-    /// The step is done.
-    pub fn go_on(&mut self) {
-        self.step = self.step.saturating_add(1);
+    /// The step of this number is done.
+    pub fn go_behind(&mut self, step: usize)
+        requires { step + 1 < 2 ^ 64 }
+        ensures { self.new.step ≡ step + 1 }
+    {
+        self.step = step + 1;
     }
 
     /// A reply is waited for under the tag, or no more.
-    pub fn set_open(&mut self, tag: u8, open: bool) {
+    pub fn set_open(&mut self, tag: u8, open: bool)
+        ensures { self.new.step ≡ self.old.step }
+    {
         if let Some(place) = self.open.get_mut(tag as usize) {
             *place = open;
         }

@@ -1,9 +1,14 @@
-ghost use Rattle.std.specs.Prelude.{◌≡◌, ◌↔◌, ◌/◌, ◌%◌, ◌<◌, All, IfOk, IfSome, IsTrue, OnOk};
+ghost use Rattle.std.specs.Prelude.{◌≡◌, ◌↔◌, ◌/◌, ◌%◌, ◌<◌, All, IfOk, IfSome, IsTrue, None, OnOk, Some, true};
 ghost use Rattle.address_map.specs.Config.{IsAllowed};
-ghost use Rattle.litmus_script.specs.Machine.{IsNewMachine, IsQuietWord, log_at};
+ghost use Rattle.address_map.specs.Place.{line_of as line_of_word};
+ghost use Rattle.litmus_script.specs.Issued.{IsIssued};
+ghost use Rattle.litmus_script.specs.Machine.{IsAnswered, IsNewMachine, IsQuietWord, log_at};
+ghost use Rattle.slice_core.specs.declared.run.Call.TheVariants as of_slice;
+ghost use Rattle.slice_core.specs.declared.run.CallAnswer.TheVariants as answers;
 ghost use Rattle.litmus_text.specs.Command.{HasCore};
 ghost use Rattle.litmus_text.specs.declared.command.Command.TheVariants as commands;
 ghost use Rattle.slice_core_plan.specs.View.{IsQuiet};
+ghost use Rattle.litmus_walk.specs.Done.{is_done};
 ghost use Rattle.litmus_walk.specs.Walk.{Makes, made_of};
 
 use super::place::StepPlace;
@@ -20,6 +25,30 @@ use std::marker::Model;
 pub struct Made {
     pub command: Command,
     pub step: Option<StepPlace>,
+    /// Whether the step is done by it. An access that stalls is asked for again.
+    pub done: bool,
+}
+
+impl Made {
+    const fn by_step(step: StepPlace, command: Command, done: bool) -> Self
+        ensures { result ≡ record { command = command; step = Some step; done = done } }
+    {
+        Made {
+            command,
+            step: Some(step),
+            done,
+        }
+    }
+
+    const fn by_nobody(command: Command) -> Self
+        ensures { result ≡ record { command = command; step = None; done = true } }
+    {
+        Made {
+            command,
+            step: None,
+            done: true,
+        }
+    }
 }
 
 /// A machine with the calls that were made of it, in order.
@@ -50,12 +79,10 @@ impl<F: MissFile> Recorded<F> {
         })
     }
 
-    fn push(&mut self, command: Command, step: Option<StepPlace>) -> Result<(), TextFault>
-        ensures { OnOk result (self.new ≡ made_of self.old command step) }
+    fn push(&mut self, made: Made) -> Result<(), TextFault>
+        ensures { OnOk result (self.new ≡ made_of self.old made) }
     {
-        self.calls
-            .push(Made { command, step })
-            .map_err(|_| TextFault::NoMemory)
+        self.calls.push(made).map_err(|_| TextFault::NoMemory)
     }
 
     pub fn issue(
@@ -65,25 +92,32 @@ impl<F: MissFile> Recorded<F> {
         request: Request,
     ) -> Result<Issued, TextFault>
         requires { HasCore self.old.config core }
-        ensures { OnOk result (Makes self.old (commands.Issue core request) self.new) }
+        ensures made { IfOk result (λ issued. Makes self.old
+            (record { command = commands.Issue core request; step = Some step; done = is_done issued }) self.new) }
+        ensures issued { IfOk result (λ issued. IsIssued ((line_of_word request.word).0 % self.old.config.slices) core request
+            issued self.old.slices self.new.slices) }
     {
-        self.push(Command::Issue { core, request }, Some(step))?;
-        self.machine.issue(core, request)
+        let issued = self.machine.issue(core, request)?;
+        let command = Command::Issue { core, request };
+        self.push(Made::by_step(step, command, is_done(issued)))?;
+        Ok(issued)
     }
 
     pub fn evict(&mut self, step: StepPlace, core: CoreId, line: LineAddr) -> Result<(), TextFault>
         requires { HasCore self.old.config core }
-        ensures { OnOk result (Makes self.old (commands.Evict core line) self.new) }
+        ensures { OnOk result (Makes self.old
+            (record { command = commands.Evict core line; step = Some step; done = true }) self.new) }
     {
-        self.push(Command::Evict { core, line }, Some(step))?;
+        self.push(Made::by_step(step, Command::Evict { core, line }, true))?;
         self.machine.evict(core, line);
         Ok(())
     }
 
     pub fn deliver(&mut self, pick: Pick) -> Result<(), TextFault>
-        ensures { OnOk result (Makes self.old (commands.Deliver pick) self.new) }
+        ensures { OnOk result (Makes self.old
+            (record { command = commands.Deliver pick; step = None; done = true }) self.new) }
     {
-        self.push(Command::Deliver(pick), None)?;
+        self.push(Made::by_nobody(Command::Deliver(pick)))?;
         self.machine.deliver(pick);
         Ok(())
     }
@@ -91,9 +125,12 @@ impl<F: MissFile> Recorded<F> {
     pub fn hand(&mut self, core: CoreId, slice: SliceId) -> Result<Option<Numbered>, TextFault>
         requires core { HasCore self.old.config core }
         requires slice { slice.0 < self.old.config.slices }
-        ensures { OnOk result (Makes self.old (commands.Hand core slice) self.new) }
+        ensures made { OnOk result (Makes self.old
+            (record { command = commands.Hand core slice; step = None; done = true }) self.new) }
+        ensures answered { IfOk result (λ given. IsAnswered slice.0 (of_slice.Hand core) (answers.Hand given)
+            self.old.slices self.new.slices) }
     {
-        self.push(Command::Hand { core, slice }, None)?;
+        self.push(Made::by_nobody(Command::Hand { core, slice }))?;
         Ok(self.machine.hand(core, slice))
     }
 
@@ -138,4 +175,11 @@ impl<F: MissFile> Recorded<F> {
     {
         self.machine.is_quiet()
     }
+}
+
+// Whether an access is done: it is performed, or waits for messages.
+const fn is_done(issued: Issued) -> bool
+    ensures { result ≡ is_done issued }
+{
+    matches!(issued, Issued::Done { .. } | Issued::Pending(_))
 }

@@ -1,5 +1,6 @@
 ghost use Rattle.std.specs.Prelude.{◌≡◌, IfOk, IsTrue, OnOk, All};
 ghost use Rattle.slice_core_plan.specs.View.{IsQuiet};
+ghost use Rattle.litmus_walk.specs.Done.{AreDone, GoesOn, steps_of};
 ghost use Rattle.litmus_walk.specs.Walk.{IsWalkOf, Walks};
 
 use super::moves::Move;
@@ -32,8 +33,9 @@ pub fn walk<F: MissFile>(
     lines: &[LineAddr],
     seed: u64,
 ) -> Result<Walked<F>, TextFault>
-    ensures walk { IfOk result (λ walked. IsWalkOf test.now.config (F.bound_by test.now.config) walked.recorded) }
+    ensures walk { IfOk result (λ walked. IsWalkOf test.now (F.bound_by test.now.config) walked.recorded) }
     ensures over { IfOk result (λ walked. IsTrue walked.over → All (λ state. IsQuiet state.view) walked.recorded.slices) }
+    ensures done { IfOk result (λ walked. IsTrue walked.over → AreDone test.now.threads.items walked.recorded.calls) }
 {
     let recorded = Recorded::new(alloc, copy_of(alloc, &test.config)?)?;
     let Ok(mut walker) = Walker::new(alloc, test, recorded) else {
@@ -54,7 +56,9 @@ fn walk_on<F: MissFile>(
     walker: &mut Walker<F>,
 ) -> Result<(), TextFault>
     requires { walker.old.recorded.config ≡ test.now.config }
-    ensures { OnOk result (Walks walker.old.recorded walker.new.recorded) }
+    ensures walks { OnOk result (Walks test.now.threads.items walker.old.recorded walker.new.recorded) }
+    ensures done { OnOk result (GoesOn test.now.threads.items (steps_of walker.old.places.items) walker.old.recorded.calls
+        (steps_of walker.new.places.items) walker.new.recorded.calls) }
 {
     let mut generator = Xoshiro256PlusPlus::seed_from_u64(seed);
     let mut moves = Vec::new(alloc);

@@ -25,7 +25,7 @@ pub fn write_walk<W: io::Write>(
     seed: u64,
     out: &mut W,
 ) -> Result<u8, TextFault>
-    ensures { IfOk result (λ status. PrintsWalk test.now.config test.now.misses (bound_of test.now.misses test.now.config) status
+    ensures { IfOk result (λ status. PrintsWalk test.now (bound_of test.now.misses test.now.config) status
         (W.contents out.old) (W.contents out.new)) }
 {
     match test.misses {
@@ -40,7 +40,7 @@ fn write_on<F: MissFile, W: io::Write>(
     seed: u64,
     out: &mut W,
 ) -> Result<u8, TextFault>
-    ensures { IfOk result (λ status. PrintsWalk test.now.config test.now.misses (F.bound_by test.now.config) status
+    ensures { IfOk result (λ status. PrintsWalk test.now (F.bound_by test.now.config) status
         (W.contents out.old) (W.contents out.new)) }
 {
     let Ok(lines) = named_lines(alloc, test) else {

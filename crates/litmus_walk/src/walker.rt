@@ -1,6 +1,10 @@
-ghost use Rattle.std.specs.Prelude.{◌≡◌, All, IfOk, IsTrue, OnOk};
+ghost use Rattle.std.specs.Prelude.{◌≡◌, ◌+◌, ◌<◌, ◌^◌, All, IfOk, IfSome, IsTrue, List, OnOk, Some, length, slice_get, slice_set};
+ghost use Rattle.std.specs.List.{AllByRecursion};
+ghost use Rattle.litmus_test.specs.declared.test.Action.TheVariants as actions;
+ghost use Rattle.litmus_test.specs.declared.test.Thread.{Thread};
 ghost use Rattle.litmus_text.specs.Command.{HasCore};
 ghost use Rattle.slice_core_plan.specs.View.{IsQuiet};
+ghost use Rattle.litmus_walk.specs.Done.{AreAtEnd, GoesOn, steps_of};
 ghost use Rattle.litmus_walk.specs.Walk.{Walks};
 
 use super::moves::Move;
@@ -36,7 +40,8 @@ impl<F: MissFile> Walker<F> {
         test: &LitmusTest<'_>,
         recorded: Recorded<F>,
     ) -> Result<Self, AllocError>
-        ensures { IfOk result (λ walker. walker.recorded ≡ recorded) }
+        ensures recorded { IfOk result (λ walker. walker.recorded ≡ recorded) }
+        ensures places { IfOk result (λ walker. AllByRecursion (λ step. step ≡ 0) (steps_of walker.places.items)) }
     {
         let mut places = Vec::new(alloc);
         for _ in &test.threads {
@@ -52,7 +57,9 @@ impl<F: MissFile> Walker<F> {
     /// Makes the move.
     pub fn go(&mut self, test: &LitmusTest<'_>, to: Move) -> Result<(), TextFault>
         requires { self.old.recorded.config ≡ test.now.config }
-        ensures { OnOk result (Walks self.old.recorded self.new.recorded) }
+        ensures walks { OnOk result (Walks test.now.threads.items self.old.recorded self.new.recorded) }
+        ensures done { OnOk result (GoesOn test.now.threads.items (steps_of self.old.places.items) self.old.recorded.calls
+            (steps_of self.new.places.items) self.new.recorded.calls) }
     {
         match to {
             Move::Step(thread) => self.step(test, thread),
@@ -63,7 +70,9 @@ impl<F: MissFile> Walker<F> {
 
     fn step(&mut self, test: &LitmusTest<'_>, thread: usize) -> Result<(), TextFault>
         requires { self.old.recorded.config ≡ test.now.config }
-        ensures { OnOk result (Walks self.old.recorded self.new.recorded) }
+        ensures walks { OnOk result (Walks test.now.threads.items self.old.recorded self.new.recorded) }
+        ensures done { OnOk result (GoesOn test.now.threads.items (steps_of self.old.places.items) self.old.recorded.calls
+            (steps_of self.new.places.items) self.new.recorded.calls) }
     {
         let (Some(program), Some(place)) = (test.threads.get(thread), self.places.get(thread))
         else {
@@ -75,11 +84,11 @@ impl<F: MissFile> Walker<F> {
             Some(Action::Access(word, op)) => self.access(program, at, *word, *op),
             Some(Action::Evict(line)) => {
                 self.recorded.evict(at, program.core, *line)?;
-                self.done(thread);
+                self.done(at);
                 Ok(())
             }
             Some(Action::Settle) => {
-                self.done(thread);
+                self.done(at);
                 Ok(())
             }
             None => Ok(()),
@@ -94,40 +103,67 @@ impl<F: MissFile> Walker<F> {
         word: WordAddr,
         op: Op,
     ) -> Result<(), TextFault>
-        requires { HasCore self.old.recorded.config program.now.core }
-        ensures { OnOk result (Walks self.old.recorded self.new.recorded) }
+        requires core { HasCore self.old.recorded.config program.now.core }
+        requires asks { slice_get program.now.steps.items at.step ≡ Some (actions.Access word op) }
+        requires stands { slice_get (steps_of self.old.places.items) at.thread ≡ Some at.step }
+        requires fits { at.step + 1 < 2 ^ 64 }
+        ensures walks { (threads : List Thread) → slice_get threads at.thread ≡ Some program.now
+            → OnOk result (Walks threads self.old.recorded self.new.recorded) }
+        ensures done { (threads : List Thread) → slice_get threads at.thread ≡ Some program.now
+            → OnOk result (GoesOn threads (steps_of self.old.places.items) self.old.recorded.calls
+            (steps_of self.new.places.items) self.new.recorded.calls) }
     {
-        let Some(place) = self.places.get_mut(at.thread) else {
-            return Ok(());
-        };
-        let Some(tag) = place.free_tag() else {
+        let Some(tag) = self.free_tag(at.thread) else {
             return Ok(());
         };
         match self
             .recorded
             .issue(at, program.core, Request { op, word, tag })?
         {
-            Issued::Done { .. } => place.go_on(),
+            Issued::Done { .. } => self.done(at),
             Issued::Pending(_) => {
-                place.set_open(tag, true);
-                place.go_on();
+                self.set_open(at.thread, tag, true);
+                self.done(at);
             }
-            Issued::Stall(_) | Issued::Refused(_) => {}
+            Issued::Stall(_) => {}
+            Issued::Refused(_) => {}
         }
         Ok(())
     }
 
-    fn done(&mut self, thread: usize)
-        ensures { self.new.recorded ≡ self.old.recorded }
+    // The lowest tag under which the thread waits for nothing.
+    fn free_tag(&self, thread: usize) -> Option<u8>
+        ensures { IfSome result (λ tag. tag < 64) }
+    {
+        self.places.get(thread)?.free_tag()
+    }
+
+    // The thread goes on behind the step.
+    fn done(&mut self, at: StepPlace)
+        requires { at.step + 1 < 2 ^ 64 }
+        ensures recorded { self.new.recorded ≡ self.old.recorded }
+        ensures steps { steps_of self.new.places.items ≡ slice_set (steps_of self.old.places.items) at.thread (at.step + 1) }
+    {
+        if let Some(place) = self.places.get_mut(at.thread) {
+            place.go_behind(at.step);
+        }
+    }
+
+    // The thread waits for a reply under the tag, or no more.
+    fn set_open(&mut self, thread: usize, tag: u8, open: bool)
+        ensures recorded { self.new.recorded ≡ self.old.recorded }
+        ensures steps { steps_of self.new.places.items ≡ steps_of self.old.places.items }
     {
         if let Some(place) = self.places.get_mut(thread) {
-            place.go_on();
+            place.set_open(tag, open);
         }
     }
 
     /// Delivers a message. What it lets be performed has replies that wait.
     fn deliver(&mut self, test: &LitmusTest<'_>, pick: Pick) -> Result<(), TextFault>
-        ensures { OnOk result (Walks self.old.recorded self.new.recorded) }
+        ensures walks { OnOk result (Walks test.now.threads.items self.old.recorded self.new.recorded) }
+        ensures done { OnOk result (GoesOn test.now.threads.items (steps_of self.old.places.items) self.old.recorded.calls
+            (steps_of self.new.places.items) self.new.recorded.calls) }
     {
         let slice = self.recorded.slice_of(pick.line());
         let before = self.recorded.log_of(slice).len();
@@ -150,29 +186,51 @@ impl<F: MissFile> Walker<F> {
 
     fn hand(&mut self, test: &LitmusTest<'_>, reply: usize) -> Result<(), TextFault>
         requires { self.old.recorded.config ≡ test.now.config }
-        ensures { OnOk result (Walks self.old.recorded self.new.recorded) }
+        ensures walks { OnOk result (Walks test.now.threads.items self.old.recorded self.new.recorded) }
+        ensures done { OnOk result (GoesOn test.now.threads.items (steps_of self.old.places.items) self.old.recorded.calls
+            (steps_of self.new.places.items) self.new.recorded.calls) }
     {
         if reply >= self.replies.len() {
             return Ok(());
         }
         let Reply { thread, line } = self.replies.swap_remove(reply);
-        let (Some(program), Some(place)) = (test.threads.get(thread), self.places.get_mut(thread))
-        else {
+        let Some(program) = test.threads.get(thread) else {
             return Ok(());
         };
         let slice = self.recorded.slice_of(line);
         if let Some(given) = self.recorded.hand(program.core, slice)? {
-            place.set_open(given.entry.tag, false);
+            self.set_open(thread, given.entry.tag, false);
         }
         Ok(())
     }
 
     /// Whether all threads are done, nothing is in flight and each reply is handed out.
     pub fn is_over(&self, test: &LitmusTest<'_>) -> bool
-        ensures { IsTrue result → All (λ state. IsQuiet state.view) self.now.recorded.slices }
+        ensures quiet { IsTrue result → All (λ state. IsQuiet state.view) self.now.recorded.slices }
+        ensures ended { IsTrue result → AreAtEnd test.now.threads.items (steps_of self.now.places.items) }
     {
-        let mut threads = test.threads.iter().zip(self.places.iter());
-        threads.all(|(thread, place)| place.step == thread.steps.len()) && self.recorded.is_quiet()
+        self.are_at_end(test) && self.recorded.is_quiet()
+    }
+
+    // Whether each thread stands behind its last step.
+    fn are_at_end(&self, test: &LitmusTest<'_>) -> bool
+        ensures { IsTrue result → AreAtEnd test.now.threads.items (steps_of self.now.places.items) }
+    {
+        for number in 0..test.threads.len() {
+            if !self.is_at_end(number, &test.threads[number]) {
+                return false;
+            }
+        }
+        true
+    }
+
+    fn is_at_end(&self, number: usize, thread: &Thread) -> bool
+        ensures { IsTrue result → slice_get (steps_of self.now.places.items) number ≡ Some (length thread.now.steps.items) }
+    {
+        match self.places.get(number) {
+            Some(place) => place.step == thread.steps.len(),
+            None => false,
+        }
     }
 }
 

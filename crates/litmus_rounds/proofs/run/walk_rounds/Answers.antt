@@ -8,6 +8,9 @@ loop-round-init g c = no_rounds _ _ _ c.requires
 pub add_outcome-requires-clause-fits : goal.add_outcome-requires-clause-fits
 add_outcome-requires-clause-fits g c = omega (arith, c.loop-round.invariant.counted, c.loop-round.invariant.table_of.count)
 
+pub add_outcome-requires-clause-done : goal.add_outcome-requires-clause-done
+add_outcome-requires-clause-done g c = c.in_ok-walked.ensures.done c.if-not-walked.false
+
 pub add_outcome-requires-clause-quiet : goal.add_outcome-requires-clause-quiet
 add_outcome-requires-clause-quiet g c = c.in_ok-walked.ensures.over c.if-not-walked.false
 

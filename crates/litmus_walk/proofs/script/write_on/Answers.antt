@@ -6,6 +6,7 @@ returns-then-walked g c = record {
   walk = c.in_ok-walked.walked.recorded;
   walked = c.in_ok-walked.ensures.walk;
   over = λ zero. c.in_ok-walked.ensures.over c.if-walked.true;
+  done = λ zero. c.in_ok-walked.ensures.done c.if-walked.true;
   printed = rw c.calls.ensures at c.in_ok-print_script.ensures.printed;
 }
 
@@ -14,5 +15,6 @@ returns g c = record {
   walk = c.in_ok-walked.walked.recorded;
   walked = c.in_ok-walked.ensures.walk;
   over = λ (zero : 1 ≡ 0). absurd (omega arith);
+  done = λ (zero : 1 ≡ 0). absurd (omega arith);
   printed = rw c.calls.ensures at c.in_ok-print_script.ensures.printed;
 }

@@ -1,0 +1,6 @@
+use Rattle.litmus_walk.proofs.DoneLemmas.{zeros-push}
+use Rattle.litmus_walk.proofs.walker.Walker.new.Goals as goal
+
+pub loop-preserved : goal.loop-preserved
+loop-preserved g c =
+    rw c.in_ok-push.ensures.items (zeros-push c.loop.places.items c.first.result c.loop.invariant c.first.ensures)

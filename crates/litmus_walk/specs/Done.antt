@@ -1,0 +1,66 @@
+-- How far a walk has come with the steps of its threads.
+use Rattle.std.specs.Prelude.{◌≡◌, ℕ, ◌==◌, ◌&&◌, Bool, true, false, if◌then◌else◌, List, [], ◌∷◌, ◌++◌, Option, Some, None, length, map, slice_get, take}
+use Rattle.litmus_script.specs.declared.answers.Issued.{Issued}
+use Rattle.litmus_script.specs.declared.answers.Issued.TheVariants as issues
+use Rattle.litmus_test.specs.declared.test.Action.{Action}
+use Rattle.litmus_test.specs.declared.test.Action.TheVariants as actions
+use Rattle.litmus_test.specs.declared.test.Thread.{Thread}
+use Rattle.litmus_text.specs.declared.command.Command.{Command}
+use Rattle.litmus_text.specs.declared.command.Command.TheVariants as commands
+use Rattle.litmus_walk.specs.declared.place.Place.{Place}
+use Rattle.litmus_walk.specs.declared.place.StepPlace.{StepPlace}
+use Rattle.litmus_walk.specs.declared.recorded.Made.{Made}
+
+-- an access is done that is performed or waits for messages; one that stalls is asked for again
+abbrev pub is_done : Issued → Bool
+is_done (issues.Done number reply) = true
+is_done (issues.Pending seq) = true
+is_done issued = false
+
+-- the steps that ask for something: one that settles asks for nothing
+abbrev pub asking : List Action → List Action
+asking [] = []
+asking (actions.Settle ∷ steps) = asking steps
+asking (step ∷ steps) = step ∷ asking steps
+
+-- the step that a command does
+abbrev pub deeds_of : Command → List Action
+deeds_of (commands.Issue core request) = actions.Access request.word request.op ∷ []
+deeds_of (commands.Evict core line) = actions.Evict line ∷ []
+deeds_of command = []
+
+-- .. where it is one of this thread, and is done
+abbrev pub deeds_at : ℕ → Bool → Option StepPlace → Command → List Action
+deeds_at thread done None command = []
+deeds_at thread done (Some at) command = if done && at.thread == thread then deeds_of command else []
+
+-- the steps that the thread of this number has done by these calls, in order
+abbrev pub deeds_by : ℕ → List Made → List Action
+deeds_by thread [] = []
+deeds_by thread (made ∷ calls) = deeds_at thread made.done made.step made.command ++ deeds_by thread calls
+
+-- the step at which each thread stands
+abbrev pub steps_of : List Place → List ℕ
+steps_of places = map (λ place. place.step) places
+
+-- Each thread has done the steps before the one at which it stands, in order and each once.
+abbrev pub HaveDone : List Thread → List ℕ → List Made → Type 0
+HaveDone threads steps calls =
+    (number : ℕ) (thread : Thread) (step : ℕ) → slice_get threads number ≡ Some thread → slice_get steps number ≡ Some step
+    → deeds_by number calls ≡ asking (take step thread.steps.items)
+
+-- Each thread has done all its steps that ask for something, in order and each once.
+abbrev pub AreDone : List Thread → List Made → Type 0
+AreDone threads calls =
+    (number : ℕ) (thread : Thread) → slice_get threads number ≡ Some thread
+    → deeds_by number calls ≡ asking thread.steps.items
+
+-- where they had done so, they have done so still
+abbrev pub GoesOn : List Thread → List ℕ → List Made → List ℕ → List Made → Type 0
+GoesOn threads steps calls new_steps new_calls = HaveDone threads steps calls → HaveDone threads new_steps new_calls
+
+-- each thread stands behind its last step
+abbrev pub AreAtEnd : List Thread → List ℕ → Type 0
+AreAtEnd threads steps =
+    (number : ℕ) (thread : Thread) → slice_get threads number ≡ Some thread
+    → slice_get steps number ≡ Some (length thread.steps.items)

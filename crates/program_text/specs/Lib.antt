@@ -1,0 +1,7 @@
+pub mod Keyword
+pub mod Range
+pub mod Line
+pub mod Text
+pub mod Judged
+pub mod Fault
+pub mod Reading

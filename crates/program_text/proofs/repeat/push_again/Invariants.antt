@@ -1,0 +1,8 @@
+use Rattle.std.proofs.Common.{◌≡◌, ◌++◌}
+use Rattle.std.specs.Prelude.{slice_range}
+use Rattle.program_text.proofs.repeat.push_again.Given as goal
+
+-- those up to this place stand there once more
+abbrev pub invariant-loop-place : goal.invariant-loop-place
+invariant-loop-place l =
+    l.accesses.items ≡ l.fn.accesses.items ++ slice_range l.fn.accesses.items l.start l.place

@@ -1,0 +1,220 @@
+ghost use Rattle.std.specs.Prelude.{◌≡◌, ◌==◌, ◌+◌, ◌&&◌, ◌||◌, false, IfErr, None, OnOk, Some, length, nat_le, nat_lt, reverse};
+ghost use Rattle.std.specs.List.{list_any};
+ghost use Rattle.program_text.specs.declared.programs.CoreProgram.{CoreProgram};
+ghost use Rattle.program_text.specs.Fault.{programs_of};
+ghost use Rattle.program_text.specs.Judged.{access_faults, count_of, fault_of, first_so, has_counter, has_program, has_too_many, is_closed, is_early, lacks_core, lacks_range, lacks_word, overwrites as overwrites_word};
+ghost use Rattle.program_text.specs.Line.{begin, end, line_of, repeat};
+ghost use Rattle.program_text.specs.Reading.{IsCounted, said_by};
+ghost use Rattle.address_map.specs.declared.request.Op.{Op};
+ghost use Rattle.program_text.specs.Text.{ended, said_access};
+ghost use Rattle.program_text.specs.declared.programs.TheConstants.{MOST_ACCESSES, MOST_DEPTH};
+
+use super::line::Line;
+use super::programs::{MOST_ACCESSES, MOST_DEPTH};
+use super::range::Range;
+use super::reader::Reader;
+use address_map::Op;
+use litmus_text::LineFault;
+
+impl Reader {
+    /// Whether the line may come next.
+    pub(super) fn judge(&self, line: Line) -> Result<(), LineFault>
+        requires { IsCounted self.now }
+        ensures may { OnOk result (fault_of (said_by self.now) (line_of line) ≡ None) }
+        ensures fault { IfErr result (λ fault. fault_of (said_by self.now) (line_of line) ≡ Some fault) }
+    {
+        match line {
+            Line::Core(core) => self.may_begin(core),
+            Line::Access(range, op) => self.may_access(range, op),
+            Line::Repeat(times) => self.may_repeat(times),
+            Line::End => self.may_end(),
+        }
+    }
+
+    #[tactic(auto, using(crate::proofs::JudgedLemmas::so_here, crate::proofs::JudgedLemmas::so_later, crate::proofs::JudgedLemmas::so_never), unfolding(crate::specs::Judged::fault_of))]
+    fn may_begin(&self, core: u64) -> Result<(), LineFault>
+        ensures may { OnOk result (fault_of (said_by self.now) (begin core) ≡ None) }
+        ensures fault { IfErr result (λ fault. fault_of (said_by self.now) (begin core) ≡ Some fault) }
+    {
+        if !self.is_closed() {
+            return Err(LineFault::NotACommand);
+        }
+        if self.may_not_run(core) {
+            return Err(LineFault::OutOfRange);
+        }
+        Ok(())
+    }
+
+    #[tactic(auto, using(crate::proofs::JudgedLemmas::so_here, crate::proofs::JudgedLemmas::so_later, crate::proofs::JudgedLemmas::so_never))]
+    fn may_access(&self, range: Range, op: Op) -> Result<(), LineFault>
+        requires { IsCounted self.now }
+        ensures may { OnOk result (first_so (access_faults (said_by self.now) range.first range.last op) ≡ None) }
+        ensures fault { IfErr result
+            (λ fault. first_so (access_faults (said_by self.now) range.first range.last op) ≡ Some fault) }
+    {
+        if self.is_early() {
+            return Err(LineFault::NotACommand);
+        }
+        if self.lacks_range(range) {
+            return Err(LineFault::OutOfRange);
+        }
+        if self.spreads_too_far(range) {
+            return Err(LineFault::OutOfRange);
+        }
+        if self.overwrites_counter(range, op) {
+            return Err(LineFault::StoreToACounter);
+        }
+        Ok(())
+    }
+
+    #[tactic(auto, using(crate::proofs::JudgedLemmas::so_here, crate::proofs::JudgedLemmas::so_later, crate::proofs::JudgedLemmas::so_never), unfolding(crate::specs::Judged::fault_of))]
+    fn may_repeat(&self, times: u64) -> Result<(), LineFault>
+        ensures may { OnOk result (fault_of (said_by self.now) (repeat times) ≡ None) }
+        ensures fault { IfErr result (λ fault. fault_of (said_by self.now) (repeat times) ≡ Some fault) }
+    {
+        if self.is_early() {
+            return Err(LineFault::NotACommand);
+        }
+        if self.is_deep() {
+            return Err(LineFault::OutOfRange);
+        }
+        Ok(())
+    }
+
+    #[tactic(auto, using(crate::proofs::JudgedLemmas::so_here, crate::proofs::JudgedLemmas::so_later, crate::proofs::JudgedLemmas::so_never), unfolding(crate::specs::Judged::fault_of))]
+    fn may_end(&self) -> Result<(), LineFault>
+        requires { IsCounted self.now }
+        ensures may { OnOk result (fault_of (said_by self.now) end ≡ None) }
+        ensures fault { IfErr result (λ fault. fault_of (said_by self.now) end ≡ Some fault) }
+    {
+        if self.is_closed() {
+            return Err(LineFault::NotACommand);
+        }
+        if self.repeats_too_often() {
+            return Err(LineFault::OutOfRange);
+        }
+        Ok(())
+    }
+
+    // Whether no program was begun.
+    #[tactic(auto, unfolding(crate::specs::Reading::said_by))]
+    fn is_early(&self) -> bool
+        ensures { result ≡ is_early (said_by self.now) }
+    {
+        self.programs.cores.is_empty()
+    }
+
+    // Whether no block is open.
+    #[tactic(auto, unfolding(crate::specs::Reading::said_by))]
+    fn is_closed(&self) -> bool
+        ensures { result ≡ is_closed (said_by self.now) }
+    {
+        self.blocks.is_empty()
+    }
+
+    // Whether no further block may be opened.
+    #[tactic(auto, unfolding(crate::specs::Reading::said_by))]
+    fn is_deep(&self) -> bool
+        ensures { result ≡ nat_le MOST_DEPTH (length (said_by self.now).blocks) }
+    {
+        self.blocks.len() >= MOST_DEPTH
+    }
+
+    // Whether the machine lacks the core, or it has a program.
+    #[tactic(auto, unfolding(crate::specs::Reading::said_by))]
+    fn may_not_run(&self, core: u64) -> bool
+        ensures { result ≡ (lacks_core (said_by self.now).settings.config core || has_program core (said_by self.now).programs) }
+    {
+        self.lacks_core(core) || self.has_program(core)
+    }
+
+    fn lacks_core(&self, core: u64) -> bool
+        ensures { result ≡ lacks_core self.now.programs.config core }
+    {
+        core >= self.programs.config.cores() as u64
+    }
+
+    fn has_program(&self, core: u64) -> bool
+        ensures { result ≡ list_any (λ (program : CoreProgram). program.core.0 == core) self.now.programs.cores.items }
+    {
+        self.programs
+            .cores
+            .iter()
+            .any(|program| program.core.0 as u64 == core)
+    }
+
+    // Whether the machine lacks the first word or the last, or the last is below the first.
+    #[tactic(auto, unfolding(crate::specs::Reading::said_by))]
+    fn lacks_range(&self, range: Range) -> bool
+        ensures { result ≡ lacks_range (said_by self.now).settings.config range.first range.last }
+    {
+        self.lacks_word(range.first) || self.lacks_word(range.last) || range.last < range.first
+    }
+
+    fn lacks_word(&self, word: u64) -> bool
+        ensures { result ≡ lacks_word self.now.programs.config word }
+    {
+        word / 8 >= self.programs.config.lines() as u64
+    }
+
+    // Whether a counter refuses the access.
+    #[tactic(auto, unfolding(crate::specs::Reading::said_by))]
+    fn overwrites_counter(&self, range: Range, op: Op) -> bool
+        ensures { result ≡ (overwrites_word op && has_counter (said_by self.now).settings.config range.first range.last) }
+    {
+        overwrites(op) && self.has_counter(range.first, range.last)
+    }
+
+    fn has_counter(&self, first: u64, last: u64) -> bool
+        ensures { result ≡ has_counter self.now.programs.config first last }
+    {
+        self.programs
+            .config
+            .counters()
+            .iter()
+            .any(|counter| first <= counter.0 && counter.0 <= last)
+    }
+
+    // Whether accesses to the range are too many.
+    fn spreads_too_far(&self, range: Range) -> bool
+        requires counted { IsCounted self.now }
+        requires begun { is_early (said_by self.now) ≡ false }
+        requires range { lacks_range (said_by self.now).settings.config range.first range.last ≡ false }
+        ensures { (op : Op) → result ≡ has_too_many (said_access (said_by self.now) range.first range.last op) }
+    {
+        self.has_too_many(range.last - range.first + 1)
+    }
+
+    // Whether the innermost block makes too many accesses where it ends.
+    fn repeats_too_often(&self) -> bool
+        requires { IsCounted self.now }
+        ensures { result ≡ has_too_many (ended (said_by self.now).blocks (said_by self.now)) }
+    {
+        let blocks = self.blocks.as_slice();
+        let Some(block) = blocks.last() else {
+            return false;
+        };
+        let body = self.last_accesses().saturating_sub(block.start);
+        let rounds = block.times.saturating_sub(1);
+        let more = (body as u64).saturating_mul(rounds);
+        self.has_too_many(more)
+    }
+
+    // Whether so many accesses more are too many.
+    fn has_too_many(&self, more: u64) -> bool
+        requires { IsCounted self.now }
+        ensures { result ≡ nat_lt MOST_ACCESSES (count_of (reverse (programs_of self.now.programs)) + more) }
+    {
+        (self.accesses as u64).saturating_add(more) > MOST_ACCESSES as u64
+    }
+}
+
+// Whether an access overwrites a word.
+fn overwrites(op: Op) -> bool
+    ensures { result ≡ overwrites_word op }
+{
+    match op {
+        Op::Store(_) | Op::Cas { .. } => true,
+        Op::Load | Op::Add(_) => false,
+    }
+}

@@ -1,4 +1,5 @@
 pub mod CallLemmas
+pub mod EntryLemmas
 pub mod MachineLemmas
 pub mod PlayLemmas
 pub mod PumpLemmas

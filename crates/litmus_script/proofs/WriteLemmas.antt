@@ -7,3 +7,8 @@ on_written (Ok x) (Ok y) both goes holds = goes holds
 on_written (Err e) (Ok y) both goes holds = absurd (let no : false ≡ true = both.0 refl in cc)
 on_written (Ok x) (Err f) both goes holds = tt
 on_written (Err e) (Err f) both goes holds = tt
+
+-- what holds where a result is fine, holds of it
+pub on_ok_from : {T E P : Type 0} (r : Result T E) → (IsOk r → P) → OnOk r P
+on_ok_from (Ok x) h = h refl
+on_ok_from (Err e) h = tt

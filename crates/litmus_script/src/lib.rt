@@ -35,4 +35,5 @@ mod run;
 mod script;
 mod show;
 mod trace;
+mod trace_text;
 mod waiting;

@@ -232,7 +232,7 @@ impl Commands<'_> {
 }
 
 fn play_all<P: Player, W: Write>(
-    statements: Statements<'_>,
+    mut statements: Statements<'_>,
     player: &mut P,
     out: &mut W,
 ) -> Result<(), TextFault>
@@ -242,7 +242,8 @@ fn play_all<P: Player, W: Write>(
     ensures fault { IfErr result (PlaysUpTo P.plays (P.config_of player.old) statements.entry player.old
         (W.contents out.old) (W.contents out.new)) }
 {
-    for statement in statements {
+    let mut statement = Statement::blank();
+    'lines: while statements.read(&mut statement) {
         play_statement(player, &statement, out)?;
     }
     Ok(())

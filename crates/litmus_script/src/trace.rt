@@ -1,10 +1,11 @@
 ghost use Rattle.std.specs.Prelude.{◌≡◌, OnOk, map};
 ghost use Rattle.std.specs.Fmt.{WritesInCalls};
 ghost use Rattle.script_text.specs.Line.{line_of_parts};
-ghost use Rattle.trace_check.specs.TraceLine.{parts_of_first, parts_of_line};
+ghost use Rattle.trace_check.specs.TraceLine.{parts_of_first};
 ghost use Rattle.trace_check.specs.declared.trace_line.TraceLine.TheVariants as lines;
 ghost use Rattle.litmus_script.specs.Shown.{has_compare_exchange, text_of_lines, text_of_trace, version_for};
 
+use super::trace_text::{write_entry, write_initial};
 use address_map::{Checked, Op, WordAddr};
 use slice_core::Entry;
 use std::fmt;
@@ -50,8 +51,7 @@ fn write_init<W: Write>(init: &[(WordAddr, u64)], out: &mut W) -> fmt::Result
         (text_of_lines (map (λ pair. lines.Init pair.0 pair.1) init.now)) out.new) }
 {
     for (word, value) in init {
-        let word = word.0;
-        writeln!(out, "init {word} {value}")?;
+        write_initial(*word, *value, out)?;
     }
     Ok(())
 }
@@ -63,35 +63,4 @@ fn write_entries<W: Write>(log: &[Entry], out: &mut W) -> fmt::Result
         write_entry(entry, out)?;
     }
     Ok(())
-}
-
-#[tactic(auto, unfolding(litmus_text::specs::Command::parts_of_op))]
-fn write_entry<W: Write>(entry: &Entry, out: &mut W) -> fmt::Result
-    ensures { OnOk result (WritesInCalls W.write_str_gives out.old (line_of_parts (parts_of_line (lines.Entry entry.now))) out.new) }
-{
-    let core = entry.core.0;
-    let seq = entry.seq;
-    let tag = entry.tag;
-    let word = entry.word.0;
-    let reply = entry.reply;
-    let since = entry.since;
-    match entry.op {
-        Op::Load => writeln!(out, "entry {core} {seq} {tag} load {word} {reply} {since}"),
-        Op::Store(value) => {
-            writeln!(
-                out,
-                "entry {core} {seq} {tag} store {word} {value} {reply} {since}"
-            )
-        }
-        Op::Add(delta) => {
-            writeln!(
-                out,
-                "entry {core} {seq} {tag} add {word} {delta} {reply} {since}"
-            )
-        }
-        Op::Cas { expect, new } => writeln!(
-            out,
-            "entry {core} {seq} {tag} cas {word} {expect} {new} {reply} {since}"
-        ),
-    }
 }

@@ -1,5 +1,5 @@
 -- The words with which the lines begin that configure a machine.
-use Rattle.std.proofs.Common.{◌≡◌, ℕ, Bool, not, List, [], ◌∷◌, subst}
+use Rattle.std.proofs.Common.{ℕ, Bool, not, List, [], ◌∷◌, subst}
 use Rattle.std.specs.Prelude.{codes, IsTrue}
 use Rattle.std.specs.List.{list_all}
 use Rattle.std.specs.Str.{bytes_eq}

@@ -1,6 +1,7 @@
 pub mod PlaceLemmas
 pub mod LineLemmas
 pub mod WordLemmas
+pub mod BlankLemmas
 pub mod NumberLemmas
 pub mod RowLemmas
 pub mod FormLemmas

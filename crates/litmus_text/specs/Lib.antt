@@ -1,4 +1,5 @@
 pub mod Text
+pub mod Blanks
 pub mod Number
 pub mod Fault
 pub mod Form

@@ -31,6 +31,7 @@ pub use table::value_named;
 pub use word::Words;
 
 mod access;
+mod blanks;
 mod channel;
 mod command;
 mod config_line;

@@ -1,4 +1,4 @@
-ghost use Rattle.std.specs.Prelude.{◌≡◌, ℕ, ◌<◌, ◌≤◌, ◌==◌, List, ◌∷◌, length};
+ghost use Rattle.std.specs.Prelude.{◌≡◌, ℕ, ◌<◌, ◌≤◌, ◌==◌, List, [], ◌∷◌, length, take, IfSome, MatchOption};
 ghost use Rattle.std.specs.List.{position};
 ghost use Rattle.std.specs.Iterator.{YieldsFirstRef, item_count};
 ghost use Rattle.std.specs.Str.Lines.{lines, strip_carriage_return};
@@ -27,6 +27,21 @@ impl<'a> Lines<'a> {
     {
         Lines { rest: text }
     }
+
+    /// The next line, and the text that begins with it.
+    #[inline(always)]
+    pub(super) fn read(&mut self) -> Option<(&'a [u8], &'a [u8])>
+        ensures lines { MatchOption result ((self.old ≡ []) × (self.new ≡ [])) (λ read. self.old ≡ read.0.now ∷ self.new) }
+        ensures text { IfSome result (λ read. take (length read.0.now) read.1.now ≡ read.0.now) }
+    {
+        if self.rest.is_empty() {
+            return None;
+        }
+        let text = self.rest;
+        let (line, rest) = split_line(text);
+        self.rest = rest;
+        Some((line, text))
+    }
 }
 
 impl<'a> Iterator for Lines<'a> {
@@ -37,11 +52,7 @@ impl<'a> Iterator for Lines<'a> {
     ghost remaining = { item_count (λ left. left) };
 
     fn next(&mut self) -> Option<&'a [u8]> {
-        if self.rest.is_empty() {
-            return None;
-        }
-        let (line, rest) = split_line(self.rest);
-        self.rest = rest;
+        let (line, _) = self.read()?;
         Some(line)
     }
 }
@@ -49,7 +60,8 @@ impl<'a> Iterator for Lines<'a> {
 /// The first line of a text, and what follows it.
 fn split_line(text: &[u8]) -> (&[u8], &[u8])
     requires { 0 < length text.now }
-    ensures { lines text.now ≡ result.0.now ∷ lines result.1.now }
+    ensures lines { lines text.now ≡ result.0.now ∷ lines result.1.now }
+    ensures begins { take (length result.0.now) text.now ≡ result.0.now }
 {
     match line_feed_at(text) {
         Some(end) => (without_carriage_return(&text[..end]), &text[end + 1..]),
@@ -64,7 +76,8 @@ fn line_feed_at(text: &[u8]) -> Option<usize>
 }
 
 fn without_carriage_return(line: &[u8]) -> &[u8]
-    ensures { result.now ≡ strip_carriage_return line.now }
+    ensures value { result.now ≡ strip_carriage_return line.now }
+    ensures begins { take (length result.now) line.now ≡ result.now }
 {
     match line {
         [front @ .., b'\r'] => front,

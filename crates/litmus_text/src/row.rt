@@ -1,24 +1,40 @@
-ghost use Rattle.std.specs.Prelude.{◌≡◌, ℕ, List, map, take};
-ghost use Rattle.litmus_text.specs.Text.{words_of_line};
+ghost use Rattle.std.specs.Prelude.{◌≡◌, ℕ, ◌<◌, ◌≤◌, List, [], ◌∷◌, ◌++◌, length, map, take};
+ghost use Rattle.litmus_text.specs.Blanks.{AreBlanks};
+ghost use Rattle.litmus_text.specs.Text.{parts_with_bytes, words, words_of_line};
 ghost use Rattle.litmus_text.specs.declared.row.TheConstants.{MOST_WORDS};
 
-use super::word::Words;
+use super::blanks::{BLOCK, blanks_of, part_end};
+use super::word::{Words, is_comment};
 use arrayvec::ArrayVec;
 
 /// How many words of a line are kept: more than any line of a text may have.
 pub const MOST_WORDS: usize = 18;
+
+/// The first words of a line.
+pub(super) type Row<'a> = ArrayVec<&'a [u8], MOST_WORDS>;
 
 /// The first words of a line. One that has more than are kept has none of the forms that are matched.
 pub fn first_words(line: &[u8]) -> ArrayVec<&[u8], MOST_WORDS>
     ensures { map (λ w. w.now) result.items ≡ take MOST_WORDS (words_of_line line.now) }
 {
     let mut row = ArrayVec::new();
-    fill_row(&mut row, line);
+    fill_word_by_word(&mut row, line);
     row
 }
 
-/// Puts the first words of a line in the place of those that a row has.
-pub(super) fn fill_row<'a>(row: &mut ArrayVec<&'a [u8], MOST_WORDS>, line: &'a [u8])
+/// Puts the first words of a line in the place of those that a row has. The text is the line and what follows it.
+pub(super) fn fill_row<'a>(row: &mut Row<'a>, line: &'a [u8], text: &[u8])
+    requires { take (length line.now) text.now ≡ line.now }
+    ensures { map (λ w. w.now) row.new.items ≡ take MOST_WORDS (words_of_line line.now) }
+{
+    if line.len() >= BLOCK || text.len() < BLOCK || is_comment(line) {
+        fill_word_by_word(row, line);
+    } else {
+        fill_by_blanks(row, line, blanks_of(text));
+    }
+}
+
+fn fill_word_by_word<'a>(row: &mut Row<'a>, line: &'a [u8])
     ensures { map (λ w. w.now) row.new.items ≡ take MOST_WORDS (words_of_line line.now) }
 {
     row.clear();
@@ -28,4 +44,35 @@ pub(super) fn fill_row<'a>(row: &mut ArrayVec<&'a [u8], MOST_WORDS>, line: &'a [
         }
         row.push(word);
     }
+}
+
+/// The same for a short line, whose blanks are known.
+fn fill_by_blanks<'a>(row: &mut Row<'a>, line: &'a [u8], blanks: u64)
+    requires short { length line.now < 64 }
+    requires blanks { AreBlanks blanks line.now }
+    ensures { map (λ w. w.now) row.new.items ≡ take MOST_WORDS (words line.now) }
+{
+    row.clear();
+    let mut at = 0;
+    while at < line.len() {
+        if row.is_full() {
+            break;
+        }
+        let end = part_end(line, blanks, at);
+        push_part(row, &line[at..end]);
+        at = end + 1;
+    }
+}
+
+/// Adds the part between two blanks, unless they stand side by side.
+#[inline(always)]
+fn push_part<'a>(row: &mut Row<'a>, part: &'a [u8])
+    requires { length row.old.items < MOST_WORDS }
+    ensures items { map (λ w. w.now) row.new.items ≡ map (λ w. w.now) row.old.items ++ parts_with_bytes (part.now ∷ []) }
+    ensures few { length row.new.items ≤ MOST_WORDS }
+{
+    if part.is_empty() {
+        return;
+    }
+    row.push(part);
 }

@@ -64,10 +64,10 @@ impl<'a> Statements<'a> {
             → self.old ≡ (statement.new.number, map (λ w. w.now) statement.new.words.items) ∷ self.new }
         ensures end { result ≡ false → (self.old ≡ []) × (self.new ≡ []) }
     {
-        while let Some(line) = self.lines.next() {
+        while let Some((line, text)) = self.lines.read() {
             self.number += 1;
             statement.line = line;
-            fill_row(&mut statement.words, line);
+            fill_row(&mut statement.words, line, text);
             if !statement.words.is_empty() {
                 statement.number = self.number;
                 return true;

@@ -1,16 +1,7 @@
-use Rattle.std.proofs.Common.{◌≡◌, length, arith}
-use Rattle.std.proofs.lemmas.List.{length-map}
-use Rattle.std.proofs.lemmas.Bool.Decides.{nat_tests}
-use Rattle.litmus_text.specs.declared.row.TheConstants.{MOST_WORDS}
-use Rattle.litmus_text.proofs.RowLemmas.{row_of_few, row_when_full}
+use Rattle.std.proofs.Common.{arith}
+use Rattle.litmus_text.proofs.BlankLemmas.{blanks_of_front}
 use Rattle.litmus_text.proofs.row.fill_row.Goals as goal
 
-pub returns-in-None : goal.returns-in-None
-returns-in-None c =
-    row_of_few _ c.loop-word.word-iterator _ MOST_WORDS c.loop-word.invariant.all c.in-None.ensures.steps.0
-    (rw length-map c.loop-word.invariant.few)
-
-pub returns-then-is_full : goal.returns-then-is_full
-returns-then-is_full c =
-    let full : length c.loop-word.row.items ≡ MOST_WORDS = grind (arith, nat_tests) in
-    row_when_full _ c.loop-word.word-iterator _ MOST_WORDS c.loop-word.invariant.all (rw length-map full)
+pub fill_by_blanks-requires-clause-blanks : goal.fill_by_blanks-requires-clause-blanks
+fill_by_blanks-requires-clause-blanks c =
+    blanks_of_front c.args.text.now c.args.line.now c.blanks_of.result c.requires (omega arith) c.blanks_of.ensures

@@ -1,4 +1,4 @@
-use Rattle.std.proofs.Common.{◌≡◌, ◌∙◌, true, sym, arith}
+use Rattle.std.proofs.Common.{◌∙◌, sym, arith}
 use Rattle.litmus_text.specs.Text.{is_blank}
 use Rattle.litmus_text.proofs.PlaceLemmas.{found_here, found_not}
 use Rattle.litmus_text.proofs.word.blank_at.Goals as goal

@@ -1,4 +1,4 @@
-use Rattle.std.proofs.Common.{◌≡◌, ◌∙◌, not, true, sym, ap, arith}
+use Rattle.std.proofs.Common.{◌∙◌, not, sym, ap, arith}
 use Rattle.litmus_text.specs.Text.{is_blank}
 use Rattle.litmus_text.proofs.PlaceLemmas.{found_here, found_not}
 use Rattle.litmus_text.proofs.word.word_at.Goals as goal

@@ -1,7 +1,7 @@
 use Rattle.std.proofs.Common.{◌≡◌, ◌≤◌, ◌++◌, map, length}
 use Rattle.litmus_text.specs.Text.{words_of_line}
 use Rattle.litmus_text.specs.declared.row.TheConstants.{MOST_WORDS}
-use Rattle.litmus_text.proofs.row.fill_row.Given as goal
+use Rattle.litmus_text.proofs.row.fill_word_by_word.Given as goal
 
 abbrev pub invariant-loop-word : goal.invariant-loop-word
 invariant-loop-word l = record {

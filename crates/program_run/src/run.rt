@@ -2,6 +2,7 @@ ghost use Rattle.std.specs.Prelude.{◌≡◌, ◌++◌, [], Contains, IfNone, I
 ghost use Rattle.std.specs.Fmt.{WritesInCalls};
 ghost use Rattle.std.specs.Io.KnownBytes.{Appends};
 ghost use Rattle.litmus_script.specs.Machine.{bound_of};
+ghost use Rattle.program_text.specs.Fault.{IsProgramText, programs_of, settings_of};
 ghost use Rattle.program_text.specs.declared.programs.Programs.{Programs};
 ghost use Rattle.program_run.specs.Run.{IsProgramsRun, Leads, Runs, text_of, text_of_stuck};
 
@@ -27,7 +28,7 @@ pub enum Form {
     Json,
 }
 
-/// Runs the programs of a text in the order that the seed draws, and prints the report. Answers the exit status, which
+/// Runs the programs that a text says in the order that the seed draws, and prints the report. Answers the exit status, which
 /// is 1 where nothing can move before the end; then nothing else is printed.
 pub fn run_programs<W: Write>(
     alloc: Global,
@@ -36,8 +37,10 @@ pub fn run_programs<W: Write>(
     form: Form,
     out: &mut W,
 ) -> Result<u8, TextFault>
-    ensures { IfOk result (λ status. (programs : Programs) × IsProgramsRun programs.config (bound_of programs.misses programs.config)
-        programs.cores.items form seed status (W.contents out.old) (W.contents out.new)) }
+    ensures { IfOk result (λ status. (programs : Programs)
+        × IsProgramText input.now (settings_of programs) (programs_of programs)
+        × IsProgramsRun programs.config (bound_of programs.misses programs.config) programs.cores.items form seed status
+        (W.contents out.old) (W.contents out.new)) }
 {
     let programs = Programs::read(alloc, input)?;
     run_read(alloc, &programs, seed, form, out)

@@ -17,8 +17,12 @@ pub asks_none : (programs : List CoreProgram) (number : ℕ) (runner : RunnerVie
 asks_none programs number runner none = record {
   config = refl;
   goes = λ before seen.
-      let same : Asks runner.config number None (run_of runner before) (run_of runner before) = refl in
-      (before, seen, subst (λ next. Asks runner.config number next (run_of runner before) (run_of runner before)) (sym none) same);
+      let same : Asks runner.config number None (run_of runner before) (run_of runner before) = refl in (
+        before,
+        seen,
+        subst (λ next. Asks runner.config number next (run_of runner before) (run_of runner before))
+            (sym none) same,
+      );
 }
 
 -- .. and one that has one asks for it
@@ -35,7 +39,8 @@ asks_next programs number core access old new next leads = record {
 }
 
 -- an access that was asked for
-pub accesses : (old new : RunnerView) (number : ℕ) (core : CoreId) (access : Access) (decision : Decision) (issued : Issued)
+pub accesses : (old new : RunnerView) (number : ℕ) (core : CoreId) (access : Access) (decision : Decision)
+    (issued : Issued)
     → new.config ≡ old.config → decided old.config old.slices core access ≡ Some decision
     → IsIssued (slice_of old.config access) core (request_of access) issued old.slices new.slices
     → ((before : History) → HasSeen old.config before old.observer

@@ -7,7 +7,8 @@ use Rattle.std.proofs.lemmas.List.FromFn.{get_or-range_with_len}
 use Rattle.std.proofs.Output.{writes_in_calls_append}
 use Rattle.program_run.specs.Json.{before_text}
 
-module _ {W X : Type 0} (took : W → List ℕ → W → Type 0) (all : Bool → List X → List ℕ) (first : Bool) (xs : List X) (i : ℕ) (d : X) where
+module _ {W X : Type 0} (took : W → List ℕ → W → Type 0) (all : Bool → List X → List ℕ) (first : Bool) (xs : List X)
+    (i : ℕ) (d : X) where
   -- the text of the next item, and then those of the items behind it
   pub next_text : (text : List ℕ) → i < length xs
       → all first (get_or xs i d ∷ drop (i + 1) xs) ≡ (before_text first ++ text) ++ all false (drop (i + 1) xs)

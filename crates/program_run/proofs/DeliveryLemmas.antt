@@ -34,7 +34,8 @@ pub delivers_moved : (programs : List CoreProgram) (pick : Pick) (front : Option
     → ((before : History) → HasSeen old.config before old.observer
     → HasSeen old.config (after_message old.config.lines pick front before) mid.observer)
     → Leads (Performs mid.config programs (slice_of_pick old pick)
-    (slice_get (log_at mid.slices (slice_of_pick old pick)) (length (log_at old.slices (slice_of_pick old pick))))) mid new
+    (slice_get (log_at mid.slices (slice_of_pick old pick)) (length (log_at old.slices (slice_of_pick old pick)))))
+    mid new
     → Leads (Makes old.config programs (moves.Deliver pick)) old new
 delivers_moved programs pick front old mid new same places in_front answered sees performs = record {
   config = performs.config ∙ same;
@@ -56,13 +57,15 @@ delivers_moved programs pick front old mid new same places in_front answered see
               (λ ps. Performs old.config programs (slice_of_pick old pick) entry
               (record { slices = mid.slices; places = ps; history = history }) (run_of new gone.0))
               places
-              (subst (λ c. Performs c programs (slice_of_pick old pick) entry (run_of mid history) (run_of new gone.0)) same gone.2);
+              (subst (λ c. Performs c programs (slice_of_pick old pick) entry (run_of mid history)
+              (run_of new gone.0)) same gone.2);
         },
       );
 }
 
 -- nothing was moved
-pub delivers_nothing : (programs : List CoreProgram) (pick : Pick) (front : Option Message) (answer : Delivered) (old new : RunnerView)
+pub delivers_nothing : (programs : List CoreProgram) (pick : Pick) (front : Option Message) (answer : Delivered)
+    (old new : RunnerView)
     → new.config ≡ old.config → new.places ≡ old.places → new.observer ≡ old.observer → IsInFront old pick front
     → IsAnswered (slice_of_pick old pick) (calls.Deliver pick) (answers.Deliver answer) old.slices new.slices
     → ((history : History) → AfterDelivery old.config programs pick front answer new.slices (run_of old history)
@@ -100,7 +103,8 @@ hands_out programs slice entry old new same known made places sees = record {
   config = same;
   goes = λ before seen.
       let history : History = after_performing old.config.lines entry before in
-      let out : HandsOut true old.config programs slice entry (run_of old before) (run_of new history) = (made, places, refl) in (
+      let out : HandsOut true old.config programs slice entry (run_of old before) (run_of new history) =
+      (made, places, refl) in (
         history,
         sees before seen,
         subst (λ b. HandsOut b old.config programs slice entry (run_of old before) (run_of new history))
@@ -114,7 +118,8 @@ pub hands_nothing : (programs : List CoreProgram) (slice : ℕ) (entry : Entry) 
 hands_nothing programs slice entry runner lacks = record {
   config = refl;
   goes = λ before seen.
-      let still : HandsOut false runner.config programs slice entry (run_of runner before) (run_of runner before) = refl in (
+      let still : HandsOut false runner.config programs slice entry (run_of runner before) (run_of runner before) =
+      refl in (
         before,
         seen,
         subst (λ b. HandsOut b runner.config programs slice entry (run_of runner before) (run_of runner before))

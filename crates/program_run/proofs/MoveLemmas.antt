@@ -23,7 +23,8 @@ module _ {X : Type 0} (f : ℕ → X) (test : ℕ → Bool) where
       let more : map f (filter test (range_with_len 0 (n + 1))) ≡ map f all ++ f n ∷ [] =
       ap (λ xs. map f (filter test xs)) (range-more n) ∙ ap (map f) (filter-append test (range_with_len 0 n) (n ∷ []))
       ∙ ap (λ xs. map f (all ++ xs)) last ∙ map-append f all (n ∷ []) in
-      pushed ∙ ap (λ xs. xs ++ f n ∷ []) so_far ∙ append_assoc before (map f all) (f n ∷ []) ∙ ap (λ xs. before ++ xs) (sym more)
+      pushed ∙ ap (λ xs. xs ++ f n ∷ []) so_far ∙ append_assoc before (map f all) (f n ∷ []) ∙ ap
+      (λ xs. before ++ xs) (sym more)
 
   -- one that fails doesn't
   pub fails_more : (before now : List X) (n : ℕ) → now ≡ before ++ map f (filter test (range_with_len 0 n))
@@ -38,7 +39,8 @@ module _ {X : Type 0} (f : ℕ → X) (test : ℕ → Bool) where
 
 -- what comes of one more item stands behind what came of the others
 pub each_more : {X Y : Type 0} (f : X → List Y) (before now new : List Y) (xs : List X) (i : ℕ) (d : X) → i < length xs
-    → now ≡ before ++ flat_map f (take i xs) → new ≡ now ++ f (get_or xs i d) → new ≡ before ++ flat_map f (take (i + 1) xs)
+    → now ≡ before ++ flat_map f (take i xs) → new ≡ now ++ f (get_or xs i d)
+    → new ≡ before ++ flat_map f (take (i + 1) xs)
 each_more f before now new xs i d within so_far grown =
     grown ∙ ap (λ all. all ++ f (get_or xs i d)) so_far ∙ flat_map_more f before (take i xs) (get_or xs i d)
     ∙ ap (λ these. before ++ flat_map f these) (sym (take_more xs i d within))

@@ -17,7 +17,8 @@ HasMade config programs count old new =
     (moves : List Move) × MakesAll config programs moves old new × (length moves ≡ count)
 
 -- no move was made
-pub made_none : (config : Config) (programs : List CoreProgram) (runner : RunnerView) → Leads (HasMade config programs 0) runner runner
+pub made_none : (config : Config) (programs : List CoreProgram) (runner : RunnerView)
+    → Leads (HasMade config programs 0) runner runner
 made_none config programs runner = record { config = refl; goes = λ before seen. (before, seen, ([], refl, refl)) }
 
 -- one more behind the others
@@ -44,14 +45,16 @@ made_more programs count start now next to made may makes = record {
       let one = made.goes before seen in
       let two = makes.goes one.0 (subst (λ config. HasSeen config one.0 now.observer) (sym made.config) one.1) in
       let allowed : Contains (moves_of start.config programs (run_of now one.0)) to =
-      subst (λ config. Contains (asks_of config programs now.slices now.places ++ deliveries_of now.slices) to) made.config may in
+      subst (λ config. Contains (asks_of config programs now.slices now.places ++ deliveries_of now.slices) to)
+      made.config may in
       let last : Makes start.config programs to (run_of now one.0) (run_of next two.0) =
       subst (λ config. Makes config programs to (run_of now one.0) (run_of next two.0)) made.config two.2 in (
         two.0,
         subst (λ config. HasSeen config two.0 next.observer) made.config two.1,
         (
           one.2.0 ++ to ∷ [],
-          makes_append start.config programs one.2.0 to (run_of start before) (run_of now one.0) (run_of next two.0) one.2.1 allowed last,
+          makes_append start.config programs one.2.0 to (run_of start before) (run_of now one.0) (run_of next two.0)
+              one.2.1 allowed last,
           length-append one.2.0 (to ∷ []) ∙ ap (λ n. n + 1) one.2.2,
         ),
       );
@@ -67,7 +70,8 @@ run_ended programs count start end made none = record {
   goes = λ before seen.
       let all = made.goes before seen in
       let ended : moves_of start.config programs (run_of end all.0) ≡ [] =
-      subst (λ config. asks_of config programs end.slices end.places ++ deliveries_of end.slices ≡ []) made.config none in
+      subst (λ config. asks_of config programs end.slices end.places ++ deliveries_of end.slices ≡ []) made.config
+      none in
       (all.0, all.1, record { steps = all.2.0; made = all.2.1; ended = inl ended });
 }
 
@@ -105,7 +109,11 @@ pub prints_over : (config : Config) (programs : List CoreProgram) (form : Form) 
     → Appends before after (text_of form end.observer.tally seed) → HasSeen config history end.observer
     → PrintsEnd config programs form seed 0 (run_of end history) before after
 prints_over config programs form seed end before after history over printed seen = record {
-  over = λ is. (refl, subst (λ (tally : TallyView). Appends before after (text_of form tally seed)) seen.counts printed);
+  over = λ is. (
+    refl,
+    subst (λ (tally : TallyView). Appends before after (text_of form tally seed)) seen.counts
+        printed,
+  );
   stuck = λ unless. absurd (unless over);
 }
 

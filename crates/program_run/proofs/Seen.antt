@@ -49,18 +49,26 @@ held-decides fates.Lost = (λ (other : false ≡ true). cc, λ (other : fates.Lo
 -- an event is noted where there is a place for it
 pub noted_seen : (config : Config) (history : History) (event : Event) (old new : Observer)
     → new.tally ≡ old.tally → new.memory.lines ≡ old.memory.lines
-    → (HasPlace old.memory.lines event → (before : List Event) → Recalls before old.memory → Recalls (event ∷ before) new.memory)
+    → (HasPlace old.memory.lines event → (before : List Event) → Recalls before old.memory
+    → Recalls (event ∷ before) new.memory)
     → ((HasPlace old.memory.lines event → ⊥) → new.memory ≡ old.memory)
     → HasSeen config history old → HasSeen config (noted config.lines event history) new
 noted_seen config history event old new tally lines there nowhere seen =
-    let place : Decides (has_place config.lines event) (HasPlace config.lines event) = place-decides config.lines event in
+    let place : Decides (has_place config.lines event) (HasPlace config.lines event) = place-decides config.lines
+    event in
     elim (cases_Bool (has_place config.lines event)) [
       | inl passes ↦
-          let here : HasPlace old.memory.lines event = subst (λ n. HasPlace n event) (sym seen.lines) (place.0 passes) in
+          let here : HasPlace old.memory.lines event = subst (λ n. HasPlace n event) (sym seen.lines)
+          (place.0 passes) in
           subst
           (λ b. HasSeen config (if b then record history { happened = event ∷ history.happened } else history) new)
           (sym passes)
-          (record { lines = lines ∙ seen.lines; recalls = there here history.happened seen.recalls; counts = tally ∙ seen.counts })
+          (record {
+            lines = lines ∙ seen.lines;
+            recalls = there here history.happened seen.recalls;
+            counts = tally ∙
+                seen.counts;
+          })
       | inr fails ↦
           let absent : HasPlace old.memory.lines event → ⊥ = λ here.
           let found : has_place config.lines event ≡ true = place.1 (subst (λ n. HasPlace n event) seen.lines here) in
@@ -87,15 +95,18 @@ when_false config test one other observer is seen =
     subst (λ b. HasSeen config (if b then one else other) observer) (sym is) seen
 
 -- what the memory says of a line, the history says
-pub line_seen : (config : Config) (history : History) (core : CoreId) (line : LineAddr) (observer : Observer) (said : Bool)
+pub line_seen : (config : Config) (history : History) (core : CoreId) (line : LineAddr) (observer : Observer)
+    (said : Bool)
     → (core.0 < 64 → line.0 < observer.memory.lines → (before : List Event) → Recalls before observer.memory
     → IsTrue said ↔ fate_of core.0 line.0 before ≡ fates.Held)
     → (IsTrue said → (core.0 < 64) × (line.0 < observer.memory.lines))
     → HasSeen config history observer → said ≡ has_line config.lines core line history
 line_seen config history core line observer said held place seen =
     let fate : Fate = fate_of core.0 line.0 history.happened in
-    let here : line.0 < config.lines → line.0 < observer.memory.lines = λ below. subst (λ n. line.0 < n) (sym seen.lines) below in
-    let there : line.0 < observer.memory.lines → line.0 < config.lines = λ below. subst (λ n. line.0 < n) seen.lines below in
+    let here : line.0 < config.lines → line.0 < observer.memory.lines = λ below. subst (λ n. line.0 < n)
+    (sym seen.lines) below in
+    let there : line.0 < observer.memory.lines → line.0 < config.lines = λ below. subst (λ n. line.0 < n) seen.lines
+    below in
     same_from_decides said (has_line config.lines core line history) (
       λ has.
           let at = place has in
@@ -103,7 +114,8 @@ line_seen config history core line observer said held place seen =
       λ is. (held is.0.0 (here is.0.1) history.happened seen.recalls).1 is.1,
     )
     (Decides-and (nat_lt core.0 64 && nat_lt line.0 config.lines) (is_held fate)
-    (Decides-and (nat_lt core.0 64) (nat_lt line.0 config.lines) (Decides-ltb core.0 64) (Decides-ltb line.0 config.lines))
+    (Decides-and (nat_lt core.0 64) (nat_lt line.0 config.lines) (Decides-ltb core.0 64)
+    (Decides-ltb line.0 config.lines))
     (held-decides fate))
 
 -- whether there is a place for a word
@@ -113,7 +125,8 @@ word-decides lines core word =
     Decides-and (nat_lt core.0 64) (nat_lt word.0 (lines * 8)) (Decides-ltb core.0 64) (Decides-ltb word.0 (lines * 8))
 
 -- a miss with its cause is counted
-pub miss_seen : (config : Config) (history : History) (core : CoreId) (word : WordAddr) (cause : Cause) (old new : Observer)
+pub miss_seen : (config : Config) (history : History) (core : CoreId) (word : WordAddr) (cause : Cause)
+    (old new : Observer)
     → (core.0 < 64) × (word.0 < old.memory.lines * 8) → cause ≡ cause_of core.0 word.0 history.happened
     → HasSeen config history old
     → HasSeen config (counting (counts_as.Miss core (line_of word) cause) history) new
@@ -132,5 +145,6 @@ no_miss_seen config history core word observer nowhere seen =
       | inl passes ↦
           let place = (word-decides config.lines core word).0 passes in
           absurd (nowhere (subst (λ n. (core.0 < 64) × (word.0 < n * 8)) (sym seen.lines) place))
-      | inr fails ↦ when_false config (nat_lt core.0 64 && nat_lt word.0 (config.lines * 8)) _ history observer fails seen
+      | inr fails ↦ when_false config (nat_lt core.0 64 && nat_lt word.0 (config.lines * 8)) _ history observer fails
+          seen
     ]

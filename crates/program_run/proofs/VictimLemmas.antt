@@ -37,11 +37,13 @@ pub none_left : (config : Config) (slices : List PartsView) (history : History) 
     (lines step first count : ℕ) → lines ≡ config.lines → step ≡ config.slices * config.sets → 0 < step
     → first ≡ line.0 % step → lines / step < count
     → ((k : ℕ) → k < count → (has_line config.lines core (record { 0 = first + k * step }) history
-    && is_leaving_in (slice_get slices ((first + k * step) % config.slices)) core (record { 0 = first + k * step })) ≡ false)
+    && is_leaving_in (slice_get slices ((first + k * step) % config.slices)) core (record { 0 = first + k * step }))
+    ≡ false)
     → IsVictim config slices history core line None
 none_left config slices history core line lines step first count long size some begins most fails = λ left is.
     let place : ℕ = left.0 / step in
-    let had = and_parts (nat_lt core.0 64 && nat_lt left.0 config.lines) (is_held (fate_of core.0 left.0 history.happened)) is.had in
+    let had = and_parts (nat_lt core.0 64 && nat_lt left.0 config.lines)
+    (is_held (fate_of core.0 left.0 history.happened)) is.had in
     let below : left.0 < config.lines =
     ltb-true left.0 config.lines (and_parts (nat_lt core.0 64) (nat_lt left.0 config.lines) had.0).1 in
     let under : place * step ≤ left.0 = div-mul-le_self left.0 step in

@@ -1,5 +1,5 @@
--- A run of programs: what may come next, and what each move does to the machine, to where programs stand, and to what is
--- seen.
+-- A run of programs: what may come next, and what each move does to the machine, to where programs stand, and to what
+-- is seen.
 use Rattle.std.specs.Prelude.{◌≡◌, ◌⊎◌, ℕ, ◌*◌, ◌-◌, ◌^◌, ◌+◌, ◌%◌, ◌==◌, ◌||◌, nat_lt, not, Bool, true, false, if◌then◌else◌, List, [], ◌∷◌, ◌++◌, length, map, filter, min, position, replicate, slice_get, slice_set, codes, decimal, All, Contains, Option, None, Some}
 use Rattle.std.specs.Io.KnownBytes.{Appends}
 use Rattle.std.specs.List.{flat_map, range_with_len}
@@ -129,7 +129,8 @@ moves_of config programs run = asks_of config programs run.slices run.places ++ 
 -- a program has asked for one more, and its core waits for it or doesn't
 abbrev pub gone_on : ℕ → Bool → Option Place → List Place → List Place
 gone_on number waits None places = places
-gone_on number waits (Some place) places = slice_set places number (record { asked = min (place.asked + 1) (2 ^ 64 - 1); waits = waits })
+gone_on number waits (Some place) places =
+    slice_set places number (record { asked = min (place.asked + 1) (2 ^ 64 - 1); waits = waits })
 
 -- another line has to leave for the access
 abbrev pub makes_room : Decision → Bool
@@ -147,7 +148,8 @@ is_leaving_in None core line = false
 is_leaving_in (Some state) core line = is_leaving_copy (copy_at state.view core (local_at state.view.lines line.0))
 
 -- the core had the line, which is of the same set as the other, and its copy is leaving
-pub record HasLeft (config : Config) (slices : List PartsView) (history : History) (core : CoreId) (line left : LineAddr) : Type 0 where
+pub record HasLeft (config : Config) (slices : List PartsView) (history : History) (core : CoreId)
+    (line left : LineAddr) : Type 0 where
   pub same_set : left.0 % (config.slices * config.sets) ≡ line.0 % (config.slices * config.sets)
   pub had : has_line config.lines core left history ≡ true
   pub leaves : is_leaving_in (slice_get slices (left.0 % config.slices)) core left ≡ true
@@ -220,9 +222,10 @@ Performs config programs slice None old new = new ≡ old
 Performs config programs slice (Some entry) old new =
     HandsOut (nat_lt entry.core.0 config.cores) config programs slice entry old new
 
--- What a delivery comes to: where the message was moved it is counted, and the access that it let be performed, the first
--- that is new in the slice's log, is seen.
-abbrev pub AfterDelivery : Config → List CoreProgram → Pick → Option Message → Delivered → List PartsView → RunState → RunState → Type 0
+-- What a delivery comes to: where the message was moved it is counted, and the access that it let be performed, the
+-- first that is new in the slice's log, is seen.
+abbrev pub AfterDelivery : Config → List CoreProgram → Pick → Option Message → Delivered → List PartsView
+    → RunState → RunState → Type 0
 AfterDelivery config programs pick front delivered.Moved slices old new =
     let slice : ℕ = (line_of_pick pick).0 % config.slices in
     let moved : RunState = record {
@@ -240,14 +243,16 @@ pub record Delivers (config : Config) (programs : List CoreProgram) (pick : Pick
       (λ state. front ≡ front_at state.view (local_at state.view.lines (line_of_pick pick).0) (channel_of pick))
   pub answer : Delivered
   pub slices : List PartsView
-  pub answered : IsAnswered ((line_of_pick pick).0 % config.slices) (calls.Deliver pick) (answers.Deliver answer) old.slices slices
+  pub answered : IsAnswered ((line_of_pick pick).0 % config.slices) (calls.Deliver pick) (answers.Deliver answer)
+      old.slices slices
   pub after : AfterDelivery config programs pick front answer slices old new
 
 -- ---- a run
 
 -- the move is made
 abbrev pub Makes : Config → List CoreProgram → Move → RunState → RunState → Type 0
-Makes config programs (moves.Ask number) old new = Asks config number (next_of config.cores programs old.places number) old new
+Makes config programs (moves.Ask number) old new =
+    Asks config number (next_of config.cores programs old.places number) old new
 Makes config programs (moves.Deliver pick) old new = Delivers config programs pick old new
 
 -- these moves are made, one after another, each one of those that may come next
@@ -298,7 +303,8 @@ pub record RunnerView : Type 0 where
   pub observer : Observer
 
 -- a runner of a new machine, each program before its first access, and nothing seen
-pub record IsNewRunner (machine : Config) (bound : Bound) (programs : List CoreProgram) (runner : RunnerView) : Type 0 where
+pub record IsNewRunner (machine : Config) (bound : Bound) (programs : List CoreProgram)
+    (runner : RunnerView) : Type 0 where
   pub config : runner.config ≡ machine
   pub fresh : IsNewMachine machine bound runner.slices
   pub first : runner.places ≡ replicate (length programs) first_place
@@ -326,13 +332,15 @@ abbrev pub text_of_stuck : ℕ → List ℕ
 text_of_stuck seed = codes "stuck seed " ++ decimal seed ++ codes "\n"
 
 -- what a run prints, and its status: the report on what was counted where it is over, and else that it is stuck
-pub record PrintsEnd (config : Config) (programs : List CoreProgram) (form : Form) (seed status : ℕ) (run : RunState) (before after : Option (List ℕ)) : Type 0 where
+pub record PrintsEnd (config : Config) (programs : List CoreProgram) (form : Form) (seed status : ℕ) (run : RunState)
+    (before after : Option (List ℕ)) : Type 0 where
   pub over : IsOver programs run → (status ≡ 0)
       × Appends before after (text_of form (tally_after (new_tally config.cores config.lines) run.history.counted) seed)
   pub stuck : ¬ IsOver programs run → (status ≡ 1) × Appends before after (text_of_stuck seed)
 
 -- The programs are run on a new machine, and what the run's end prints is written.
-pub record IsProgramsRun (config : Config) (bound : Bound) (programs : List CoreProgram) (form : Form) (seed status : ℕ) (before after : Option (List ℕ)) : Type 0 where
+pub record IsProgramsRun (config : Config) (bound : Bound) (programs : List CoreProgram) (form : Form) (seed status : ℕ)
+    (before after : Option (List ℕ)) : Type 0 where
   pub start : RunState
   pub new : IsNewRun config bound programs start
   pub end : RunState

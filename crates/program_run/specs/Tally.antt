@@ -50,7 +50,8 @@ abbrev pub one_more : Counted → Counts → Counts
 one_more (counts_as.Hit core line) counts = record counts { hits = counted counts.hits }
 one_more (counts_as.Miss core line cause) counts = one_more_miss cause counts
 one_more (counts_as.Eviction core line) counts = record counts { evictions = counted counts.evictions }
-one_more (counts_as.Message pick) counts = record counts { messages = one_more_message (channel_of pick) counts.messages }
+one_more (counts_as.Message pick) counts =
+    record counts { messages = one_more_message (channel_of pick) counts.messages }
 
 -- the core of a message: the one that sent the request, or got any other; a block on its way home has none
 abbrev pub core_of_message : Pick → Option CoreId

@@ -1,8 +1,8 @@
 //! Runs programs without threads, in an order that a seed draws, and reports what was counted.
 //!
 //! A core asks for its next access once the one before was performed. At each step one of the possible moves is drawn,
-//! each as likely as the others ([`Xoshiro256++`] of the seed): the next access of a core, where it doesn't stall, or the
-//! next delivery of a slice, where one can be made. So the same seed runs the same way on every machine.
+//! each as likely as the others ([`Xoshiro256++`] of the seed): the next access of a core, where it doesn't stall, or
+//! the next delivery of a slice, where one can be made. So the same seed runs the same way on every machine.
 //!
 //! - src/runner.rt: the machine, where each program stands, and what a move does (`Makes` of specs/Run.antt).
 //! - src/moves.rt: what may come next (`moves_of`). src/victim.rt: which line left to make room for another.

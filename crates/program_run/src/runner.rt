@@ -62,7 +62,8 @@ impl<F: MissFile> Runner<F> {
 
     /// Each program stands before its first access, on a new machine.
     pub fn new(alloc: Global, programs: &Programs) -> Result<Self, TextFault>
-        ensures { IfOk result (IsNewRunner programs.now.config (F.bound_by programs.now.config) programs.now.cores.items) }
+        ensures { IfOk result
+            (IsNewRunner programs.now.config (F.bound_by programs.now.config) programs.now.cores.items) }
     {
         let config = copy_of(alloc, &programs.config)?;
         let Ok(observer) = Observer::new(alloc, &config) else {
@@ -166,7 +167,8 @@ impl<F: MissFile> Runner<F> {
     // What the slice performed behind so many entries is handed out.
     fn perform(&mut self, programs: &[CoreProgram], slice: SliceId, before: usize)
         requires { slice.0 < self.old.config.slices }
-        ensures { Leads (Performs self.old.config programs.now slice.0 (slice_get (log_at self.old.slices slice.0) before))
+        ensures { Leads
+            (Performs self.old.config programs.now slice.0 (slice_get (log_at self.old.slices slice.0) before))
             self.old self.new }
     {
         match entry_at(&self.machine, slice, before) {

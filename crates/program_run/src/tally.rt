@@ -37,8 +37,8 @@ pub(crate) enum Counted {
 }
 
 impl Counted {
-    /// The core of which it is counted. That of a message is the one that sent the request, or got any other; a block on
-    /// its way home has none.
+    /// The core of which it is counted. That of a message is the one that sent the request, or got any other; a block
+    /// on its way home has none.
     fn core(self) -> Option<CoreId>
         ensures { result ≡ core_of self }
     {

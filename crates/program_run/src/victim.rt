@@ -49,7 +49,8 @@ fn has_left<F: MissFile>(
 
 fn is_leaving<F: MissFile>(machine: &Machine<F>, core: CoreId, line: LineAddr) -> bool
     requires { HasCore machine.now.config core }
-    ensures { result ≡ is_leaving_in (slice_get machine.now.slices.items (line.0 % machine.now.config.slices)) core line }
+    ensures { result
+        ≡ is_leaving_in (slice_get machine.now.slices.items (line.0 % machine.now.config.slices)) core line }
 {
     let slice = machine.slice_of(line);
     match machine.slices[slice].copy(core, line) {

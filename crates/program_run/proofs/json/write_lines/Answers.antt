@@ -11,7 +11,8 @@ use Rattle.program_run.proofs.Commas.{at_range, next_text, skip_text}
 use Rattle.program_run.proofs.json.write_lines.Goals as goal
 
 -- the texts of a line and of those behind it, by whether the line was asked for
-texts_by : (first : Bool) (counts : List Counts) (line : ℕ) (rest : List ℕ) (asked : Bool) → is_asked counts line ≡ asked
+texts_by : (first : Bool) (counts : List Counts) (line : ℕ) (rest : List ℕ) (asked : Bool)
+    → is_asked counts line ≡ asked
     → with_commas_from first (objects_of_lines counts (line ∷ rest))
     ≡ with_commas_from first (map (λ l. line_object l (counts_at counts l))
     (cond asked (line ∷ filter (is_asked counts) rest) (filter (is_asked counts) rest)))

@@ -9,5 +9,6 @@ abbrev pub invariant-loop-line : goal.invariant-loop-line
 invariant-loop-line g l =
     let took = g.W.Write.write_str_gives in
     (new : g.row.W.Denot)
-    → WritesInCalls took l.out (with_commas_from l.is_first (objects_of_lines l.lines (drop l.line (range_with_len 0 (length l.lines))))) new
+    → WritesInCalls took l.out (with_commas_from l.is_first (objects_of_lines l.lines
+    (drop l.line (range_with_len 0 (length l.lines))))) new
     → WritesInCalls took l.fn.out (line_objects_of l.lines) new

@@ -7,13 +7,16 @@ use Rattle.program_run.proofs.json.write_members.Goals as goal
 
 pub loop-column-preserved : goal.loop-column-preserved
 loop-column-preserved g c = λ new rest.
-    let all = λ (first : Bool) (columns : List Column). with_commas_from first (map (member_of c.args.counts.now) columns) in
+    let all = λ (first : Bool) (columns : List Column). with_commas_from first
+    (map (member_of c.args.counts.now) columns) in
     c.loop-column.invariant new
     (next_text g.W.Write.write_str_gives all c.loop-column.is_first c.args.columns.now c.loop-column.column-index _ _
     c.loop-column-test.true refl _ _ _ new c.in_ok-write_comma.ensures c.in_ok-write_member.ensures rest)
 
 pub returns : goal.returns
 returns g c =
-    let all = λ (columns : List Column). with_commas_from c.loop-column.is_first (map (member_of c.args.counts.now) columns) in
+    let all = λ (columns : List Column). with_commas_from c.loop-column.is_first
+    (map (member_of c.args.counts.now) columns) in
     c.loop-column.invariant _
-    (last_piece g.W.Write.write_str_gives all c.args.columns.now c.loop-column.column-index c.loop-column-test.false refl _)
+    (last_piece g.W.Write.write_str_gives all c.args.columns.now c.loop-column.column-index c.loop-column-test.false
+    refl _)

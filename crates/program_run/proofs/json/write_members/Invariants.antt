@@ -8,5 +8,6 @@ abbrev pub invariant-loop-column : goal.invariant-loop-column
 invariant-loop-column g l =
     let took = g.W.Write.write_str_gives in
     (new : g.row.W.Denot)
-    → WritesInCalls took l.out (with_commas_from l.is_first (map (member_of l.counts) (drop l.column-index l.columns))) new
+    → WritesInCalls took l.out (with_commas_from l.is_first (map (member_of l.counts)
+    (drop l.column-index l.columns))) new
     → WritesInCalls took l.fn.out (members_of l.columns l.counts) new

@@ -9,4 +9,5 @@ use Rattle.program_run.proofs.moves.list_asks.Given as goal
 abbrev pub invariant-loop-number : goal.invariant-loop-number
 invariant-loop-number g l =
     l.moves.items ≡ l.initial.moves.items
-    ++ map moves.Ask (filter (may_ask l.machine.config l.programs l.machine.slices.items l.places) (range_with_len 0 l.number))
+    ++ map moves.Ask (filter (may_ask l.machine.config l.programs l.machine.slices.items l.places)
+    (range_with_len 0 l.number))

@@ -10,7 +10,8 @@ loop-core-preserved g c = λ new rest.
     let row = λ (core : ℕ). row_of core core_columns (counts_at c.args.cores.now core) in
     let next = rw c.core_columns.ensures at c.in_ok-write_row.ensures in
     c.loop-core.invariant new
-    (next_number g.W.Write.write_str_gives row (length c.args.cores.now) c.loop-core.core c.loop-core-test.true _ _ new next rest)
+    (next_number g.W.Write.write_str_gives row (length c.args.cores.now) c.loop-core.core c.loop-core-test.true _ _
+    new next rest)
 
 pub returns : goal.returns
 returns g c =

@@ -8,5 +8,6 @@ pub loop-column-preserved : goal.loop-column-preserved
 loop-column-preserved g c = λ new rest.
     let next = rw c.count.ensures at c.in_ok-write_number.ensures in
     c.loop-column.invariant new
-    (next_piece g.W.Write.write_str_gives (λ (columns : List Column). counts_of columns c.args.counts.now) c.args.columns.now _ _ _
+    (next_piece g.W.Write.write_str_gives (λ (columns : List Column). counts_of columns c.args.counts.now)
+    c.args.columns.now _ _ _
     c.loop-column-test.true refl _ _ new next rest)

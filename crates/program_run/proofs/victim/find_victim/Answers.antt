@@ -20,7 +20,11 @@ returns g c = λ history seen.
     let line = c.args.line.0 in
     let step = c.slices.result * c.sets.result in
     let size : step ≡ config.slices * config.sets = cc (c.slices.ensures.slices, c.sets.ensures.sets) in
-    let some_slice : 0 < c.slices.result = omega (arith, c.slices.ensures.slices, c.slices.ensures.allowed.some_slice) in
+    let some_slice : 0 < c.slices.result = omega (
+      arith,
+      c.slices.ensures.slices,
+      c.slices.ensures.allowed.some_slice,
+    ) in
     let some_set : 0 < c.sets.result = omega (arith, c.sets.ensures.sets, c.sets.ensures.allowed.some_set) in
     let end : c.lines.result / step + 1 ≤ c.loop-place.place = c.loop-place-test.false in
     none_left config c.args.machine.now.slices.items history c.args.core c.args.line c.lines.result step (line % step)

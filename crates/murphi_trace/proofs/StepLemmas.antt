@@ -29,4 +29,5 @@ text_more before (Some step) more = refl
 pub told_step : (line : List ℕ) (fired : List ℕ × List ℕ) (rule : Rule) → Some fired ≡ fired_by line
     → Some rule ≡ rule_of fired → step_by line ≡ Some (fired, rule)
 told_step line fired rule told is =
-    sym (from_some with_rule (fired_by line) fired (Some (fired, rule)) told (ap (option_map (λ (r : Rule). (fired, r))) is))
+    sym (from_some with_rule (fired_by line) fired (Some (fired, rule)) told
+    (ap (option_map (λ (r : Rule). (fired, r))) is))

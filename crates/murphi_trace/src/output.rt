@@ -29,7 +29,8 @@ pub(crate) fn put_machine<W: Write>(cores: u8, exclusive: bool, out: &mut W) -> 
 }
 
 fn write_machine<W: fmt::Write>(cores: u8, exclusive: bool, out: &mut W) -> fmt::Result
-    ensures { OnOk result (WritesInCalls W.write_str_gives out.old (text_of_lines (machine_lines cores exclusive)) out.new) }
+    ensures { OnOk result (WritesInCalls W.write_str_gives out.old
+        (text_of_lines (machine_lines cores exclusive)) out.new) }
 {
     writeln!(out, "cores {cores}")?;
     write_exclusive(exclusive, out)
@@ -47,7 +48,8 @@ fn write_exclusive<W: fmt::Write>(exclusive: bool, out: &mut W) -> fmt::Result
 
 /// Writes a rule's name and its cores as a comment.
 pub(crate) fn put_comment<W: Write>(fired: Fired<'_>, out: &mut W) -> fmt::Result
-    ensures { OnOk result (Appends (W.contents out.old) (W.contents out.new) (comment_of (name_and_cores fired.entry))) }
+    ensures { OnOk result (Appends (W.contents out.old) (W.contents out.new)
+        (comment_of (name_and_cores fired.entry))) }
 {
     put(b"# ", out)?;
     put(fired.name, out)?;

@@ -27,9 +27,9 @@ const WORD: WordAddr = WordAddr(0);
 
 const SLICE: SliceId = SliceId(0);
 
-/// Writes the run that a trace tells of as a script: for each rule its name as a comment, and the command that does the
-/// same. The machine has the cores that take part, and the exclusive state where a message of it comes up. All else of a
-/// trace is passed over. Answers the exit status.
+/// Writes the run that a trace tells of as a script: for each rule its name as a comment, and the commands that do the
+/// same. The machine has the cores that take part, and the exclusive state where a message of it comes up. All else of
+/// a trace is passed over. Answers the exit status.
 pub fn run_trace<W: Write>(trace: &[u8], out: &mut W) -> Result<u8, TextFault>
     ensures status { IfOk result (λ status. status ≡ 0) }
     ensures printed { OnOk result (Appends (W.contents out.old) (W.contents out.new) (script_of trace.now)) }
@@ -101,7 +101,8 @@ fn tells_of_data_e(line: &[u8]) -> bool
 
 /// Writes the steps.
 fn write_steps<W: Write>(trace: &[u8], out: &mut W) -> fmt::Result
-    ensures { OnOk result (Appends (W.contents out.old) (W.contents out.new) (text_of_steps [] (steps_in (lines trace.now)))) }
+    ensures { OnOk result (Appends (W.contents out.old) (W.contents out.new)
+        (text_of_steps [] (steps_in (lines trace.now)))) }
 {
     let mut tags = [None; CORES];
     for line in Lines::of(trace) {
@@ -152,7 +153,8 @@ fn write_access<W: Write>(
 ) -> fmt::Result
     requires { core.0 < 10 }
     ensures text { (before : List Rule) → AreTags tags.old before → OnOk result
-        (Appends (W.contents out.old) (W.contents out.new) (text_of_commands (access_of (accesses_of core.0 before) core op))) }
+        (Appends (W.contents out.old) (W.contents out.new)
+        (text_of_commands (access_of (accesses_of core.0 before) core op))) }
     ensures tags { (before : List Rule) (rule : Rule) → IsAccess core.0 rule → AreTags tags.old before
         → AreTags tags.new (before ++ rule ∷ []) }
 {

@@ -67,7 +67,9 @@ ended_said said block outer after stands is =
     (λ (bs : List Block).
     let new : Said = record { settings = said.settings; programs = after; blocks = outer } in new ≡ ended bs said)
     (sym stands)
-    (ap (λ (ps : List Program). let s : Said = record { settings = said.settings; programs = ps; blocks = outer } in s) is)
+    (ap
+    (λ (ps : List Program). let s : Said = record { settings = said.settings; programs = ps; blocks = outer } in s)
+    is)
 
 pub ended_counted : (said : Said) (block : Block) (outer : List Block) (after : List Program)
     (accesses before next : ℕ) → said.blocks ≡ block ∷ outer → 1 ≤ length said.programs

@@ -21,7 +21,8 @@ pub spread_more : (op : Op) (first word : ℕ) (old now : List Access) → first
 spread_more op first word old now order is =
     let count : word + 1 - first ≡ word - first + 1 = omega arith in
     let more = map-range_with_len_more (access_to op) first (word - first) word (omega arith) in
-    rw (is, count, more) (append_assoc old (map (access_to op) (range_with_len first (word - first))) (access_to op word ∷ []))
+    rw (is, count, more)
+    (append_assoc old (map (access_to op) (range_with_len first (word - first))) (access_to op word ∷ []))
 
 -- an access more of those that stand there already
 pub again_more : (old now : List Access) (start place : ℕ) (access : Access) → start ≤ place → place < length old
@@ -206,7 +207,8 @@ pub count_changed : (change : List Access → List Access) (programs : List Prog
     ≡ count_of programs + last_accesses (with_accesses change programs)
 count_changed change [] some = absurd (omega arith)
 count_changed change (program ∷ earlier) some =
-    let after : count_of (with_accesses change (program ∷ earlier)) ≡ length (change program.1) + count_of earlier = refl in
+    let after : count_of (with_accesses change (program ∷ earlier)) ≡ length (change program.1) + count_of earlier =
+    refl in
     let before : count_of (program ∷ earlier) ≡ length program.1 + count_of earlier = refl in
     let last : last_accesses (with_accesses change (program ∷ earlier)) ≡ length (change program.1) = refl in
     let first : last_accesses (program ∷ earlier) ≡ length program.1 = refl in

@@ -37,6 +37,8 @@ pub so_never : first_so [] ≡ None
 unfolding first_so
 so_never = refl
 
+pub ruleset in_order = (so_here, so_later, so_never)
+
 -- an access is judged, and said, by its range and what it does
 pub access_fault : (said : Said) (range : Range) (op : Op)
     → fault_of said (line_of (read_lines.Access range op)) ≡ first_so (access_faults said range.first range.last op)
@@ -60,8 +62,8 @@ too_many_spread said first last op some order =
     ap (nat_lt 1000000) (sym (count_spread said.programs first last op some order))
 
 -- where nothing is wrong, no test is so
-pub none_so : (test : Bool) (fault : LineFault) (more : List (Bool × LineFault)) → first_so ((test, fault) ∷ more) ≡ None
-    → (test ≡ false) × (first_so more ≡ None)
+pub none_so : (test : Bool) (fault : LineFault) (more : List (Bool × LineFault))
+    → first_so ((test, fault) ∷ more) ≡ None → (test ≡ false) × (first_so more ≡ None)
 unfolding first_so
 none_so true fault more none = absurd (cc)
 none_so false fault more none = (refl, none)
@@ -153,7 +155,9 @@ pub record EndsWith (blocks : List Block) (last : Block) : Type 0 where
 the_last : (blocks : List Block) (i : ℕ) (last : Block) → length blocks ≡ i + 1 → slice_get blocks i ≡ Some last
     → EndsWith blocks last
 the_last [] i last count at = absurd (omega arith)
-the_last (x ∷ []) zero last count at = let same : x ≡ last = cc in record { front = []; is = ap (λ (b : Block). b ∷ []) same }
+the_last (x ∷ []) zero last count at =
+    let same : x ≡ last = cc in
+    record { front = []; is = ap (λ (b : Block). b ∷ []) same }
 the_last (x ∷ []) (suc i) last count at = absurd (omega arith)
 the_last (x ∷ y ∷ more) zero last count at = absurd (omega arith)
 the_last (x ∷ y ∷ more) (suc i) last count at =
@@ -215,7 +219,8 @@ any_map f p [] = refl
 any_map f p (x ∷ xs) = ap (λ b. p (f x) || b) (any_map f p xs)
 
 pub has_program-of : (core : ℕ) (cores : List CoreProgram)
-    → has_program core (reverse (map program_of cores)) ≡ list_any (λ (program : CoreProgram). program.core.0 == core) cores
+    → has_program core (reverse (map program_of cores))
+    ≡ list_any (λ (program : CoreProgram). program.core.0 == core) cores
 has_program-of core cores =
     any_reverse (λ (program : Program). program.0.0 == core) (map program_of cores)
     ∙ any_map program_of (λ (program : Program). program.0.0 == core) cores

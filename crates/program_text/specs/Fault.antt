@@ -58,7 +58,7 @@ pub record IsMisplaced (said : Said) (words : List (List ℕ)) (fault : LineFaul
   pub written : WritesLine words line
   pub judged : fault_of said line ≡ Some fault
 
--- They write none. They begin as a line that configures, of which they may have the form; or else as a line of a program.
+-- They write none. They begin as a line that configures, of which they may have the form, or else as another line.
 pub record IsMalformedSetting (words : List (List ℕ)) (fault : LineFault) : Type 0 where
   pub begins : BeginsAsSetting words
   pub none : (line : Line) → ¬ WritesLine words line

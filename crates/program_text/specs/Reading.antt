@@ -8,6 +8,7 @@ use Rattle.litmus_text.specs.declared.fault.LineFault.{LineFault}
 use Rattle.litmus_text.specs.declared.fault.LineFault.TheVariants as faults
 use Rattle.litmus_text.specs.declared.fault.TextFault.{TextFault}
 use Rattle.litmus_text.specs.declared.fault.TextFault.TheVariants as text_faults
+use Rattle.litmus_text.specs.declared.statement.Statement.{Statement as ReadStatement}
 use Rattle.litmus_text.specs.declared.settings.Settings.{Settings}
 use Rattle.program_text.specs.declared.line.Line.{Line as ReadLine}
 use Rattle.program_text.specs.declared.programs.Programs.{Programs}
@@ -49,6 +50,10 @@ pub record IsCounted (reader : Reader) : Type 0 where
   pub begun : 1 ≤ length reader.blocks.items → 1 ≤ length reader.programs.cores.items
   pub checked : first_fault reader.programs.config ≡ None
   pub allowed : IsAllowed reader.programs.config
+
+-- a line that was read, by its number and its words
+abbrev pub said_in : ReadStatement → Statement
+said_in statement = (statement.number, map (λ w. w.now) statement.words.items)
 
 -- so much was said before the statements that are left
 pub record IsReading (all : List Statement) (said : Said) (left : List Statement) : Type 0 where

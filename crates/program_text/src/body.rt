@@ -35,7 +35,8 @@ impl Reader {
     fn begin(&mut self, alloc: Global, core: u64) -> Result<(), AllocError>
         requires counted { IsCounted self.old }
         requires may { fault_of (said_by self.old) (begin core) ≡ None }
-        ensures said { OnOk result ((number : ℕ) → said_by self.new ≡ said_line (said_by self.old) number (begin core)) }
+        ensures said { OnOk result
+            ((number : ℕ) → said_by self.new ≡ said_line (said_by self.old) number (begin core)) }
         ensures counted { OnOk result (IsCounted self.new) }
     {
         self.programs.cores.push(CoreProgram {

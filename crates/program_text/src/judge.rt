@@ -31,7 +31,7 @@ impl Reader {
         }
     }
 
-    #[tactic(auto, using(crate::proofs::JudgedLemmas::so_here, crate::proofs::JudgedLemmas::so_later, crate::proofs::JudgedLemmas::so_never), unfolding(crate::specs::Judged::fault_of))]
+    #[tactic(auto, using(crate::proofs::JudgedLemmas::in_order), unfolding(crate::specs::Judged::fault_of))]
     fn may_begin(&self, core: u64) -> Result<(), LineFault>
         ensures may { OnOk result (fault_of (said_by self.now) (begin core) ≡ None) }
         ensures fault { IfErr result (λ fault. fault_of (said_by self.now) (begin core) ≡ Some fault) }
@@ -45,7 +45,7 @@ impl Reader {
         Ok(())
     }
 
-    #[tactic(auto, using(crate::proofs::JudgedLemmas::so_here, crate::proofs::JudgedLemmas::so_later, crate::proofs::JudgedLemmas::so_never))]
+    #[tactic(auto, using(crate::proofs::JudgedLemmas::in_order))]
     fn may_access(&self, range: Range, op: Op) -> Result<(), LineFault>
         requires { IsCounted self.now }
         ensures may { OnOk result (first_so (access_faults (said_by self.now) range.first range.last op) ≡ None) }
@@ -67,7 +67,7 @@ impl Reader {
         Ok(())
     }
 
-    #[tactic(auto, using(crate::proofs::JudgedLemmas::so_here, crate::proofs::JudgedLemmas::so_later, crate::proofs::JudgedLemmas::so_never), unfolding(crate::specs::Judged::fault_of))]
+    #[tactic(auto, using(crate::proofs::JudgedLemmas::in_order), unfolding(crate::specs::Judged::fault_of))]
     fn may_repeat(&self, times: u64) -> Result<(), LineFault>
         ensures may { OnOk result (fault_of (said_by self.now) (repeat times) ≡ None) }
         ensures fault { IfErr result (λ fault. fault_of (said_by self.now) (repeat times) ≡ Some fault) }
@@ -81,7 +81,7 @@ impl Reader {
         Ok(())
     }
 
-    #[tactic(auto, using(crate::proofs::JudgedLemmas::so_here, crate::proofs::JudgedLemmas::so_later, crate::proofs::JudgedLemmas::so_never), unfolding(crate::specs::Judged::fault_of))]
+    #[tactic(auto, using(crate::proofs::JudgedLemmas::in_order), unfolding(crate::specs::Judged::fault_of))]
     fn may_end(&self) -> Result<(), LineFault>
         requires { IsCounted self.now }
         ensures may { OnOk result (fault_of (said_by self.now) end ≡ None) }
@@ -123,7 +123,8 @@ impl Reader {
     // Whether the machine lacks the core, or it has a program.
     #[tactic(auto, unfolding(crate::specs::Reading::said_by))]
     fn may_not_run(&self, core: u64) -> bool
-        ensures { result ≡ (lacks_core (said_by self.now).settings.config core || has_program core (said_by self.now).programs) }
+        ensures { result ≡ (lacks_core (said_by self.now).settings.config core
+            || has_program core (said_by self.now).programs) }
     {
         self.lacks_core(core) || self.has_program(core)
     }
@@ -160,7 +161,8 @@ impl Reader {
     // Whether a counter refuses the access.
     #[tactic(auto, unfolding(crate::specs::Reading::said_by))]
     fn overwrites_counter(&self, range: Range, op: Op) -> bool
-        ensures { result ≡ (overwrites_word op && has_counter (said_by self.now).settings.config range.first range.last) }
+        ensures { result ≡ (overwrites_word op
+            && has_counter (said_by self.now).settings.config range.first range.last) }
     {
         overwrites(op) && self.has_counter(range.first, range.last)
     }

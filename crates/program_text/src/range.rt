@@ -72,7 +72,8 @@ fn parse_span(text: &[u8], at: usize) -> Result<Range, LineFault>
 /// What stands behind the dot at this place and another.
 fn behind_dots(text: &[u8], at: usize) -> Option<&[u8]>
     requires { at < length text.now }
-    ensures some { IfSome result (λ behind. (slice_index text.now (at + 1) ≡ 46) × (behind.now ≡ drop (at + 2) text.now)) }
+    ensures some { IfSome result
+        (λ behind. (slice_index text.now (at + 1) ≡ 46) × (behind.now ≡ drop (at + 2) text.now)) }
     ensures none { IfNone result (slice_index text.now (at + 1) ≢ 46) }
 {
     match &text[at + 1..] {

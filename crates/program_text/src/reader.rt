@@ -6,7 +6,7 @@ ghost use Rattle.litmus_text.specs.declared.settings.Settings.{Settings};
 ghost use Rattle.program_text.specs.Fault.{BeginOtherwise, IsFault, IsProgramText, Statement as ReadStatement, programs_of, settings_of};
 ghost use Rattle.program_text.specs.Judged.{fault_of, is_early};
 ghost use Rattle.program_text.specs.Line.{BeginsAsSetting, line_of};
-ghost use Rattle.program_text.specs.Reading.{IsCounted, IsLateFault, IsPlaceFault, IsRead, IsReading, said_by, said_first};
+ghost use Rattle.program_text.specs.Reading.{IsCounted, IsLateFault, IsPlaceFault, IsRead, IsReading, said_by, said_first, said_in};
 ghost use Rattle.program_text.specs.Text.{Program, said_line};
 
 use super::line::Line;
@@ -37,7 +37,8 @@ pub(super) struct Reader {
 impl Programs {
     /// Reads programs. The only faults are want of memory, a faulty line, and a configuration that is refused.
     pub fn read(alloc: Global, input: &[u8]) -> Result<Programs, TextFault>
-        ensures written { IfOk result (λ programs. IsProgramText input.now (settings_of programs) (programs_of programs)) }
+        ensures written { IfOk result
+            (λ programs. IsProgramText input.now (settings_of programs) (programs_of programs)) }
         ensures only { IfOk result (λ programs. (settings : Settings) (others : List Program)
             → IsProgramText input.now settings others
             → (settings ≡ settings_of programs) × (others ≡ programs_of programs)) }
@@ -70,10 +71,10 @@ fn begins_as_setting(words: &[&[u8]]) -> bool
 fn configure(settings: &mut Settings, statement: &Statement<'_>) -> Result<(), TextFault>
     requires { BeginsAsSetting (map (λ w. w.now) statement.now.words.items) }
     ensures reading { OnOk result ((all left : List ReadStatement)
-        → IsReading all (said_first settings.old) ((statement.now.number, map (λ w. w.now) statement.now.words.items) ∷ left)
+        → IsReading all (said_first settings.old) (said_in statement.now ∷ left)
         → IsReading all (said_first settings.new) left) }
     ensures fault { IfErr result (λ fault. (all left : List ReadStatement)
-        → IsReading all (said_first settings.old) ((statement.now.number, map (λ w. w.now) statement.now.words.items) ∷ left)
+        → IsReading all (said_first settings.old) (said_in statement.now ∷ left)
         → IsFault all fault) }
 {
     match ConfigLine::parse(statement.words.as_slice()) {
@@ -98,8 +99,8 @@ impl Reader {
     fn new(alloc: Global, settings: Settings) -> Result<Self, TextFault>
         ensures said { IfOk result (λ reader. said_by reader ≡ said_first settings) }
         ensures counted { IfOk result IsCounted }
-        ensures fault { IfErr result (λ fault. (all left : List ReadStatement) → IsReading all (said_first settings) left
-            → BeginOtherwise left → IsFault all fault) }
+        ensures fault { IfErr result (λ fault. (all left : List ReadStatement)
+            → IsReading all (said_first settings) left → BeginOtherwise left → IsFault all fault) }
     {
         let misses = settings.misses;
         let config = match settings.config.check() {
@@ -127,10 +128,10 @@ impl Reader {
         requires counted { IsCounted self }
         requires begins { ¬ BeginsAsSetting (map (λ w. w.now) first.words.items) }
         ensures read { IfOk result (λ programs. (all : List ReadStatement)
-            → IsReading all (said_by self) ((first.entry.number, map (λ w. w.now) first.entry.words.items) ∷ statements.entry)
+            → IsReading all (said_by self) (said_in first.entry ∷ statements.entry)
             → IsRead all programs) }
         ensures fault { IfErr result (λ fault. (all : List ReadStatement)
-            → IsReading all (said_by self) ((first.entry.number, map (λ w. w.now) first.entry.words.items) ∷ statements.entry)
+            → IsReading all (said_by self) (said_in first.entry ∷ statements.entry)
             → IsFault all fault) }
     {
         let mut reader = self;
@@ -144,8 +145,10 @@ impl Reader {
     /// What was read, where no block is left open.
     fn end(self) -> Result<Programs, TextFault>
         requires { IsCounted self }
-        ensures read { IfOk result (λ programs. (all : List ReadStatement) → IsReading all (said_by self) [] → IsRead all programs) }
-        ensures fault { IfErr result (λ fault. (all : List ReadStatement) → IsReading all (said_by self) [] → IsFault all fault) }
+        ensures read { IfOk result
+            (λ programs. (all : List ReadStatement) → IsReading all (said_by self) [] → IsRead all programs) }
+        ensures fault { IfErr result
+            (λ fault. (all : List ReadStatement) → IsReading all (said_by self) [] → IsFault all fault) }
     {
         let blocks = self.blocks.as_slice();
         match blocks.last() {
@@ -159,12 +162,12 @@ impl Reader {
         requires counted { IsCounted self.old }
         requires begun { is_early (said_by self.old) ≡ false }
         ensures reading { OnOk result ((all left : List ReadStatement)
-            → IsReading all (said_by self.old) ((statement.now.number, map (λ w. w.now) statement.now.words.items) ∷ left)
+            → IsReading all (said_by self.old) (said_in statement.now ∷ left)
             → IsReading all (said_by self.new) left) }
         ensures counted { OnOk result (IsCounted self.new) }
         ensures begun { OnOk result (is_early (said_by self.new) ≡ false) }
         ensures fault { IfErr result (λ fault. (all left : List ReadStatement)
-            → IsReading all (said_by self.old) ((statement.now.number, map (λ w. w.now) statement.now.words.items) ∷ left)
+            → IsReading all (said_by self.old) (said_in statement.now ∷ left)
             → IsFault all fault) }
     {
         let words = statement.words.as_slice();
@@ -179,12 +182,12 @@ impl Reader {
         requires counted { IsCounted self.old }
         requires begins { ¬ BeginsAsSetting (map (λ w. w.now) statement.now.words.items) }
         ensures reading { OnOk result ((all left : List ReadStatement)
-            → IsReading all (said_by self.old) ((statement.now.number, map (λ w. w.now) statement.now.words.items) ∷ left)
+            → IsReading all (said_by self.old) (said_in statement.now ∷ left)
             → IsReading all (said_by self.new) left) }
         ensures counted { OnOk result (IsCounted self.new) }
         ensures begun { OnOk result (is_early (said_by self.new) ≡ false) }
         ensures fault { IfErr result (λ fault. (all left : List ReadStatement)
-            → IsReading all (said_by self.old) ((statement.now.number, map (λ w. w.now) statement.now.words.items) ∷ left)
+            → IsReading all (said_by self.old) (said_in statement.now ∷ left)
             → IsFault all fault) }
     {
         match Line::parse(statement.words.as_slice()) {

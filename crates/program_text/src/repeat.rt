@@ -12,7 +12,8 @@ pub(super) fn push_accesses(
     range: Range,
     op: Op,
 ) -> Result<(), AllocError>
-    ensures { range.first ≤ range.last → OnOk result (accesses.new.items ≡ accesses.old.items ++ spread range.first range.last op) }
+    ensures { range.first ≤ range.last
+        → OnOk result (accesses.new.items ≡ accesses.old.items ++ spread range.first range.last op) }
 {
     let last = range.last;
     for word in range.first..=last {

@@ -1,13 +1,13 @@
 use Rattle.std.proofs.Common.{◌≡◌, ◌∷◌, false, List, map}
 use Rattle.program_text.specs.Fault.{Statement}
 use Rattle.program_text.specs.Judged.{is_early}
-use Rattle.program_text.specs.Reading.{IsCounted, IsReading, said_by}
+use Rattle.program_text.specs.Reading.{IsCounted, IsReading, said_by, said_in}
 use Rattle.program_text.proofs.reader.Reader.read.Given as goal
 
 abbrev pub invariant-loop-statement : goal.invariant-loop-statement
 invariant-loop-statement l = record {
   reading : (all : List Statement)
-      → IsReading all (said_by l.fn.self) ((l.fn.first.number, map (λ w. w.now) l.fn.first.words.items) ∷ l.fn.statements)
+      → IsReading all (said_by l.fn.self) (said_in l.fn.first ∷ l.fn.statements)
       → IsReading all (said_by l.reader) l.statement-iterator;
   counted : IsCounted l.reader;
   begun : is_early (said_by l.reader) ≡ false;

@@ -10,13 +10,13 @@ use Rattle.receipt_ledger.proofs.book.Book.values.Goals as goal
 pub word_now-requires-clause-here : goal.word_now-requires-clause-here
 word_now-requires-clause-here g c =
     counter-line-at g.N.SliceNames.setup g.N.SliceNames.number c.args.state.now.view c.requires.tied.slice
-    c.deref-word-items.result.now c.loop-word.word-index (record { 0 = 0 }) c.loop-word.invariant.words
+    c.deref-counters.result.now c.loop-word.word-index (record { 0 = 0 }) c.loop-word.invariant.words
     c.loop-word-test.true
 
 pub loop-word-preserved : goal.loop-word-preserved
 loop-word-preserved g c =
     let v = c.args.state.now.view in
-    let words = c.deref-word-items.result.now in
+    let words = c.deref-counters.result.now in
     let i = c.loop-word.word-index in
     let none : WordAddr = record { 0 = 0 } in
     let worth : WordAddr → ℕ = λ word. value (initially v.init word.0) v.log word.0 in

@@ -5,10 +5,10 @@ use Rattle.receipt_ledger.proofs.book.Book.values.Given as goal
 
 abbrev pub invariant-loop-word : goal.invariant-loop-word
 invariant-loop-word g l = record {
-  words : l.word-items ≡ counters_of g.N.SliceNames.setup g.N.SliceNames.number;
-  few : length l.word-items ≤ 8;
+  words : l.counters ≡ counters_of g.N.SliceNames.setup g.N.SliceNames.number;
+  few : length l.counters ≤ 8;
   found :
       l.values.items
       ≡ map (λ word. value (initially l.state.view.init word.0) l.state.view.log word.0)
-      (take l.word-index l.word-items);
+      (take l.word-index l.counters);
 }

@@ -13,7 +13,7 @@ use Rattle.address_map.specs.declared.request.Op.{Op}
 use Rattle.address_map.specs.declared.request.Request.{Request}
 use Rattle.core_thread_system.specs.Answers.{AfterAsking, AfterCollect, AfterIssue, refusal_of}
 use Rattle.core_thread_system.specs.Core.{CoreView, port_at, with_port}
-use Rattle.core_thread_system.specs.Program.{HasAccepted, HasMade, IsAccess, accesses_in, accesses_of}
+use Rattle.core_thread_system.specs.Program.{HasAccepted, HasMade, IsSettledBy, accesses_in, accesses_of}
 use Rattle.core_thread_system.specs.Running.{accepted_steps}
 use Rattle.core_thread_system.specs.declared.program.Step.{Step}
 use Rattle.core_thread_system.specs.declared.program.Step.TheVariants as steps
@@ -202,6 +202,10 @@ made-then c a b d first later f l = record {
       (accesses_in c slice later) (f.each slice within) (l.each slice within));
 }
 
+abbrev pub IsAccess : Step → Type 0
+IsAccess (steps.Access word op) = Unit {0}
+IsAccess step = ⊥
+
 -- A step that isn't an access makes none.
 pub made-no-access : (c : Config) (old new : CoreView) (step : Step) → (IsAccess step → ⊥)
     → HasMade c old [] new → HasMade c old (step ∷ []) new
@@ -303,10 +307,22 @@ pub all-made : (c : Config) (a b : CoreView) (program : List Step) (place : ℕ)
 all-made c a b program place end made =
     subst (λ steps. HasMade c a steps b) (ap (λ n. take n program) end ∙ take-length program) made
 
-pub is-access-at : (program : List Step) (place : ℕ) (step : Step) → place < length program
-    → IsAccess (slice_index_or program place step) → IsSomeAnd (slice_get program place) IsAccess
-is-access-at program place step within access =
-    subst (λ found. IsSomeAnd found IsAccess) (sym (slice_get-get_or program place step within)) access
+-- What holds of the step at a place is so of what is found there.
+pub is-step-at : (P : Step → Type 0) (program : List Step) (place : ℕ) (step : Step) → place < length program
+    → P (slice_index_or program place step) → IsSomeAnd (slice_get program place) P
+is-step-at P program place step within holds =
+    subst (λ found. IsSomeAnd found P) (sym (slice_get-get_or program place step within)) holds
+
+-- Where the step at a place settles, no tag is in flight behind it.
+pub settled-at : (program : List Step) (place at : ℕ) (step : Step) (v : CoreView) → place < length program
+    → at + 1 ≡ place + 1 → slice_get program at ≡ Some steps.Settle
+    → IsSettledBy v (slice_index_or program place step) → v.tags ≡ 0
+settled-at program place at step v within same found settled =
+    let is : place ≡ at = omega (arith, same) in
+    let here : IsSomeAnd (slice_get program place) (IsSettledBy v) = is-step-at (IsSettledBy v) program place step within settled in
+    let there : IsSomeAnd (slice_get program at) (IsSettledBy v) =
+    subst (λ n. IsSomeAnd (slice_get program n) (IsSettledBy v)) is here in
+    subst (λ step. IsSomeAnd step (IsSettledBy v)) found there
 
 pub on-err : {A E : Type 0} (answer : Result A E) (P : Type 0) → P → OnErr answer P
 on-err (Ok a) P holds = tt

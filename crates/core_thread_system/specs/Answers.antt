@@ -48,6 +48,10 @@ IsAtItsSlice answer = Unit {0}
 abbrev pub IsJudgedThere : Config → Request → Result Answer Refused → Type 0
 IsJudgedThere c request answer = IsJudged c (slice_of c (line_of request.word)).0 request answer
 
+-- The request is refused for this reason, at the slice that has its word.
+abbrev pub IsRefusal : Config → Request → Refused → Type 0
+IsRefusal c request refused = IsJudgedThere c request (Err refused) × IsAtItsSlice (Err refused)
+
 -- A reply was handed out: it is the receipt's slice whose port has one more receipt, the receipt's tag is no longer in
 -- flight, and the slice after it is asked first the next time.
 pub record HasReceived (c : Config) (old : CoreView) (r : Receipt) (new : CoreView) : Type 0 where

@@ -1,9 +1,10 @@
 -- Programs, and what a core has made of one.
-use Rattle.std.specs.Prelude.{◌≡◌, ℕ, ◌<◌, ◌==◌, if◌then◌else◌, List, [], ◌∷◌, ◌++◌, length, map, take, slice_get, IsSomeAnd}
+use Rattle.std.specs.Prelude.{◌≡◌, ℕ, ◌+◌, ◌<◌, ◌==◌, if◌then◌else◌, List, [], ◌∷◌, ◌++◌, length, map, take, slice_get, IsSomeAnd, Some}
 use Rattle.address_map.specs.Place.{line_of, slice_of}
 use Rattle.address_map.specs.declared.address.WordAddr.{WordAddr}
 use Rattle.address_map.specs.declared.config.Config.{Config}
 use Rattle.address_map.specs.declared.request.Op.{Op}
+use Rattle.core_thread_system.specs.Answers.{IsRefusal}
 use Rattle.core_thread_system.specs.Core.{CoreView, port_at}
 use Rattle.core_thread_system.specs.declared.program.Outcome.{Outcome}
 use Rattle.core_thread_system.specs.declared.program.Outcome.TheVariants as outcomes
@@ -12,6 +13,7 @@ use Rattle.core_thread_system.specs.declared.program.Step.TheVariants as steps
 use Rattle.receipt_ledger.specs.Port.{PortView}
 use Rattle.receipt_ledger.specs.declared.receipt.Ask.{Ask}
 use Rattle.receipt_ledger.specs.declared.receipt.Receipt.{Receipt}
+use Rattle.slice_core_answer.specs.declared.answer.Refused.{Refused}
 
 -- the accesses of a program to words of the slice of this number, in the program's order
 abbrev pub accesses_in : Config → ℕ → List Step → List (WordAddr × Op)
@@ -46,13 +48,27 @@ done_of program (outcomes.Limit at) = take at program
 done_of program (outcomes.Refused at refused) = take at program
 done_of program outcomes.NotRun = []
 
-abbrev pub IsAccess : Step → Type 0
-IsAccess (steps.Access word op) = Unit {0}
-IsAccess step = ⊥
+-- Only an access is refused, and for this reason where a request for its word and operation is, under one of the core's
+-- tags.
+abbrev pub IsReasonFor : Config → Refused → Step → Type 0
+IsReasonFor c refused (steps.Access word op) =
+    (tag : ℕ) × (tag < 64) × IsRefusal c (record { op = op; word = word; tag = tag }) refused
+IsReasonFor c refused step = ⊥
 
--- The program was run. Where it ended before a step, it has such a step; and what is refused is an access.
-abbrev pub IsStepOf : List Step → Outcome → Type 0
-IsStepOf program outcomes.Finished = Unit {0}
-IsStepOf program (outcomes.Limit at) = at < length program
-IsStepOf program (outcomes.Refused at refused) = IsSomeAnd (slice_get program at) IsAccess
-IsStepOf program outcomes.NotRun = ⊥
+-- The program was run. Where it ended before a step, it has such a step, and what is refused there is for a reason.
+abbrev pub IsStepOf : Config → List Step → Outcome → Type 0
+IsStepOf c program outcomes.Finished = Unit {0}
+IsStepOf c program (outcomes.Limit at) = at < length program
+IsStepOf c program (outcomes.Refused at refused) = IsSomeAnd (slice_get program at) (IsReasonFor c refused)
+IsStepOf c program outcomes.NotRun = ⊥
+
+-- a step that settles leaves no tag in flight
+abbrev pub IsSettledBy : CoreView → Step → Type 0
+IsSettledBy v steps.Settle = v.tags ≡ 0
+IsSettledBy v step = Unit {0}
+
+-- A program that finished with a step that settles left no tag in flight.
+abbrev pub EndsSettled : List Step → Outcome → CoreView → Type 0
+EndsSettled program outcomes.Finished v =
+    (at : ℕ) → at + 1 ≡ length program → slice_get program at ≡ Some steps.Settle → v.tags ≡ 0
+EndsSettled program outcome v = Unit {0}

@@ -1,7 +1,9 @@
 -- What the parts of a run answer.
-use Rattle.std.specs.Prelude.{List, [], ◌∷◌, Result, Ok}
+use Rattle.std.specs.Prelude.{◌≡◌, ◌<◌, ℕ, true, false, List, [], ◌∷◌, Option, Some, None, Result, Ok}
+use Rattle.address_map.specs.CoreSet.{has}
+use Rattle.address_map.specs.declared.config.Config.{Config}
 use Rattle.address_map.specs.declared.request.Request.{Request}
-use Rattle.core_thread_system.specs.Program.{IsAccess}
+use Rattle.core_thread_system.specs.Program.{IsReasonFor}
 use Rattle.core_thread_system.specs.declared.program.Step.{Step}
 use Rattle.core_thread_system.specs.declared.program.Step.TheVariants as steps
 use Rattle.core_thread_system.specs.declared.run.Halt.{Halt}
@@ -17,6 +19,11 @@ accepted_steps request (Ok answers.Pending) = steps.Access request.word request.
 accepted_steps request answer = []
 
 -- A step may end a run for want of turns, and an access because it is refused.
-abbrev pub IsHaltOf : Step → Halt → Type 0
-IsHaltOf step halts.Limit = Unit {0}
-IsHaltOf step (halts.Refused refused) = IsAccess step
+abbrev pub IsHaltOf : Config → Step → Halt → Type 0
+IsHaltOf c step halts.Limit = Unit {0}
+IsHaltOf c step (halts.Refused refused) = IsReasonFor c refused step
+
+-- The tag isn't among these, and each lower one is; or all 64 are.
+abbrev pub IsLowestFree : ℕ → Option ℕ → Type 0
+IsLowestFree tags (Some tag) = (tag < 64) × (has tags tag ≡ false) × ((lower : ℕ) → lower < tag → has tags lower ≡ true)
+IsLowestFree tags None = (tag : ℕ) → tag < 64 → has tags tag ≡ true

@@ -1,6 +1,7 @@
 ghost use Rattle.std.specs.Prelude.{◌≡◌, ◌<◌, [], ◌∷◌, IfErr, IfOk, IfSome, None, OnErr, OnOk, if◌then◌else◌};
 ghost use Rattle.address_map.specs.CoreSet.{has};
-ghost use Rattle.core_thread_system.specs.Program.{HasMade, IsStepOf, done_of};
+ghost use Rattle.core_thread_system.specs.Answers.{IsAtItsSlice, IsJudgedThere};
+ghost use Rattle.core_thread_system.specs.Program.{EndsSettled, HasMade, IsSettledBy, IsStepOf, done_of};
 ghost use Rattle.core_thread_system.specs.Running.{IsHaltOf, accepted_steps};
 ghost use Rattle.core_thread_system.specs.declared.program.Step.TheVariants as steps;
 ghost use Rattle.core_thread_system.specs.declared.run.Halt.TheVariants as halts;
@@ -41,7 +42,8 @@ impl<'a, F: MissFile, M: SystemNames> Core<'a, F, M> {
         limit: u64,
     ) -> Outcome
         ensures made { HasMade M.setup self.old (done_of program.now result) self.new }
-        ensures step { IsStepOf program.now result }
+        ensures step { IsStepOf M.setup program.now result }
+        ensures settled { EndsSettled program.now result self.new }
     {
         let mut pace = Pace {
             gate,
@@ -67,7 +69,8 @@ impl<'a, F: MissFile, M: SystemNames> Core<'a, F, M> {
     ) -> Result<(), Halt>
         ensures made { OnOk result (HasMade M.setup self.old (step ∷ []) self.new) }
         ensures halted { OnErr result (HasMade M.setup self.old [] self.new) }
-        ensures reason { IfErr result (IsHaltOf step) }
+        ensures reason { IfErr result (IsHaltOf M.setup step) }
+        ensures settled { OnOk result (IsSettledBy self.new step) }
     {
         match step {
             Step::Access(word, op) => self.access(rt, word, op, pace),
@@ -90,6 +93,7 @@ impl<'a, F: MissFile, M: SystemNames> Core<'a, F, M> {
     ) -> Result<(), Halt>
         ensures made { OnOk result (HasMade M.setup self.old (steps.Access word op ∷ []) self.new) }
         ensures halted { OnErr result (HasMade M.setup self.old [] self.new) }
+        ensures reason { IfErr result (IsHaltOf M.setup (steps.Access word op)) }
     {
         for _ in rt.forever() {
             if self.try_access(rt, word, op, pace)? {
@@ -110,6 +114,7 @@ impl<'a, F: MissFile, M: SystemNames> Core<'a, F, M> {
     ) -> Result<bool, Halt>
         ensures made { IfOk result (λ accepted. HasMade M.setup self.old (if accepted then steps.Access word op ∷ [] else []) self.new) }
         ensures halted { OnErr result (HasMade M.setup self.old [] self.new) }
+        ensures reason { IfErr result (IsHaltOf M.setup (steps.Access word op)) }
     {
         let Some(tag) = free_tag(self.tags_in_flight()) else {
             return Ok(false);
@@ -128,7 +133,9 @@ impl<'a, F: MissFile, M: SystemNames> Core<'a, F, M> {
         request: Request,
         pace: &mut Pace<'_, G>,
     ) -> Result<Answer, Refused>
-        ensures { HasMade M.setup self.old (accepted_steps request result) self.new }
+        ensures made { HasMade M.setup self.old (accepted_steps request result) self.new }
+        ensures judged { IsJudgedThere M.setup request result }
+        ensures slice { IsAtItsSlice result }
     {
         pace.calls = pace.calls.saturating_add(1);
         let _few = self.slices();
@@ -141,6 +148,7 @@ impl<'a, F: MissFile, M: SystemNames> Core<'a, F, M> {
     // Makes turns until no tag is in flight.
     fn land<R: Wait, G: Gate>(&mut self, rt: &R, pace: &mut Pace<'_, G>) -> Result<(), Halt>
         ensures made { HasMade M.setup self.old [] self.new }
+        ensures landed { OnOk result (self.new.tags ≡ 0) }
         ensures reason { IfErr result (λ halt. halt ≡ halts.Limit) }
     {
         for _ in rt.forever() {

@@ -1,5 +1,6 @@
-ghost use Rattle.std.specs.Prelude.{◌≡◌, ◌<◌, false, IfSome};
+ghost use Rattle.std.specs.Prelude.{◌≡◌};
 ghost use Rattle.address_map.specs.CoreSet.{has, with, without};
+ghost use Rattle.core_thread_system.specs.Running.{IsLowestFree};
 
 use address_map::{CoreId, CoreSet};
 
@@ -28,7 +29,12 @@ pub(crate) const fn without_tag(tags: u64, tag: u8) -> u64
 
 /// The lowest tag that isn't among these.
 pub(crate) fn free_tag(tags: u64) -> Option<u8>
-    ensures { IfSome result (λ tag. (tag < 64) × (has tags tag ≡ false)) }
+    ensures { IsLowestFree tags result }
 {
-    (0..64).find(|tag| !has_tag(tags, *tag))
+    for tag in 0..64 {
+        if !has_tag(tags, tag) {
+            return Some(tag);
+        }
+    }
+    None
 }

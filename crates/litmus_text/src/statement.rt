@@ -57,8 +57,8 @@ impl<'a> Statements<'a> {
         }
     }
 
-    /// Reads the next statement into this one, and answers whether there was one. Whoever goes over a text so has one row of
-    /// words for all its lines, which is neither made anew nor copied.
+    /// Reads the next statement into this one, and answers whether there was one. Whoever goes over a text so has one
+    /// row of words for all its lines, which is neither made anew nor copied.
     pub fn read(&mut self, statement: &mut Statement<'a>) -> bool
         ensures read { result ≡ true
             → self.old ≡ (statement.new.number, map (λ w. w.now) statement.new.words.items) ∷ self.new }

@@ -8,7 +8,7 @@ use Rattle.address_map.specs.declared.config.Config.{Config}
 use Rattle.litmus_text.specs.declared.settings.MissKind.{MissKind}
 use Rattle.litmus_text.specs.declared.settings.MissKind.TheVariants as kinds
 use Rattle.mshr_file.specs.Miss.{Bound, registers_of, tags}
-use Rattle.slice_core.specs.Facts.{ShowsLine}
+use Rattle.slice_core.specs.Facts.{AreWaitingAt, ShowsLine, front_at}
 use Rattle.slice_core.specs.Run.{AfterCall}
 use Rattle.slice_core.specs.declared.run.Call.{Call}
 use Rattle.slice_core.specs.declared.run.CallAnswer.{CallAnswer}
@@ -18,6 +18,10 @@ use Rattle.slice_core_log.specs.declared.entry.Entry.{Entry}
 use Rattle.slice_core_plan.specs.Parts.{PartsView, IsNew}
 use Rattle.slice_core_plan.specs.View.{View, IsQuiet}
 use Rattle.slice_core_steps.specs.declared.line_view.LineView.{LineView}
+use Rattle.slice_queues_message.specs.Pick.{channel_of, line_of}
+use Rattle.slice_queues_message.specs.declared.channel.Channel.{Channel}
+use Rattle.slice_queues_message.specs.declared.channel.Pick.{Pick}
+use Rattle.slice_queues_message.specs.declared.message.Message.{Message}
 
 -- the state is of this slice, with the configured cores, its share of the lines, and the configured setting
 pub record IsSliceOf (config : Config) (id : ℕ) (p : PartsView) : Type 0 where
@@ -101,6 +105,26 @@ IsShownWord slices slice word shown = HasAt slices slice (λ state. ShowsWord st
 abbrev pub IsShownLine : List PartsView → ℕ → LineAddr → LineView → Type 0
 IsShownLine slices slice line shown =
     HasAt slices slice (λ state. ShowsLine state.view (local_at state.view.lines line.0) (Some shown))
+
+-- what the slice has of a line: nothing of one that isn't its own
+abbrev pub IsLineView : List PartsView → ℕ → LineAddr → Option LineView → Type 0
+IsLineView slices slice line shown =
+    HasAt slices slice (λ state. ShowsLine state.view (local_at state.view.lines line.0) shown)
+
+-- the message in front of the channel, where one waits there
+abbrev pub IsFront : List PartsView → ℕ → Pick → Option Message → Type 0
+IsFront slices slice pick front =
+    HasAt slices slice
+    (λ state. front ≡ front_at state.view (local_at state.view.lines (line_of pick).0) (channel_of pick))
+
+-- the slice's channels of the line in which a message waits
+abbrev pub AreWaiting : List PartsView → ℕ → LineAddr → List Channel → Type 0
+AreWaiting slices slice line waiting =
+    HasAt slices slice (λ state. AreWaitingAt state.view (local_at state.view.lines line.0) waiting)
+
+-- the slice doesn't have the line
+abbrev pub HasNoLine : List PartsView → ℕ → LineAddr → Type 0
+HasNoLine slices slice line = HasAt slices slice (λ state. local_at state.view.lines line.0 ≡ None)
 
 -- the slice is quiet, and this is its word's value after the whole log
 abbrev pub IsQuietWord : List PartsView → ℕ → WordAddr → ℕ → Type 0

@@ -1,4 +1,4 @@
-ghost use Rattle.std.specs.Prelude.{◌≡◌, ◌/◌, ◌%◌, ◌<◌, ◌↔◌, length, All, IfErr, IfOk, IfSome, IsTrue};
+ghost use Rattle.std.specs.Prelude.{◌≡◌, ◌/◌, ◌%◌, ◌<◌, ◌↔◌, length, All, IfErr, IfNone, IfOk, IfSome, IsTrue};
 ghost use Rattle.litmus_text.specs.Command.{IsInRange, HasCore, HasLine};
 ghost use Rattle.address_map.specs.Config.{IsAllowed};
 ghost use Rattle.stats_report.specs.Report.{AreAlike, views_of};
@@ -8,7 +8,8 @@ ghost use Rattle.slice_core.specs.declared.run.CallAnswer.TheVariants as answers
 ghost use Rattle.slice_core_plan.specs.View.{IsQuiet};
 ghost use Rattle.slice_queues_message.specs.Pick.{line_of};
 ghost use Rattle.litmus_script.specs.Issued.{IsIssued, IsOutOfMemory};
-ghost use Rattle.litmus_script.specs.Machine.{IsAnswered, IsMachine, IsNewMachine, IsQuietWord, IsShownLine, IsShownWord, counts_in, init_at, log_at};
+ghost use Rattle.litmus_script.specs.Machine.{AreWaiting, HasNoLine, IsAnswered, IsFront, IsLineView, IsMachine, IsNewMachine};
+ghost use Rattle.litmus_script.specs.Machine.{IsQuietWord, IsShownLine, IsShownWord, counts_in, init_at, log_at};
 
 use super::answers::Issued;
 use super::calls;
@@ -120,17 +121,24 @@ impl<F: MissFile> Machine<F> {
     }
 
     /// The message that a delivery at the pick would take.
-    pub fn front(&self, pick: Pick) -> Option<Message> {
+    pub fn front(&self, pick: Pick) -> Option<Message>
+        ensures { IsFront self.now.slices.items ((line_of pick).0 % self.now.config.slices) pick result }
+    {
         self.slices[self.slice_of(pick.line())].front(pick)
     }
 
     /// The channels of a line in which a message waits, core by core and home last.
-    pub fn waiting_at(&self, line: LineAddr) -> Option<LineWaiting<'_>> {
+    pub fn waiting_at(&self, line: LineAddr) -> Option<LineWaiting<'_>>
+        ensures there { IfNone result (HasNoLine self.now.slices.items (line.0 % self.now.config.slices) line) }
+        ensures waiting { IfSome result (AreWaiting self.now.slices.items (line.0 % self.now.config.slices) line) }
+    {
         self.slices[self.slice_of(line)].waiting_at(line)
     }
 
-    /// What its slice has of a line of the memory.
-    pub fn view(&self, line: LineAddr) -> Option<LineView> {
+    /// What its slice has of a line: none for a line that the memory doesn't have.
+    pub fn view(&self, line: LineAddr) -> Option<LineView>
+        ensures { IsLineView self.now.slices.items (line.0 % self.now.config.slices) line result }
+    {
         self.slices[self.slice_of(line)].line_view(line)
     }
 

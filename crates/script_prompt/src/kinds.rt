@@ -2,7 +2,8 @@
 ghost use Rattle.std.specs.Prelude.{◌≡◌, ℕ, List, Option, [], IfOk};
 ghost use Rattle.std.specs.Str.Lines.{lines};
 ghost use Rattle.litmus_text.specs.Statement.{statements_from};
-ghost use Rattle.litmus_script.specs.Script.{commands_of};
+ghost use Rattle.litmus_script.specs.Script.{commands_of, said_by};
+ghost use Rattle.script_prompt.specs.Asked.{Asks};
 ghost use Rattle.script_prompt.specs.Session.{IsAfter, IsContinued, IsPlayedTo};
 ghost use Rattle.script_prompt.specs.Session.{config_of, script_of, slices_of};
 
@@ -78,7 +79,8 @@ impl AnySession {
         statement: &Statement<'a>,
         out: &mut W,
     ) -> Result<Asked<'a>, TextFault>
-        ensures { IfOk result (λ asked. IsContinued (config_of self.old) (slices_of self.old) (slices_of self.new)
+        ensures asks { IfOk result (Asks (config_of self.old) (said_by statement.now).1) }
+        ensures plays { IfOk result (λ asked. IsContinued (config_of self.old) (slices_of self.old) (slices_of self.new)
             (script_of self.old) (script_of self.new)) }
     {
         match self {

@@ -3,6 +3,7 @@ ghost use Rattle.std.specs.Prelude.{◌≡◌, ◌++◌, ◌<◌, IfErr, IfOk, O
 ghost use Rattle.litmus_script.specs.Play.{IsCommandFault};
 ghost use Rattle.litmus_script.specs.Script.{said_by};
 ghost use Rattle.litmus_text.specs.Command.{HasCore};
+ghost use Rattle.script_prompt.specs.Asked.{Asks};
 ghost use Rattle.script_prompt.specs.Session.{IsContinued, PlaysLine};
 
 use super::asked::{Asked, read_asked};
@@ -41,6 +42,7 @@ impl<F: MissFile> Session<F> {
         out: &mut W,
     ) -> Result<Asked<'a>, TextFault>
         ensures config { self.new.player.machine.config ≡ self.old.player.machine.config }
+        ensures asks { IfOk result (Asks self.old.player.machine.config (said_by statement.now).1) }
         ensures plays { IfOk result (λ asked. IsContinued self.old.player.machine.config self.old.player.machine.slices.items
             self.new.player.machine.slices.items self.old.script.items self.new.script.items) }
     {

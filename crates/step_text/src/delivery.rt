@@ -1,5 +1,7 @@
 use super::case::Case;
-use super::deeds::{AskedOfDirectory, Done, Entry, FromCore, FromDirectory, Numbers, awaited, broken, home};
+use super::deeds::{
+    AskedOfDirectory, Done, Entry, FromCore, FromDirectory, Numbers, awaited, broken, home,
+};
 use address_map::CoreId;
 use slice_core_plan::Plan;
 use std::fmt;

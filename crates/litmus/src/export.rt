@@ -9,27 +9,33 @@ use litmus_text::TextFault;
 use protocol_murphi::write_model;
 use std::io::Write;
 
-/// Prints a line's protocol as a model of so many cores, with the exclusive state or without it. Answers the exit
-/// status.
+/// Prints a line's protocol as a model of so many cores, with the exclusive state or without it, and with what can be
+/// completed once no core asks any more, or without it. Answers the exit status.
 pub fn run_export<W: Write>(
     cores: ModelCores,
     exclusive: bool,
+    closed: bool,
     out: &mut W,
 ) -> Result<u8, TextFault>
     ensures status { IfOk result (λ status. status ≡ 0) }
     ensures printed { OnOk result
-        (Appends (W.contents out.old) (W.contents out.new) (model_of exclusive (number_of cores))) }
+        (Appends (W.contents out.old) (W.contents out.new) (model_of exclusive closed (number_of cores))) }
 {
-    print_model(exclusive, cores.number(), out)
+    print_model(exclusive, closed, cores.number(), out)
 }
 
-fn print_model<W: Write>(exclusive: bool, cores: u8, out: &mut W) -> Result<u8, TextFault>
+fn print_model<W: Write>(
+    exclusive: bool,
+    closed: bool,
+    cores: u8,
+    out: &mut W,
+) -> Result<u8, TextFault>
     requires { cores < 64 }
     ensures status { IfOk result (λ status. status ≡ 0) }
-    ensures printed { OnOk result (Appends (W.contents out.old) (W.contents out.new) (model_of exclusive cores)) }
+    ensures printed { OnOk result (Appends (W.contents out.old) (W.contents out.new) (model_of exclusive closed cores)) }
 {
     let mut answers = Answers { out };
-    match write_model(exclusive, cores, &mut answers) {
+    match write_model(exclusive, closed, cores, &mut answers) {
         Ok(()) => Ok(0),
         Err(_) => Err(TextFault::CannotWrite),
     }

@@ -114,10 +114,14 @@ cores_rule names = record (new_rule (codes "cores")) {
 }
 
 -- the subcommand that prints a model in one of these forms, of one of these numbers of cores
-abbrev pub export_app : Bor (List (Bor Text)) → Bor (List (Bor Text)) → App
-export_app forms numbers =
+abbrev pub open_export_app : Bor (List (Bor Text)) → Bor (List (Bor Text)) → App
+open_export_app forms numbers =
     with_rule (with_rule (with_rule (new_app (codes "export")) (form_rule forms)) (cores_rule numbers))
     (flag_rule (codes "exclusive"))
+
+-- .. which may be a closed one
+abbrev pub export_app : Bor (List (Bor Text)) → Bor (List (Bor Text)) → App
+export_app forms numbers = with_rule (open_export_app forms numbers) (flag_rule (codes "closed"))
 
 -- the program itself, which asks for a subcommand
 abbrev pub top_app : App
@@ -184,13 +188,19 @@ pub record IsTable (app : App) : Type 0 where
   pub words : AreTables names
   pub is : app ≡ table_app names
 
--- the subcommand that prints a model
-pub record IsExport (app : App) : Type 0 where
+-- the subcommand that prints a model, as it is made with such words
+pub record IsExportBy (made : Bor (List (Bor Text)) → Bor (List (Bor Text)) → App) (app : App) : Type 0 where
   pub forms : Bor (List (Bor Text))
   pub numbers : Bor (List (Bor Text))
   pub form_words : AreForms forms
   pub number_words : AreNumbers numbers
-  pub is : app ≡ export_app forms numbers
+  pub is : app ≡ made forms numbers
+
+abbrev pub IsOpenExport : App → Type 0
+IsOpenExport app = IsExportBy open_export_app app
+
+abbrev pub IsExport : App → Type 0
+IsExport app = IsExportBy export_app app
 
 -- the program with all but the last of its subcommands
 pub record IsTablesProgram (app : App) : Type 0 where
@@ -246,9 +256,9 @@ IsLine name rows (lines.Check file) = (name ≡ codes "check") × (first_of (cod
 IsLine name rows (lines.Table table exclusive) =
     (name ≡ codes "table") × (first_of (codes "TABLE") rows ≡ Some (word_of table))
     × (exclusive ≡ is_given (codes "exclusive") rows)
-IsLine name rows (lines.Export cores exclusive) =
+IsLine name rows (lines.Export cores exclusive closed) =
     (name ≡ codes "export") × (first_of (codes "cores") rows ≡ Some (word_of_number cores))
-    × (exclusive ≡ is_given (codes "exclusive") rows)
+    × (exclusive ≡ is_given (codes "exclusive") rows) × (closed ≡ is_given (codes "closed") rows)
 
 -- the subcommand that was read is what the line holds
 abbrev pub IsAsked : Option (Text × List Row) → CommandLine → Type 0

@@ -3,7 +3,7 @@ ghost use Rattle.clap.specs.declared.builder.command.Command.TheViews.{out-Comma
 ghost use Rattle.litmus_command_line.specs.CommandLine.{IsAsked, IsLine, IsLockup, IsRead, IsTable, IsWith, chart_app, check_app};
 ghost use Rattle.litmus_command_line.specs.CommandLine.{answering_app, file_rule, flag_rule, is_given, page_app, script_app, test_app, top_app, word_of};
 ghost use Rattle.litmus_command_line.specs.CommandLine.{IsNumberOf, IsNumberIfGiven, litmus_app, number_rule};
-ghost use Rattle.litmus_command_line.specs.CommandLine.{IsExport, number_rule_or, run_app, try_app, walk_app, word_of_number};
+ghost use Rattle.litmus_command_line.specs.CommandLine.{IsExport, IsOpenExport, number_rule_or, run_app, try_app, walk_app, word_of_number};
 ghost use Rattle.std.specs.Option.{option_map};
 ghost use Rattle.clap.specs.Words.{app_of, found_of, rows_of, rule_of, first_of, subcommand_rows_of};
 
@@ -73,10 +73,12 @@ pub enum CommandLine<'a> {
         table: Table,
         exclusive: bool,
     },
-    /// Print a line's protocol as a model of so many cores, with the exclusive state or without it.
+    /// Print a line's protocol as a model of so many cores, with the exclusive state or without it, and what can be
+    /// completed once no core asks any more, or not.
     Export {
         cores: ModelCores,
         exclusive: bool,
+        closed: bool,
     },
 }
 
@@ -228,7 +230,12 @@ fn export_line<'a>(given: &ArgMatches<'a>) -> Option<CommandLine<'a>>
 {
     let cores = model_cores_of(given)?;
     let exclusive = is_given(given, "exclusive");
-    Some(CommandLine::Export { cores, exclusive })
+    let closed = is_given(given, "closed");
+    Some(CommandLine::Export {
+        cores,
+        exclusive,
+        closed,
+    })
 }
 
 fn file_of<'a>(given: &ArgMatches<'a>) -> Option<&'a str>
@@ -490,6 +497,19 @@ fn table<'a>(alloc: Global) -> Result<Command<'a>, AllocError>
 
 fn export<'a>(alloc: Global) -> Result<Command<'a>, AllocError>
     ensures reads { IfOk result (λ c. IsExport (app_of c)) }
+    ensures plain { IfOk result (λ c. (fields_of c).has_globals ≡ false) }
+{
+    let open = export_open(alloc)?;
+    open.arg(flag(
+        alloc,
+        "closed",
+        "Also have each miss completed, once no core asks any more",
+    ))
+}
+
+/// The same without the option of closed models.
+fn export_open<'a>(alloc: Global) -> Result<Command<'a>, AllocError>
+    ensures reads { IfOk result (λ c. IsOpenExport (app_of c)) }
     ensures plain { IfOk result (λ c. (fields_of c).has_globals ≡ false) }
 {
     Command::new(alloc, "export")

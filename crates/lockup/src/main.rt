@@ -205,7 +205,11 @@ where
         CommandLine::Run { seed, .. } => run_programs(alloc, input, seed, Form::Table, out),
         CommandLine::Check { .. } => run_check(alloc, input, out),
         CommandLine::Table { table, exclusive } => run_table(table, exclusive, out),
-        CommandLine::Export { cores, exclusive } => run_export(cores, exclusive, out),
+        CommandLine::Export {
+            cores,
+            exclusive,
+            closed,
+        } => run_export(cores, exclusive, closed, out),
     }
 }
 

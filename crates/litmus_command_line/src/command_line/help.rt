@@ -117,4 +117,7 @@ counterexample reads like them:
   cc -O2 -o model model.c -lpthread -mcx16
   ./model
 
+With --closed the cores may cease to ask at any time, and Rumur, not CMurphi, judges that each miss
+and each eviction can still be completed then.
+
 Documents: docs/PROTOCOL.md (the tables, and what Rumur finds)";

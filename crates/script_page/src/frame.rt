@@ -72,6 +72,8 @@ td.lit { background: var(--lit); font-weight: bold; outline: 3px solid; }
 <section>
 <div id="now" aria-live="polite"></div>
 <div id="lines"></div>
+<details id="caches" open><summary>The private caches, by sets</summary>
+<div class="tables"></div></details>
 <details id="tables" open><summary>The protocol's tables, with the case that was met</summary>
 <div class="tables"></div></details>
 </section>
@@ -150,11 +152,45 @@ function heldAt(number) {
 // what a copy in a state may do
 const READ = ['S', 'SM_AD', 'SM_A'];
 const WRITTEN = ['M', 'E'];
+const LEAVING = ['MI_A', 'SI_A', 'II_A'];
 function may(state) {
     if (WRITTEN.includes(state)) return ['writes', 'reads and writes'];
     if (READ.includes(state)) return ['reads', state === 'S' ? 'reads' : 'reads, and waits'];
     if (state === 'I') return ['none', 'no copy'];
     return ['waits', 'waits'];
+}
+
+// the shape of each core's cache in a slice, from the lines that configure, or as it is without them
+const shape = { slices: 1, sets: 4, ways: 2 };
+for (const text of run.script.split('\n')) {
+    const [name, number] = text.trim().split(/\s+/);
+    if (name in shape && /^\d+$/.test(number)) shape[name] = Number(number);
+}
+
+// the set in which a line stands, by name
+function setOf(line) {
+    const set = 'set ' + Math.floor(line / shape.slices) % shape.sets;
+    return shape.slices === 1 ? set : 'slice ' + line % shape.slices + ' ' + set;
+}
+
+// What each core's cache has at a step, as rows of cells: for each set of a line that is shown the lines that stand there,
+// and last those that leave by the write-back buffer.
+function cachesAt(number) {
+    const lines = [...linesAt(number).values()].sort((a, b) => a.line - b.line);
+    if (lines.length === 0) return [];
+    const sets = [...new Set(lines.map(it => setOf(it.line)))].sort((a, b) => a.localeCompare(b, 'en', { numeric: true }));
+    const rows = [['Cache', ...sets, 'leaves']];
+    lines[0].cores.forEach((_, core) => {
+        const copies = lines.map(it => [it.line, it.cores[core]]).filter(it => it[1] !== 'I');
+        const text = some => some.map(it => 'line ' + it.join(' ')).join(', ');
+        const stays = copies.filter(it => !LEAVING.includes(it[1]));
+        const cells = sets.map(set => {
+            const there = stays.filter(it => setOf(it[0]) === set);
+            return (text(there) + ' ' + there.length + ' of ' + shape.ways).trim();
+        });
+        rows.push(['core ' + core, ...cells, text(copies.filter(it => LEAVING.includes(it[1]))) || '-']);
+    });
+    return rows;
 }
 
 // the tables: rows of cells, from the lines that `table` prints
@@ -315,6 +351,11 @@ function tableOf(rows, met) {
     return table;
 }
 
+function showCaches() {
+    if (!at('caches').open) return;
+    at('caches').querySelector('.tables').replaceChildren(tableOf(cachesAt(now), null));
+}
+
 function showTables() {
     if (!at('tables').open) return;
     const met = caseOf(now);
@@ -336,6 +377,7 @@ function show(number) {
     history.replaceState(null, '', '#step=' + now);
     showNow();
     showLines();
+    showCaches();
     showTables();
 }
 
@@ -363,6 +405,7 @@ at('last').onclick = () => show(steps.length);
 at('play').onclick = play;
 at('step').onchange = () => show(Number(at('step').value));
 at('follow').onchange = showLines;
+at('caches').ontoggle = showCaches;
 at('tables').ontoggle = showTables;
 window.onhashchange = () => show(stepOf(location.hash));
 document.onkeydown = event => {

@@ -14,7 +14,7 @@ ghost use Rattle.litmus_script.specs.Machine.{IsQuietWord, IsShownLine, IsShownW
 use super::answers::Issued;
 use super::calls;
 use super::player::Player;
-use address_map::{Checked, CoreId, LineAddr, Request, SliceId, WordAddr, slice_of};
+use address_map::{Checked, CoreId, LineAddr, Request, SliceId, WordAddr};
 use litmus_text::{Command, Statement, TextFault};
 use mshr_file::MissFile;
 use slice_core::{
@@ -209,6 +209,6 @@ impl<F: MissFile> Machine<F> {
         ensures known { result < length self.now.slices.items }
         ensures allowed { IsAllowed self.now.config }
     {
-        usize::from(slice_of(&self.config, line).0)
+        (line.0 % self.config.slices() as u64) as usize
     }
 }

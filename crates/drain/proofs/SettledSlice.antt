@@ -1,5 +1,5 @@
 -- One counter after the other, while a slice is settled: its own get the values that it has for them, in turn.
-use Rattle.std.proofs.Common.{◌≡◌, ℕ, ◌+◌, ◌<◌, ◌≤◌, ◌∙◌, ◌/◌, ◌%◌, Bool, true, false, List, length, if◌then◌else◌, refl, sym, ap, cond, arith, filter, get_or, map, set, eq-eqb}
+use Rattle.std.proofs.Common.{◌≡◌, ℕ, ◌+◌, ◌<◌, ◌≤◌, ◌∙◌, ◌/◌, ◌%◌, Bool, true, false, List, length, if◌then◌else◌, refl, sym, ap, cond, arith, filter, get_or, map, set, eq-eqb, eqb-true}
 use Rattle.std.proofs.lemmas.Bool.{ne_eqb}
 use Rattle.std.proofs.lemmas.List.{length-map}
 use Rattle.address_map.specs.declared.address.WordAddr.{WordAddr}
@@ -38,14 +38,18 @@ next-is c cores left slice old values shown i same words settled read within = r
   within = within;
 }
 
--- The slice of a word, as it was read.
-pub home-is : (c : Config) (word : WordAddr) (slices slice given : ℕ) → slices ≡ c.slices → given ≡ slice
-    → word.0 / 8 % slices ≡ given → home_of c word ≡ slice
-home-is c word slices slice given all read test = ap (λ n. word.0 / 8 % n) (sym all) ∙ test ∙ read
+-- Whether the slice has a word, as it was told by the same configuration.
+pub home-is : (c told : Config) (word : WordAddr) (slice : ℕ) (answer : Bool) → told ≡ c
+    → answer ≡ is_of_slice told slice word → answer ≡ true → home_of c word ≡ slice
+home-is c told word slice answer same is there =
+    eqb-true _ slice (ap (λ (k : Config). is_of_slice k slice word) (sym same) ∙ sym is ∙ there)
 
-pub home-isnt : (c : Config) (word : WordAddr) (slices slice given : ℕ) → slices ≡ c.slices → given ≡ slice
-    → (word.0 / 8 % slices ≡ given → ⊥) → home_of c word ≡ slice → ⊥
-home-isnt c word slices slice given all read test home = test (ap (λ n. word.0 / 8 % n) all ∙ home ∙ sym read)
+pub home-isnt : (c told : Config) (word : WordAddr) (slice : ℕ) (answer : Bool) → told ≡ c
+    → answer ≡ is_of_slice told slice word → answer ≡ false → home_of c word ≡ slice → ⊥
+home-isnt c told word slice answer same is isnt home =
+    let clash : true ≡ false = sym (eq-eqb _ slice home)
+    ∙ ap (λ (k : Config). is_of_slice k slice word) (sym same) ∙ sym is ∙ isnt in
+    cc
 
 module _ (c : Config) (cores : List CoreView) (slice : ℕ) (old now : List CounterValue) (values : List ℕ) (next i : ℕ)
     (d : CounterValue) (so_far : AreSet c cores slice old now next i) (is : IsNext c cores slice old values i) where

@@ -5,7 +5,7 @@ use Rattle.drain.specs.Valued.{with_slice}
 use Rattle.drain.specs.declared.report.CounterValue.{CounterValue}
 use Rattle.drain.proofs.SettledSlice.{all-set-in, home-is, home-isnt, next-few, next-is, next-within, other-left, own-set, words-kept}
 use Rattle.drain.proofs.settled.settle_slice.Goals as goal
-use Rattle.drain.proofs.settled.settle_slice.Goals.{then-word-slices, else-word-slices}
+use Rattle.drain.proofs.settled.settle_slice.Goals.{then-is_of_slice, else-is_of_slice}
 
 unset : CounterValue
 unset = record { word = record { 0 = 0 }; value = 0 }
@@ -36,11 +36,10 @@ bounds-deref-next g c =
     let left = c.settle.new.cores in
     let now = c.loop-place.counters in
     let i = c.loop-place.place in
-    let all = c.slices-slices.ensures.slices ∙ ap (λ (x : Config). x.slices) c.config.ensures.named in
     next-within setup left slice old now c.deref.result.now c.loop-place.next i unset c.loop-place.invariant
     (next-is setup c.args.cores.now left slice old c.in_ok-values.values.items c.deref.result.now i c.settle.ensures.cores
     c.requires.words c.in_ok-values.ensures.settled c.deref.ensures.0 c.loop-place-test.true)
-    (home-is setup _ c.slices-slices.result slice c.from.result all c.from.ensures c.if-word-slices.true)
+    (home-is setup _ _ slice c.is_of_slice.result c.config.ensures.named c.is_of_slice.ensures c.if-is_of_slice.true)
 
 pub loop-place-preserved : goal.loop-place-preserved
 unfolding unset
@@ -51,24 +50,23 @@ loop-place-preserved g c =
     let left = c.settle.new.cores in
     let now = c.loop-place.counters in
     let i = c.loop-place.place in
-    let all = c.slices-slices.ensures.slices ∙ ap (λ (x : Config). x.slices) c.config.ensures.named in
-    elim c.if-word-slices.branch [
-      | then-word-slices w ↦
+    elim c.if-is_of_slice.branch [
+      | then-is_of_slice w ↦
           let next = next-is setup c.args.cores.now left slice old c.in_ok-values.values.items w.deref.result.now i
           c.settle.ensures.cores c.requires.words c.in_ok-values.ensures.settled w.deref.ensures.0 c.loop-place-test.true in
           let set = own-set setup left slice old now w.deref.result.now c.loop-place.next i unset c.loop-place.invariant next
-          c.if-word-slices.counters
-          (home-is setup _ c.slices-slices.result slice c.from.result all c.from.ensures w.if-word-slices.true)
+          c.if-is_of_slice.counters
+          (home-is setup _ _ slice c.is_of_slice.result c.config.ensures.named c.is_of_slice.ensures w.if-is_of_slice.true)
           w.counters-is in record {
             counters = set.counters;
             place = w.next-is ∙ set.place;
           }
-      | else-word-slices w ↦
+      | else-is_of_slice w ↦
           let next = next-is setup c.args.cores.now left slice old c.in_ok-values.values.items c.in_ok-values.values.items i
           c.settle.ensures.cores c.requires.words c.in_ok-values.ensures.settled refl c.loop-place-test.true in
           let set = other-left setup left slice old now c.in_ok-values.values.items c.loop-place.next i unset
           c.loop-place.invariant next
-          (home-isnt setup _ c.slices-slices.result slice c.from.result all c.from.ensures w.if-word-slices.false) in record {
+          (home-isnt setup _ _ slice c.is_of_slice.result c.config.ensures.named c.is_of_slice.ensures w.if-is_of_slice.false) in record {
             counters = w.counters-is ∙ set.counters;
             place = w.next-is ∙ set.place;
           }

@@ -85,7 +85,7 @@ impl CoreSet {
     {
         if self.has(core) {
             CoreSet {
-                bits: self.bits ^ Self::only(core).bits,
+                bits: self.bits ^ 1 << core.0,
             }
         } else {
             self
@@ -95,7 +95,9 @@ impl CoreSet {
     pub fn insert(&mut self, core: CoreId)
         ensures { self.new ≡ with self.old core.0 }
     {
-        *self = self.with(core);
+        if core.0 < 64 {
+            self.bits |= 1 << core.0;
+        }
     }
 
     pub fn remove(&mut self, core: CoreId)

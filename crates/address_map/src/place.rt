@@ -1,5 +1,6 @@
 ghost use Rattle.std.specs.Box.{boxed_slice_items};
 ghost use Rattle.std.specs.Prelude.{◌≡◌, ◌<◌, IfOk, IfSome};
+ghost use Rattle.address_map.specs.Config.{IsAllowed};
 ghost use Rattle.address_map.specs.Place.{counters_of, init_of, is_of_slice, place_of, slice_of, word_at, IsInRange};
 
 use super::address::{LineAddr, Local, Offset, SliceId, WordAddr};
@@ -19,6 +20,7 @@ pub struct Place {
 pub fn slice_of(config: &Checked, line: LineAddr) -> SliceId
     ensures slice { result ≡ slice_of config.now line }
     ensures there { result.0 < config.now.slices }
+    ensures allowed { IsAllowed config.now }
 {
     SliceId((line.0 % config.slices() as u64) as u8)
 }

@@ -8,7 +8,8 @@ use Rattle.address_map.specs.declared.config.ConfigError.{ConfigError}
 use Rattle.litmus_text.specs.Settings.{default_settings}
 use Rattle.litmus_text.specs.declared.fault.TextFault.{TextFault}
 use Rattle.litmus_text.specs.declared.settings.Settings.{Settings}
-use Rattle.litmus_script.specs.Script.{BeginOtherwise, BeginsAsConfig, Configures, IsConfigFault, IsConfigured, IsLineFault, IsNotConfigured, IsRefused, TakesLine}
+use Rattle.litmus_script.specs.Fault.{BeginsAsConfig}
+use Rattle.litmus_script.specs.Script.{BeginOtherwise, Configures, IsConfigFault, IsConfigured, IsLineFault, IsNotConfigured, IsRefused, TakesLine}
 
 configures_more : (a b c : Settings) (done : List (ℕ × List (List ℕ))) (s : ℕ × List (List ℕ)) → Configures a done b → TakesLine s.1 b c
     → Configures a (done ++ s ∷ []) c

@@ -1,4 +1,5 @@
 pub mod Answer
+pub mod Fault
 pub mod Issued
 pub mod Machine
 pub mod Play

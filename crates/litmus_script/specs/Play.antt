@@ -1,6 +1,7 @@
 -- How a player plays statements, each a number and words: one command after another, up to the last or to a fault.
 use Rattle.std.specs.Prelude.{◌≡◌, ◌⊎◌, ℕ, List, [], ◌∷◌, Option}
 use Rattle.address_map.specs.declared.config.Config.{Config}
+use Rattle.litmus_script.specs.Fault.{IsFaultBehind, IsNotPlayed}
 use Rattle.litmus_text.specs.Command.{IsRead}
 use Rattle.litmus_text.specs.Statement.{kept_words}
 use Rattle.litmus_text.specs.declared.command.Command.{Command}
@@ -31,14 +32,10 @@ PlaysAll {P} plays config (statement ∷ more) old new before after =
     (mid : P) × (middle : Option (List ℕ)) × PlaysOne plays config statement.1 old mid before middle
     × PlaysAll plays config more mid new middle after
 
--- Why a statement isn't played: its words write no command that the machine has, and nothing is written for it. Or there
--- is no memory, or the output can't be written.
+-- why a statement isn't played, where commands stand
 abbrev pub IsCommandFault : Config → ℕ × List (List ℕ) → Option (List ℕ) → Option (List ℕ) → TextFault → Type 0
-IsCommandFault config statement before after (faults.Line number fault) =
-    (number ≡ statement.0) × ((command : Command) → ¬ IsRead config statement.1 command) × (after ≡ before)
-IsCommandFault config statement before after (faults.Config error) = ⊥
-IsCommandFault config statement before after faults.NoMemory = Unit {0}
-IsCommandFault config statement before after faults.CannotWrite = Unit {0}
+IsCommandFault config statement before after fault =
+    IsNotPlayed (IsFaultBehind config statement.1) statement.0 before after fault
 
 -- those before a fault are played
 abbrev pub PlaysUpTo : {P : Type 0} → (P → List ℕ → Command → Option (List ℕ) → Option (List ℕ) → P → Type 0) → Config

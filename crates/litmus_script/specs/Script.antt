@@ -3,8 +3,7 @@ use Rattle.std.specs.Prelude.{◌≡◌, ◌⊎◌, ℕ, Bool, true, false, List
 use Rattle.address_map.specs.Config.{checked_of, first_fault}
 use Rattle.address_map.specs.declared.config.Config.{Config}
 use Rattle.litmus_text.specs.ConfigLine.{configured, parts_of_config_line}
-use Rattle.litmus_text.specs.Field.{IsFieldName}
-use Rattle.litmus_text.specs.Form.{Writes}
+use Rattle.litmus_text.specs.Form.{IsFormFaultOf, Writes}
 use Rattle.litmus_text.specs.Settings.{default_settings}
 use Rattle.litmus_text.specs.declared.command.Command.{Command}
 use Rattle.litmus_text.specs.declared.config_line.ConfigLine.{ConfigLine}
@@ -14,6 +13,7 @@ use Rattle.litmus_text.specs.declared.settings.Settings.{Settings}
 use Rattle.litmus_text.specs.declared.statement.Statement.{Statement}
 use Rattle.mshr_file.specs.Miss.{Bound}
 use Rattle.slice_core_plan.specs.Parts.{PartsView}
+use Rattle.litmus_script.specs.Fault.{BeginsAsConfig}
 use Rattle.litmus_script.specs.Machine.{IsNewMachine, bound_of}
 use Rattle.litmus_script.specs.Play.{PlaysAll, PlaysUpTo}
 use Rattle.litmus_script.specs.Prints.{Adds, IsPrinted}
@@ -33,12 +33,7 @@ abbrev pub Configures : Settings → List (ℕ × List (List ℕ)) → Settings 
 Configures old [] new = new ≡ old
 Configures old (statement ∷ more) new = (mid : Settings) × TakesLine statement.1 old mid × Configures mid more new
 
--- the words begin as a line that configures
-abbrev pub BeginsAsConfig : List (List ℕ) → Type 0
-BeginsAsConfig [] = ⊥
-BeginsAsConfig (name ∷ words) = IsFieldName name
-
--- the first of the statements doesn't
+-- the first of the statements doesn't begin as a line that configures
 abbrev pub BeginOtherwise : List (ℕ × List (List ℕ)) → Type 0
 BeginOtherwise [] = Unit {0}
 BeginOtherwise (statement ∷ more) = ¬ BeginsAsConfig statement.1
@@ -49,10 +44,10 @@ pub record IsConfigured (all : List (ℕ × List (List ℕ))) (settings : Settin
   pub split : all ≡ done ++ left
   pub configured : Configures default_settings done settings
 
--- why a line wasn't taken: its words write none that configures, or there was no memory
+-- why a line wasn't taken: what is wrong with its words as a line that configures, or there was no memory
 abbrev pub IsLineFault : ℕ × List (List ℕ) → TextFault → Type 0
 IsLineFault statement (faults.Line number fault) =
-    (number ≡ statement.0) × ((line : ConfigLine) → ¬ Writes statement.1 (parts_of_config_line line))
+    (number ≡ statement.0) × IsFormFaultOf parts_of_config_line statement.1 fault
 IsLineFault statement (faults.Config error) = ⊥
 IsLineFault statement faults.NoMemory = Unit {0}
 IsLineFault statement faults.CannotWrite = ⊥

@@ -6,7 +6,7 @@ use Rattle.address_map.specs.declared.request.Op.{Op}
 use Rattle.address_map.specs.declared.request.Op.TheVariants as ops
 use Rattle.script_text.specs.Line.{line_of_parts}
 use Rattle.slice_core_log.specs.declared.entry.Entry.{Entry}
-use Rattle.trace_check.specs.Trace.{lines_of}
+use Rattle.trace_check.specs.Trace.{body_of}
 use Rattle.trace_check.specs.TraceLine.{cores_of, parts_of_first, parts_of_line}
 use Rattle.trace_check.specs.declared.trace_line.TraceLine.{TraceLine}
 use Rattle.trace_check.specs.declared.trace_line.Version.{Version}
@@ -32,4 +32,4 @@ text_of_lines lines = flat_map (λ line. line_of_parts (parts_of_line line)) lin
 -- a trace: its first line, the values that words begin with, and what was performed
 abbrev pub text_of_trace : ℕ → List (WordAddr × ℕ) → List Entry → List ℕ
 text_of_trace cores init log =
-    line_of_parts (parts_of_first (version_for cores log)) ++ text_of_lines (lines_of init log)
+    line_of_parts (parts_of_first (version_for cores log)) ++ text_of_lines (body_of init log)

@@ -56,7 +56,7 @@ text_at v pick =
     let local : Option Local = local_at v.lines (line_of pick).0 in
     text_in_front v pick local (front_at v local (channel_of pick))
 
--- the channels of a slice in which a message waits: line by line, and core by core within a line
+-- the channels of a slice in which a message waits: line by line, and kind by kind within a line
 abbrev pub picks_of : View → List Pick
 picks_of v = lines_waiting v.lines.slice v.lines.slices 0 v.channels
 

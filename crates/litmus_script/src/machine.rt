@@ -127,7 +127,7 @@ impl<F: MissFile> Machine<F> {
         self.slices[self.slice_of(pick.line())].front(pick)
     }
 
-    /// The channels of a line in which a message waits, core by core and home last.
+    /// The channels of a line in which a message waits, kind by kind.
     pub fn waiting_at(&self, line: LineAddr) -> Option<LineWaiting<'_>>
         ensures there { IfNone result (HasNoLine self.now.slices.items (line.0 % self.now.config.slices) line) }
         ensures waiting { IfSome result (AreWaiting self.now.slices.items (line.0 % self.now.config.slices) line) }

@@ -3,8 +3,11 @@ ghost use Rattle.std.specs.Str.Lines.{lines};
 ghost use Rattle.address_map.specs.Config.{checked_of};
 ghost use Rattle.litmus_script.specs.Machine.{bound_of};
 ghost use Rattle.litmus_script.specs.Play.{IsCommandFault, PlaysAll, PlaysOne, PlaysUpTo};
-ghost use Rattle.litmus_script.specs.Script.{BeginOtherwise, BeginsAsConfig, IsConfigured, IsLineFault, IsNotConfigured, IsReadAs, IsRefused, IsScript, TakesLine, commands_of, left_of, said_by};
+ghost use Rattle.litmus_script.specs.Fault.{BeginsAsConfig, IsFaultBehind};
+ghost use Rattle.litmus_script.specs.Script.{BeginOtherwise, IsConfigured, IsLineFault, IsNotConfigured, IsReadAs, IsRefused, IsScript, TakesLine, commands_of, left_of, said_by};
 ghost use Rattle.litmus_script.specs.Script.{Echoed, HasPlayed, IsPlayedOn, IsPlayedUpTo, IsRun, IsRunUpTo, Plainly, Playing};
+ghost use Rattle.address_map.specs.declared.config.Config.{Config};
+ghost use Rattle.litmus_text.specs.Command.{IsFaultOfCommand};
 ghost use Rattle.litmus_text.specs.Statement.{statements_from};
 
 use super::echo::Echo;
@@ -263,7 +266,7 @@ fn play_statement<P: Player, W: Write>(
     let words = statement.words.as_slice();
     match parse_command(player.config(), words) {
         Ok(command) => player.play(statement, command, out),
-        Err(fault) => Err(late(words).unwrap_or(fault).at(statement.number)),
+        Err(fault) => Err(fault_behind(words, fault).at(statement.number)),
     }
 }
 
@@ -325,13 +328,13 @@ fn configure(settings: &mut Settings, statement: &Statement<'_>) -> Result<(), T
     }
 }
 
-/// What is wrong with a configuration line behind a command: its form, or its place.
-fn late(words: &[&[u8]]) -> Option<LineFault> {
-    if !is_config(words) {
-        return None;
+/// What is wrong with a line behind the configuration that has this fault as a command.
+fn fault_behind(words: &[&[u8]], fault: LineFault) -> LineFault
+    ensures { (config : Config) → IsFaultOfCommand config (map (λ w. w.now) words.now) fault
+        → IsFaultBehind config (map (λ w. w.now) words.now) result }
+{
+    if is_config(words) {
+        return ConfigLine::late_fault(words);
     }
-    match ConfigLine::parse(words) {
-        Ok(_) => Some(LineFault::LateConfiguration),
-        Err(fault) => Some(fault),
-    }
+    fault
 }

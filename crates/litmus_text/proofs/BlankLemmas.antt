@@ -1,10 +1,11 @@
 -- A line's blanks as bits, and the parts of the line between them.
-use Rattle.std.proofs.Common.{inl, inr, ◌≡◌, ℕ, ◌+◌, ◌-◌, ◌<◌, ◌≤◌, ◌/◌, ◌^◌, ◌%◌, max, Bool, true, false, ◌||◌, cond, eqb, bit_or, ltb, List, [], ◌∷◌, ◌++◌, length, get_or, take, drop, refl, sym, ap, ◌∙◌, arith, append-nil, append_assoc, length-drop, get_or-drop, shr-shr}
-use Rattle.std.specs.Int.{bit_at}
+use Rattle.std.proofs.Common.{inl, inr, ◌≡◌, ℕ, ◌+◌, ◌-◌, ◌<◌, ◌≤◌, ◌/◌, ◌^◌, ◌%◌, max, Bool, true, false, ◌||◌, cond, eqb, bit_or, ltb, List, [], ◌∷◌, ◌++◌, length, get_or, take, drop, refl, sym, ap, ◌∙◌, arith, append-nil, append_assoc, length-drop, get_or-drop, shr-shr, w64, suc, zero}
+use Rattle.std.specs.Int.{bit_at, trailing_zeros}
+use Rattle.std.specs.Int.Count.{trailing_of_zero}
 use Rattle.std.specs.List.{position_or_len, slice_split, All}
 use Rattle.std.proofs.lemmas.Bool.{cases_Bool, ltb-true, ltb-false}
 use Rattle.std.proofs.lemmas.Bool.Decides.{nat_tests}
-use Rattle.std.proofs.lemmas.Nat.Bits.{bit_at_or}
+use Rattle.std.proofs.lemmas.Nat.Bits.{bit_at_or, bit_at-trailing_zeros, bit_at-zero}
 use Rattle.std.proofs.lemmas.List.{drop_all, take_all, drop-drop, get_or-take}
 use Rattle.std.proofs.lemmas.List.Elements.{filter-append}
 use Rattle.std.proofs.lemmas.List.Splits.{slice_split_first, slice_split_none}
@@ -46,6 +47,15 @@ blanks_of_front text line bits front short blanks = λ k below.
     blanks k (omega arith)
     ∙ ap (λ b. cond (is_blank b) 1 0)
     (sym (get_or-take (length line) text k 0 below) ∙ ap (λ bs. get_or bs k 0) front)
+
+-- the bits below the lowest that is set aren't, and where none is, none of the 64
+pub zeros_below : (bits k : ℕ) → bits < 2 ^ 64 → k < trailing_zeros w64 bits → bit_at bits k ≡ 0
+zeros_below zero k fits below = bit_at-zero k
+zeros_below (suc n) k fits below = (bit_at-trailing_zeros w64 (suc n) (omega arith) fits).2 k below
+
+pub lowest_set : (bits : ℕ) → bits < 2 ^ 64 → trailing_zeros w64 bits < 64 → bit_at bits (trailing_zeros w64 bits) ≡ 1
+lowest_set zero fits few = absurd (omega (arith, trailing_of_zero 64))
+lowest_set (suc n) fits few = (bit_at-trailing_zeros w64 (suc n) (omega arith) fits).1
 
 module _ (line : List ℕ) (bits at zeros : ℕ) (blanks : AreBlanks bits line) (within : at < length line)
     (clear : (k : ℕ) → k < zeros → bit_at (bits / 2 ^ at) k ≡ 0) where

@@ -11,3 +11,5 @@ pub mod AccessLemmas
 pub mod ChannelLemmas
 pub mod PolicyLemmas
 pub mod FieldLemmas
+pub mod FaultLemmas
+pub mod ConfigLineLemmas

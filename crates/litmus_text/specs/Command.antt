@@ -1,5 +1,5 @@
 -- How the commands of a script are written.
-use Rattle.std.specs.Prelude.{◌≡◌, ◌≢◌, ℕ, ◌<◌, ◌/◌, List, [], ◌∷◌, Result, IfOk, IfErr, codes}
+use Rattle.std.specs.Prelude.{ℕ, ◌<◌, ◌/◌, List, [], ◌∷◌, Result, IfOk, IfErr, codes}
 use Rattle.address_map.specs.declared.config.Config.{Config}
 use Rattle.address_map.specs.declared.address.CoreId.{CoreId}
 use Rattle.address_map.specs.declared.address.LineAddr.{LineAddr}
@@ -10,8 +10,7 @@ use Rattle.slice_queues_message.specs.declared.channel.Pick.TheVariants as picks
 use Rattle.litmus_text.specs.declared.command.Command.{Command}
 use Rattle.litmus_text.specs.declared.command.Command.TheVariants as commands
 use Rattle.litmus_text.specs.declared.fault.LineFault.{LineFault}
-use Rattle.litmus_text.specs.declared.fault.LineFault.TheVariants as faults
-use Rattle.litmus_text.specs.Form.{Part, key, num, Writes, HasForm}
+use Rattle.litmus_text.specs.Form.{Part, key, num, Writes, HasForm, IsFaultOf}
 
 -- an access, by its name, its word and what else it takes
 unfoldable pub parts_of_op : Op → ℕ → List Part
@@ -19,6 +18,10 @@ parts_of_op ops.Load word = key (codes "load") ∷ num word ∷ []
 parts_of_op (ops.Store value) word = key (codes "store") ∷ num word ∷ num value ∷ []
 parts_of_op (ops.Add delta) word = key (codes "add") ∷ num word ∷ num delta ∷ []
 parts_of_op (ops.Cas expect new) word = key (codes "cas") ∷ num word ∷ num expect ∷ num new ∷ []
+
+-- .. as one value
+abbrev pub parts_of_access : Op × ℕ → List Part
+parts_of_access access = parts_of_op access.0 access.1
 
 -- a channel, by its class, its line and its cores
 unfoldable pub parts_of_pick : Pick → List Part
@@ -50,6 +53,10 @@ HasCore config core = core.0 < config.cores
 abbrev pub HasLine : Config → LineAddr → Type 0
 HasLine config line = line.0 < config.lines
 
+-- .. and both with these numbers
+abbrev pub HasLineAndCore : Config → ℕ × ℕ → Type 0
+HasLineAndCore config p = HasLine config (record { 0 = p.0 }) × HasCore config (record { 0 = p.1 })
+
 -- the machine has the line and the cores of the channel
 unfoldable pub HasPick : Config → Pick → Type 0
 HasPick config (picks.Req line core) = HasLine config line × HasCore config core
@@ -58,14 +65,17 @@ HasPick config (picks.Data line core) = HasLine config line × HasCore config co
 HasPick config (picks.Ack line to from) = HasLine config line × HasCore config to × HasCore config from
 HasPick config (picks.Home line) = HasLine config line
 
--- what words are read as, at a machine of this configuration: a channel that they write, or a fault where they write none.
--- Words that have the form of a channel are none only by their numbers, and those that write one only by its range.
+-- what is wrong with words that write no channel of this machine
+abbrev pub IsFaultOfPick : Config → List (List ℕ) → LineFault → Type 0
+IsFaultOfPick config words fault =
+    IsFaultOf (λ pick. HasForm words (parts_of_pick pick)) (λ pick. Writes words (parts_of_pick pick))
+    (HasPick config) fault
+
+-- what words are read as, at a machine of this configuration: a channel that they write, or what is wrong with them
 pub record ReadsAsPick (config : Config) (words : List (List ℕ)) (result : Result Pick LineFault) : Type 0 where
   pub written : IfOk result (λ pick. Writes words (parts_of_pick pick))
   pub in_range : IfOk result (HasPick config)
-  pub refused : IfErr result (λ fault. (pick : Pick) → Writes words (parts_of_pick pick) → HasPick config pick → ⊥)
-  pub form : IfErr result (λ fault. (pick : Pick) → HasForm words (parts_of_pick pick) → fault ≢ faults.NotACommand)
-  pub range : IfErr result (λ fault. (pick : Pick) → Writes words (parts_of_pick pick) → fault ≡ faults.OutOfRange)
+  pub fault : IfErr result (IsFaultOfPick config words)
 
 -- the machine has all that the command names; the word of an access may be any
 abbrev pub IsInRange : Config → Command → Type 0
@@ -86,17 +96,23 @@ abbrev pub HasTag : Command → Type 0
 HasTag (commands.Issue core request) = request.tag < 256
 HasTag command = Unit {0}
 
+-- words say a command by writing it with a tag
+abbrev pub Says : List (List ℕ) → Command → Type 0
+Says words command = Writes words (parts_of command) × HasTag command
+
 -- what a script's line that was read says, at a machine that has all it names
 pub record IsRead (config : Config) (words : List (List ℕ)) (command : Command) : Type 0 where
   pub written : Writes words (parts_of command)
   pub tag : HasTag command
   pub in_range : IsInRange config command
 
--- what words are read as, at a machine of this configuration: a command that they write, or a fault where they write none.
--- Words that have the form of a command are no command only by their numbers, and those that write one only by its range.
+-- What is wrong with words that are no command of this machine. They have the form of none; or of one, but with a
+-- number that can't be read or a tag that is none; or they say one that the machine lacks.
+abbrev pub IsFaultOfCommand : Config → List (List ℕ) → LineFault → Type 0
+IsFaultOfCommand config words fault =
+    IsFaultOf (λ command. HasForm words (parts_of command)) (Says words) (IsInRange config) fault
+
+-- what words are read as, at a machine of this configuration: a command that they write, or what is wrong with them
 pub record ReadsAs (config : Config) (words : List (List ℕ)) (result : Result Command LineFault) : Type 0 where
   pub read : IfOk result (IsRead config words)
-  pub refused : IfErr result (λ fault. (command : Command) → IsRead config words command → ⊥)
-  pub form : IfErr result (λ fault. (command : Command) → HasForm words (parts_of command) → fault ≢ faults.NotACommand)
-  pub range : IfErr result
-      (λ fault. (command : Command) → Writes words (parts_of command) → HasTag command → fault ≡ faults.OutOfRange)
+  pub fault : IfErr result (IsFaultOfCommand config words)

@@ -1,5 +1,5 @@
 -- How the lines that configure a machine are written, and what they set.
-use Rattle.std.specs.Prelude.{ℕ, Bool, true, false, List, [], ◌∷◌, ◌++◌, codes}
+use Rattle.std.specs.Prelude.{◌≡◌, ◌⊎◌, ℕ, Bool, true, false, List, [], ◌∷◌, ◌++◌, codes}
 use Rattle.address_map.specs.declared.config.Config.{Config}
 use Rattle.address_map.specs.declared.config.PolicyKind.{PolicyKind}
 use Rattle.address_map.specs.declared.config.PolicyKind.TheVariants as policies
@@ -10,9 +10,11 @@ use Rattle.litmus_text.specs.declared.settings.MissKind.TheVariants as misses
 use Rattle.litmus_text.specs.declared.settings.Settings.{Settings}
 use Rattle.litmus_text.specs.declared.config_line.ConfigLine.{ConfigLine}
 use Rattle.litmus_text.specs.declared.config_line.ConfigLine.TheVariants as lines
+use Rattle.litmus_text.specs.declared.fault.LineFault.{LineFault}
+use Rattle.litmus_text.specs.declared.fault.LineFault.TheVariants as faults
 use Rattle.litmus_text.specs.declared.field.Field.TheVariants as fields
 use Rattle.litmus_text.specs.Field.{name_of, with_count}
-use Rattle.litmus_text.specs.Form.{Part, key, num}
+use Rattle.litmus_text.specs.Form.{Part, key, num, Writes, IsFormFaultOf}
 
 -- how a replacement policy is called
 abbrev pub name_of_policy : PolicyName → List ℕ
@@ -31,19 +33,31 @@ abbrev pub name_of_misses : MissKind → List ℕ
 name_of_misses misses.Explicit = codes "explicit"
 name_of_misses misses.Inverted = codes "inverted"
 
+abbrev pub parts_of_misses : MissKind → List Part
+parts_of_misses kind = key (name_of_misses kind) ∷ []
+
 -- how a setting is written that is on or off
 abbrev pub name_of_setting : Bool → List ℕ
 name_of_setting true = codes "on"
 name_of_setting false = codes "off"
 
+abbrev pub parts_of_setting : Bool → List Part
+parts_of_setting is_on = key (name_of_setting is_on) ∷ []
+
 -- each line begins with the name of its field
 abbrev pub parts_of_config_line : ConfigLine → List Part
 parts_of_config_line (lines.Count count n) = key (name_of (fields.Count count)) ∷ num n ∷ []
 parts_of_config_line (lines.Policy policy) = key (name_of fields.Policy) ∷ parts_of_policy policy
-parts_of_config_line (lines.Misses kind) = key (name_of fields.Misses) ∷ key (name_of_misses kind) ∷ []
-parts_of_config_line (lines.Exclusive is_on) = key (name_of fields.Exclusive) ∷ key (name_of_setting is_on) ∷ []
+parts_of_config_line (lines.Misses kind) = key (name_of fields.Misses) ∷ parts_of_misses kind
+parts_of_config_line (lines.Exclusive is_on) = key (name_of fields.Exclusive) ∷ parts_of_setting is_on
 parts_of_config_line (lines.Init word value) = key (name_of fields.Init) ∷ num word.0 ∷ num value ∷ []
 parts_of_config_line (lines.Counter word) = key (name_of fields.Counter) ∷ num word.0 ∷ []
+
+-- what is wrong with words that begin as such a line, behind the configuration: their form, or else their place
+abbrev pub IsLateFault : List (List ℕ) → LineFault → Type 0
+IsLateFault words fault =
+    IsFormFaultOf parts_of_config_line words fault
+    ⊎ ((line : ConfigLine) × (Writes words (parts_of_config_line line) × (fault ≡ faults.LateConfiguration)))
 
 -- the configuration with what the line sets: initial values and counters add up
 abbrev pub with_line : Config → ConfigLine → Config

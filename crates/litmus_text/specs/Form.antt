@@ -2,6 +2,8 @@
 use Rattle.std.specs.Prelude.{◌≡◌, ℕ, List, [], ◌∷◌}
 use Rattle.std.specs.Str.Parse.{digits_value}
 use Rattle.litmus_text.specs.Number.{IsNumber}
+use Rattle.litmus_text.specs.declared.fault.LineFault.{LineFault}
+use Rattle.litmus_text.specs.declared.fault.LineFault.TheVariants as faults
 
 -- a place in a line: a keyword, or a number of this value
 pub data Part : Type 0 where
@@ -23,3 +25,30 @@ HasForm [] (part ∷ parts) = ⊥
 HasForm (word ∷ rest) [] = ⊥
 HasForm (word ∷ rest) (key text ∷ parts) = (word ≡ text) × HasForm rest parts
 HasForm (word ∷ rest) (num n ∷ parts) = HasForm rest parts
+
+-- What is wrong with words that are none of some lines, by which of these they have the form of, which they say, and
+-- which the machine has. They have the form of none; or of one, but say none, since a number can't be read; or they say
+-- one, but none that the machine has.
+unfoldable pub IsFaultOf : {X : Type 0} → (X → Type 0) → (X → Type 0) → (X → Type 0) → LineFault → Type 0
+IsFaultOf {X} Form Says Has faults.NotACommand = (x : X) → ¬ Form x
+IsFaultOf {X} Form Says Has faults.BadNumber = ((x : X) × Form x) × ((x : X) → ¬ Says x)
+IsFaultOf {X} Form Says Has faults.OutOfRange = ((x : X) × Says x) × ((x : X) → Says x → ¬ Has x)
+IsFaultOf Form Says Has fault = ⊥
+
+-- what is wrong with words that write none of these lines
+abbrev pub IsFormFaultOf : {X : Type 0} → (X → List Part) → List (List ℕ) → LineFault → Type 0
+IsFormFaultOf {X} parts words fault =
+    IsFaultOf (λ (x : X). HasForm words (parts x)) (λ (x : X). Writes words (parts x)) (λ (x : X). Unit {0}) fault
+
+-- nothing, or so many numbers
+abbrev pub no_parts : Unit {0} → List Part
+no_parts nothing = []
+
+abbrev pub one_part : ℕ → List Part
+one_part n = num n ∷ []
+
+abbrev pub two_parts : ℕ × ℕ → List Part
+two_parts p = num p.0 ∷ num p.1 ∷ []
+
+abbrev pub three_parts : ℕ × ℕ × ℕ → List Part
+three_parts p = num p.0 ∷ num p.1 ∷ num p.2 ∷ []

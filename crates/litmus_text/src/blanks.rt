@@ -37,19 +37,7 @@ pub(super) fn part_end(line: &[u8], blanks: u64, at: usize) -> usize
     ensures part { result ≡ at + position_or_len is_blank (drop at line.now) }
     ensures within { (at ≤ result) × (result ≤ length line.now) }
 {
-    let end = at + zeros_below(blanks >> at);
+    // Where no bit is set, it would end behind the block, and so behind the line.
+    let end = at + (blanks >> at).trailing_zeros() as usize;
     if end < line.len() { end } else { line.len() }
-}
-
-/// How many bits below the lowest that is set aren't.
-#[inline(always)]
-fn zeros_below(bits: u64) -> usize
-    ensures few { result ≤ 64 }
-    ensures zeros { (k : ℕ) → k < result → bit_at bits k ≡ 0 }
-    ensures set { result < 64 → bit_at bits result ≡ 1 }
-{
-    if bits == 0 {
-        return 64;
-    }
-    bits.trailing_zeros() as usize
 }

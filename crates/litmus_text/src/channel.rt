@@ -1,10 +1,8 @@
-ghost use Rattle.std.specs.Prelude.{◌≡◌, ◌≢◌, ℕ, [], ◌∷◌, IfOk, IfErr, IfSome, IfNone, map};
-ghost use Rattle.address_map.specs.declared.address.CoreId.{CoreId};
-ghost use Rattle.address_map.specs.declared.address.LineAddr.{LineAddr};
+ghost use Rattle.std.specs.Prelude.{◌≡◌, ◌≢◌, [], ◌∷◌, IfOk, IfErr, IfSome, IfNone, map};
 ghost use Rattle.litmus_text.specs.Class.{name_of_class};
 ghost use Rattle.litmus_text.specs.declared.channel.Class.{Class};
-ghost use Rattle.litmus_text.specs.Form.{Writes, HasForm, num};
-ghost use Rattle.litmus_text.specs.Command.{ReadsAsPick, HasCore, HasLine};
+ghost use Rattle.litmus_text.specs.Form.{Writes, HasForm, IsFaultOf, num, two_parts};
+ghost use Rattle.litmus_text.specs.Command.{ReadsAsPick, HasCore, HasLine, HasLineAndCore};
 
 use super::fault::LineFault;
 use super::number::{one_number, three_numbers, two_numbers};
@@ -89,13 +87,9 @@ fn line_and_core(config: &Checked, words: &[&[u8]]) -> Result<(LineAddr, CoreId)
     ensures written { IfOk result (λ p. Writes (map (λ w. w.now) words.now) (num p.0.0 ∷ num p.1.0 ∷ [])) }
     ensures line { IfOk result (λ p. HasLine config.now p.0) }
     ensures core { IfOk result (λ p. HasCore config.now p.1) }
-    ensures refused { IfErr result (λ fault. (line : LineAddr) (core : CoreId)
-        → Writes (map (λ w. w.now) words.now) (num line.0 ∷ num core.0 ∷ [])
-        → HasLine config.now line → HasCore config.now core → ⊥) }
-    ensures form { IfErr result
-        (λ fault. (n m : ℕ) → HasForm (map (λ w. w.now) words.now) (num n ∷ num m ∷ []) → fault ≢ LineFault.NotACommand) }
-    ensures range { IfErr result
-        (λ fault. (n m : ℕ) → Writes (map (λ w. w.now) words.now) (num n ∷ num m ∷ []) → fault ≡ LineFault.OutOfRange) }
+    ensures fault { IfErr result
+        (IsFaultOf (λ p. HasForm (map (λ w. w.now) words.now) (two_parts p))
+        (λ p. Writes (map (λ w. w.now) words.now) (two_parts p)) (HasLineAndCore config.now)) }
 {
     let (line, core) = two_numbers(words)?;
     Ok((line_in(config, line)?, core_in(config, core)?))

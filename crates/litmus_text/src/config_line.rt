@@ -1,7 +1,7 @@
 ghost use Rattle.std.specs.Prelude.{◌≡◌, ◌↔◌, IsTrue, ◌≢◌, ℕ, Bool, IfOk, IfErr, IfSome, IfNone, OnOk, OnErr, map};
 ghost use Rattle.std.specs.Prelude.{[], ◌∷◌};
-ghost use Rattle.litmus_text.specs.Form.{Writes, HasForm, key};
-ghost use Rattle.litmus_text.specs.ConfigLine.{name_of_misses, name_of_setting};
+ghost use Rattle.litmus_text.specs.Form.{Writes, IsFormFaultOf, key};
+ghost use Rattle.litmus_text.specs.ConfigLine.{name_of_misses, name_of_setting, parts_of_misses, parts_of_setting};
 ghost use Rattle.litmus_text.specs.declared.settings.MissKind.{MissKind};
 
 use super::fault::LineFault;
@@ -27,7 +27,7 @@ pub enum ConfigLine {
 }
 
 impl ConfigLine {
-    ghost use Rattle.litmus_text.specs.ConfigLine.{parts_of_config_line, configured};
+    ghost use Rattle.litmus_text.specs.ConfigLine.{IsLateFault, parts_of_config_line, configured};
     ghost use Rattle.litmus_text.specs.Field.{IsFieldName};
     ghost use Rattle.litmus_text.specs.declared.config_line.ConfigLine.{ConfigLine};
 
@@ -45,9 +45,7 @@ impl ConfigLine {
             → Writes (map (λ w. w.now) words.now) (parts_of_config_line other) → other ≡ line) }
         ensures refused { IfErr result
             (λ fault. (line : ConfigLine) → Writes (map (λ w. w.now) words.now) (parts_of_config_line line) → ⊥) }
-        ensures form { IfErr result
-            (λ fault. (line : ConfigLine) → HasForm (map (λ w. w.now) words.now) (parts_of_config_line line)
-            → fault ≡ LineFault.BadNumber) }
+        ensures fault { IfErr result (IsFormFaultOf parts_of_config_line (map (λ w. w.now) words.now)) }
     {
         let Some((name, rest)) = words.split_first() else {
             return Err(LineFault::NotACommand);
@@ -65,6 +63,16 @@ impl ConfigLine {
                 Ok(ConfigLine::Init(WordAddr(word), value))
             }
             Field::Counter => Ok(ConfigLine::Counter(WordAddr(one_number(rest)?))),
+        }
+    }
+
+    /// What is wrong with words that begin as a configuration line, behind the configuration.
+    pub fn late_fault(words: &[&[u8]]) -> LineFault
+        ensures { IsLateFault (map (λ w. w.now) words.now) result }
+    {
+        match ConfigLine::parse(words) {
+            Ok(_) => LineFault::LateConfiguration,
+            Err(fault) => fault,
         }
     }
 
@@ -86,15 +94,14 @@ impl ConfigLine {
     }
 }
 
-#[tactic(auto, using(crate::proofs::FormLemmas::wrong_count, crate::proofs::FormLemmas::wrong_form))]
+#[tactic(auto, using(crate::proofs::FormLemmas::wrong_count, crate::proofs::FormLemmas::wrong_form), unfolding(crate::specs::Form::IsFaultOf))]
 fn misses(words: &[&[u8]]) -> Result<MissKind, LineFault>
     ensures written { IfOk result (λ kind. Writes (map (λ w. w.now) words.now) (key (name_of_misses kind) ∷ [])) }
     ensures only { IfOk result (λ kind. (other : MissKind)
         → Writes (map (λ w. w.now) words.now) (key (name_of_misses other) ∷ []) → other ≡ kind) }
     ensures refused { IfErr result
         (λ fault. (kind : MissKind) → Writes (map (λ w. w.now) words.now) (key (name_of_misses kind) ∷ []) → ⊥) }
-    ensures form { IfErr result
-        (λ fault. (kind : MissKind) → HasForm (map (λ w. w.now) words.now) (key (name_of_misses kind) ∷ []) → ⊥) }
+    ensures fault { IfErr result (IsFormFaultOf parts_of_misses (map (λ w. w.now) words.now)) }
 {
     match words {
         [name] => miss_kind(name).ok_or(LineFault::NotACommand),
@@ -115,15 +122,14 @@ fn miss_kind(name: &[u8]) -> Option<MissKind>
     value_named(&MISS_KINDS, name)
 }
 
-#[tactic(auto, using(crate::proofs::FormLemmas::wrong_count, crate::proofs::FormLemmas::wrong_form))]
+#[tactic(auto, using(crate::proofs::FormLemmas::wrong_count, crate::proofs::FormLemmas::wrong_form), unfolding(crate::specs::Form::IsFaultOf))]
 fn setting(words: &[&[u8]]) -> Result<bool, LineFault>
     ensures written { IfOk result (λ is_on. Writes (map (λ w. w.now) words.now) (key (name_of_setting is_on) ∷ [])) }
     ensures only { IfOk result (λ is_on. (other : Bool)
         → Writes (map (λ w. w.now) words.now) (key (name_of_setting other) ∷ []) → other ≡ is_on) }
     ensures refused { IfErr result
         (λ fault. (is_on : Bool) → Writes (map (λ w. w.now) words.now) (key (name_of_setting is_on) ∷ []) → ⊥) }
-    ensures form { IfErr result
-        (λ fault. (is_on : Bool) → HasForm (map (λ w. w.now) words.now) (key (name_of_setting is_on) ∷ []) → ⊥) }
+    ensures fault { IfErr result (IsFormFaultOf parts_of_setting (map (λ w. w.now) words.now)) }
 {
     match words {
         [name] => is_on(name).ok_or(LineFault::NotACommand),

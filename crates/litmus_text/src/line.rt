@@ -1,5 +1,4 @@
-ghost use Rattle.std.specs.Prelude.{◌≡◌, ℕ, ◌<◌, ◌≤◌, ◌==◌, List, [], ◌∷◌, length, take, IfSome, MatchOption};
-ghost use Rattle.std.specs.List.{position};
+ghost use Rattle.std.specs.Prelude.{◌≡◌, ℕ, ◌<◌, ◌≤◌, List, [], ◌∷◌, length, take, IfSome, MatchOption};
 ghost use Rattle.std.specs.Iterator.{YieldsFirstRef, item_count};
 ghost use Rattle.std.specs.Str.Lines.{lines, strip_carriage_return};
 
@@ -63,16 +62,10 @@ fn split_line(text: &[u8]) -> (&[u8], &[u8])
     ensures lines { lines text.now ≡ result.0.now ∷ lines result.1.now }
     ensures begins { take (length result.0.now) text.now ≡ result.0.now }
 {
-    match line_feed_at(text) {
+    match memchr(b'\n', text) {
         Some(end) => (without_carriage_return(&text[..end]), &text[end + 1..]),
         None => (text, &[]),
     }
-}
-
-fn line_feed_at(text: &[u8]) -> Option<usize>
-    ensures { result ≡ position (λ b. b == 10) text.now }
-{
-    memchr(b'\n', text)
 }
 
 fn without_carriage_return(line: &[u8]) -> &[u8]

@@ -3,7 +3,7 @@ ghost use Rattle.std.specs.Option.{SomeIff};
 ghost use Rattle.std.specs.Result.{OkIff};
 ghost use Rattle.std.specs.Char.{digit_value};
 ghost use Rattle.std.specs.Str.Parse.{digits_value};
-ghost use Rattle.litmus_text.specs.Form.{Writes, HasForm, num};
+ghost use Rattle.litmus_text.specs.Form.{Writes, IsFormFaultOf, no_parts, num, one_part, three_parts, two_parts};
 ghost use Rattle.litmus_text.specs.Number.{IsNumber};
 
 use super::fault::LineFault;
@@ -58,11 +58,11 @@ pub(super) fn tag_number(word: &[u8]) -> Result<u8, LineFault>
 }
 
 /// There are no words.
-#[tactic(auto, using(crate::proofs::FormLemmas::wrong_count, crate::proofs::FormLemmas::wrong_form))]
+#[tactic(auto, using(crate::proofs::FormLemmas::wrong_count, crate::proofs::FormLemmas::wrong_form), unfolding(crate::specs::Form::IsFaultOf))]
 pub fn no_numbers(words: &[&[u8]]) -> Result<(), LineFault>
     ensures written { IfOk result (λ unit. Writes (map (λ w. w.now) words.now) []) }
     ensures refused { IfErr result (λ fault. Writes (map (λ w. w.now) words.now) [] → ⊥) }
-    ensures form { IfErr result (λ fault. HasForm (map (λ w. w.now) words.now) [] → ⊥) }
+    ensures fault { IfErr result (IsFormFaultOf no_parts (map (λ w. w.now) words.now)) }
 {
     match words {
         [] => Ok(()),
@@ -71,13 +71,12 @@ pub fn no_numbers(words: &[&[u8]]) -> Result<(), LineFault>
 }
 
 /// The number that is all of these words.
-#[tactic(auto, using(crate::proofs::FormLemmas::wrong_count, crate::proofs::FormLemmas::wrong_form))]
+#[tactic(auto, using(crate::proofs::FormLemmas::wrong_count, crate::proofs::FormLemmas::wrong_form), unfolding(crate::specs::Form::IsFaultOf))]
 pub fn one_number(words: &[&[u8]]) -> Result<u64, LineFault>
     ensures written { IfOk result (λ n. Writes (map (λ w. w.now) words.now) (num n ∷ [])) }
     ensures only { IfOk result (λ n. (m : ℕ) → Writes (map (λ w. w.now) words.now) (num m ∷ []) → m ≡ n) }
     ensures refused { IfErr result (λ fault. (n : ℕ) → Writes (map (λ w. w.now) words.now) (num n ∷ []) → ⊥) }
-    ensures form { IfErr result
-        (λ fault. (n : ℕ) → HasForm (map (λ w. w.now) words.now) (num n ∷ []) → fault ≡ LineFault.BadNumber) }
+    ensures fault { IfErr result (IsFormFaultOf one_part (map (λ w. w.now) words.now)) }
 {
     let [word] = words else {
         return Err(LineFault::NotACommand);
@@ -86,14 +85,13 @@ pub fn one_number(words: &[&[u8]]) -> Result<u64, LineFault>
 }
 
 /// The two numbers that are all of these words.
-#[tactic(auto, using(crate::proofs::FormLemmas::wrong_count, crate::proofs::FormLemmas::wrong_form))]
+#[tactic(auto, using(crate::proofs::FormLemmas::wrong_count, crate::proofs::FormLemmas::wrong_form), unfolding(crate::specs::Form::IsFaultOf))]
 pub fn two_numbers(words: &[&[u8]]) -> Result<(u64, u64), LineFault>
     ensures written { IfOk result (λ p. Writes (map (λ w. w.now) words.now) (num p.0 ∷ num p.1 ∷ [])) }
     ensures only { IfOk result
         (λ p. (n m : ℕ) → Writes (map (λ w. w.now) words.now) (num n ∷ num m ∷ []) → (n ≡ p.0) × (m ≡ p.1)) }
     ensures refused { IfErr result (λ fault. (n m : ℕ) → Writes (map (λ w. w.now) words.now) (num n ∷ num m ∷ []) → ⊥) }
-    ensures form { IfErr result
-        (λ fault. (n m : ℕ) → HasForm (map (λ w. w.now) words.now) (num n ∷ num m ∷ []) → fault ≡ LineFault.BadNumber) }
+    ensures fault { IfErr result (IsFormFaultOf two_parts (map (λ w. w.now) words.now)) }
 {
     let [first, second] = words else {
         return Err(LineFault::NotACommand);
@@ -102,14 +100,13 @@ pub fn two_numbers(words: &[&[u8]]) -> Result<(u64, u64), LineFault>
 }
 
 /// The three numbers that are all of these words.
-#[tactic(auto, using(crate::proofs::FormLemmas::wrong_count, crate::proofs::FormLemmas::wrong_form))]
+#[tactic(auto, using(crate::proofs::FormLemmas::wrong_count, crate::proofs::FormLemmas::wrong_form), unfolding(crate::specs::Form::IsFaultOf))]
 pub fn three_numbers(words: &[&[u8]]) -> Result<(u64, u64, u64), LineFault>
     ensures written { IfOk result (λ p. Writes (map (λ w. w.now) words.now) (num p.0 ∷ num p.1 ∷ num p.2 ∷ [])) }
     ensures only { IfOk result (λ p. (n m k : ℕ) → Writes (map (λ w. w.now) words.now) (num n ∷ num m ∷ num k ∷ [])
         → (n ≡ p.0) × (m ≡ p.1) × (k ≡ p.2)) }
     ensures refused { IfErr result (λ fault. (n m k : ℕ) → Writes (map (λ w. w.now) words.now) (num n ∷ num m ∷ num k ∷ []) → ⊥) }
-    ensures form { IfErr result (λ fault. (n m k : ℕ) → HasForm (map (λ w. w.now) words.now) (num n ∷ num m ∷ num k ∷ [])
-        → fault ≡ LineFault.BadNumber) }
+    ensures fault { IfErr result (IsFormFaultOf three_parts (map (λ w. w.now) words.now)) }
 {
     let [first, second, third] = words else {
         return Err(LineFault::NotACommand);

@@ -1,9 +1,6 @@
-ghost use Rattle.std.specs.Prelude.{◌≡◌, ◌≢◌, ◌∷◌, codes, IfOk, IfErr, map};
-ghost use Rattle.litmus_text.specs.declared.command.Command.{Command};
+ghost use Rattle.std.specs.Prelude.{◌∷◌, codes, IfOk, IfErr, map};
 ghost use Rattle.address_map.specs.declared.config.Config.{Config};
-ghost use Rattle.litmus_text.specs.Form.{Writes, HasForm};
-ghost use Rattle.litmus_text.specs.Verb.{name_of_verb};
-ghost use Rattle.litmus_text.specs.Command.{IsRead, ReadsAs, parts_of, HasTag};
+ghost use Rattle.litmus_text.specs.Command.{IsFaultOfCommand, IsRead, ReadsAs};
 
 use super::access::parse_access;
 use super::channel::parse_pick;
@@ -16,39 +13,29 @@ use address_map::{Checked, Request};
 
 /// The command that a line's words write, at a machine of this configuration. The words are judged
 /// first by their keywords and their count, then as numbers, and last by what the machine has.
+#[tactic(auto, unfolding(crate::specs::Form::IsFaultOf))]
 pub fn parse_command(config: &Checked, words: &[&[u8]]) -> Result<Command, LineFault>
     ensures read { IfOk result (IsRead config.now (map (λ w. w.now) words.now)) }
-    ensures refused { IfErr result (λ fault. (command : Command) → IsRead config.now (map (λ w. w.now) words.now) command → ⊥) }
-    ensures form { IfErr result (λ fault. (command : Command) → HasForm (map (λ w. w.now) words.now) (parts_of command)
-        → fault ≢ LineFault.NotACommand) }
-    ensures range { IfErr result (λ fault. (command : Command) → Writes (map (λ w. w.now) words.now) (parts_of command)
-        → HasTag command → fault ≡ LineFault.OutOfRange) }
+    ensures fault { IfErr result (IsFaultOfCommand config.now (map (λ w. w.now) words.now)) }
 {
     let Some((name, rest)) = words.split_first() else {
         return Err(LineFault::NotACommand);
     };
-    match Verb::named(name) {
-        Some(verb) => parse_called(config, verb, rest),
-        None => Err(LineFault::NotACommand),
-    }
-}
-
-// The command of this name whose other words these are.
-fn parse_called(config: &Checked, verb: Verb, words: &[&[u8]]) -> Result<Command, LineFault>
-    ensures { ReadsAs config.now (name_of_verb verb ∷ map (λ w. w.now) words.now) result }
-{
+    let Some(verb) = Verb::named(name) else {
+        return Err(LineFault::NotACommand);
+    };
     match verb {
-        Verb::Issue => parse_issue(config, words),
-        Verb::Evict => parse_evict(config, words),
-        Verb::Deliver => parse_deliver(config, words),
-        Verb::Hand => parse_hand(config, words),
-        Verb::Word => parse_word(config, words),
-        Verb::State => parse_state(config, words),
-        Verb::Log => parse_log(config, words),
-        Verb::Stats => parse_stats(words),
-        Verb::Waiting => parse_waiting(words),
-        Verb::Show => parse_show(words),
-        Verb::Pump => parse_pump(words),
+        Verb::Issue => parse_issue(config, rest),
+        Verb::Evict => parse_evict(config, rest),
+        Verb::Deliver => parse_deliver(config, rest),
+        Verb::Hand => parse_hand(config, rest),
+        Verb::Word => parse_word(config, rest),
+        Verb::State => parse_state(config, rest),
+        Verb::Log => parse_log(config, rest),
+        Verb::Stats => parse_stats(rest),
+        Verb::Waiting => parse_waiting(rest),
+        Verb::Show => parse_show(rest),
+        Verb::Pump => parse_pump(rest),
     }
 }
 

@@ -1,5 +1,5 @@
 ghost use Rattle.std.specs.Prelude.{◌≡◌, ◌≢◌, ◌∷◌, IfOk, IfErr, IfSome, IfNone, map};
-ghost use Rattle.litmus_text.specs.Form.{Writes, HasForm};
+ghost use Rattle.litmus_text.specs.Form.{Writes, IsFormFaultOf};
 ghost use Rattle.litmus_text.specs.ConfigLine.{name_of_policy, parts_of_policy};
 ghost use Rattle.litmus_text.specs.declared.policy.PolicyName.{PolicyName};
 ghost use Rattle.address_map.specs.declared.config.PolicyKind.{PolicyKind};
@@ -30,8 +30,7 @@ pub(super) fn parse_policy(words: &[&[u8]]) -> Result<PolicyKind, LineFault>
     ensures only { IfOk result (λ kind. (other : PolicyKind)
         → Writes (map (λ w. w.now) words.now) (parts_of_policy other) → other ≡ kind) }
     ensures refused { IfErr result (λ fault. (kind : PolicyKind) → Writes (map (λ w. w.now) words.now) (parts_of_policy kind) → ⊥) }
-    ensures form { IfErr result (λ fault. (kind : PolicyKind) → HasForm (map (λ w. w.now) words.now) (parts_of_policy kind)
-        → fault ≡ LineFault.BadNumber) }
+    ensures fault { IfErr result (IsFormFaultOf parts_of_policy (map (λ w. w.now) words.now)) }
 {
     let Some((name, rest)) = words.split_first() else {
         return Err(LineFault::NotACommand);
@@ -57,9 +56,7 @@ fn parse_policy_called(policy: PolicyName, words: &[&[u8]]) -> Result<PolicyKind
         → Writes (name_of_policy policy ∷ map (λ w. w.now) words.now) (parts_of_policy other) → other ≡ kind) }
     ensures refused { IfErr result (λ fault. (kind : PolicyKind)
         → Writes (name_of_policy policy ∷ map (λ w. w.now) words.now) (parts_of_policy kind) → ⊥) }
-    ensures form { IfErr result (λ fault. (kind : PolicyKind)
-        → HasForm (name_of_policy policy ∷ map (λ w. w.now) words.now) (parts_of_policy kind)
-        → fault ≡ LineFault.BadNumber) }
+    ensures fault { IfErr result (IsFormFaultOf parts_of_policy (name_of_policy policy ∷ map (λ w. w.now) words.now)) }
 {
     match policy {
         PolicyName::Lru => {

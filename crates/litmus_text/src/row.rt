@@ -4,7 +4,7 @@ ghost use Rattle.litmus_text.specs.Text.{parts_with_bytes, words, words_of_line}
 ghost use Rattle.litmus_text.specs.declared.row.TheConstants.{MOST_WORDS};
 
 use super::blanks::{BLOCK, blanks_of, part_end};
-use super::word::{Words, is_comment};
+use super::word::Words;
 use arrayvec::ArrayVec;
 
 /// How many words of a line are kept: more than any line of a text may have.
@@ -27,7 +27,7 @@ pub(super) fn fill_row<'a>(row: &mut Row<'a>, line: &'a [u8], text: &[u8])
     requires { take (length line.now) text.now ≡ line.now }
     ensures { map (λ w. w.now) row.new.items ≡ take MOST_WORDS (words_of_line line.now) }
 {
-    if line.len() >= BLOCK || text.len() < BLOCK || is_comment(line) {
+    if line.len() >= BLOCK || text.len() < BLOCK || matches!(line, [b'#', ..]) {
         fill_word_by_word(row, line);
     } else {
         fill_by_blanks(row, line, blanks_of(text));

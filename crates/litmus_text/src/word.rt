@@ -1,4 +1,4 @@
-ghost use Rattle.std.specs.Prelude.{◌≡◌, ℕ, ◌<◌, List, ◌∷◌, [], length, ◌==◌, slice_index, not, false, MatchOption};
+ghost use Rattle.std.specs.Prelude.{◌≡◌, ℕ, ◌<◌, List, ◌∷◌, [], length, slice_index, not, false, MatchOption};
 ghost use Rattle.std.specs.List.{position};
 ghost use Rattle.std.specs.Iterator.{YieldsFirstRef, item_count};
 ghost use Rattle.litmus_text.specs.Text.{is_blank as is_blank_byte, words, words_of_line};
@@ -22,9 +22,11 @@ impl<'a> Words<'a> {
     pub fn of_line(line: &'a [u8]) -> Self
         ensures { result ≡ words_of_line line.now }
     {
-        Words {
-            rest: if is_comment(line) { &[] } else { line },
-        }
+        let rest = match line {
+            [b'#', ..] => &[],
+            _ => line,
+        };
+        Words { rest }
     }
 }
 
@@ -41,14 +43,6 @@ impl<'a> Iterator for Words<'a> {
         self.rest = rest;
         Some(word)
     }
-}
-
-/// Whether a line is a comment.
-#[inline(always)]
-pub(super) fn is_comment(line: &[u8]) -> bool
-    ensures { result ≡ (slice_index line.now 0 == 35) }
-{
-    matches!(line, [b'#', ..])
 }
 
 #[inline(always)]

@@ -1,12 +1,11 @@
-ghost use Rattle.std.specs.Prelude.{◌≡◌, ◌==◌, [], ◌∷◌, IsSomeAnd, IsTrue, MatchOption};
-ghost use Rattle.address_map.specs.Place.{line_of, slice_of};
+ghost use Rattle.std.specs.Prelude.{◌≡◌, [], ◌∷◌, IsSomeAnd, IsTrue, MatchOption};
 ghost use Rattle.core_thread_system.specs.Core.{asked_of};
 ghost use Rattle.core_thread_system.specs.Program.{accesses_of};
 ghost use Rattle.litmus_outcomes.specs.Sought.{requests_in};
 ghost use Rattle.litmus_threads.specs.Made.{HasMadeBelow, HaveMadeAll};
 
 use super::threads::steps_at;
-use address_map::{Checked, Op, SliceId, WordAddr};
+use address_map::{Checked, Op, SliceId, WordAddr, is_of_slice};
 use core_thread_system::{Core, SystemNames};
 use litmus_test::{Action, Thread};
 use mshr_file::MissFile;
@@ -75,16 +74,9 @@ fn access_in(config: &Checked, slice: SliceId, step: Action) -> Option<(WordAddr
         (λ access. requests_in config.now slice.0 (step ∷ []) ≡ access ∷ []) }
 {
     match step {
-        Action::Access(word, op) if is_in(config, slice, word) => Some((word, op)),
+        Action::Access(word, op) if is_of_slice(config, slice, word) => Some((word, op)),
         Action::Access(..) | Action::Settle | Action::Evict(_) => None,
     }
-}
-
-// Whether the slice has the word.
-fn is_in(config: &Checked, slice: SliceId, word: WordAddr) -> bool
-    ensures { result ≡ ((slice_of config.now (line_of word)).0 == slice.0) }
-{
-    word.line().0 % config.slices() as u64 == u64::from(slice.0)
 }
 
 // Whether the access is what was asked for.

@@ -37,7 +37,7 @@ impl<F: MissFile> Walker<F> {
         Ok(())
     }
 
-    /// Adds the deliveries of a line's messages, core by core and home last.
+    /// Adds the deliveries of a line's messages, kind by kind.
     fn list_deliveries(&self, line: LineAddr, moves: &mut Vec<Move>) -> Result<(), AllocError> {
         let Some(mut waiting) = self.recorded.waiting_at(line) else {
             return Ok(());

@@ -48,7 +48,7 @@ impl MissFile for ExplicitFile {
     }
 
     fn room_open(&self, _tag: u8) -> bool {
-        self.table.count_open() < self.table.len()
+        self.table.has_free()
     }
 
     fn room_join(&self, line: Local, _tag: u8) -> bool {

@@ -1,4 +1,4 @@
-ghost use Rattle.std.specs.Prelude.{◌≡◌, ◌<◌, ◌≤◌, ◌+◌, ◌==◌, [], ◌∷◌, true, false, not, if◌then◌else◌, length, filter, IfOk, replicate, slice_index_or};
+ghost use Rattle.std.specs.Prelude.{◌≡◌, ◌<◌, ◌≤◌, ◌+◌, ◌==◌, [], ◌∷◌, true, false, nat_lt, not, if◌then◌else◌, length, filter, IfOk, replicate, slice_index_or};
 ghost use Rattle.std.specs.Box.{boxed_slice_items};
 ghost use Rattle.std.specs.List.{list_any, position};
 ghost use Rattle.target_list.specs.Target.{front_loads};
@@ -96,11 +96,12 @@ impl RegisterTable {
         })
     }
 
-    /// How many registers there are.
-    pub fn len(&self) -> usize
-        ensures { result ≡ length (registers_in self.now) }
+    /// Whether a register is free.
+    pub fn has_free(&self) -> bool
+        requires { IsKept self.now }
+        ensures { result ≡ nat_lt (length (open_in self.now)) (length (registers_in self.now)) }
     {
-        self.registers.len()
+        self.open_count < self.registers.len()
     }
 
     /// Whether there is a register for the line.

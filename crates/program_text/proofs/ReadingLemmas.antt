@@ -6,21 +6,21 @@ use Rattle.std.specs.Str.Lines.{lines}
 use Rattle.address_map.specs.Config.{checked_of, first_fault}
 use Rattle.address_map.specs.declared.config.Config.{Config}
 use Rattle.address_map.specs.declared.config.ConfigError.{ConfigError}
-use Rattle.litmus_text.specs.ConfigLine.{configured, parts_of_config_line}
-use Rattle.litmus_text.specs.Form.{HasForm, Writes}
+use Rattle.litmus_text.specs.ConfigLine.{IsLateFault, configured, parts_of_config_line}
+use Rattle.litmus_text.specs.Form.{IsFormFaultOf, Writes}
 use Rattle.litmus_text.specs.Statement.{statements_from}
 use Rattle.litmus_text.specs.declared.config_line.ConfigLine.{ConfigLine}
 use Rattle.litmus_text.specs.declared.fault.LineFault.{LineFault}
-use Rattle.litmus_text.specs.declared.fault.LineFault.TheVariants as line_faults
 use Rattle.litmus_text.specs.declared.fault.TextFault.{TextFault}
 use Rattle.litmus_text.specs.declared.fault.TextFault.TheVariants as faults
 use Rattle.litmus_text.specs.declared.settings.Settings.{Settings}
 use Rattle.program_text.specs.declared.programs.Programs.{Programs}
+use Rattle.litmus_text.proofs.FaultLemmas.{form_refuses}
 use Rattle.program_text.specs.Fault.{BeginOtherwise, HasFault, IsConfigFault, IsFault, IsFaultyLine, IsProgramText, Says, Statement, programs_of, settings_of}
 use Rattle.program_text.specs.Judged.{fault_of, first_so, is_early}
 use Rattle.program_text.specs.Keyword.{IsFormFault}
 use Rattle.program_text.specs.Line.{Line, setting, BeginsAsSetting, WritesLine, WritesSetting}
-use Rattle.program_text.specs.Reading.{IsLateFault, IsPlaceFault, IsRead, IsReading, said_first}
+use Rattle.program_text.specs.Reading.{IsPlaceFault, IsRead, IsReading, said_first}
 use Rattle.program_text.specs.Text.{Program, Said, said_line, said_nothing}
 use Rattle.program_text.proofs.LineLemmas.{no_empty_line, only_setting}
 
@@ -110,15 +110,23 @@ unfolding WritesSetting fault_of first_so
 reading_setting all left old s x begins written only reading =
     reading_line all left (said_first old) s (setting x) written (setting_only s.1 x begins only) refl reading
 
--- what is wrong with a setting in its place, and with another line that writes nothing
+-- what is wrong with a setting that isn't well formed
+malformed : (said : Said) (words : List (List ℕ)) (fault : LineFault) → BeginsAsSetting words
+    → IsFormFaultOf parts_of_config_line words fault → HasFault said words fault
+malformed said words fault begins form =
+    inr (inl (record {
+      begins = begins;
+      none = setting_none words begins (form_refuses parts_of_config_line words fault form);
+      form = form;
+    }))
+
+-- .. in its place, and with another line that writes nothing
 pub setting_fault : (all left : List Statement) (settings : Settings) (number : ℕ) (words : List (List ℕ))
     (fault : LineFault) → IsReading all (said_first settings) ((number, words) ∷ left) → BeginsAsSetting words
-    → ((line : ConfigLine) → Writes words (parts_of_config_line line) → ⊥)
-    → ((line : ConfigLine) → HasForm words (parts_of_config_line line) → fault ≡ line_faults.BadNumber)
-    → IsFault all (faults.Line number fault)
-setting_fault all left settings number words fault reading begins none form =
+    → IsFormFaultOf parts_of_config_line words fault → IsFault all (faults.Line number fault)
+setting_fault all left settings number words fault reading begins form =
     faulty all left (said_first settings) number words fault reading (inl begins)
-    (inr (inl (record { begins = begins; none = setting_none words begins none; form = form })))
+    (malformed (said_first settings) words fault begins form)
 
 pub line_fault : (all left : List Statement) (said : Said) (number : ℕ) (words : List (List ℕ)) (fault : LineFault)
     → IsReading all said ((number, words) ∷ left) → first_fault said.settings.config ≡ None → ¬ BeginsAsSetting words
@@ -132,13 +140,13 @@ pub late_fault : (said : Said) (words : List (List ℕ)) (fault : LineFault) →
     → is_early said ≡ false → IsLateFault words fault → HasFault said words fault
 unfolding WritesSetting fault_of first_so
 late_fault said words fault begins begun late =
-    elim late.late [
-      | inl is ↦ inl (record {
+    elim late [
+      | inl form ↦ malformed said words fault begins form
+      | inr is ↦ inl (record {
         line = setting is.0;
         written = is.1.0;
         judged = rw begun (ap Some (sym is.1.1));
       })
-      | inr none ↦ inr (inl (record { begins = begins; none = setting_none words begins none; form = late.form none }))
     ]
 
 -- a line that isn't taken

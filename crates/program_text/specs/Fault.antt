@@ -4,9 +4,8 @@ use Rattle.std.specs.Str.Lines.{lines}
 use Rattle.address_map.specs.Config.{first_fault}
 use Rattle.address_map.specs.declared.config.ConfigError.{ConfigError}
 use Rattle.litmus_text.specs.ConfigLine.{parts_of_config_line}
-use Rattle.litmus_text.specs.Form.{Writes, HasForm}
+use Rattle.litmus_text.specs.Form.{IsFormFaultOf}
 use Rattle.litmus_text.specs.Statement.{statements_from}
-use Rattle.litmus_text.specs.declared.config_line.ConfigLine.{ConfigLine}
 use Rattle.litmus_text.specs.declared.fault.LineFault.{LineFault}
 use Rattle.litmus_text.specs.declared.fault.LineFault.TheVariants as line_faults
 use Rattle.litmus_text.specs.declared.fault.TextFault.{TextFault}
@@ -58,11 +57,12 @@ pub record IsMisplaced (said : Said) (words : List (List ℕ)) (fault : LineFaul
   pub written : WritesLine words line
   pub judged : fault_of said line ≡ Some fault
 
--- They write none. They begin as a line that configures, of which they may have the form, or else as another line.
+-- They write none. They begin as a line that configures, and have the form of none or a bad number, or else as another
+-- line.
 pub record IsMalformedSetting (words : List (List ℕ)) (fault : LineFault) : Type 0 where
   pub begins : BeginsAsSetting words
   pub none : (line : Line) → ¬ WritesLine words line
-  pub form : (line : ConfigLine) → HasForm words (parts_of_config_line line) → fault ≡ line_faults.BadNumber
+  pub form : IsFormFaultOf parts_of_config_line words fault
 
 pub record IsMalformedLine (words : List (List ℕ)) (fault : LineFault) : Type 0 where
   pub begins : ¬ BeginsAsSetting words

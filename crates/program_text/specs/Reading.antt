@@ -1,11 +1,7 @@
 -- What a reader of programs knows on its way.
-use Rattle.std.specs.Prelude.{◌≡◌, ◌⊎◌, ℕ, ◌≤◌, List, [], ◌++◌, length, map, reverse, Result, IfErr, IfOk, None, Some}
+use Rattle.std.specs.Prelude.{◌≡◌, ℕ, ◌≤◌, List, [], ◌++◌, length, map, reverse, Result, IfErr, IfOk, None, Some}
 use Rattle.address_map.specs.Config.{IsAllowed, first_fault}
-use Rattle.litmus_text.specs.ConfigLine.{parts_of_config_line}
-use Rattle.litmus_text.specs.Form.{Writes, HasForm}
-use Rattle.litmus_text.specs.declared.config_line.ConfigLine.{ConfigLine}
 use Rattle.litmus_text.specs.declared.fault.LineFault.{LineFault}
-use Rattle.litmus_text.specs.declared.fault.LineFault.TheVariants as faults
 use Rattle.litmus_text.specs.declared.fault.TextFault.{TextFault}
 use Rattle.litmus_text.specs.declared.fault.TextFault.TheVariants as text_faults
 use Rattle.litmus_text.specs.declared.statement.Statement.{Statement as ReadStatement}
@@ -25,13 +21,6 @@ pub record ReadsAs (words : List (List ℕ)) (result : Result ReadLine LineFault
   pub only : IfOk result (λ line. (other : Line) → WritesLine words other → other ≡ line_of line)
   pub refused : IfErr result (λ fault. (other : Line) → WritesLine words other → ⊥)
 
--- what is wrong with a setting behind the first program
-pub record IsLateFault (words : List (List ℕ)) (fault : LineFault) : Type 0 where
-  pub late : ((line : ConfigLine) × (Writes words (parts_of_config_line line) × (fault ≡ faults.LateConfiguration)))
-      ⊎ ((line : ConfigLine) → Writes words (parts_of_config_line line) → ⊥)
-  pub form : ((line : ConfigLine) → Writes words (parts_of_config_line line) → ⊥)
-      → (line : ConfigLine) → HasForm words (parts_of_config_line line) → fault ≡ faults.BadNumber
-
 -- what a reader has read, and what settings alone say
 unfoldable pub said_by : Reader → Said
 said_by reader = record {
@@ -44,7 +33,7 @@ abbrev pub said_first : Settings → Said
 said_first settings = record { settings = settings; programs = []; blocks = [] }
 
 -- its count is right, and not too great, a block is open only in a program, and its configuration is allowed
-pub record IsCounted (reader : Reader) : Type 0 where
+pub record IsSoundReader (reader : Reader) : Type 0 where
   pub count : reader.accesses ≡ count_of (reverse (programs_of reader.programs))
   pub few : reader.accesses ≤ MOST_ACCESSES
   pub begun : 1 ≤ length reader.blocks.items → 1 ≤ length reader.programs.cores.items

@@ -4,7 +4,7 @@ ghost use Rattle.program_text.specs.declared.programs.CoreProgram.{CoreProgram};
 ghost use Rattle.program_text.specs.Fault.{programs_of};
 ghost use Rattle.program_text.specs.Judged.{access_faults, count_of, fault_of, first_so, has_counter, has_program, has_too_many, is_closed, is_early, lacks_core, lacks_range, lacks_word, overwrites as overwrites_word};
 ghost use Rattle.program_text.specs.Line.{begin, end, line_of, repeat};
-ghost use Rattle.program_text.specs.Reading.{IsCounted, said_by};
+ghost use Rattle.program_text.specs.Reading.{IsSoundReader, said_by};
 ghost use Rattle.address_map.specs.declared.request.Op.{Op};
 ghost use Rattle.program_text.specs.Text.{ended, said_access};
 ghost use Rattle.program_text.specs.declared.programs.TheConstants.{MOST_ACCESSES, MOST_DEPTH};
@@ -19,7 +19,7 @@ use litmus_text::LineFault;
 impl Reader {
     /// Whether the line may come next.
     pub(super) fn judge(&self, line: Line) -> Result<(), LineFault>
-        requires { IsCounted self.now }
+        requires { IsSoundReader self.now }
         ensures may { OnOk result (fault_of (said_by self.now) (line_of line) ≡ None) }
         ensures fault { IfErr result (λ fault. fault_of (said_by self.now) (line_of line) ≡ Some fault) }
     {
@@ -47,7 +47,7 @@ impl Reader {
 
     #[tactic(auto, using(crate::proofs::JudgedLemmas::in_order))]
     fn may_access(&self, range: Range, op: Op) -> Result<(), LineFault>
-        requires { IsCounted self.now }
+        requires { IsSoundReader self.now }
         ensures may { OnOk result (first_so (access_faults (said_by self.now) range.first range.last op) ≡ None) }
         ensures fault { IfErr result
             (λ fault. first_so (access_faults (said_by self.now) range.first range.last op) ≡ Some fault) }
@@ -83,7 +83,7 @@ impl Reader {
 
     #[tactic(auto, using(crate::proofs::JudgedLemmas::in_order), unfolding(crate::specs::Judged::fault_of))]
     fn may_end(&self) -> Result<(), LineFault>
-        requires { IsCounted self.now }
+        requires { IsSoundReader self.now }
         ensures may { OnOk result (fault_of (said_by self.now) end ≡ None) }
         ensures fault { IfErr result (λ fault. fault_of (said_by self.now) end ≡ Some fault) }
     {
@@ -179,7 +179,7 @@ impl Reader {
 
     // Whether accesses to the range are too many.
     fn spreads_too_far(&self, range: Range) -> bool
-        requires counted { IsCounted self.now }
+        requires counted { IsSoundReader self.now }
         requires begun { is_early (said_by self.now) ≡ false }
         requires range { lacks_range (said_by self.now).settings.config range.first range.last ≡ false }
         ensures { (op : Op) → result ≡ has_too_many (said_access (said_by self.now) range.first range.last op) }
@@ -189,7 +189,7 @@ impl Reader {
 
     // Whether the innermost block makes too many accesses where it ends.
     fn repeats_too_often(&self) -> bool
-        requires { IsCounted self.now }
+        requires { IsSoundReader self.now }
         ensures { result ≡ has_too_many (ended (said_by self.now).blocks (said_by self.now)) }
     {
         let blocks = self.blocks.as_slice();
@@ -204,7 +204,7 @@ impl Reader {
 
     // Whether so many accesses more are too many.
     fn has_too_many(&self, more: u64) -> bool
-        requires { IsCounted self.now }
+        requires { IsSoundReader self.now }
         ensures { result ≡ nat_lt MOST_ACCESSES (count_of (reverse (programs_of self.now.programs)) + more) }
     {
         (self.accesses as u64).saturating_add(more) > MOST_ACCESSES as u64

@@ -6,7 +6,7 @@ ghost use Rattle.litmus_text.specs.declared.settings.Settings.{Settings};
 ghost use Rattle.program_text.specs.Fault.{BeginOtherwise, IsFault, IsProgramText, Statement as ReadStatement, programs_of, settings_of};
 ghost use Rattle.program_text.specs.Judged.{fault_of, is_early};
 ghost use Rattle.program_text.specs.Line.{BeginsAsSetting, line_of};
-ghost use Rattle.program_text.specs.Reading.{IsCounted, IsLateFault, IsPlaceFault, IsRead, IsReading, said_by, said_first, said_in};
+ghost use Rattle.program_text.specs.Reading.{IsSoundReader, IsPlaceFault, IsRead, IsReading, said_by, said_first, said_in};
 ghost use Rattle.program_text.specs.Text.{Program, said_line};
 
 use super::line::Line;
@@ -98,7 +98,7 @@ impl Reader {
     #[tactic(auto, unfolding(crate::specs::Reading::said_by))]
     fn new(alloc: Global, settings: Settings) -> Result<Self, TextFault>
         ensures said { IfOk result (λ reader. said_by reader ≡ said_first settings) }
-        ensures counted { IfOk result IsCounted }
+        ensures counted { IfOk result IsSoundReader }
         ensures fault { IfErr result (λ fault. (all left : List ReadStatement)
             → IsReading all (said_first settings) left → BeginOtherwise left → IsFault all fault) }
     {
@@ -125,7 +125,7 @@ impl Reader {
         first: Statement<'_>,
         statements: Statements<'_>,
     ) -> Result<Programs, TextFault>
-        requires counted { IsCounted self }
+        requires counted { IsSoundReader self }
         requires begins { ¬ BeginsAsSetting (map (λ w. w.now) first.words.items) }
         ensures read { IfOk result (λ programs. (all : List ReadStatement)
             → IsReading all (said_by self) (said_in first.entry ∷ statements.entry)
@@ -144,7 +144,7 @@ impl Reader {
 
     /// What was read, where no block is left open.
     fn end(self) -> Result<Programs, TextFault>
-        requires { IsCounted self }
+        requires { IsSoundReader self }
         ensures read { IfOk result
             (λ programs. (all : List ReadStatement) → IsReading all (said_by self) [] → IsRead all programs) }
         ensures fault { IfErr result
@@ -159,12 +159,12 @@ impl Reader {
 
     /// Reads a line behind the first that doesn't configure.
     fn read_next(&mut self, alloc: Global, statement: &Statement<'_>) -> Result<(), TextFault>
-        requires counted { IsCounted self.old }
+        requires counted { IsSoundReader self.old }
         requires begun { is_early (said_by self.old) ≡ false }
         ensures reading { OnOk result ((all left : List ReadStatement)
             → IsReading all (said_by self.old) (said_in statement.now ∷ left)
             → IsReading all (said_by self.new) left) }
-        ensures counted { OnOk result (IsCounted self.new) }
+        ensures counted { OnOk result (IsSoundReader self.new) }
         ensures begun { OnOk result (is_early (said_by self.new) ≡ false) }
         ensures fault { IfErr result (λ fault. (all left : List ReadStatement)
             → IsReading all (said_by self.old) (said_in statement.now ∷ left)
@@ -172,19 +172,19 @@ impl Reader {
     {
         let words = statement.words.as_slice();
         if begins_as_setting(words) {
-            return Err(late_fault(words).at(statement.number));
+            return Err(ConfigLine::late_fault(words).at(statement.number));
         }
         self.read_line(alloc, statement)
     }
 
     /// Reads a line that doesn't configure.
     fn read_line(&mut self, alloc: Global, statement: &Statement<'_>) -> Result<(), TextFault>
-        requires counted { IsCounted self.old }
+        requires counted { IsSoundReader self.old }
         requires begins { ¬ BeginsAsSetting (map (λ w. w.now) statement.now.words.items) }
         ensures reading { OnOk result ((all left : List ReadStatement)
             → IsReading all (said_by self.old) (said_in statement.now ∷ left)
             → IsReading all (said_by self.new) left) }
-        ensures counted { OnOk result (IsCounted self.new) }
+        ensures counted { OnOk result (IsSoundReader self.new) }
         ensures begun { OnOk result (is_early (said_by self.new) ≡ false) }
         ensures fault { IfErr result (λ fault. (all left : List ReadStatement)
             → IsReading all (said_by self.old) (said_in statement.now ∷ left)
@@ -198,10 +198,10 @@ impl Reader {
 
     /// Takes one more line, which has this number.
     fn take(&mut self, alloc: Global, number: usize, line: Line) -> Result<(), TextFault>
-        requires { IsCounted self.old }
+        requires { IsSoundReader self.old }
         ensures may { OnOk result (fault_of (said_by self.old) (line_of line) ≡ None) }
         ensures said { OnOk result (said_by self.new ≡ said_line (said_by self.old) number (line_of line)) }
-        ensures counted { OnOk result (IsCounted self.new) }
+        ensures counted { OnOk result (IsSoundReader self.new) }
         ensures fault { IfErr result (IsPlaceFault (said_by self.old) number (line_of line)) }
     {
         if let Err(fault) = self.judge(line) {
@@ -211,15 +211,5 @@ impl Reader {
             Ok(()) => Ok(()),
             Err(_) => Err(TextFault::NoMemory),
         }
-    }
-}
-
-/// What is wrong with a line that configures behind one that doesn't.
-fn late_fault(words: &[&[u8]]) -> LineFault
-    ensures { IsLateFault (map (λ w. w.now) words.now) result }
-{
-    match ConfigLine::parse(words) {
-        Ok(_) => LineFault::LateConfiguration,
-        Err(fault) => fault,
     }
 }

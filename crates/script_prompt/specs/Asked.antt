@@ -4,7 +4,7 @@ use Rattle.address_map.specs.declared.address.CoreId.{CoreId}
 use Rattle.address_map.specs.declared.config.Config.{Config}
 use Rattle.address_map.specs.declared.request.Op.{Op}
 use Rattle.address_map.specs.declared.request.Op.TheVariants as ops
-use Rattle.litmus_script.specs.Script.{BeginsAsConfig}
+use Rattle.litmus_script.specs.Fault.{BeginsAsConfig}
 use Rattle.litmus_text.specs.Command.{HasCore}
 use Rattle.litmus_text.specs.Form.{Part, key, num, Writes}
 use Rattle.script_prompt.specs.declared.asked.Asked.{Asked}

@@ -1,6 +1,7 @@
 //! A machine, and the script that it has played.
 ghost use Rattle.std.specs.Prelude.{◌≡◌, ◌++◌, ◌<◌, IfErr, IfOk, OnOk, codes};
-ghost use Rattle.litmus_script.specs.Play.{IsCommandFault};
+ghost use Rattle.litmus_script.specs.Fault.{IsNotPlayed};
+ghost use Rattle.litmus_text.specs.Command.{IsFaultOfCommand};
 ghost use Rattle.litmus_script.specs.Script.{said_by};
 ghost use Rattle.litmus_text.specs.Command.{HasCore};
 ghost use Rattle.script_prompt.specs.Asked.{Asks};
@@ -74,8 +75,9 @@ impl<F: MissFile> Session<F> {
         ensures played { IfOk result (λ command. PlaysLine self.old.player.machine.config (said_by statement.now).1
             statement.now.line.now command self.old.player.machine.slices.items self.new.player.machine.slices.items
             (W.contents out.old) (W.contents out.new) self.old.script.items self.new.script.items) }
-        ensures fault { IfErr result (IsCommandFault self.old.player.machine.config (said_by statement.now)
-            (W.contents out.old) (W.contents out.new)) }
+        ensures fault { IfErr result
+            (IsNotPlayed (IsFaultOfCommand self.old.player.machine.config (said_by statement.now).1)
+            (said_by statement.now).0 (W.contents out.old) (W.contents out.new)) }
     {
         match parse_command(self.config(), statement.words.as_slice()) {
             Ok(command) => {

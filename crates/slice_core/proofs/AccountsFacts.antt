@@ -14,7 +14,7 @@ use Rattle.slice_core_side.specs.Side.{SideView}
 use Rattle.slice_core_standing.proofs.Grown.{no_entry-standings}
 use Rattle.slice_core_standing.specs.Standing.{standings}
 use Rattle.slice_core.proofs.LinksSettling.{waits-held}
-use Rattle.slice_core.specs.Facts.{CountsAccepted, HasOneRegister, HasTags, IsStanding}
+use Rattle.slice_core.specs.Facts.{CountsAccepted, HasOneRegister, TagsName, IsStanding}
 use Rattle.slice_core.specs.Sound.{HasAccounts, HasLinks, IsSound}
 
 -- A core that isn't there has nothing.
@@ -42,7 +42,7 @@ standing-from_accounts v has = record {
         ∙ no_entry-standings core.0 seq v.log (has.absent core.0 past) ∙ sym (none seq)
         ∙ ap (λ (s : SideView). one_if (nat_lt seq s.accepted)) (sym (side-missing v core past))
 
-pub tags-from_accounts : (v : View) → HasAccounts v → HasTags v
+pub tags-from_accounts : (v : View) → HasAccounts v → TagsName v
 tags-from_accounts v has = record {
   opened = λ core tag known. (has.accounts core known).tags.opened tag;
   replies = λ core tag number known named. (has.accounts core known).tags.replies tag number named;
@@ -61,7 +61,7 @@ module _ (p : PartsView) (sound : IsSound p) where
   pub standing : IsStanding p.view
   standing = standing-from_accounts p.view sound.accounts
 
-  pub tags : HasTags p.view
+  pub tags : TagsName p.view
   tags = tags-from_accounts p.view sound.accounts
 
   pub registers : HasOneRegister p.view

@@ -47,7 +47,7 @@ pub record IsStanding (v : View) : Type 0 where
 
 -- An open tag of a core names one of its targets, and no other tag names any; a performed tag names an entry of the log
 -- that the core asked for under it.
-pub record HasTags (v : View) : Type 0 where
+pub record TagsName (v : View) : Type 0 where
   pub opened : (core : CoreId) (tag : ℕ) → core.0 < length v.sides
       → count_of (has_tag tag) (side_at v core).misses ≡ (if is_open (tag_at (side_at v core) tag) then 1 else 0)
   pub replies : (core : CoreId) (tag number : ℕ) → core.0 < length v.sides → tag_at (side_at v core) tag ≡ tags.Performed number
@@ -85,7 +85,7 @@ IsReached v = IsReachedSlice v
 pub record Holds (p : PartsView) : Type 0 where
   -- no request is lost, doubled or made up, and each tag names what was asked for under it
   pub standing : IsStanding p.view
-  pub tags : HasTags p.view
+  pub tags : TagsName p.view
   -- a core has one miss register for a line of the slice that it waits for, and none for any other
   pub registers : HasOneRegister p.view
   -- a core's entries of a line are in the order in which it asked for them, and each reply is the value that its word had

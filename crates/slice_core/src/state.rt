@@ -277,9 +277,9 @@ impl<F: MissFile> SliceState<F> {
         self.parts.next(class)
     }
 
-    /// The picks with a message, each once and no other: from the first line to the last, within a line core by core,
-    /// each one's request, forwarded message, data and acknowledgements, and the block that comes home last.
-    /// [`SliceState::front`] gives each one's message.
+    /// The picks with a message, each once and no other: from the first line to the last, within a line the block that
+    /// comes home, the data, the acknowledgements, what is forwarded, and the requests. [`SliceState::front`] gives each
+    /// one's message.
     pub fn waiting(&self) -> Picks<'_>
         ensures order { result ≡ lines_waiting self.now.view.lines.slice self.now.view.lines.slices 0 self.now.view.channels }
         ensures once { HasEachFrontOnce self.now.view result }
@@ -287,9 +287,8 @@ impl<F: MissFile> SliceState<F> {
         self.parts.waiting()
     }
 
-    /// The channels of a line in which a message waits, each once and no other: core by core, each one's request,
-    /// forwarded message, data and acknowledgements, and the block that comes home last. None for a line that isn't the
-    /// slice's.
+    /// The channels of a line in which a message waits, each once and no other: the block that comes home, the data, the
+    /// acknowledgements, what is forwarded, and the requests. None for a line that isn't the slice's.
     pub fn waiting_at(&self, line: LineAddr) -> Option<LineWaiting<'_>>
         ensures there { IfNone result (local_at self.now.view.lines line.0 ≡ None) }
         ensures waiting { IfSome result (AreWaitingAt self.now.view (local_at self.now.view.lines line.0)) }

@@ -8,14 +8,14 @@ use directory_table::DirSends;
 use slice_queues::{Channel, LineQueues};
 
 /// Whether the channel is there and takes another message.
-fn takes(line: &LineQueues, channel: Channel) -> bool
+fn takes(line: &LineQueues<'_>, channel: Channel) -> bool
     ensures { result ≡ takes line.now channel }
 {
     line.has_room(channel)
 }
 
 /// Whether each of these cores is there, and its forwarded channel takes another message.
-fn takes_invalidations(line: &LineQueues, cores: CoreSet) -> bool
+fn takes_invalidations(line: &LineQueues<'_>, cores: CoreSet) -> bool
     ensures { result ≡ takes_invalidations line.now cores }
 {
     let _ = cores.bits();
@@ -23,7 +23,7 @@ fn takes_invalidations(line: &LineQueues, cores: CoreSet) -> bool
 }
 
 /// Whether each channel has room that a row of the directory's table sends to, for this core's request.
-pub fn directory_room(line: &LineQueues, core: CoreId, sends: &DirSends) -> bool
+pub fn directory_room(line: &LineQueues<'_>, core: CoreId, sends: &DirSends) -> bool
     ensures { result ≡ directory_room line.now core sends.now }
 {
     match sends {
@@ -40,7 +40,7 @@ pub fn directory_room(line: &LineQueues, core: CoreId, sends: &DirSends) -> bool
 }
 
 /// Whether each channel has room that a row of the cache's table sends to, from this core and for the requester.
-pub fn cache_room(line: &LineQueues, core: CoreId, requester: CoreId, sends: CacheSends) -> bool
+pub fn cache_room(line: &LineQueues<'_>, core: CoreId, requester: CoreId, sends: CacheSends) -> bool
     ensures { result ≡ cache_room line.now core requester sends }
 {
     match sends {

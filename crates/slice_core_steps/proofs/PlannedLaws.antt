@@ -13,7 +13,6 @@ use Rattle.slice_core_answer.specs.declared.answer.Delivered.TheVariants as deli
 use Rattle.cache_table.specs.declared.state.CopyState.{CopyState}
 use Rattle.slice_core_side.specs.Side.{array_copy}
 use Rattle.slice_core_side.specs.Steps.{acknowledged}
-use Rattle.slice_queues_message.specs.declared.channel.Channel.{Channel}
 use Rattle.slice_core_plan.specs.Within.{IsPlanned}
 use Rattle.slice_core_plan.specs.declared.decide.Plan.TheVariants as plans
 use Rattle.slice_queues.specs.Line.{core_at}

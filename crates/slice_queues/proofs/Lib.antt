@@ -4,6 +4,8 @@ pub mod SliceLaws
 pub mod OnceLaws
 pub mod WaitingLaws
 pub mod InvalidateLaws
+pub mod RunsLaws
 pub mod RingLaws
 pub mod PickLaws
 pub mod CountLaws
+pub mod LentLaws

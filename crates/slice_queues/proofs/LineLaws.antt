@@ -1,7 +1,7 @@
 -- A send and a take change their own channel alone.
-use Rattle.std.proofs.Common.{rules, eq-eqb, eqb-true, ◌≡◌, ◌≢◌, ℕ, ◌<◌, ◌≤◌, Bool, true, false, List, [], ◌∷◌, ◌++◌, length, map, drop, refl, ap, sym, ◌∙◌, arith, Option, Some, None, zero, suc, replicate, get_or, inl, inr}
+use Rattle.std.proofs.Common.{rules, eq-eqb, eqb-true, ◌≡◌, ◌≢◌, ℕ, ◌<◌, ◌≤◌, Bool, true, false, List, [], ◌∷◌, ◌++◌, length, map, drop, refl, ap, sym, ◌∙◌, subst, arith, Option, Some, None, zero, suc, replicate, get_or, inl, inr}
 use Rattle.std.proofs.Math.ListN.{set, length-set}
-use Rattle.std.proofs.lemmas.List.{get_or-set_same, get_or-set_other, get_or_past, set-get_or, length-replicate, map-append}
+use Rattle.std.proofs.lemmas.List.{get_or-set_same, get_or-set_other, get_or_past, set-get_or, length-map, length-replicate, map-append}
 use Rattle.std.proofs.lemmas.Bool.{cases_eq}
 use borrow.Author.Tests.{ltb-true}
 use Rattle.address_map.specs.declared.address.CoreId.{CoreId}
@@ -15,7 +15,7 @@ use Rattle.slice_queues_message.specs.declared.message.ForwardedMessage.{Forward
 use Rattle.slice_queues_message.specs.declared.message.DataMessage.{DataMessage}
 use Rattle.address_map.specs.CoreSet.{has, with, without}
 use Rattle.slice_queues.specs.Waiting.{is_from_core, is_same_channel}
-use Rattle.slice_queues.specs.Line.{CoreChannels, LineChannels, no_messages, core_at, with_core, request_messages, data_messages, home_messages, ack_messages, messages_at, HasChannel, HasRoom, Carries, after_send, after_take, SendsOnly, TakesOnly, IsWithinCores, IsEmptyLine}
+use Rattle.slice_queues.specs.Line.{CoreChannels, LineChannels, no_messages, core_at, with_core, request_messages, data_messages, home_messages, ack_messages, messages_at, IsOfCore, HasChannel, HasRoom, Carries, after_send, after_take, SendsOnly, TakesOnly, IsWithinCores, IsEmptyLine}
 use Rattle.address_map.proofs.CoreSets.{has-with_same, has-with_other, has-without_same, has-without_other, without-missing, has-zero, zero-from_none}
 
 -- cores with the same number are the same
@@ -386,3 +386,30 @@ IsEmptyLine-from_taken old new channel taken empty other = by_name (is_same_chan
         let differs : other ≢ channel = λ here. let clash : false ≡ true =
         sym e ∙ ap (λ c. is_same_channel c channel) here ∙ same_itself channel in cc in
         taken.others other differs ∙ empty other
+
+-- the core of a channel that is there is there
+pub core-there : (line : LineChannels) (channel : Channel) (core : CoreId) → IsOfCore channel core →
+    HasChannel line channel → core.0 < length line.cores
+core-there line (channels.Req of) core is there = subst (λ (c : CoreId). c.0 < length line.cores) is there
+core-there line (channels.Fwd of) core is there = subst (λ (c : CoreId). c.0 < length line.cores) is there
+core-there line (channels.Data of) core is there = subst (λ (c : CoreId). c.0 < length line.cores) is there
+core-there line (channels.Ack to from) core is there = subst (λ (c : CoreId). c.0 < length line.cores) is there.0
+core-there line channels.Home core is there = absurd is
+
+-- what is read as a core's channels
+pub core-read : (line : LineChannels) (core : ℕ) (queues : CoreChannels) → core < length line.cores →
+    core_at line core ≡ queues → queues ≡ get_or line.cores core queues
+core-read line core queues there is = sym is ∙ read_default line.cores core no_messages queues there
+
+-- a channel of forwarded messages that takes another has fewer than two
+pub few-forwarded : (line : LineChannels) (channel : Channel) (core other : CoreId) (queues : CoreChannels) →
+    IsOfCore channel core → core_at line core.0 ≡ queues → HasRoom line channel → channel ≡ channels.Fwd other →
+    length queues.forwarded < 2
+few-forwarded line (channels.Fwd of) core other queues is here room e =
+    let same : length (core_at line of.0).forwarded ≡ length queues.forwarded =
+    ap (λ (c : CoreId). length (core_at line c.0).forwarded) is ∙ ap (λ k. length k.forwarded) here in
+    omega (arith, same, length-map (core_at line of.0).forwarded messages.Forwarded, room)
+few-forwarded line (channels.Req of) core other queues is here room e = cc
+few-forwarded line (channels.Data of) core other queues is here room e = cc
+few-forwarded line (channels.Ack to from) core other queues is here room e = cc
+few-forwarded line channels.Home core other queues is here room e = cc

@@ -301,7 +301,7 @@ IsLine-empty cores few = record {
 }
 
 -- the cores of two sets
-pub has-or : (marks other core : ℕ) → has (bit_or marks other) core ≡ (has marks core || has other core)
+has-or : (marks other core : ℕ) → has (bit_or marks other) core ≡ (has marks core || has other core)
 unfolding has
 has-or marks other core =
     rw (bit_at_or marks other core)

@@ -1,19 +1,18 @@
 -- A line's waiting channels: each stands in the list once, and no other does.
 use Rattle.std.proofs.Common.{◌≡◌, ◌≢◌, ℕ, ◌+◌, ◌<◌, ◌≤◌, ◌==◌, Bool, true, false, cond, if◌then◌else◌, List, [], ◌∷◌, ◌++◌, length, map, filter, sum_by, count_by, zero, suc, refl, ap, sym, ◌∙◌, arith, inl, inr, get_or, is_some, nat_lt, ◌&&◌, lt-ltb, le-ltb, eq-eqb, Option, Some, None, add-zero, zero-add}
-use Rattle.std.specs.List.{range_with_len}
+use Rattle.std.specs.List.{flat_map, range_with_len}
 use Rattle.std.proofs.lemmas.Bool.{cases_eq, cases_lt, ne_eqb}
-use Rattle.std.proofs.lemmas.List.{length-map}
-use Rattle.std.proofs.lemmas.List.Sums.{sum_by-append}
+use Rattle.std.proofs.lemmas.List.{length-map, get_or_past}
+use Rattle.std.proofs.lemmas.List.Sums.{sum_by-append, sum_by-cons}
 use Rattle.address_map.specs.declared.address.CoreId.{CoreId}
 use Rattle.slice_queues_message.specs.declared.channel.Channel.{Channel}
 use Rattle.slice_queues_message.specs.declared.channel.Channel.TheVariants as channels
 use Rattle.slice_queues_message.specs.declared.message.RequestMessage.{RequestMessage}
 use Rattle.slice_queues_message.specs.declared.message.DataMessage.{DataMessage}
 use Rattle.address_map.specs.declared.block.Block.{Block}
-use Rattle.address_map.specs.CoreSet.{has}
-use Rattle.address_map.specs.CoreSet.{members}
-use Rattle.slice_queues.specs.Line.{CoreChannels, LineChannels, no_messages, core_at, request_messages, data_messages, home_messages, ack_messages}
-use Rattle.slice_queues.specs.Waiting.{only_if, core_waiting, cores_waiting, line_waiting, is_same_channel, is_waiting, is_from_core, HasEachOnce}
+use Rattle.address_map.specs.CoreSet.{has, members}
+use Rattle.slice_queues.specs.Line.{CoreChannels, LineChannels, no_messages, core_at, has_request, has_forwarded, has_data, has_acks, request_messages, data_messages, home_messages, ack_messages}
+use Rattle.slice_queues.specs.Waiting.{req_of, fwd_of, data_of, acks_to, acks_at, only_if, cores_where, line_waiting, is_same_channel, is_waiting, is_from_core, HasEachOnce}
 use Rattle.address_map.proofs.CoreSets.{has-zero}
 
 -- how often a channel stands in a list
@@ -27,259 +26,174 @@ count-yes p x xs e = sum_by-append (λ y. cond (p y) 1 0) (x ∷ []) xs ∙ rw e
 pub count-no : {A : Type 0} (p : A → Bool) (x : A) (xs : List A) → p x ≡ false → count_by p (x ∷ xs) ≡ count_by p xs
 count-no p x xs e = sum_by-append (λ y. cond (p y) 1 0) (x ∷ []) xs ∙ rw e (zero-add _)
 
--- a list of numbers without this one
-absent : (p : ℕ → Bool) (f n a : ℕ) → ((i : ℕ) → a ≤ i → i < a + n → f ≢ i) →
-    count_by (λ k. f == k) (filter p (range_with_len a n)) ≡ 0
-absent p f zero a none = refl
-absent p f (suc n) a none =
-    skipped (p a) _ (ne_eqb f a (none a (omega arith) (omega arith)))
-    (absent p f n (a + 1) (λ i from within. none i (omega arith) (omega arith)))
+-- a count over mapped elements, by what the test says of each
+pub count-map : {A B : Type 0} (p : B → Bool) (q : A → Bool) (f : A → B) → ((x : A) → p (f x) ≡ q x) → (xs : List A) →
+    count_by p (map f xs) ≡ count_by q xs
+count-map p q f same [] = refl
+count-map {A} {B} p q f same (x ∷ xs) = by_test (q x) refl (count-map p q f same xs)
   where
-    skipped : (b : Bool) (rest : List ℕ) → (f == a) ≡ false → count_by (λ k. f == k) rest ≡ 0 →
-        count_by (λ k. f == k) (if b then a ∷ rest else rest) ≡ 0
-    skipped false rest e h = h
-    skipped true rest e h = count-no _ a rest e ∙ h
+    by_test : (b : Bool) → q x ≡ b → count_by p (map f xs) ≡ count_by q xs →
+        count_by p (f x ∷ map f xs) ≡ count_by q (x ∷ xs)
+    by_test true e rest =
+        count-yes p (f x) (map f xs) (same x ∙ e) ∙ ap (λ n. 1 + n) rest ∙ sym (count-yes q x xs e)
+    by_test false e rest = count-no p (f x) (map f xs) (same x ∙ e) ∙ rest ∙ sym (count-no q x xs e)
 
--- a number of the range stands in the filtered range once, if the test holds of it
-present : (p : ℕ → Bool) (f n a : ℕ) → a ≤ f → f < a + n →
-    count_by (λ k. f == k) (filter p (range_with_len a n)) ≡ (if p f then 1 else 0)
-present p f zero a from within = absurd (omega arith)
-present p f (suc n) a from within =
-    elim (cases_eq a f) [
+pub count-never : {A : Type 0} (xs : List A) → count_by (λ x. false) xs ≡ 0
+count-never [] = refl
+count-never (x ∷ xs) = count-no (λ y. false) x xs refl ∙ count-never xs
+
+-- a count over lists end to end is the sum of their counts
+count-flat_map : {A B : Type 0} (p : B → Bool) (f : A → List B) (xs : List A) →
+    count_by p (flat_map f xs) ≡ sum_by (λ x. count_by p (f x)) xs
+count-flat_map p f [] = refl
+count-flat_map p f (x ∷ xs) =
+    sum_by-append (λ y. cond (p y) 1 0) (f x) (flat_map f xs)
+    ∙ ap (λ n. count_by p (f x) + n) (count-flat_map p f xs)
+    ∙ sym (sum_by-cons (λ y. count_by p (f y)) x xs)
+
+-- numbers of a range to which nothing belongs sum up to nothing
+sum-none : (p : ℕ → Bool) (f : ℕ → ℕ) (n a : ℕ) → ((i : ℕ) → a ≤ i → i < a + n → f i ≡ 0) →
+    sum_by f (filter p (range_with_len a n)) ≡ 0
+sum-none p f zero a none = refl
+sum-none p f (suc n) a none =
+    skipped (p a) _ (none a (omega arith) (omega arith))
+    (sum-none p f n (a + 1) (λ i from within. none i (omega arith) (omega arith)))
+  where
+    skipped : (b : Bool) (rest : List ℕ) → f a ≡ 0 → sum_by f rest ≡ 0 →
+        sum_by f (if b then a ∷ rest else rest) ≡ 0
+    skipped false rest e h = h
+    skipped true rest e h = sum_by-cons f a rest ∙ rw (e, h) refl
+
+-- where something belongs to one number alone, the sum is that, if the test holds of it
+sum-one : (p : ℕ → Bool) (f : ℕ → ℕ) (d n a : ℕ) → a ≤ d → d < a + n → ((i : ℕ) → i ≢ d → f i ≡ 0) →
+    sum_by f (filter p (range_with_len a n)) ≡ (if p d then f d else 0)
+sum-one p f d zero a from within others = absurd (omega arith)
+sum-one p f d (suc n) a from within others =
+    elim (cases_eq a d) [
       | inl here ↦
-          found (p a) (p f) _ (ap p here) (eq-eqb f a (sym here))
-          (absent p f n (a + 1) (λ i behind below e. absurd (omega arith)))
-      | inr apart ↦
-          passed (p a) _ (ne_eqb f a (λ e. apart (sym e))) (present p f n (a + 1) (omega arith) (omega arith))
+          found (p a) (p d) _ (ap p here) (ap f here)
+          (sum-none p f n (a + 1) (λ i behind below. others i (λ e. absurd (omega arith))))
+      | inr apart ↦ passed (p a) _ (others a apart) (sum-one p f d n (a + 1) (omega arith) (omega arith) others)
     ]
   where
-    found : (b c : Bool) (rest : List ℕ) → b ≡ c → (f == a) ≡ true → count_by (λ k. f == k) rest ≡ 0 →
-        count_by (λ k. f == k) (if b then a ∷ rest else rest) ≡ (if c then 1 else 0)
+    found : (b c : Bool) (rest : List ℕ) → b ≡ c → f a ≡ f d → sum_by f rest ≡ 0 →
+        sum_by f (if b then a ∷ rest else rest) ≡ (if c then f d else 0)
     found false c rest same e h = rw (← same) h
-    found true c rest same e h = rw (← same) (count-yes _ a rest e ∙ ap (λ n. 1 + n) h)
+    found true c rest same e h = rw (← same) (sum_by-cons f a rest ∙ rw (e, h) (add-zero (f d)))
 
-    passed : (b : Bool) (rest : List ℕ) → (f == a) ≡ false → count_by (λ k. f == k) rest ≡ (if p f then 1 else 0) →
-        count_by (λ k. f == k) (if b then a ∷ rest else rest) ≡ (if p f then 1 else 0)
+    passed : (b : Bool) (rest : List ℕ) → f a ≡ 0 → sum_by f rest ≡ (if p d then f d else 0) →
+        sum_by f (if b then a ∷ rest else rest) ≡ (if p d then f d else 0)
     passed false rest e h = h
-    passed true rest e h = count-no _ a rest e ∙ h
+    passed true rest e h = sum_by-cons f a rest ∙ rw (e, h) (zero-add _)
+
+-- over the cores of a line whose channels pass a test that no empty channels pass
+sum-cores_where : (test : CoreChannels → Bool) (f : ℕ → ℕ) (line : LineChannels) (d : ℕ) → test no_messages ≡ false →
+    ((i : ℕ) → i ≢ d → f i ≡ 0) →
+    sum_by f (cores_where test line) ≡ (if test (core_at line d) then f d else 0)
+sum-cores_where test f line d quiet others =
+    elim (cases_lt d (length line.cores)) [
+      | inl within ↦
+          sum-one
+          (λ core. test (core_at line core)) f d (length line.cores) 0 (omega arith) (omega arith) others
+      | inr past ↦
+          sum-none (λ core. test (core_at line core)) f (length line.cores) 0
+          (λ i from within. others i (λ e. absurd (omega arith)))
+          ∙ sym (nothing past)
+    ]
+  where
+    nothing : length line.cores ≤ d → (if test (core_at line d) then f d else 0) ≡ 0
+    nothing past = rw (get_or_past line.cores d no_messages past, quiet) refl
+
+-- a number counts itself once, and no other
+counts_itself : (d : ℕ) (there : Bool) →
+    ◌≡◌ {A = ℕ} (if there then cond (d == d) 1 0 else 0) (if there then 1 else 0)
+counts_itself d there = rw (eq-eqb d d refl) refl
+
+counts_no_other : (d i : ℕ) → i ≢ d → ◌≡◌ {A = ℕ} (cond (d == i) 1 0) 0
+counts_no_other d i apart = rw (ne_eqb d i (λ e. apart (sym e))) refl
+
+count-cores_where : (test : CoreChannels → Bool) (line : LineChannels) (d : ℕ) → test no_messages ≡ false →
+    count_by (λ core. d == core) (cores_where test line) ≡ (if test (core_at line d) then 1 else 0)
+count-cores_where test line d quiet =
+    sum-cores_where test (λ core. cond (d == core) 1 0) line d quiet (counts_no_other d)
+    ∙ counts_itself d (test (core_at line d))
+
+count-members : (set d : ℕ) → count_by (λ core. d == core) (members set) ≡ (if nat_lt d 64 && has set d then 1 else 0)
+unfolding members
+count-members set d =
+    elim (cases_lt d 64) [
+      | inl within ↦
+          rw (lt-ltb d 64 within)
+          (sum-one (has set) (λ core. cond (d == core) 1 0) d 64 0 (omega arith) (omega arith) (counts_no_other d)
+          ∙ counts_itself d (has set d))
+      | inr past ↦
+          rw (le-ltb d 64 past)
+          (sum-none
+          (has set) (λ core. cond (d == core) 1 0) 64 0
+          (λ i from within. counts_no_other d i (λ e. absurd (omega arith))))
+    ]
 
 pub and-false : (b : Bool) → (b && false) ≡ false
 and-false true = refl
 and-false false = refl
 
-count-members : (acks f : ℕ) → count_by (λ k. f == k) (members acks) ≡ (if nat_lt f 64 && has acks f then 1 else 0)
-unfolding members
-count-members acks f =
-    elim (cases_lt f 64) [
-      | inl within ↦ rw (lt-ltb f 64 within) (present (has acks) f 64 0 (omega arith) (omega arith))
-      | inr past ↦ rw (le-ltb f 64 past) (absent (has acks) f 64 0 (λ i from within e. absurd (omega arith)))
-    ]
-
 -- channels of another kind
 times-none : (channel : Channel) (name : ℕ → Channel) → ((k : ℕ) → is_same_channel channel (name k) ≡ false) →
     (ks : List ℕ) → times channel (map name ks) ≡ 0
-times-none channel name differs [] = refl
-times-none channel name differs (k ∷ ks) =
-    count-no (is_same_channel channel) (name k) (map name ks) (differs k) ∙ times-none channel name differs ks
+times-none channel name differs ks = count-map (is_same_channel channel) (λ k. false) name differs ks ∙ count-never ks
 
-times-only_if : (channel name : Channel) (waits : Bool) →
-    times channel (only_if waits name) ≡ (if waits then (if is_same_channel channel name then 1 else 0) else 0)
-times-only_if channel name true = zero-add _
-times-only_if channel name false = refl
+times-no_acks : (channel : Channel) (cores : List CoreChannels) →
+    ((to from : ℕ) → is_same_channel channel (channels.Ack (record { 0 = to }) (record { 0 = from })) ≡ false) →
+    (ks : List ℕ) → times channel (flat_map (acks_at cores) ks) ≡ 0
+times-no_acks channel cores differs [] = refl
+times-no_acks channel cores differs (to ∷ ks) =
+    sum_by-append (λ name. cond (is_same_channel channel name) 1 0) (acks_at cores to) (flat_map (acks_at cores) ks)
+    ∙ rw (
+      times-none channel _ (differs to) (members (get_or cores to no_messages).acks),
+      times-no_acks channel cores differs ks,
+    ) refl
 
--- an acknowledgement for the same core is told by its sender
-times-senders : (to from core : CoreId) → (to.0 == core.0) ≡ true → (ks : List ℕ) →
-    times (channels.Ack to from) (map (λ k. channels.Ack core (record { 0 = k })) ks) ≡ count_by (λ k. from.0 == k) ks
-times-senders to from core here [] = refl
-times-senders to from core here (k ∷ ks) = by_name (from.0 == k) refl (times-senders to from core here ks)
+times-no_home : (channel : Channel) (waits : Bool) → is_same_channel channel channels.Home ≡ false →
+    times channel (only_if waits channels.Home) ≡ 0
+times-no_home channel true differs = count-no (is_same_channel channel) channels.Home [] differs
+times-no_home channel false differs = refl
+
+-- an acknowledgement is told by its receiver and its sender
+times-acks : (to from : CoreId) (core set : ℕ) →
+    times (channels.Ack to from) (acks_to core (members set))
+    ≡ (if to.0 == core then (if nat_lt from.0 64 && has set from.0 then 1 else 0) else 0)
+times-acks to from core set = by_core (to.0 == core) refl
   where
-    name : ℕ → Channel
-    name j = channels.Ack core (record { 0 = j })
+    by_core : (here : Bool) → (to.0 == core) ≡ here →
+        times (channels.Ack to from) (acks_to core (members set))
+        ≡ (if here then (if nat_lt from.0 64 && has set from.0 then 1 else 0) else 0)
+    by_core false e = times-none (channels.Ack to from) _ (λ k. rw e refl) (members set)
+    by_core true e =
+        count-map (is_same_channel (channels.Ack to from)) (λ k. from.0 == k) _ (λ k. rw e refl) (members set)
+        ∙ count-members set from.0
 
-    by_name : (same : Bool) → (from.0 == k) ≡ same →
-        times (channels.Ack to from) (map (λ k. channels.Ack core (record { 0 = k })) ks)
-        ≡ count_by (λ k. from.0 == k) ks →
-        times (channels.Ack to from) (map (λ k. channels.Ack core (record { 0 = k })) (k ∷ ks))
-        ≡ count_by (λ j. from.0 == j) (k ∷ ks)
-    by_name true f rest =
-        count-yes (is_same_channel (channels.Ack to from)) (channels.Ack core (record { 0 = k }))
-        (map (λ k. channels.Ack core (record { 0 = k })) ks) (rw (here, f) refl)
-        ∙ ap (λ n. 1 + n) rest
-        ∙ sym (count-yes (λ j. from.0 == j) k ks f)
-    by_name false f rest =
-        count-no (is_same_channel (channels.Ack to from)) (channels.Ack core (record { 0 = k }))
-        (map (λ k. channels.Ack core (record { 0 = k })) ks) (rw (here, f) refl)
-        ∙ rest
-        ∙ sym (count-no (λ j. from.0 == j) k ks f)
-
-times-acks : (to from : CoreId) (acks : ℕ) (core : CoreId) →
-    times (channels.Ack to from) (map (λ k. channels.Ack core (record { 0 = k })) (members acks))
-    ≡ (if to.0 == core.0 then (if nat_lt from.0 64 && has acks from.0 then 1 else 0) else 0)
-times-acks to from acks core = by_core (to.0 == core.0) refl
+times-acks_waiting : (to from : CoreId) (line : LineChannels) →
+    times (channels.Ack to from) (flat_map (acks_at line.cores) (cores_where has_acks line))
+    ≡ (if nat_lt from.0 64 && has (core_at line to.0).acks from.0 then 1 else 0)
+times-acks_waiting to from line =
+    count-flat_map (is_same_channel (channels.Ack to from)) (acks_at line.cores) (cores_where has_acks line)
+    ∙ sum-cores_where has_acks (λ core. times (channels.Ack to from) (acks_at line.cores core)) line to.0 refl others
+    ∙ ap (λ n. if has_acks (core_at line to.0) then n else 0) here
+    ∙ some_or_none (core_at line to.0).acks
   where
-    by_core : (here : Bool) → (to.0 == core.0) ≡ here →
-        times (channels.Ack to from) (map (λ k. channels.Ack core (record { 0 = k })) (members acks))
-        ≡ (if here then (if nat_lt from.0 64 && has acks from.0 then 1 else 0) else 0)
-    by_core false e = times-none (channels.Ack to from) _ (λ k. rw e refl) (members acks)
-    by_core true e = times-senders to from core e (members acks) ∙ count-members acks from.0
+    others : (core : ℕ) → core ≢ to.0 → times (channels.Ack to from) (acks_at line.cores core) ≡ 0
+    others core apart =
+        times-acks to from core (core_at line core).acks ∙ rw (ne_eqb to.0 core (λ e. apart (sym e))) refl
 
--- a core's part of the list, kind by kind
-times-core : (channel : Channel) (core : CoreId) (queues : CoreChannels) →
-    times channel (core_waiting core queues)
-    ≡ times channel (only_if (is_some queues.request) (channels.Req core))
-    + (times channel (only_if (nat_lt 0 (length queues.forwarded)) (channels.Fwd core))
-    + (times channel (only_if (is_some queues.data) (channels.Data core))
-    + times channel (map (λ k. channels.Ack core (record { 0 = k })) (members queues.acks))))
-times-core channel core queues =
-    sum_by-append f first (second ++ (third ++ fourth))
-    ∙ ap (λ n. sum_by f first + n)
-    (sum_by-append f second (third ++ fourth) ∙ ap (λ n. sum_by f second + n) (sum_by-append f third fourth))
-  where
-    f : Channel → ℕ
-    f name = cond (is_same_channel channel name) 1 0
+    here : times (channels.Ack to from) (acks_at line.cores to.0)
+        ≡ (if nat_lt from.0 64 && has (core_at line to.0).acks from.0 then 1 else 0)
+    here = times-acks to from to.0 (core_at line to.0).acks ∙ rw (eq-eqb to.0 to.0 refl) refl
 
-    first : List Channel
-    first = only_if (is_some queues.request) (channels.Req core)
-
-    second : List Channel
-    second = only_if (nat_lt 0 (length queues.forwarded)) (channels.Fwd core)
-
-    third : List Channel
-    third = only_if (is_some queues.data) (channels.Data core)
-
-    fourth : List Channel
-    fourth = map (λ k. channels.Ack core (record { 0 = k })) (members queues.acks)
-
--- of four parts of a sum one counts
-first_of_four : (a b c d x : ℕ) → a ≡ x → b ≡ 0 → c ≡ 0 → d ≡ 0 → a + (b + (c + d)) ≡ x
-first_of_four a b c d x e f g h = omega arith
-
-second_of_four : (a b c d x : ℕ) → a ≡ 0 → b ≡ x → c ≡ 0 → d ≡ 0 → a + (b + (c + d)) ≡ x
-second_of_four a b c d x e f g h = omega arith
-
-third_of_four : (a b c d x : ℕ) → a ≡ 0 → b ≡ 0 → c ≡ x → d ≡ 0 → a + (b + (c + d)) ≡ x
-third_of_four a b c d x e f g h = omega arith
-
-fourth_of_four : (a b c d x : ℕ) → a ≡ 0 → b ≡ 0 → c ≡ 0 → d ≡ x → a + (b + (c + d)) ≡ x
-fourth_of_four a b c d x e f g h = omega arith
-
-none_of_two : (waits : Bool) → ◌≡◌ {A = ℕ} (if waits then 0 else 0) 0
-none_of_two true = refl
-none_of_two false = refl
-
-both : (a b : Bool) → ◌≡◌ {A = ℕ} (if a then (if b then 1 else 0) else 0) (if b then (if a then 1 else 0) else 0)
-both true true = refl
-both true false = refl
-both false true = refl
-both false false = refl
-
--- another kind's channel
-other_kind : (channel name : Channel) (waits : Bool) → is_same_channel channel name ≡ false →
-    times channel (only_if waits name) ≡ 0
-other_kind channel name waits e =
-    times-only_if channel name waits ∙ ap (λ same. if waits then (if same then 1 else 0) else 0) e ∙ none_of_two waits
-
-same_kind : (channel name : Channel) (waits same : Bool) → is_same_channel channel name ≡ same →
-    times channel (only_if waits name) ≡ (if same then (if waits then 1 else 0) else 0)
-same_kind channel name waits same e =
-    times-only_if channel name waits ∙ ap (λ s. if waits then (if s then 1 else 0) else 0) e ∙ both waits same
-
--- a core's channels, each once where a message waits
-times-core_request : (d core : CoreId) (queues : CoreChannels) →
-    times (channels.Req d) (core_waiting core queues)
-    ≡ (if d.0 == core.0 then (if is_some queues.request then 1 else 0) else 0)
-times-core_request d core queues =
-    times-core (channels.Req d) core queues
-    ∙ first_of_four
-    _ _ _ _ _ (same_kind (channels.Req d) (channels.Req core) (is_some queues.request) (d.0 == core.0) refl)
-    (other_kind (channels.Req d) (channels.Fwd core) (nat_lt 0 (length queues.forwarded)) refl)
-    (other_kind (channels.Req d) (channels.Data core) (is_some queues.data) refl)
-    (times-none (channels.Req d) _ (λ k. refl) (members queues.acks))
-
-times-core_forwarded : (d core : CoreId) (queues : CoreChannels) →
-    times (channels.Fwd d) (core_waiting core queues)
-    ≡ (if d.0 == core.0 then (if nat_lt 0 (length queues.forwarded) then 1 else 0) else 0)
-times-core_forwarded d core queues =
-    times-core (channels.Fwd d) core queues
-    ∙ second_of_four
-    _ _ _ _ _ (other_kind (channels.Fwd d) (channels.Req core) (is_some queues.request) refl)
-    (same_kind (channels.Fwd d) (channels.Fwd core) (nat_lt 0 (length queues.forwarded)) (d.0 == core.0) refl)
-    (other_kind (channels.Fwd d) (channels.Data core) (is_some queues.data) refl)
-    (times-none (channels.Fwd d) _ (λ k. refl) (members queues.acks))
-
-times-core_data : (d core : CoreId) (queues : CoreChannels) →
-    times (channels.Data d) (core_waiting core queues)
-    ≡ (if d.0 == core.0 then (if is_some queues.data then 1 else 0) else 0)
-times-core_data d core queues =
-    times-core (channels.Data d) core queues
-    ∙ third_of_four
-    _ _ _ _ _ (other_kind (channels.Data d) (channels.Req core) (is_some queues.request) refl)
-    (other_kind (channels.Data d) (channels.Fwd core) (nat_lt 0 (length queues.forwarded)) refl)
-    (same_kind (channels.Data d) (channels.Data core) (is_some queues.data) (d.0 == core.0) refl)
-    (times-none (channels.Data d) _ (λ k. refl) (members queues.acks))
-
-times-core_ack : (to from core : CoreId) (queues : CoreChannels) →
-    times (channels.Ack to from) (core_waiting core queues)
-    ≡ (if to.0 == core.0 then (if nat_lt from.0 64 && has queues.acks from.0 then 1 else 0) else 0)
-times-core_ack to from core queues =
-    times-core (channels.Ack to from) core queues
-    ∙ fourth_of_four
-    _ _ _ _ _ (other_kind (channels.Ack to from) (channels.Req core) (is_some queues.request) refl)
-    (other_kind (channels.Ack to from) (channels.Fwd core) (nat_lt 0 (length queues.forwarded)) refl)
-    (other_kind (channels.Ack to from) (channels.Data core) (is_some queues.data) refl)
-    (times-acks to from queues.acks core)
-
-times-core_home : (core : CoreId) (queues : CoreChannels) → times channels.Home (core_waiting core queues) ≡ 0
-times-core_home core queues =
-    times-core channels.Home core queues
-    ∙ first_of_four
-    _ _ _ _ _ (other_kind channels.Home (channels.Req core) (is_some queues.request) refl)
-    (other_kind channels.Home (channels.Fwd core) (nat_lt 0 (length queues.forwarded)) refl)
-    (other_kind channels.Home (channels.Data core) (is_some queues.data) refl)
-    (times-none channels.Home _ (λ k. refl) (members queues.acks))
-
--- what a core's part says of a channel
-abbrev CountsAt : Channel → ℕ → (CoreChannels → ℕ) → CoreChannels → Type 0
-CountsAt channel d g queues =
-    (core : ℕ) → times channel (core_waiting (record { 0 = core }) queues) ≡ (if d == core then g queues else 0)
-
--- cores behind a channel's own have no part in it
-times-cores_behind : (channel : Channel) (d : ℕ) (g : CoreChannels → ℕ) (cores : List CoreChannels) (k : ℕ) → d < k →
-    ((i : ℕ) → CountsAt channel d g (get_or cores i no_messages)) → times channel (cores_waiting k cores) ≡ 0
-times-cores_behind channel d g [] k before each = refl
-times-cores_behind channel d g (queues ∷ rest) k before each =
-    sum_by-append (λ name. cond (is_same_channel channel name) 1 0) (core_waiting (record { 0 = k }) queues)
-    (cores_waiting (k + 1) rest)
-    ∙ none
-    _ _ (each 0 k ∙ ap (λ same. if same then g queues else 0) (ne_eqb d k (λ e. absurd (omega arith))))
-    (times-cores_behind channel d g rest (k + 1) (omega arith) (λ i. each (suc i)))
-  where
-    none : (a b : ℕ) → a ≡ 0 → b ≡ 0 → a + b ≡ 0
-    none a b e f = omega arith
-
--- a channel stands in the list as often as its core's part says
-times-cores : (channel : Channel) (d : ℕ) (g : CoreChannels → ℕ) (cores : List CoreChannels) (k j : ℕ) → d ≡ k + j →
-    g no_messages ≡ 0 → ((i : ℕ) → CountsAt channel d g (get_or cores i no_messages)) →
-    times channel (cores_waiting k cores) ≡ g (get_or cores j no_messages)
-times-cores channel d g [] k j at nothing each = sym nothing
-times-cores channel d g (queues ∷ rest) k zero at nothing each =
-    sum_by-append (λ name. cond (is_same_channel channel name) 1 0) (core_waiting (record { 0 = k }) queues)
-    (cores_waiting (k + 1) rest)
-    ∙ first
-    _ _ _ (each 0 k ∙ ap (λ same. if same then g queues else 0) (eq-eqb d k (omega arith)))
-    (times-cores_behind channel d g rest (k + 1) (omega arith) (λ i. each (suc i)))
-  where
-    first : (a b x : ℕ) → a ≡ x → b ≡ 0 → a + b ≡ x
-    first a b x e f = omega arith
-times-cores channel d g (queues ∷ rest) k (suc j) at nothing each =
-    sum_by-append (λ name. cond (is_same_channel channel name) 1 0) (core_waiting (record { 0 = k }) queues)
-    (cores_waiting (k + 1) rest)
-    ∙ second
-    _ _ _ (each 0 k ∙ ap (λ same. if same then g queues else 0) (ne_eqb d k (λ e. absurd (omega arith))))
-    (times-cores channel d g rest (k + 1) j (omega arith) nothing (λ i. each (suc i)))
-  where
-    second : (a b x : ℕ) → a ≡ 0 → b ≡ x → a + b ≡ x
-    second a b x e f = omega arith
+    some_or_none : (set : ℕ) →
+        ◌≡◌ {A = ℕ} (if nat_lt 0 set then (if nat_lt from.0 64 && has set from.0 then 1 else 0) else 0)
+        (if nat_lt from.0 64 && has set from.0 then 1 else 0)
+    some_or_none zero = rw (has-zero from.0, and-false (nat_lt from.0 64)) refl
+    some_or_none (suc set) = rw (lt-ltb 0 (suc set) (omega arith)) refl
 
 -- a part of a line that has an element is a channel that has a message
 waits-request : (request : Option RequestMessage) → is_some request ≡ nat_lt 0 (length (request_messages request))
@@ -298,60 +212,86 @@ waits-home : (home : Option Block) → is_some home ≡ nat_lt 0 (length (home_m
 waits-home None = refl
 waits-home (Some block) = refl
 
--- a line's channels and home
-times-line : (channel : Channel) (line : LineChannels) (a b x : ℕ) →
-    times channel (cores_waiting 0 line.cores) ≡ a → times channel (only_if (is_some line.home) channels.Home) ≡ b →
-    a + b ≡ x →
+-- a line's channels are counted kind by kind
+times-line : (channel : Channel) (line : LineChannels) (h d a f r x : ℕ) →
+    times channel (only_if (is_some line.home) channels.Home) ≡ h →
+    times channel (map data_of (cores_where has_data line)) ≡ d →
+    times channel (flat_map (acks_at line.cores) (cores_where has_acks line)) ≡ a →
+    times channel (map fwd_of (cores_where has_forwarded line)) ≡ f →
+    times channel (map req_of (cores_where has_request line)) ≡ r →
+    h + (d + (a + (f + r))) ≡ x →
     times channel (line_waiting line) ≡ x
-times-line channel line a b x e f sum =
-    sum_by-append (λ name. cond (is_same_channel channel name) 1 0) (cores_waiting 0 line.cores)
-    (only_if (is_some line.home) channels.Home)
-    ∙ total _ _ _ _ _ e f sum
+times-line channel line h d a f r x of_home of_data of_acks of_forwarded of_requests sum =
+    joined (only_if (is_some line.home) channels.Home) (to_data ++ (acks ++ (forwarded ++ requests))) of_home
+    (joined to_data (acks ++ (forwarded ++ requests)) of_data
+    (joined acks (forwarded ++ requests) of_acks (joined forwarded requests of_forwarded of_requests)))
+    ∙ sum
   where
-    total : (p q a b x : ℕ) → p ≡ a → q ≡ b → a + b ≡ x → p + q ≡ x
-    total p q a b x e f g = omega arith
+    joined : (names others : List Channel) {m n : ℕ} → times channel names ≡ m → times channel others ≡ n →
+        times channel (names ++ others) ≡ m + n
+    joined names others e f =
+        sum_by-append (λ name. cond (is_same_channel channel name) 1 0) names others ∙ rw (e, f) refl
+
+    to_data : List Channel
+    to_data = map data_of (cores_where has_data line)
+
+    acks : List Channel
+    acks = flat_map (acks_at line.cores) (cores_where has_acks line)
+
+    forwarded : List Channel
+    forwarded = map fwd_of (cores_where has_forwarded line)
+
+    requests : List Channel
+    requests = map req_of (cores_where has_request line)
 
 -- a channel stands once among a line's waiting channels where a message waits in it, and else not at all
 pub times-line_waiting : (line : LineChannels) (channel : Channel) →
     times channel (line_waiting line) ≡ (if is_from_core channel && is_waiting line channel then 1 else 0)
 times-line_waiting line (channels.Req d) =
-    let g : CoreChannels → ℕ = λ queues. if is_some queues.request then 1 else 0 in
-    times-line (channels.Req d) line _ _ _
-    (times-cores (channels.Req d) d.0 g line.cores 0 d.0 (sym (zero-add d.0)) refl
-    (λ i core. times-core_request d (record { 0 = core }) (core_at line i)))
-    (other_kind (channels.Req d) channels.Home (is_some line.home) refl)
-    (add-zero _ ∙ ap (λ waits. if waits then 1 else 0) (waits-request (core_at line d.0).request))
+    times-line (channels.Req d) line 0 0 0 0 _ _ (times-no_home (channels.Req d) (is_some line.home) refl)
+    (times-none (channels.Req d) data_of (λ k. refl) (cores_where has_data line))
+    (times-no_acks (channels.Req d) line.cores (λ to from. refl) (cores_where has_acks line))
+    (times-none (channels.Req d) fwd_of (λ k. refl) (cores_where has_forwarded line))
+    (count-map
+    (is_same_channel (channels.Req d)) (λ core. d.0 == core) req_of (λ k. refl) (cores_where has_request line)
+    ∙ count-cores_where has_request line d.0 refl)
+    (omega arith ∙ ap (λ waits. if waits then 1 else 0) (waits-request (core_at line d.0).request))
 times-line_waiting line (channels.Fwd d) =
-    let g : CoreChannels → ℕ = λ queues. if nat_lt 0 (length queues.forwarded) then 1 else 0 in
-    times-line (channels.Fwd d) line _ _ _
-    (times-cores (channels.Fwd d) d.0 g line.cores 0 d.0 (sym (zero-add d.0)) refl
-    (λ i core. times-core_forwarded d (record { 0 = core }) (core_at line i)))
-    (other_kind (channels.Fwd d) channels.Home (is_some line.home) refl)
-    (add-zero _ ∙ ap (λ n. if nat_lt 0 n then 1 else 0) (sym (length-map (core_at line d.0).forwarded _)))
+    times-line (channels.Fwd d) line 0 0 0 _ 0 _ (times-no_home (channels.Fwd d) (is_some line.home) refl)
+    (times-none (channels.Fwd d) data_of (λ k. refl) (cores_where has_data line))
+    (times-no_acks (channels.Fwd d) line.cores (λ to from. refl) (cores_where has_acks line))
+    (count-map
+    (is_same_channel (channels.Fwd d)) (λ core. d.0 == core) fwd_of (λ k. refl) (cores_where has_forwarded line)
+    ∙ count-cores_where has_forwarded line d.0 refl)
+    (times-none (channels.Fwd d) req_of (λ k. refl) (cores_where has_request line))
+    (omega arith ∙ ap (λ n. if nat_lt 0 n then 1 else 0) (sym (length-map (core_at line d.0).forwarded _)))
 times-line_waiting line (channels.Data d) =
-    let g : CoreChannels → ℕ = λ queues. if is_some queues.data then 1 else 0 in
-    times-line (channels.Data d) line _ _ _
-    (times-cores (channels.Data d) d.0 g line.cores 0 d.0 (sym (zero-add d.0)) refl
-    (λ i core. times-core_data d (record { 0 = core }) (core_at line i)))
-    (other_kind (channels.Data d) channels.Home (is_some line.home) refl)
-    (add-zero _ ∙ ap (λ waits. if waits then 1 else 0) (waits-data (core_at line d.0).data))
+    times-line (channels.Data d) line 0 _ 0 0 0 _ (times-no_home (channels.Data d) (is_some line.home) refl)
+    (count-map (is_same_channel (channels.Data d)) (λ core. d.0 == core) data_of (λ k. refl) (cores_where has_data line)
+    ∙ count-cores_where has_data line d.0 refl)
+    (times-no_acks (channels.Data d) line.cores (λ to from. refl) (cores_where has_acks line))
+    (times-none (channels.Data d) fwd_of (λ k. refl) (cores_where has_forwarded line))
+    (times-none (channels.Data d) req_of (λ k. refl) (cores_where has_request line))
+    (omega arith ∙ ap (λ waits. if waits then 1 else 0) (waits-data (core_at line d.0).data))
 times-line_waiting line (channels.Ack to from) =
-    let g : CoreChannels → ℕ = λ queues. if nat_lt from.0 64 && has queues.acks from.0 then 1 else 0 in
-    times-line (channels.Ack to from) line _ _ _
-    (times-cores
-    (channels.Ack to from)
-    to.0 g line.cores 0 to.0 (sym (zero-add to.0)) (rw (has-zero from.0, and-false (nat_lt from.0 64)) refl)
-    (λ i core. times-core_ack to from (record { 0 = core }) (core_at line i)))
-    (other_kind (channels.Ack to from) channels.Home (is_some line.home) refl)
-    (add-zero _
+    times-line (channels.Ack to from) line 0 0 _ 0 0 _ (times-no_home (channels.Ack to from) (is_some line.home) refl)
+    (times-none (channels.Ack to from) data_of (λ k. refl) (cores_where has_data line))
+    (times-acks_waiting to from line)
+    (times-none (channels.Ack to from) fwd_of (λ k. refl) (cores_where has_forwarded line))
+    (times-none (channels.Ack to from) req_of (λ k. refl) (cores_where has_request line))
+    (omega arith
     ∙ ap (λ waits. if nat_lt from.0 64 && waits then 1 else 0) (waits-ack (has (core_at line to.0).acks from.0)))
 times-line_waiting line channels.Home =
-    let g : CoreChannels → ℕ = λ queues. 0 in
-    times-line channels.Home line _ _ _
-    (times-cores channels.Home 0 g line.cores 0 0 refl refl
-    (λ i core. times-core_home (record { 0 = core }) (core_at line i) ∙ sym (none_of_two (0 == core))))
-    (same_kind channels.Home channels.Home (is_some line.home) true refl)
-    (zero-add _ ∙ ap (λ waits. if waits then 1 else 0) (waits-home line.home))
+    times-line channels.Home line _ 0 0 0 0 _ (at_home (is_some line.home))
+    (times-none channels.Home data_of (λ k. refl) (cores_where has_data line))
+    (times-no_acks channels.Home line.cores (λ to from. refl) (cores_where has_acks line))
+    (times-none channels.Home fwd_of (λ k. refl) (cores_where has_forwarded line))
+    (times-none channels.Home req_of (λ k. refl) (cores_where has_request line))
+    (omega arith ∙ ap (λ waits. if waits then 1 else 0) (waits-home line.home))
+  where
+    at_home : (waits : Bool) → times channels.Home (only_if waits channels.Home) ≡ (if waits then 1 else 0)
+    at_home true = refl
+    at_home false = refl
 
 -- where all senders are cores, each channel of a line is found that has a message
 pub line_waiting-once : (line : LineChannels) →

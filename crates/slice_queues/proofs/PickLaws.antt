@@ -1,8 +1,10 @@
 -- A slice's waiting picks: each stands in the list once, and no other does.
-use Rattle.std.proofs.Common.{◌≡◌, ◌≢◌, ℕ, ◌+◌, ◌*◌, ◌/◌, ◌%◌, ◌<◌, ◌≤◌, ◌==◌, ◌&&◌, Bool, true, false, cond, if◌then◌else◌, List, [], ◌∷◌, ◌++◌, map, take, drop, sum_by, count_by, zero, suc, refl, ap, sym, ◌∙◌, arith, inl, inr, get_or, eq-eqb, append_assoc, add-zero, zero-add}
+use Rattle.std.proofs.Common.{◌≡◌, ◌≢◌, ℕ, ◌+◌, ◌*◌, ◌/◌, ◌%◌, ◌<◌, ◌≤◌, ◌==◌, ◌&&◌, Bool, true, false, cond, if◌then◌else◌, List, [], ◌∷◌, ◌++◌, length, map, take, drop, sum_by, count_by, zero, suc, refl, ap, sym, ◌∙◌, arith, inl, inr, get_or, eq-eqb, append_assoc, add-zero, zero-add}
+use Rattle.std.specs.Prelude.{slice_get, None}
 use native.Mathlib.Nat.{div-add-mod'}
 use Rattle.std.proofs.lemmas.Nat.{mod-mul-add, div-mul-add}
 use Rattle.std.proofs.lemmas.Bool.{cases_eq, ne_eqb}
+use Rattle.std.proofs.lemmas.List.{append-nil, take_all, drop_more, get_or-take, length-take-le}
 use Rattle.std.proofs.lemmas.List.Sums.{sum_by-append}
 use Rattle.address_map.specs.declared.address.LineAddr.{LineAddr}
 use Rattle.slice_queues_message.specs.declared.channel.Channel.{Channel}
@@ -10,25 +12,9 @@ use Rattle.slice_queues_message.specs.declared.channel.Pick.{Pick}
 use Rattle.slice_queues_message.specs.Pick.{line_of, channel_of, pick_at}
 use Rattle.slice_queues.specs.Line.{LineChannels, empty_line}
 use Rattle.slice_queues.specs.Slice.{SliceChannels}
-use Rattle.slice_queues.specs.Waiting.{line_waiting, is_same_channel, is_waiting, line_number, lines_waiting, picks_waiting, is_same_pick, is_from_core, HasEachPickOnce}
-use Rattle.slice_queues.proofs.OnceLaws.{times, count-yes, count-no, and-false, times-line_waiting}
+use Rattle.slice_queues.specs.Waiting.{line_waiting, is_same_channel, is_waiting, line_number, lines_left, lines_waiting, picks_waiting, is_same_pick, is_from_core, HasEachPickOnce}
+use Rattle.slice_queues.proofs.OnceLaws.{times, count-map, count-never, and-false, times-line_waiting}
 use Rattle.slice_queues.proofs.SliceLaws.{line_of-pick_at, channel_of-pick_at}
-
--- a count over mapped elements, by what the test says of each
-count-map : {A B : Type 0} (p : B → Bool) (q : A → Bool) (f : A → B) → ((x : A) → p (f x) ≡ q x) → (xs : List A) →
-    count_by p (map f xs) ≡ count_by q xs
-count-map p q f same [] = refl
-count-map {A} {B} p q f same (x ∷ xs) = by_test (q x) refl (count-map p q f same xs)
-  where
-    by_test : (b : Bool) → q x ≡ b → count_by p (map f xs) ≡ count_by q xs →
-        count_by p (f x ∷ map f xs) ≡ count_by q (x ∷ xs)
-    by_test true e rest =
-        count-yes p (f x) (map f xs) (same x ∙ e) ∙ ap (λ n. 1 + n) rest ∙ sym (count-yes q x xs e)
-    by_test false e rest = count-no p (f x) (map f xs) (same x ∙ e) ∙ rest ∙ sym (count-no q x xs e)
-
-count-never : {A : Type 0} (xs : List A) → count_by (λ x. false) xs ≡ 0
-count-never [] = refl
-count-never (x ∷ xs) = count-no (λ y. false) x xs refl ∙ count-never xs
 
 -- picks of one line are told by their channels, and those of another line are other picks
 same-pick_at : (pick : Pick) (line : LineAddr) (here : Bool) → ((line_of pick).0 == line.0) ≡ here →
@@ -166,3 +152,43 @@ lines_waiting-once queues one pick =
 pub picks_waiting-once : (queues : SliceChannels) (start : LineAddr) → queues.slice < queues.slices →
     HasEachPickOnce queues (picks_waiting queues start)
 picks_waiting-once queues start one pick = count-round pick queues start ∙ lines_waiting-once queues one pick
+
+-- the first line of those that are left, and the others
+pub lines_left-next : (slice slices place end : ℕ) (lines : List LineChannels) (line : LineChannels) → place < end →
+    end ≤ length lines → line ≡ get_or lines place (empty_line 0) →
+    lines_left slice slices (line_number slice slices place) (line_waiting line) (place + 1)
+    (drop (place + 1) (take end lines))
+    ≡ lines_waiting slice slices place (drop place (take end lines))
+lines_left-next slice slices place end lines line left there is =
+    let within : place < length (take end lines) = omega (arith, length-take-le end lines there, left) in
+    let first : get_or (take end lines) place (empty_line 0) ≡ line =
+    get_or-take end lines place (empty_line 0) left ∙ sym is in
+    ap
+    (λ line. lines_left slice slices (line_number slice slices place) (line_waiting line) (place + 1)
+    (drop (place + 1) (take end lines)))
+    (sym first)
+    ∙ ap (lines_waiting slice slices place) (sym (drop_more (take end lines) place (empty_line 0) within))
+
+-- where there is no first element there is none
+pub nil-from_get : {A : Type 0} (xs : List A) → slice_get xs 0 ≡ None → xs ≡ []
+nil-from_get [] e = refl
+nil-from_get (x ∷ xs) e = cc
+
+-- all lines, and none behind them
+pub all_lines : (slice slices : ℕ) (lines : List LineChannels) →
+    lines_waiting slice slices 0 (drop 0 (take (length lines) lines))
+    ++ lines_waiting slice slices 0 (drop 0 (take 0 lines))
+    ≡ lines_waiting slice slices 0 lines
+all_lines slice slices lines =
+    append-nil (lines_waiting slice slices 0 (take (length lines) lines))
+    ∙ ap (lines_waiting slice slices 0) (take_all (length lines) lines (omega arith))
+
+-- the lines from a place on, and then those before it
+pub lines_round : (slice slices place : ℕ) (lines : List LineChannels) →
+    lines_waiting slice slices place (drop place (take (length lines) lines))
+    ++ lines_waiting slice slices 0 (drop 0 (take place lines))
+    ≡ lines_waiting slice slices place (drop place lines) ++ lines_waiting slice slices 0 (take place lines)
+lines_round slice slices place lines =
+    ap
+    (λ all. lines_waiting slice slices place (drop place all) ++ lines_waiting slice slices 0 (take place lines))
+    (take_all (length lines) lines (omega arith))

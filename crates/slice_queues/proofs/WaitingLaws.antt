@@ -1,10 +1,9 @@
 -- What the marks of a line find is what waits in its channels.
-use Rattle.std.proofs.Common.{rules, ◌≡◌, ℕ, ◌+◌, ◌<◌, ◌≤◌, ◌&&◌, ◌||◌, zero, suc, Bool, true, false, if◌then◌else◌, List, [], ◌∷◌, ◌++◌, length, map, filter, refl, ap, sym, ◌∙◌, arith, get_or, inl, inr, is_some, nat_lt, count_by, add-zero, zero-add, bit_or}
+use Rattle.std.proofs.Common.{rules, ◌≡◌, ℕ, ◌+◌, ◌<◌, ◌≤◌, ◌&&◌, zero, suc, Bool, true, false, if◌then◌else◌, List, [], ◌∷◌, ◌++◌, length, map, filter, refl, ap, sym, ◌∙◌, arith, get_or, inl, inr, is_some, count_by}
 use Rattle.std.specs.List.{flat_map, range_with_len, AllByRecursion}
-use Rattle.std.proofs.lemmas.Bool.{cases_lt, lt-ltb}
+use Rattle.std.proofs.lemmas.Bool.{cases_lt}
 use Rattle.std.proofs.lemmas.List.{get_or_past}
 use Rattle.std.proofs.lemmas.List.Elements.{filter-append}
-use Rattle.address_map.specs.declared.address.CoreId.{CoreId}
 use Rattle.address_map.specs.CoreSet.{has, members}
 use Rattle.address_map.proofs.CoreSets.{has-zero}
 use Rattle.address_map.proofs.Members.{members-zero}
@@ -14,11 +13,10 @@ use Rattle.slice_queues_message.specs.declared.channel.Class.{Class}
 use Rattle.slice_queues_message.specs.declared.channel.Class.TheVariants as classes
 use Rattle.slice_queues_message.specs.Class.{is_of_class}
 use Rattle.slice_queues.specs.declared.mail.Mail.{Mail}
-use Rattle.slice_queues.specs.Line.{CoreChannels, LineChannels, no_messages, has_request, has_forwarded, has_data, has_acks}
-use Rattle.slice_queues.specs.Mail.{marks_of, all_marked, IsMarked}
-use Rattle.slice_queues.specs.Waiting.{only_if, channels_left, core_waiting, core_left, cores_waiting, line_waiting, line_left, is_same_channel, is_waiting, HasEachOnce, HasEachOnceIn}
+use Rattle.slice_queues.specs.Line.{CoreChannels, LineChannels, no_messages, core_at, has_request, has_forwarded, has_data, has_acks}
+use Rattle.slice_queues.specs.Mail.{marks_of, Marks, IsMarked}
+use Rattle.slice_queues.specs.Waiting.{req_of, fwd_of, data_of, acks_at, only_if, by_kind, cores_where, line_waiting, marked_waiting, is_same_channel, is_waiting, HasEachOnce, HasEachOnceIn}
 use Rattle.slice_queues.proofs.OnceLaws.{count-yes, count-no}
-use Rattle.slice_queues.proofs.MailLaws.{has-or, or_false}
 
 -- of one channel that may be named a filter keeps it or not
 filter-only_if : (p : Channel → Bool) (channel : Channel) (waits keeps : Bool) → p channel ≡ keeps →
@@ -28,205 +26,153 @@ filter-only_if p channel false false e = refl
 filter-only_if p channel true true e = rw e refl
 filter-only_if p channel true false e = rw e refl
 
--- and of the acknowledgements all or none
-filter-acks : (p : Channel → Bool) (core : CoreId) (keeps : Bool) →
-    ((from : ℕ) → p (channels.Ack core (record { 0 = from })) ≡ keeps) → (senders : List ℕ) →
-    filter p (map (λ from. channels.Ack core (record { 0 = from })) senders)
-    ≡ (if keeps then map (λ from. channels.Ack core (record { 0 = from })) senders else [])
-filter-acks p core true each [] = refl
-filter-acks p core false each [] = refl
-filter-acks p core true each (from ∷ senders) =
-    rw (each from) (ap (λ rest. channels.Ack core (record { 0 = from }) ∷ rest) (filter-acks p core true each senders))
-filter-acks p core false each (from ∷ senders) = rw (each from) (filter-acks p core false each senders)
+-- of channels of one kind all or none
+filter-kind : (p : Channel → Bool) (name : ℕ → Channel) (keeps : Bool) → ((k : ℕ) → p (name k) ≡ keeps) →
+    (ks : List ℕ) →
+    filter p (map name ks) ≡ map name (if keeps then ks else [])
+filter-kind p name true each [] = refl
+filter-kind p name false each [] = refl
+filter-kind p name true each (k ∷ ks) = rw (each k) (ap (λ rest. name k ∷ rest) (filter-kind p name true each ks))
+filter-kind p name false each (k ∷ ks) = rw (each k) (filter-kind p name false each ks)
 
--- a core's channels that a filter keeps
-filter-core : (p : Channel → Bool) (core : CoreId) (request forwarded message : Bool) (acks : ℕ)
-    (keeps_request keeps_forwarded keeps_data keeps_acks : Bool) →
-    p (channels.Req core) ≡ keeps_request → p (channels.Fwd core) ≡ keeps_forwarded →
-    p (channels.Data core) ≡ keeps_data → ((from : ℕ) → p (channels.Ack core (record { 0 = from })) ≡ keeps_acks) →
-    filter p (channels_left core request forwarded message acks)
-    ≡ channels_left
-    core (keeps_request && request) (keeps_forwarded && forwarded) (keeps_data && message)
-    (if keeps_acks then acks else 0)
-filter-core p core request forwarded message acks keeps_request keeps_forwarded keeps_data keeps_acks e f g h =
-    filter-append p (only_if request (channels.Req core)) _
-    ∙ both
-    (filter-only_if p (channels.Req core) request keeps_request e) (
-    filter-append p (only_if forwarded (channels.Fwd core)) _
-    ∙ both
-    (filter-only_if p (channels.Fwd core) forwarded keeps_forwarded f) (
-    filter-append p (only_if message (channels.Data core)) _
-    ∙ both
-    (filter-only_if p (channels.Data core) message keeps_data g)
-    (filter-acks p core keeps_acks h (members acks) ∙ senders keeps_acks)
-    )
-    )
+filter-acks : (p : Channel → Bool) (cores : List CoreChannels) (keeps : Bool) →
+    ((to from : ℕ) → p (channels.Ack (record { 0 = to }) (record { 0 = from })) ≡ keeps) → (ks : List ℕ) →
+    filter p (flat_map (acks_at cores) ks) ≡ flat_map (acks_at cores) (if keeps then ks else [])
+filter-acks p cores true each [] = refl
+filter-acks p cores false each [] = refl
+filter-acks p cores true each (to ∷ ks) =
+    filter-append p (acks_at cores to) (flat_map (acks_at cores) ks)
+    ∙ rw (
+      filter-kind p _ true (each to) (members (get_or cores to no_messages).acks),
+      filter-acks p cores true each ks,
+    ) refl
+filter-acks p cores false each (to ∷ ks) =
+    filter-append p (acks_at cores to) (flat_map (acks_at cores) ks)
+    ∙ rw (
+      filter-kind p _ false (each to) (members (get_or cores to no_messages).acks),
+      filter-acks p cores false each ks,
+    ) refl
+
+-- of a line's waiting channels those of the kinds that a filter keeps
+filter-line : (p : Channel → Bool) (line : LineChannels)
+    (keeps_home keeps_data keeps_acks keeps_forwarded keeps_requests : Bool) → p channels.Home ≡ keeps_home →
+    ((k : ℕ) → p (data_of k) ≡ keeps_data) →
+    ((to from : ℕ) → p (channels.Ack (record { 0 = to }) (record { 0 = from })) ≡ keeps_acks) →
+    ((k : ℕ) → p (fwd_of k) ≡ keeps_forwarded) → ((k : ℕ) → p (req_of k) ≡ keeps_requests) →
+    filter p (line_waiting line)
+    ≡ by_kind
+    (keeps_home && is_some line.home)
+    (if keeps_data then cores_where has_data line else [])
+    (flat_map (acks_at line.cores) (if keeps_acks then cores_where has_acks line else []))
+    (if keeps_forwarded then cores_where has_forwarded line else [])
+    (if keeps_requests then cores_where has_request line else [])
+filter-line p line h d a f r of_home of_data of_acks of_forwarded of_requests =
+    joined (only_if (is_some line.home) channels.Home) (to_data ++ (acks ++ (forwarded ++ requests)))
+    (filter-only_if p channels.Home (is_some line.home) h of_home)
+    (joined to_data (acks ++ (forwarded ++ requests)) (filter-kind p data_of d of_data (cores_where has_data line))
+    (joined acks (forwarded ++ requests) (filter-acks p line.cores a of_acks (cores_where has_acks line))
+    (joined
+    forwarded requests (filter-kind p fwd_of f of_forwarded (cores_where has_forwarded line))
+    (filter-kind p req_of r of_requests (cores_where has_request line)))))
   where
-    both : {a b c d : List Channel} → a ≡ c → b ≡ d → (a ++ b) ≡ (c ++ d)
-    both e f = cc
+    joined : (names others : List Channel) {kept left : List Channel} → filter p names ≡ kept →
+        filter p others ≡ left → filter p (names ++ others) ≡ kept ++ left
+    joined names others e f = filter-append p names others ∙ rw (e, f) refl
 
-    senders : (keeps : Bool) →
-        (if keeps then map (λ from. channels.Ack core (record { 0 = from })) (members acks) else [])
-        ≡ map (λ from. channels.Ack core (record { 0 = from })) (members (if keeps then acks else 0))
-    senders true = refl
-    senders false = rw members-zero refl
+    to_data : List Channel
+    to_data = map data_of (cores_where has_data line)
 
--- the number of a set that is there, or else 0, is its number
-acks_if : (acks : ℕ) (waits : Bool) → waits ≡ nat_lt 0 acks → (if waits then acks else 0) ≡ acks
-acks_if zero true e = refl
-acks_if zero false e = refl
-acks_if (suc acks) true e = refl
-acks_if (suc acks) false e = let more : 0 < suc acks = omega arith in
-    let some : nat_lt 0 (suc acks) ≡ true = lt-ltb 0 (suc acks) more in cc
+    acks : List Channel
+    acks = flat_map (acks_at line.cores) (cores_where has_acks line)
 
--- what the marks of a class find at a core is what of this class waits there
-core_left-of_class : (class : Class) (cores : List CoreChannels) (mail : Mail) → IsMarked cores mail → (core : ℕ) →
-    core_left (marks_of class mail) cores core
-    ≡ filter (is_of_class class) (core_waiting (record { 0 = core }) (get_or cores core no_messages))
-core_left-of_class class cores mail marked core = by_class class
-  where
-    queues : CoreChannels
-    queues = get_or cores core no_messages
+    forwarded : List Channel
+    forwarded = map fwd_of (cores_where has_forwarded line)
 
-    id : CoreId
-    id = record { 0 = core }
+    requests : List Channel
+    requests = map req_of (cores_where has_request line)
 
-    same : {r r' f f' d d' : Bool} {a a' : ℕ} → r ≡ r' → f ≡ f' → d ≡ d' → a ≡ a' →
-        channels_left id r f d a ≡ channels_left id r' f' d' a'
-    same e f g h = cc
+-- a filter of a longer range by a test that says the same, and passes nothing behind the shorter one
+filter-longer : (p q : ℕ → Bool) (m n a : ℕ) → n ≤ m → ((i : ℕ) → p i ≡ q i) →
+    ((i : ℕ) → a + n ≤ i → q i ≡ false) → filter p (range_with_len a m) ≡ filter q (range_with_len a n)
+filter-longer p q zero zero a few same none = refl
+filter-longer p q zero (suc n) a few same none = absurd (omega arith)
+filter-longer p q (suc m) zero a few same none =
+    rw
+    (same a, none a (omega arith))
+    (filter-longer p q m zero (a + 1) (omega arith) same (λ i behind. none i (omega arith)))
+filter-longer p q (suc m) (suc n) a few same none =
+    rw
+    (same a, filter-longer p q m n (a + 1) (omega arith) same (λ i behind. none i (omega arith)))
+    refl
 
-    none : (if has 0 core then queues.acks else 0) ≡ 0
-    none = rw (has-zero core) refl
-
-    all : (if has mail.acks core then queues.acks else 0) ≡ queues.acks
-    all = acks_if queues.acks (has mail.acks core) (marked.acks core)
-
-    kept : (class : Class) (keeps_request keeps_forwarded keeps_data keeps_acks : Bool) →
-        is_of_class class (channels.Req id) ≡ keeps_request → is_of_class class (channels.Fwd id) ≡ keeps_forwarded →
-        is_of_class class (channels.Data id) ≡ keeps_data →
-        ((from : ℕ) → is_of_class class (channels.Ack id (record { 0 = from })) ≡ keeps_acks) →
-        filter (is_of_class class) (core_waiting id queues)
-        ≡ channels_left
-        id (keeps_request && is_some queues.request) (keeps_forwarded && nat_lt 0 (length queues.forwarded))
-        (keeps_data && is_some queues.data) (if keeps_acks then queues.acks else 0)
-    kept class a b c d e f g h = filter-core (is_of_class class) id _ _ _ _ a b c d e f g h
-
-    by_class : (class : Class) →
-        core_left (marks_of class mail) cores core ≡ filter (is_of_class class) (core_waiting id queues)
-    by_class classes.Any =
-        same (marked.requests core) (marked.forwarded core) (marked.data_messages core) all
-        ∙ sym (kept classes.Any true true true true refl refl refl (λ from. refl))
-    by_class classes.Req =
-        same (marked.requests core) (has-zero core) (has-zero core) none
-        ∙ sym (kept classes.Req true false false false refl refl refl (λ from. refl))
-    by_class classes.Fwd =
-        same (has-zero core) (marked.forwarded core) (has-zero core) none
-        ∙ sym (kept classes.Fwd false true false false refl refl refl (λ from. refl))
-    by_class classes.Data =
-        same (has-zero core) (has-zero core) (marked.data_messages core) none
-        ∙ sym (kept classes.Data false false true false refl refl refl (λ from. refl))
-    by_class classes.Ack =
-        same (has-zero core) (has-zero core) (has-zero core) all
-        ∙ sym (kept classes.Ack false false false true refl refl refl (λ from. refl))
-    by_class classes.Home =
-        same (has-zero core) (has-zero core) (has-zero core) none
-        ∙ sym (kept classes.Home false false false false refl refl refl (λ from. refl))
-
--- at a core that isn't marked nothing is found
-core_left-unmarked : (mail : Mail) (cores : List CoreChannels) (core : ℕ) → has (all_marked mail) core ≡ false →
-    core_left mail cores core ≡ []
-core_left-unmarked mail cores core unmarked =
-    rw (no_request, no_forwarded, no_data, no_acks, members-zero) refl
-  where
-    three : ((has mail.requests core || has mail.forwarded core) || has mail.data_messages core) || has mail.acks core
-        ≡ false
-    three =
-        sym (has-or (bit_or (bit_or mail.requests mail.forwarded) mail.data_messages) mail.acks core
-        ∙ rw (
-          has-or (bit_or mail.requests mail.forwarded) mail.data_messages core,
-          has-or mail.requests mail.forwarded core,
-        ) refl)
-        ∙ unmarked
-
-    no_acks : has mail.acks core ≡ false
-    no_acks = (or_false ((has mail.requests core || has mail.forwarded core) || has mail.data_messages core)
-        (has mail.acks core) three).1
-
-    two : (has mail.requests core || has mail.forwarded core) || has mail.data_messages core ≡ false
-    two = (or_false ((has mail.requests core || has mail.forwarded core) || has mail.data_messages core)
-        (has mail.acks core) three).0
-
-    no_data : has mail.data_messages core ≡ false
-    no_data = (or_false (has mail.requests core || has mail.forwarded core) (has mail.data_messages core) two).1
-
-    one : has mail.requests core || has mail.forwarded core ≡ false
-    one = (or_false (has mail.requests core || has mail.forwarded core) (has mail.data_messages core) two).0
-
-    no_request : has mail.requests core ≡ false
-    no_request = (or_false (has mail.requests core) (has mail.forwarded core) one).0
-
-    no_forwarded : has mail.forwarded core ≡ false
-    no_forwarded = (or_false (has mail.requests core) (has mail.forwarded core) one).1
-
--- what gives nothing may be left out
-flat_map-filter : {A B : Type 0} (f : A → List B) (keeps : A → Bool) → ((x : A) → keeps x ≡ false → f x ≡ []) →
-    (xs : List A) →
-    flat_map f (filter keeps xs) ≡ flat_map f xs
-flat_map-filter f keeps none [] = refl
-flat_map-filter f keeps none (x ∷ xs) = by_test (keeps x) refl (flat_map-filter f keeps none xs)
-  where
-    by_test : (kept : Bool) → keeps x ≡ kept → flat_map f (filter keeps xs) ≡ flat_map f xs →
-        flat_map f (if kept then x ∷ filter keeps xs else filter keeps xs) ≡ f x ++ flat_map f xs
-    by_test true e rest = ap (λ others. f x ++ others) rest
-    by_test false e rest = rw (none x e) rest
-
--- core by core, from this number on
-waiting-range : (p : Channel → Bool) (f : ℕ → List Channel) (cores : List CoreChannels) (from n : ℕ) →
-    length cores ≤ n →
-    ((core i : ℕ) → core ≡ from + i →
-    f core ≡ filter p (core_waiting (record { 0 = core }) (get_or cores i no_messages))) →
-    flat_map f (range_with_len from n) ≡ filter p (cores_waiting from cores)
-waiting-range p f [] from zero few each = refl
-waiting-range p f [] from (suc n) few each =
-    let here : f from ≡ filter p (core_waiting (record { 0 = from }) no_messages) = each from 0 (sym (add-zero from)) in
-    let nothing : f from ≡ [] = here ∙ rw members-zero refl in
-    rw nothing (waiting-range p f [] (from + 1) n (omega arith) (λ core i at. each core (suc i) (omega arith)))
-waiting-range p f (queues ∷ cores) from zero few each = absurd (omega arith)
-waiting-range p f (queues ∷ cores) from (suc n) few each =
-    joined
-    (each from 0 (sym (add-zero from)))
-    (waiting-range p f cores (from + 1) n (omega arith) (λ core i at. each core (suc i) (omega arith)))
-    ∙ sym (filter-append p (core_waiting (record { 0 = from }) queues) (cores_waiting (from + 1) cores))
-  where
-    joined : {a b c d : List Channel} → a ≡ c → b ≡ d → (a ++ b) ≡ (c ++ d)
-    joined e f = cc
+-- the cores that are marked are those whose channels pass the test
+members-marked : (test : CoreChannels → Bool) (marks : ℕ) (line : LineChannels) → length line.cores ≤ 64 →
+    test no_messages ≡ false → Marks test marks line.cores → members marks ≡ cores_where test line
+unfolding members
+members-marked test marks line few quiet marked =
+    filter-longer (has marks) (λ core. test (core_at line core)) 64 (length line.cores) 0 few marked
+    (λ core past. rw (get_or_past line.cores core no_messages (omega arith)) quiet)
 
 -- what the marks of a class find in a line is what of this class waits there, in the same order
-pub line_left-of_class : (class : Class) (line : LineChannels) (mail : Mail) (home : Bool) →
+pub marked_waiting-of_class : (class : Class) (line : LineChannels) (mail : Mail) (home : Bool) →
     length line.cores ≤ 64 → IsMarked line.cores mail →
     home ≡ (is_of_class class channels.Home && is_some line.home) →
-    line_left [] (marks_of class mail) line.cores (members (all_marked (marks_of class mail))) home
-    ≡ filter (is_of_class class) (line_waiting line)
-unfolding members
-line_left-of_class class line mail home few marked at_home =
-    joined
-    (flat_map-filter
-    (core_left (marks_of class mail) line.cores)
-    (has (all_marked (marks_of class mail)))
-    (core_left-unmarked (marks_of class mail) line.cores)
-    (range_with_len 0 64)
-    ∙ waiting-range (is_of_class class) _ line.cores 0 64 few (λ core i at. here core i (at ∙ zero-add i)))
-    (ap (λ waits. only_if waits channels.Home) at_home
-    ∙ sym (filter-only_if (is_of_class class) channels.Home (is_some line.home) (is_of_class class channels.Home) refl))
-    ∙ sym (filter-append (is_of_class class) (cores_waiting 0 line.cores) (only_if (is_some line.home) channels.Home))
+    marked_waiting home (marks_of class mail) line.cores ≡ filter (is_of_class class) (line_waiting line)
+marked_waiting-of_class class line mail home few marked at_home = by_class class at_home
   where
-    joined : {a b c d : List Channel} → a ≡ c → b ≡ d → (a ++ b) ≡ (c ++ d)
-    joined e f = cc
+    same : {h h' : Bool} {d d' a a' f f' r r' : List ℕ} → h ≡ h' → d ≡ d' → a ≡ a' → f ≡ f' → r ≡ r' →
+        by_kind h d (flat_map (acks_at line.cores) a) f r ≡ by_kind h' d' (flat_map (acks_at line.cores) a') f' r'
+    same of_home of_data of_acks of_forwarded of_requests = cc
 
-    here : (core i : ℕ) → core ≡ i →
-        core_left (marks_of class mail) line.cores core
-        ≡ filter (is_of_class class) (core_waiting (record { 0 = core }) (get_or line.cores i no_messages))
-    here core i at = rw (← at) (core_left-of_class class line.cores mail marked core)
+    messages : members mail.data_messages ≡ cores_where has_data line
+    messages = members-marked has_data mail.data_messages line few refl marked.data_messages
+
+    acks : members mail.acks ≡ cores_where has_acks line
+    acks = members-marked has_acks mail.acks line few refl marked.acks
+
+    forwarded : members mail.forwarded ≡ cores_where has_forwarded line
+    forwarded = members-marked has_forwarded mail.forwarded line few refl marked.forwarded
+
+    requests : members mail.requests ≡ cores_where has_request line
+    requests = members-marked has_request mail.requests line few refl marked.requests
+
+    none : members 0 ≡ []
+    none = members-zero
+
+    kept : (class : Class) (h d a f r : Bool) → is_of_class class channels.Home ≡ h →
+        ((k : ℕ) → is_of_class class (data_of k) ≡ d) →
+        ((to from : ℕ) → is_of_class class (channels.Ack (record { 0 = to }) (record { 0 = from })) ≡ a) →
+        ((k : ℕ) → is_of_class class (fwd_of k) ≡ f) → ((k : ℕ) → is_of_class class (req_of k) ≡ r) →
+        by_kind
+        (h && is_some line.home)
+        (if d then cores_where has_data line else [])
+        (flat_map (acks_at line.cores) (if a then cores_where has_acks line else []))
+        (if f then cores_where has_forwarded line else [])
+        (if r then cores_where has_request line else [])
+        ≡ filter (is_of_class class) (line_waiting line)
+    kept class h d a f r of_home of_data of_acks of_forwarded of_requests =
+        sym (filter-line (is_of_class class) line h d a f r of_home of_data of_acks of_forwarded of_requests)
+
+    by_class : (class : Class) → home ≡ (is_of_class class channels.Home && is_some line.home) →
+        marked_waiting home (marks_of class mail) line.cores ≡ filter (is_of_class class) (line_waiting line)
+    by_class classes.Any e =
+        same e messages acks forwarded requests
+        ∙ kept classes.Any true true true true true refl (λ k. refl) (λ to from. refl) (λ k. refl) (λ k. refl)
+    by_class classes.Req e =
+        same e none none none requests
+        ∙ kept classes.Req false false false false true refl (λ k. refl) (λ to from. refl) (λ k. refl) (λ k. refl)
+    by_class classes.Fwd e =
+        same e none none forwarded none
+        ∙ kept classes.Fwd false false false true false refl (λ k. refl) (λ to from. refl) (λ k. refl) (λ k. refl)
+    by_class classes.Data e =
+        same e messages none none none
+        ∙ kept classes.Data false true false false false refl (λ k. refl) (λ to from. refl) (λ k. refl) (λ k. refl)
+    by_class classes.Ack e =
+        same e none acks none none
+        ∙ kept classes.Ack false false true false false refl (λ k. refl) (λ to from. refl) (λ k. refl) (λ k. refl)
+    by_class classes.Home e =
+        same e none none none none
+        ∙ kept classes.Home true false false false false refl (λ k. refl) (λ to from. refl) (λ k. refl) (λ k. refl)
 
 -- what holds of each core of a set holds of each of its members
 AllByRecursion-range : (P : ℕ → Type 0) (set : ℕ) → ((core : ℕ) → has set core ≡ true → P core) → (n from : ℕ) →
@@ -249,23 +195,9 @@ pub AllByRecursion-members : (P : ℕ → Type 0) (set : ℕ) → ((core : ℕ) 
 unfolding members
 AllByRecursion-members P set each = AllByRecursion-range P set each 64 0
 
--- a core that no set has is not marked
-all_unmarked : (mail : Mail) (core : ℕ) → has mail.requests core ≡ false → has mail.forwarded core ≡ false →
-    has mail.data_messages core ≡ false → has mail.acks core ≡ false → has (all_marked mail) core ≡ false
-all_unmarked mail core e f g h =
-    has-or (bit_or (bit_or mail.requests mail.forwarded) mail.data_messages) mail.acks core
-    ∙ rw (
-      has-or (bit_or mail.requests mail.forwarded) mail.data_messages core,
-      has-or mail.requests mail.forwarded core,
-      e,
-      f,
-      g,
-      h,
-    ) refl
-
--- what is marked for a class is a core of the line
+-- a core that is marked for the acknowledgements of a class is a core of the line
 pub marks_of-below : (class : Class) (cores : List CoreChannels) (mail : Mail) → IsMarked cores mail → (core : ℕ) →
-    has (all_marked (marks_of class mail)) core ≡ true → core < length cores
+    has (marks_of class mail).acks core ≡ true → core < length cores
 marks_of-below class cores mail marked core there =
     elim (cases_lt core (length cores)) [
       | inl below ↦ below
@@ -275,28 +207,16 @@ marks_of-below class cores mail marked core there =
     clash : {b : Bool} → b ≡ false → b ≡ true → ⊥
     clash e f = cc
 
-    past_end : length cores ≤ core → get_or cores core no_messages ≡ no_messages
-    past_end past = get_or_past cores core no_messages past
+    no_acks : length cores ≤ core → has mail.acks core ≡ false
+    no_acks past = marked.acks core ∙ ap has_acks (get_or_past cores core no_messages past)
 
-    unmarked : length cores ≤ core → (class : Class) → has (all_marked (marks_of class mail)) core ≡ false
-    unmarked past classes.Any =
-        all_unmarked mail core (marked.requests core ∙ ap has_request (past_end past))
-        (marked.forwarded core ∙ ap has_forwarded (past_end past))
-        (marked.data_messages core ∙ ap has_data (past_end past)) (marked.acks core ∙ ap has_acks (past_end past))
-    unmarked past classes.Req =
-        all_unmarked _ core (marked.requests core ∙ ap has_request (past_end past)) (has-zero core) (has-zero core)
-        (has-zero core)
-    unmarked past classes.Fwd =
-        all_unmarked _ core (has-zero core) (marked.forwarded core ∙ ap has_forwarded (past_end past)) (has-zero core)
-        (has-zero core)
-    unmarked past classes.Data =
-        all_unmarked _ core (has-zero core) (has-zero core) (marked.data_messages core ∙ ap has_data (past_end past))
-        (has-zero core)
-    unmarked past classes.Ack =
-        all_unmarked _ core (has-zero core) (has-zero core) (has-zero core)
-        (marked.acks core ∙ ap has_acks (past_end past))
-    unmarked past classes.Home =
-        all_unmarked _ core (has-zero core) (has-zero core) (has-zero core) (has-zero core)
+    unmarked : length cores ≤ core → (class : Class) → has (marks_of class mail).acks core ≡ false
+    unmarked past classes.Any = no_acks past
+    unmarked past classes.Ack = no_acks past
+    unmarked past classes.Req = has-zero core
+    unmarked past classes.Fwd = has-zero core
+    unmarked past classes.Data = has-zero core
+    unmarked past classes.Home = has-zero core
 
 -- a count over what a filter keeps, where the filter says the same of all that counts
 count-filter : {A : Type 0} (counts keeps : A → Bool) (kept : Bool) → ((x : A) → counts x ≡ true → keeps x ≡ kept) →

@@ -1,6 +1,7 @@
 pub mod Forwarded
 pub mod Line
 pub mod Mail
+pub mod Runs
 pub mod Slice
 pub mod Ring
 pub mod Count

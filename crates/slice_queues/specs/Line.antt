@@ -100,6 +100,14 @@ HasChannel line (channels.Data core) = core.0 < length line.cores
 HasChannel line (channels.Ack to from) = (to.0 < length line.cores) × (from.0 < length line.cores)
 HasChannel line channels.Home = Unit {0}
 
+-- the channel is one of this core's
+abbrev pub IsOfCore : Channel → CoreId → Type 0
+IsOfCore (channels.Req of) core = of ≡ core
+IsOfCore (channels.Fwd of) core = of ≡ core
+IsOfCore (channels.Data of) core = of ≡ core
+IsOfCore (channels.Ack to from) core = to ≡ core
+IsOfCore channels.Home core = ⊥
+
 -- the channel takes another message
 abbrev pub HasRoom : LineChannels → Channel → Type 0
 HasRoom line channel = length (messages_at line channel) < room_of channel

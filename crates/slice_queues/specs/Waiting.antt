@@ -1,7 +1,6 @@
 -- The channels in which a message waits, each once, in a fixed order.
-use Rattle.std.specs.Prelude.{◌≡◌, ◌==◌, ◌&&◌, true, false, count_by, ℕ, ◌+◌, ◌*◌, ◌/◌, ◌^◌, ◌<◌, ◌++◌, nat_lt, if◌then◌else◌, is_some, length, List, [], ◌∷◌, map, take, drop, slice_index_or, Bool}
+use Rattle.std.specs.Prelude.{◌≡◌, ◌==◌, ◌&&◌, true, false, count_by, ℕ, ◌+◌, ◌*◌, ◌/◌, ◌^◌, ◌<◌, ◌++◌, nat_lt, if◌then◌else◌, is_some, length, List, [], ◌∷◌, map, filter, take, drop, slice_index_or, Bool}
 use Rattle.address_map.specs.Locator.{Lines}
-use Rattle.address_map.specs.declared.address.CoreId.{CoreId}
 use Rattle.address_map.specs.declared.address.LineAddr.{LineAddr}
 use Rattle.slice_queues_message.specs.declared.channel.Channel.{Channel}
 use Rattle.slice_queues_message.specs.declared.channel.Channel.TheVariants as channels
@@ -10,54 +9,67 @@ use Rattle.slice_queues_message.specs.Pick.{line_of, channel_of, pick_at}
 use Rattle.slice_queues_message.specs.declared.channel.Class.{Class}
 use Rattle.slice_queues_message.specs.Class.{is_of_class}
 use Rattle.slice_queues.specs.declared.mail.Mail.{Mail}
-use Rattle.slice_queues.specs.Line.{CoreChannels, LineChannels, no_messages, messages_at}
-use Rattle.address_map.specs.CoreSet.{has, members}
-use Rattle.std.specs.List.{flat_map}
+use Rattle.slice_queues.specs.Line.{CoreChannels, LineChannels, no_messages, core_at, messages_at, has_request, has_forwarded, has_data, has_acks}
+use Rattle.address_map.specs.CoreSet.{members}
+use Rattle.std.specs.List.{flat_map, range_with_len}
 use Rattle.slice_queues.specs.Slice.{SliceChannels, messages_in}
+
+-- the channels of the core with this number
+abbrev pub req_of : ℕ → Channel
+req_of core = channels.Req (record { 0 = core })
+
+abbrev pub fwd_of : ℕ → Channel
+fwd_of core = channels.Fwd (record { 0 = core })
+
+abbrev pub data_of : ℕ → Channel
+data_of core = channels.Data (record { 0 = core })
+
+-- the channels of the acknowledgements for the core that these cores sent
+abbrev pub acks_to : ℕ → List ℕ → List Channel
+acks_to to senders = map (λ from. channels.Ack (record { 0 = to }) (record { 0 = from })) senders
+
+-- the channels in which an acknowledgement waits for the core
+abbrev pub acks_at : List CoreChannels → ℕ → List Channel
+acks_at cores to = acks_to to (members (slice_index_or cores to no_messages).acks)
 
 -- the channel, where a message waits in it
 abbrev pub only_if : Bool → Channel → List Channel
 only_if waits channel = if waits then channel ∷ [] else []
 
--- the core's channels in which a message waits: request, forwarded, data, then the acknowledgements by their senders
-abbrev pub channels_left : CoreId → Bool → Bool → Bool → ℕ → List Channel
-channels_left core request forwarded message acks =
-    only_if request (channels.Req core)
-    ++ (only_if forwarded (channels.Fwd core)
-    ++ (only_if message (channels.Data core) ++ map (λ from. channels.Ack core (record { 0 = from })) (members acks)))
+-- channels kind by kind: home, the data for these cores, these of acknowledgements, what is forwarded to these cores,
+-- and these cores' requests
+abbrev pub by_kind : Bool → List ℕ → List Channel → List ℕ → List ℕ → List Channel
+by_kind home data_for acks forwarded_to requested_by =
+    only_if home channels.Home
+    ++ (map data_of data_for ++ (acks ++ (map fwd_of forwarded_to ++ map req_of requested_by)))
 
-abbrev pub core_waiting : CoreId → CoreChannels → List Channel
-core_waiting core queues =
-    channels_left
-    core
-    (is_some queues.request)
-    (nat_lt 0 (length queues.forwarded))
-    (is_some queues.data)
-    queues.acks
+-- the line's cores whose channels pass the test, in ascending order
+abbrev pub cores_where : (CoreChannels → Bool) → LineChannels → List ℕ
+cores_where test line = filter (λ core. test (core_at line core)) (range_with_len 0 (length line.cores))
 
--- the core's channels for which the marks say that a message waits
-abbrev pub core_left : Mail → List CoreChannels → ℕ → List Channel
-core_left mail cores core =
-    channels_left
-    (record { 0 = core })
-    (has mail.requests core)
-    (has mail.forwarded core)
-    (has mail.data_messages core)
-    (if has mail.acks core then (slice_index_or cores core no_messages).acks else 0)
-
--- what is left of a line: these channels, those of these cores that are marked, and home
-abbrev pub line_left : List Channel → Mail → List CoreChannels → List ℕ → Bool → List Channel
-line_left current mail cores left home =
-    current ++ (flat_map (core_left mail cores) left ++ only_if home channels.Home)
-
--- those of the cores from this number on
-abbrev pub cores_waiting : ℕ → List CoreChannels → List Channel
-cores_waiting core [] = []
-cores_waiting core (queues ∷ rest) = core_waiting (record { 0 = core }) queues ++ cores_waiting (core + 1) rest
-
--- the line's channels in which a message waits: core by core, and then home
+-- the line's channels in which a message waits, kind by kind, and those of a kind in ascending order of their cores
 abbrev pub line_waiting : LineChannels → List Channel
-line_waiting line = cores_waiting 0 line.cores ++ only_if (is_some line.home) channels.Home
+line_waiting line =
+    by_kind
+    (is_some line.home)
+    (cores_where has_data line)
+    (flat_map (acks_at line.cores) (cores_where has_acks line))
+    (cores_where has_forwarded line)
+    (cores_where has_request line)
+
+-- the acknowledgements that are left: of these senders for the one core, and those that wait for the others
+abbrev pub acks_left : ℕ → ℕ → ℕ → List CoreChannels → List Channel
+acks_left to senders others cores = acks_to to (members senders) ++ flat_map (acks_at cores) (members others)
+
+-- the channels for which the marks say that a message waits
+abbrev pub marked_waiting : Bool → Mail → List CoreChannels → List Channel
+marked_waiting home mail cores =
+    by_kind
+    home
+    (members mail.data_messages)
+    (flat_map (acks_at cores) (members mail.acks))
+    (members mail.forwarded)
+    (members mail.requests)
 
 -- the two are the same channel
 abbrev pub is_same_channel : Channel → Channel → Bool

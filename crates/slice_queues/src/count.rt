@@ -2,7 +2,7 @@ ghost use Rattle.std.specs.Prelude.{◌≡◌, ℕ, ◌<◌, ◌↔◌, false, l
 ghost use Rattle.slice_queues.specs.Line.{has_mail, empty_line};
 ghost use Rattle.slice_queues.specs.Count.{one_where, IsMailCounted};
 
-use super::line_queues::LineQueues;
+use super::lines::Lines;
 use address_map::Local;
 
 /// How many lines have a message. The line that was lent last isn't among them: what is done to it isn't seen here.
@@ -14,30 +14,27 @@ pub struct MailCount {
 
 impl MailCount {
     /// It is now this line that is lent.
-    pub fn lend(&mut self, lines: &[LineQueues], local: Local)
+    pub fn lend(&mut self, lines: &Lines, local: Local)
         requires line { local.0 < length lines.now }
         requires counted { IsMailCounted lines.now self.old }
         ensures lent { self.new.lent ≡ local.0 }
         ensures counted { IsMailCounted lines.now self.new }
     {
         if local.0 != self.lent {
-            let before = one_where(lines[self.lent].has_mail());
-            let now = one_where(lines[local.0].has_mail());
+            let _ = lines.len();
+            let before = one_where(lines.line(Local(self.lent)).has_mail());
+            let now = one_where(lines.line(local).has_mail());
             self.others = self.others + before - now;
             self.lent = local.0;
         }
     }
 
     /// Whether no line has a message.
-    pub fn is_zero(&self, lines: &[LineQueues]) -> bool
+    pub fn is_zero(&self, lines: &Lines) -> bool
         requires { IsMailCounted lines.now self.now }
         ensures { IsTrue result ↔ ((local : ℕ) → has_mail (slice_index_or lines.now local (empty_line 0)) ≡ false) }
     {
-        self.others == 0
-            && match lines.get(self.lent) {
-                Some(line) => !line.has_mail(),
-                None => true,
-            }
+        self.others == 0 && (self.lent >= lines.len() || !lines.line(Local(self.lent)).has_mail())
     }
 }
 

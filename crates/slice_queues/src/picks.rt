@@ -1,47 +1,54 @@
-ghost use Rattle.std.specs.Prelude.{◌≡◌, ◌++◌, length, drop, slice_get};
+ghost use Rattle.std.specs.Prelude.{◌≡◌, ◌≤◌, ◌-◌, ◌++◌, length, take, drop, slice_get};
 
-use super::line_queues::LineQueues;
+use super::lines::Lines;
 use super::waiting::LineWaiting;
-use address_map::LineAddr;
+use address_map::{LineAddr, Local};
 use slice_queues_message::Pick;
 use std::marker::Model;
 
 /// The picks with a message of a run of lines, line by line.
 #[derive(Drop)]
 pub struct LinesWaiting<'a> {
-    lines: &'a [LineQueues],
+    lines: &'a Lines,
     current: LineWaiting<'a>,
     line: LineAddr,
+    // the lines that are left: from this place to that behind the last
     place: usize,
+    end: usize,
     slice: u8,
     slices: u8,
 }
 
 impl<'a> Model for LinesWaiting<'a> {
-    ghost use Rattle.std.specs.Prelude.{List, length};
+    ghost use Rattle.std.specs.Prelude.{List, ◌≤◌, ◌-◌, length, take, drop};
     ghost use Rattle.slice_queues_message.specs.declared.channel.Pick.{Pick};
     ghost use Rattle.slice_queues.specs.Waiting.{lines_left, IsAddressedFrom};
 
     ghost Value = { List Pick };
 
-    ghost view = { λ left. lines_left left.slice left.slices left.line left.current left.place left.lines.now };
+    ghost view = { λ left. lines_left left.slice left.slices left.line left.current left.place
+        (drop left.place (take left.end left.lines.now)) };
 
-    ghost invariant = { λ left. IsAddressedFrom left.place (length left.lines.now) left.slice left.slices };
+    ghost invariant = { λ left. (left.place ≤ left.end) × (left.end ≤ length left.lines.now)
+        × IsAddressedFrom left.place (left.end - left.place) left.slice left.slices };
 }
 
 impl<'a> LinesWaiting<'a> {
     ghost use Rattle.slice_queues.specs.Waiting.{lines_waiting, IsAddressedFrom};
 
-    /// The picks of these lines, of which the first stands at `place` of its slice.
-    pub fn new(lines: &'a [LineQueues], place: usize, slice: u8, slices: u8) -> Self
-        requires { IsAddressedFrom place (length lines.now) slice slices }
-        ensures { result ≡ lines_waiting slice slices place lines.now }
+    /// The picks of the lines of a slice from this place on, up to the one before `end`.
+    pub fn new(lines: &'a Lines, place: usize, end: usize, slice: u8, slices: u8) -> Self
+        requires order { place ≤ end }
+        requires there { end ≤ length lines.now }
+        requires addressed { IsAddressedFrom place (end - place) slice slices }
+        ensures { result ≡ lines_waiting slice slices place (drop place (take end lines.now)) }
     {
         LinesWaiting {
             lines,
             current: LineWaiting::none(),
             line: LineAddr(0),
             place,
+            end,
             slice,
             slices,
         }
@@ -57,12 +64,11 @@ impl<'a> LinesWaiting<'a> {
                 Some(channel) => return Some(channel.at(self.line)),
                 None => {}
             }
-            let Some((line, rest)) = self.lines.split_first() else {
+            if self.place >= self.end {
                 return None;
-            };
+            }
             self.line = LineAddr(self.place as u64 * self.slices as u64 + self.slice as u64);
-            self.current = line.waiting();
-            self.lines = rest;
+            self.current = self.lines.line(Local(self.place)).waiting();
             self.place += 1;
         }
     }

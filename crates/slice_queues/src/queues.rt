@@ -1,28 +1,28 @@
 ghost use Rattle.std.specs.Prelude.{◌≡◌, ℕ, ◌<◌, ◌≤◌, ◌↔◌, ◌++◌, [], length, take, drop, filter, slice_get, slice_index, Some, IsTrue, IfOk};
-ghost use Rattle.std.specs.Borrow.{sem};
 ghost use Rattle.slice_queues_message.specs.Pick.{line_of, channel_of};
+ghost use Rattle.slice_queues.specs.Ring.{with_listed};
+ghost use Rattle.slice_queues.specs.Count.{IsMailCounted};
 
 use super::count::MailCount;
 use super::line_queues::LineQueues;
+use super::lines::Lines;
 use super::picks::{LinesWaiting, Picks};
 use super::ring::LineRing;
-use address_map::{LineAddr, Local, Locator};
+use address_map::{CoreId, CoreSet, LineAddr, Local, Locator};
 use slice_queues_message::{Channel, Message, Pick};
 use std::alloc::{AllocError, Global};
-use std::boxed::BoxedSlice;
 use std::marker::Model;
 
 /// The channels of one slice, by line, and a ring of the lines that may have messages.
 #[derive(Drop)]
 pub struct Queues {
-    lines: BoxedSlice<LineQueues>,
+    lines: Lines,
     ring: LineRing,
     locator: Locator,
     count: MailCount,
 }
 
 impl Model for Queues {
-    ghost use Rattle.std.specs.Box.{boxed_slice_items};
     ghost use Rattle.slice_queues.specs.Ring.{QueuesView, IsQueues};
     ghost use Rattle.slice_queues.specs.Count.{IsMailCounted};
 
@@ -31,22 +31,22 @@ impl Model for Queues {
     ghost view = { λ queues.
         record {
           channels =
-              record { lines = boxed_slice_items queues.lines; slice = queues.locator.slice; slices = queues.locator.slices };
+              record { lines = queues.lines; slice = queues.locator.slice; slices = queues.locator.slices };
           ring =
               queues.ring.order;
         } };
 
     ghost invariant = { λ queues.
-        IsQueues (boxed_slice_items queues.lines) queues.ring queues.locator
-        × IsMailCounted (boxed_slice_items queues.lines) queues.count };
+        IsQueues queues.lines queues.ring queues.locator
+        × IsMailCounted queues.lines queues.count };
 }
 
 /// The lines by their places in the slice, and the ring.
 impl Queues {
-    ghost use Rattle.slice_queues.specs.Line.{IsEmptyLine};
+    ghost use Rattle.slice_queues.specs.Line.{IsEmptyLine, HasChannel, HasRoom, Carries, SendsOnly, after_send, after_take, TakesInvalidations, after_invalidating};
     ghost use Rattle.slice_queues.specs.Slice.{at_local, empty_slice, IsEmptySlice};
-    ghost use Rattle.slice_queues.specs.Ring.{has_mail_at, IsRing};
-    ghost use Rattle.slice_queues.specs.Lending.{LendsLine};
+    ghost use Rattle.slice_queues.specs.Ring.{has_mail_at, with_listed, IsRing};
+    ghost use Rattle.slice_queues.specs.Lending.{with_lent};
 
     /// Takes all the memory that the slice will ever need, for the slice's lines of `cores` cores each.
     pub fn build(alloc: Global, cores: usize, locator: Locator) -> Result<Self, AllocError>
@@ -59,14 +59,9 @@ impl Queues {
             }) }
     {
         let count = locator.lines();
-        let mut lines = Vec::with_capacity(alloc, count)?;
-        for line in 0..count {
-            lines.push(LineQueues::build(alloc, cores)?)?;
-        }
-        let ring = LineRing::build(alloc, count)?;
         Ok(Queues {
-            lines: lines.into_boxed_slice(),
-            ring,
+            lines: Lines::build(alloc, count, cores)?,
+            ring: LineRing::build(alloc, count)?,
             locator,
             count: MailCount { lent: 0, others: 0 },
         })
@@ -80,22 +75,59 @@ impl Queues {
     }
 
     /// The channels of one line.
-    pub fn line(&self, local: Local) -> &LineQueues
+    pub fn line(&self, local: Local) -> LineQueues<'_>
         requires { local.0 < length self.now.channels.lines }
-        ensures { result.now ≡ at_local self.now.channels local.0 }
+        ensures { result ≡ at_local self.now.channels local.0 }
     {
-        &self.lines[local.0]
+        self.lines.line(local)
     }
 
-    /// The channels of one line, to be changed. The line comes into the ring, at the back, if it isn't there.
-    pub fn line_mut(&mut self, local: Local) -> &mut LineQueues
+    /// The line comes into the ring, at the back, if it isn't there.
+    pub fn list(&mut self, local: Local)
         requires { local.0 < length self.old.channels.lines }
-        ensures* lends { sem 𝓛 (LendsLine self.entry local result) }
-        ensures value { result.now ≡ at_local self.old.channels local.0 }
+        ensures { self.new ≡ record self.old { ring = with_listed self.old.ring local.0 } }
     {
+        let _ = &self.lines;
         self.ring.list(local);
-        self.count.lend(&self.lines, local);
-        &mut self.lines[local.0]
+    }
+
+    /// Sends the message on a channel of the line, behind those that wait there. The line comes into the ring.
+    #[inline(always)]
+    pub fn send_at(&mut self, local: Local, channel: Channel, message: Message)
+        requires line { local.0 < length self.old.channels.lines }
+        requires there { HasChannel (at_local self.old.channels local.0) channel }
+        requires room { HasRoom (at_local self.old.channels local.0) channel }
+        requires kind { Carries channel message }
+        ensures after { self.new
+            ≡ with_lent self.old local (after_send (at_local self.old.channels local.0) channel message) }
+        ensures sent { SendsOnly (at_local self.old.channels local.0)
+            (after_send (at_local self.old.channels local.0) channel message) channel message }
+    {
+        lend(&mut self.ring, &mut self.count, &self.lines, local);
+        self.lines.send(local, channel, message);
+    }
+
+    /// Takes the oldest message of a channel of the line without a look at it. The line comes into the ring.
+    #[inline(always)]
+    pub fn drop_at(&mut self, local: Local, channel: Channel)
+        requires line { local.0 < length self.old.channels.lines }
+        requires there { HasChannel (at_local self.old.channels local.0) channel }
+        ensures { self.new ≡ with_lent self.old local (after_take (at_local self.old.channels local.0) channel) }
+    {
+        lend(&mut self.ring, &mut self.count, &self.lines, local);
+        self.lines.drop_front(local, channel);
+    }
+
+    /// Sends an invalidation for the requester to each of these cores, behind what waits there. The line comes into
+    /// the ring.
+    pub fn invalidate(&mut self, local: Local, cores: CoreSet, requester: CoreId)
+        requires line { local.0 < length self.old.channels.lines }
+        requires takes { TakesInvalidations (at_local self.old.channels local.0) cores }
+        ensures { self.new
+            ≡ with_lent self.old local (after_invalidating (at_local self.old.channels local.0) cores requester) }
+    {
+        lend(&mut self.ring, &mut self.count, &self.lines, local);
+        self.lines.invalidate(local, cores, requester);
     }
 
     /// How many lines the ring has.
@@ -125,7 +157,7 @@ impl Queues {
     {
         for turn in 0..count {
             let first = self.ring.at(0);
-            let has_mail = self.lines[first.0].has_mail();
+            let has_mail = self.lines.line(first).has_mail();
             self.ring.turn(has_mail);
         }
     }
@@ -195,7 +227,7 @@ impl Queues {
         ensures ring { self.new.ring ≡ with_listed self.old.ring (local_of self.old.channels (line_of pick)) }
     {
         let local = self.place_of(pick.line());
-        self.line_mut(local).send(pick.channel(), message);
+        self.send_at(local, pick.channel(), message);
     }
 
     /// Takes the oldest message at the pick. Nothing changes where none waits, or the pick names a line or a core
@@ -225,12 +257,11 @@ impl Queues {
             channel }
     {
         self.count.lend(&self.lines, local);
-        self.lines[local.0].take(channel)
+        self.lines.take(local, channel)
     }
 
     /// The picks with a message, each once and no other: those of the start line first, then those of the lines behind
-    /// it, and at last those of the lines before it. Within a line they come core by core, and home last. It takes no
-    /// memory.
+    /// it, and at last those of the lines before it. Within a line they come kind by kind. It takes no memory.
     pub fn picks_from(&self, start: LineAddr) -> Picks<'_>
         requires { HasLine self.now.channels start }
         ensures order { result ≡ picks_waiting self.now.channels start }
@@ -239,14 +270,13 @@ impl Queues {
         let place = self.place_of(start).0;
         let slice = self.locator.slice().0;
         let slices = self.locator.slices() as u8;
-        let (before, from) = self.lines.split_at(place);
         Picks::new(
-            LinesWaiting::new(from, place, slice, slices),
-            LinesWaiting::new(before, 0, slice, slices),
+            LinesWaiting::new(&self.lines, place, self.lines.len(), slice, slices),
+            LinesWaiting::new(&self.lines, 0, place, slice, slices),
         )
     }
     /// The picks with a message, each once and no other, where the lines stand in the memory as the locator says: from
-    /// the first line to the last, within a line core by core, and home last. It takes no memory.
+    /// the first line to the last, within a line kind by kind. It takes no memory.
     pub fn picks_of(&self, own: Locator) -> Picks<'_>
         requires { own.lines ≡ length self.now.channels.lines }
         ensures order { result ≡ lines_waiting own.slice own.slices 0 self.now.channels.lines }
@@ -254,10 +284,25 @@ impl Queues {
     {
         let slice = own.slice().0;
         let slices = own.slices() as u8;
-        let (before, from) = self.lines.split_at(0);
         Picks::new(
-            LinesWaiting::new(from, 0, slice, slices),
-            LinesWaiting::new(before, 0, slice, slices),
+            LinesWaiting::new(&self.lines, 0, self.lines.len(), slice, slices),
+            LinesWaiting::new(&self.lines, 0, 0, slice, slices),
         )
+    }
+}
+
+// The line comes into the ring, and is the one that may be changed.
+#[inline(always)]
+fn lend(ring: &mut LineRing, count: &mut MailCount, lines: &Lines, local: Local)
+    requires ring { local.0 < ring.old.lines }
+    requires line { local.0 < length lines.now }
+    requires counted { IsMailCounted lines.now count.old }
+    ensures ring { ring.new ≡ record ring.old { order = with_listed ring.old.order local.0 } }
+    ensures lent { count.new.lent ≡ local.0 }
+    ensures counted { IsMailCounted lines.now count.new }
+{
+    ring.list(local);
+    if count.lent != local.0 {
+        count.lend(lines, local);
     }
 }

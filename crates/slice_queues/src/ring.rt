@@ -59,6 +59,7 @@ impl LineRing {
     }
 
     /// Puts the line at the end, unless it stands in the round.
+    #[inline(always)]
     pub fn list(&mut self, local: Local)
         requires { local.0 < self.old.lines }
         ensures { self.new ≡ record self.old { order = with_listed self.old.order local.0 } }

@@ -1,4 +1,6 @@
-ghost use Rattle.slice_queues.specs.Line.{Carries};
+ghost use Rattle.std.specs.Prelude.{◌≡◌, ◌<◌, length, IsTrue};
+ghost use Rattle.slice_queues.specs.Line.{Carries, HasChannel};
+ghost use Rattle.slice_queues_message.specs.declared.channel.Channel.TheVariants as channels;
 ghost use Rattle.slice_queues_message.specs.Pick.{channel_of};
 
 use super::settings::checked;
@@ -69,7 +71,7 @@ fn go_round(queues: &Queues) -> bool {
         return false;
     }
     let mut picks = queues.picks_from(LineAddr(3));
-    for expected in [REQUEST, INVALIDATION, GRANT, ACK, HOME] {
+    for expected in [INVALIDATION, REQUEST, GRANT, ACK, HOME] {
         if picks.next() != Some(expected) {
             return false;
         }
@@ -92,27 +94,36 @@ fn picks_go_round_from_the_start_line(rt: HostRuntime) -> Result<(), Fail> {
 }
 
 /// Two invalidations and a request come in, and the request goes.
-fn has_invalidations(line: &mut LineQueues) -> bool {
+fn has_invalidations(queues: &mut Queues, local: Local) -> bool
+    requires { local.0 < length queues.old.channels.lines }
+    ensures { length queues.new.channels.lines ≡ length queues.old.channels.lines }
+{
     let core = CoreId(1);
     let both = CoreSet::only(CoreId(0)).with(core);
-    if !line.takes_invalidations(both) {
+    if !queues.line(local).takes_invalidations(both) {
         return false;
     }
-    line.invalidate(both, CoreId(2));
-    if !line.has_room(Channel::Req(core)) {
+    queues.invalidate(local, both, CoreId(2));
+    if !queues.line(local).has_room(Channel::Req(core)) {
         return false;
     }
-    line.send(Channel::Req(core), Message::Request(RequestMessage::GetS));
+    let request = Message::Request(RequestMessage::GetS);
+    queues.send_at(local, Channel::Req(core), request);
+    if !has_two_invalidations(&queues.line(local)) {
+        return false;
+    }
+    queues.drop_at(local, Channel::Req(core));
+    queues.line(local).has_mail()
+}
+
+fn has_two_invalidations(line: &LineQueues<'_>) -> bool
+    ensures { IsTrue result → HasChannel line.now (channels.Req (record { 0 = 1 })) }
+{
     let mut waiting = line.waiting_in(Class::Fwd);
-    if waiting.next() != Some(Channel::Fwd(CoreId(0)))
-        || waiting.next() != Some(Channel::Fwd(core))
-        || waiting.next().is_some()
-        || !line.has_channel(Channel::Req(core))
-    {
-        return false;
-    }
-    line.drop_request(core);
-    line.has_mail()
+    waiting.next() == Some(Channel::Fwd(CoreId(0)))
+        && waiting.next() == Some(Channel::Fwd(CoreId(1)))
+        && waiting.next().is_none()
+        && line.has_channel(Channel::Req(CoreId(1)))
 }
 
 /// The lines 2 and 0 stand in the ring, and line 0 has no message.
@@ -124,12 +135,19 @@ fn turns(queues: &mut Queues) -> bool {
     queues.ring_len() == 1 && queues.ring_at(0) == Local(2)
 }
 
-/// Line 2 has messages, and line 0 is lent without one.
+/// Line 0 comes into the ring without a message.
+fn comes_without_a_message(queues: &mut Queues) -> bool
+    requires { 0 < length queues.old.channels.lines }
+{
+    queues.list(Local(0));
+    queues.line(Local(0)).is_empty()
+}
+
+/// Line 2 has messages, and line 0 has none.
 fn keep_in_the_ring(queues: &mut Queues) -> bool {
     queues.lines() == 3
-        && has_invalidations(queues.line_mut(Local(2)))
-        && queues.lines() == 3
-        && queues.line_mut(Local(0)).is_empty()
+        && has_invalidations(queues, Local(2))
+        && comes_without_a_message(queues)
         && turns(queues)
         && !queues.is_empty()
 }

@@ -21,7 +21,7 @@ use Rattle.trace_check.specs.declared.trace_line.TraceLine.TheVariants as trace_
 use Rattle.trace_check.specs.Verdict.{IsVerdict, IsWrong}
 use Rattle.trace_check.specs.Judge.{Knows}
 use Rattle.trace_check.specs.TraceLine.{IsLineOf, cores_of}
-use Rattle.trace_check.specs.Trace.{AreLines, lines_of, IsLastNamed, IsSoFar, Stands, MayBegin, IsReading}
+use Rattle.trace_check.specs.Trace.{AreLines, body_of, IsLastNamed, IsSoFar, HasRead, MayBegin, IsReading}
 use Rattle.trace_check.proofs.SeqLemmas.{slice_get-append, slice_get-last}
 
 -- the first entry at fault stays so, whatever comes behind it
@@ -116,7 +116,7 @@ pub stands-begin : (was now : Check) (init : List (WordAddr × ℕ)) (word : Wor
     → now.entries ≡ was.entries → now.fault ≡ was.fault
     → (All (λ pair. pair.0.0 < word.0) init → Knows was.judge (initially init) []
     → Knows now.judge (initially (init ++ (word, v) ∷ [])) [])
-    → Stands was init [] → Stands now (init ++ (word, v) ∷ []) []
+    → HasRead was init [] → HasRead now (init ++ (word, v) ∷ []) []
 stands-begin was now init word v may last entries fault named stands =
     let below = named_above was.last init word stands.last stands.ascending may.above in
     record {
@@ -146,15 +146,15 @@ no_entries (e ∷ entries) n count none = absurd (omega arith)
 pub reading-begin : (was now : Check) (all left : List (ℕ × List (List ℕ))) (s : ℕ × List (List ℕ)) (word : WordAddr)
     (v : ℕ)
     → now.version ≡ was.version → MayBegin was word → IsLineOf was.version s.1 (trace_lines.Init word v)
-    → ((init : List (WordAddr × ℕ)) → Stands was init [] → Stands now (init ++ (word, v) ∷ []) [])
+    → ((init : List (WordAddr × ℕ)) → HasRead was init [] → HasRead now (init ++ (word, v) ∷ []) [])
     → IsReading was all (s ∷ left) → IsReading now all left
 reading-begin was now all left s word v same may line stands reading =
     let none : reading.entries ≡ [] = no_entries reading.entries was.entries reading.stands.count may.early in
-    let written : AreLines was.version reading.done (lines_of reading.init []) = rw none at reading.written in
+    let written : AreLines was.version reading.done (body_of reading.init []) = rw none at reading.written in
     let more =
-    AreLines-push was.version reading.done (lines_of reading.init []) s (trace_lines.Init word v) written line in
-    let shape : lines_of reading.init [] ++ trace_lines.Init word v ∷ []
-    ≡ lines_of (reading.init ++ (word, v) ∷ []) [] =
+    AreLines-push was.version reading.done (body_of reading.init []) s (trace_lines.Init word v) written line in
+    let shape : body_of reading.init [] ++ trace_lines.Init word v ∷ []
+    ≡ body_of (reading.init ++ (word, v) ∷ []) [] =
     simp (append-nil, map-append) in
     record {
       init = reading.init ++ (word, v) ∷ [];
@@ -168,15 +168,15 @@ reading-begin was now all left s word v same may line stands reading =
 -- an entry was read
 pub reading-judge : (was now : Check) (all left : List (ℕ × List (List ℕ))) (s : ℕ × List (List ℕ)) (e : Entry)
     → now.version ≡ was.version → IsLineOf was.version s.1 (trace_lines.Entry e)
-    → ((init : List (WordAddr × ℕ)) (entries : List Entry) → Stands was init entries
-    → Stands now init (entries ++ e ∷ []))
+    → ((init : List (WordAddr × ℕ)) (entries : List Entry) → HasRead was init entries
+    → HasRead now init (entries ++ e ∷ []))
     → IsReading was all (s ∷ left) → IsReading now all left
 reading-judge was now all left s e same line stands reading =
     let more =
-    AreLines-push was.version reading.done (lines_of reading.init reading.entries) s
+    AreLines-push was.version reading.done (body_of reading.init reading.entries) s
     (trace_lines.Entry e) reading.written line in
-    let shape : lines_of reading.init reading.entries ++ trace_lines.Entry e ∷ []
-    ≡ lines_of reading.init (reading.entries ++ e ∷ []) =
+    let shape : body_of reading.init reading.entries ++ trace_lines.Entry e ∷ []
+    ≡ body_of reading.init (reading.entries ++ e ∷ []) =
     simp (map-append, append_assoc) in
     record {
       init = reading.init;
@@ -188,7 +188,7 @@ reading-judge was now all left s e same line stands reading =
     }
 
 -- nothing was read yet
-pub reading-none : (check : Check) (all : List (ℕ × List (List ℕ))) → Stands check [] [] → IsReading check all all
+pub reading-none : (check : Check) (all : List (ℕ × List (List ℕ))) → HasRead check [] [] → IsReading check all all
 unfolding AreLines
 reading-none check all stands =
     record { init = []; entries = []; done = []; split = refl; written = tt; stands = stands }

@@ -16,7 +16,7 @@ use Rattle.trace_check.specs.declared.trace_line.Version.TheVariants as versions
 use Rattle.trace_check.specs.declared.trace_line.TraceLine.{TraceLine}
 use Rattle.trace_check.specs.declared.trace_line.TraceLine.TheVariants as trace_lines
 use Rattle.trace_check.specs.TraceLine.{completed, parts_of_line, parts_of_first}
-use Rattle.trace_check.specs.Trace.{AreLines, lines_of, IsJudged}
+use Rattle.trace_check.specs.Trace.{AreLines, body_of, IsJudged}
 use Rattle.trace_check.proofs.FormLemmas.{two_names}
 use Rattle.trace_check.proofs.ExactLemmas.{one_verdict}
 
@@ -204,7 +204,7 @@ pub not_both : (word : WordAddr) (value : ℕ) (e : Entry) → trace_lines.Init 
 not_both word value e h = cc
 
 -- lines are those of one list of initial values and one of entries
-pub same_trace : (i j : List (WordAddr × ℕ)) (a b : List Entry) → lines_of i a ≡ lines_of j b → (i ≡ j) × (a ≡ b)
+pub same_trace : (i j : List (WordAddr × ℕ)) (a b : List Entry) → body_of i a ≡ body_of j b → (i ≡ j) × (a ≡ b)
 same_trace [] [] a b h = (refl, same_entries a b h)
 same_trace [] (q ∷ j) [] b h = cc
 same_trace [] (q ∷ j) (e ∷ a) b h = absurd (not_both q.0 q.1 e (cc))
@@ -229,11 +229,11 @@ one_judgement text a b h k =
     let version : h.version ≡ k.version =
     one_version k.trace.first h.version k.version
     (subst (λ ws. Writes ws (parts_of_first h.version)) first h.trace.begins) k.trace.begins in
-    let written : AreLines k.version k.trace.rest (lines_of h.init h.entries) =
-    subst (λ ss. AreLines k.version ss (lines_of h.init h.entries)) rest
-    (subst (λ v. AreLines v h.trace.rest (lines_of h.init h.entries)) version h.trace.goes_on.written) in
-    let lines = same_lines k.version k.trace.rest (lines_of h.init h.entries)
-    (lines_of k.init k.entries) written k.trace.goes_on.written in
+    let written : AreLines k.version k.trace.rest (body_of h.init h.entries) =
+    subst (λ ss. AreLines k.version ss (body_of h.init h.entries)) rest
+    (subst (λ v. AreLines v h.trace.rest (body_of h.init h.entries)) version h.trace.goes_on.written) in
+    let lines = same_lines k.version k.trace.rest (body_of h.init h.entries)
+    (body_of k.init k.entries) written k.trace.goes_on.written in
     let trace = same_trace h.init k.init h.entries k.entries lines in
     one_verdict (initially k.init) k.entries a b
     (subst (λ es. IsVerdict (initially k.init) es a) trace.1

@@ -17,7 +17,7 @@ use Rattle.trace_check.specs.declared.trace_line.Version.{Version}
 use Rattle.trace_check.specs.declared.trace_line.TraceLine.{TraceLine}
 use Rattle.trace_check.specs.declared.trace_line.TraceLine.TheVariants as trace_lines
 use Rattle.trace_check.specs.TraceLine.{IsLineOf, parts_of_first, parts_of_line}
-use Rattle.trace_check.specs.Trace.{AreLines, IsFaultAt, lines_of, AreTrace, AreNoTrace, AreSomeTrace, IsNoTrace, IsLastNamed, IsNoMemoryOr, IsNoNextLine, IsReading, MayBegin, MayFollow, Stands}
+use Rattle.trace_check.specs.Trace.{AreLines, IsFaultAt, body_of, AreTrace, AreNoTrace, AreSomeTrace, IsNoTrace, IsLastNamed, IsNoMemoryOr, IsNoNextLine, IsReading, MayBegin, MayFollow, HasRead}
 use Rattle.trace_check.proofs.ReadingLemmas.{one_version, one_line, same_lines, not_both}
 
 -- the word and the value that a line names, where it names them
@@ -78,7 +78,7 @@ named_entries [] = refl
 named_entries (e ∷ entries) = ap (λ xs. None ∷ xs) (named_entries entries)
 
 named_lines : (init : List (WordAddr × ℕ)) (entries : List Entry)
-    → map named (lines_of init entries) ≡ map some init ++ map nothing entries
+    → map named (body_of init entries) ≡ map some init ++ map nothing entries
 named_lines [] entries = named_entries entries
 named_lines (p ∷ init) entries = ap (λ xs. Some p ∷ xs) (named_lines init entries)
 
@@ -133,13 +133,13 @@ last_below (Some l) init more p is ascending =
 -- the line of a trace behind those that were read may come next
 may_follow : (check : Check) (init all : List (WordAddr × ℕ)) (entries more : List Entry)
     (before after : List TraceLine) (line : TraceLine)
-    → Stands check init entries → IsAscendingBy (λ pair. pair.0.0) all
-    → map named before ≡ map named (lines_of init entries)
-    → lines_of all more ≡ before ++ line ∷ after → MayFollow check line
+    → HasRead check init entries → IsAscendingBy (λ pair. pair.0.0) all
+    → map named before ≡ map named (body_of init entries)
+    → body_of all more ≡ before ++ line ∷ after → MayFollow check line
 unfolding MayFollow
 may_follow check init all entries more before after (trace_lines.Entry e) stands ascending same shape = tt
 may_follow check init all entries more before after (trace_lines.Init word value) stands ascending same shape =
-    let names : map named (lines_of all more) ≡ map named before ++ Some (word, value) ∷ map named after =
+    let names : map named (body_of all more) ≡ map named before ++ Some (word, value) ∷ map named after =
     ap (map named) shape ∙ map-append named before (trace_lines.Init word value ∷ after) in
     let next = next_named init all entries more (word, value) (map named after)
     (sym (named_lines all more) ∙ names
@@ -158,12 +158,12 @@ no_trace check version all left s same reading none some =
     let init = some.0 in
     let entries = some.1.0 in
     let trace = some.1.1 in
-    let written : AreLines check.version (reading.done ++ s ∷ left) (lines_of init entries) =
+    let written : AreLines check.version (reading.done ++ s ∷ left) (body_of init entries) =
     rw (same, reading.split) trace.written in
-    let parts = parts_of check.version reading.done left s (lines_of init entries) written in
+    let parts = parts_of check.version reading.done left s (body_of init entries) written in
     let names = ap (map named)
     (same_lines check.version reading.done parts.before
-    (lines_of reading.init reading.entries) parts.first reading.written) in
+    (body_of reading.init reading.entries) parts.first reading.written) in
     none parts.line parts.next
     (may_follow check reading.init init reading.entries entries parts.before parts.after parts.line reading.stands
     trace.ascending names parts.shape)

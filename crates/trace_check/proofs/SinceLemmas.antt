@@ -9,7 +9,7 @@ use Rattle.litmus_text.specs.Form.{Part, key, num, Writes}
 use Rattle.litmus_text.specs.Command.{parts_of_op}
 use Rattle.slice_core_log.specs.declared.entry.Entry.{Entry}
 use Rattle.trace_check.specs.TraceLine.{IsLineOf, completed, parts_of_line}
-use Rattle.trace_check.specs.Trace.{AreLines, lines_of}
+use Rattle.trace_check.specs.Trace.{AreLines, body_of}
 use Rattle.trace_check.specs.Verdict.{IsVerdict, IsWrong}
 use Rattle.trace_check.specs.declared.trace_line.Version.TheVariants as versions
 use Rattle.trace_check.specs.declared.trace_line.TraceLine.TheVariants as trace_lines
@@ -55,7 +55,7 @@ bare_entries (s ∷ statements) (e ∷ entries) written zero d within = bare_lin
 bare_entries (s ∷ statements) (e ∷ entries) written (suc k) d within = bare_entries statements entries written.1 k d (omega arith)
 
 bare_trace : (statements : List (ℕ × List (List ℕ))) (init : List (WordAddr × ℕ)) (entries : List Entry)
-    → AreLines versions.WithoutSince statements (lines_of init entries) → (k : ℕ) (d : Entry) → k < length entries → (get_or entries k d).since ≡ 0
+    → AreLines versions.WithoutSince statements (body_of init entries) → (k : ℕ) (d : Entry) → k < length entries → (get_or entries k d).since ≡ 0
 unfolding AreLines
 bare_trace statements [] entries written k d within = bare_entries statements entries written k d within
 bare_trace [] (pair ∷ init) entries written k d within = absurd written
@@ -63,7 +63,7 @@ bare_trace (s ∷ statements) (pair ∷ init) entries written k d within = bare_
 
 -- none of its entries is wrong by how long the log was
 pub none_by_since : (statements : List (ℕ × List (List ℕ))) (init : List (WordAddr × ℕ)) (entries : List Entry) (initial : ℕ → ℕ) (k : ℕ)
-    → AreLines versions.WithoutSince statements (lines_of init entries) → IsVerdict initial entries (verdicts.Illegal k reasons.Since) → ⊥
+    → AreLines versions.WithoutSince statements (body_of init entries) → IsVerdict initial entries (verdicts.Illegal k reasons.Since) → ⊥
 unfolding IsVerdict IsWrong
 none_by_since statements init entries initial k written is =
     let e : Entry = is.2.0 in

@@ -31,13 +31,13 @@ AreLines version (statement ∷ statements) (line ∷ lines) =
     IsLineOf version statement.1 line × AreLines version statements lines
 
 -- the lines of a trace behind the first: what words begin with, and then the entries
-abbrev pub lines_of : List (WordAddr × ℕ) → List Entry → List TraceLine
-lines_of init entries = map (λ pair. trace_lines.Init pair.0 pair.1) init ++ map trace_lines.Entry entries
+abbrev pub body_of : List (WordAddr × ℕ) → List Entry → List TraceLine
+body_of init entries = map (λ pair. trace_lines.Init pair.0 pair.1) init ++ map trace_lines.Entry entries
 
 -- the statements are such lines, and the words that begin with a value ascend
 pub record AreTrace (version : Version) (init : List (WordAddr × ℕ)) (entries : List Entry)
     (statements : List (ℕ × List (List ℕ))) : Type 0 where
-  pub written : AreLines version statements (lines_of init entries)
+  pub written : AreLines version statements (body_of init entries)
   pub ascending : IsAscendingBy (λ pair. pair.0.0) init
 
 -- the text is a trace with these initial values and entries: its first line, and the others
@@ -98,7 +98,7 @@ IsSoFar judge initial entries None = Knows judge initial entries
 IsSoFar judge initial entries (Some fault) = IsVerdict initial entries (verdicts.Illegal fault.0 fault.1)
 
 -- what is kept of the initial values and the entries that were read
-pub record Stands (check : Check) (init : List (WordAddr × ℕ)) (entries : List Entry) : Type 0 where
+pub record HasRead (check : Check) (init : List (WordAddr × ℕ)) (entries : List Entry) : Type 0 where
   pub ascending : IsAscendingBy (λ pair. pair.0.0) init
   pub last : IsLastNamed check.last init
   pub count : check.entries ≡ length entries
@@ -124,8 +124,8 @@ pub record IsReading (check : Check) (all left : List (ℕ × List (List ℕ))) 
   pub entries : List Entry
   pub done : List (ℕ × List (List ℕ))
   pub split : done ++ left ≡ all
-  pub written : AreLines check.version done (lines_of init entries)
-  pub stands : Stands check init entries
+  pub written : AreLines check.version done (body_of init entries)
+  pub stands : HasRead check init entries
 
 -- statements of a trace whose entries come to this
 pub record AreJudged (version : Version) (statements : List (ℕ × List (List ℕ))) (verdict : Verdict) : Type 0 where

@@ -13,7 +13,7 @@ ghost use Rattle.trace_check.specs.Verdict.{IsVerdict};
 ghost use Rattle.trace_check.specs.declared.trace_line.Version.TheVariants as versions;
 ghost use Rattle.trace_check.specs.declared.verdict.Reason.TheVariants as reasons;
 ghost use Rattle.trace_check.specs.declared.verdict.Verdict.TheVariants as verdicts;
-ghost use Rattle.trace_check.specs.Trace.{IsJudged, IsTrace, AreJudged, IsFaultAt, IsNoTrace, AreNoTrace, AreSomeTrace, IsNoMemoryOr, IsNoNextLine, IsReading, IsSoFar, Stands, MayBegin, MayFollow};
+ghost use Rattle.trace_check.specs.Trace.{IsJudged, IsTrace, AreJudged, IsFaultAt, IsNoTrace, AreNoTrace, AreSomeTrace, IsNoMemoryOr, IsNoNextLine, IsReading, IsSoFar, HasRead, MayBegin, MayFollow};
 
 use super::judge::Judge;
 use super::trace_line::{TraceLine, Version};
@@ -85,7 +85,7 @@ fn check_lines(
 
 impl Check {
     fn new(alloc: Global, version: Version) -> Self
-        ensures stands { Stands result [] [] }
+        ensures stands { HasRead result [] [] }
         ensures version { result.version ≡ version }
     {
         Check {
@@ -149,7 +149,7 @@ impl Check {
         requires word { word.0 < MOST_WORDS }
         requires place { MayBegin self.old word }
         ensures stands { OnOk result
-            ((init : List (WordAddr × ℕ)) → Stands self.old init [] → Stands self.new (init ++ (word, value) ∷ []) []) }
+            ((init : List (WordAddr × ℕ)) → HasRead self.old init [] → HasRead self.new (init ++ (word, value) ∷ []) []) }
         ensures refused { IfErr result (λ fault. fault ≡ TextFault.NoMemory) }
         ensures version { self.new.version ≡ self.old.version }
     {
@@ -163,8 +163,8 @@ impl Check {
     fn judge(&mut self, entry: &Entry) -> Result<(), TextFault>
         requires { IsNameable entry.now }
         ensures stands { OnOk result
-            ((init : List (WordAddr × ℕ)) (entries : List Entry) → Stands self.old init entries
-            → Stands self.new init (entries ++ entry.now ∷ [])) }
+            ((init : List (WordAddr × ℕ)) (entries : List Entry) → HasRead self.old init entries
+            → HasRead self.new init (entries ++ entry.now ∷ [])) }
         ensures refused { IfErr result (λ fault. fault ≡ TextFault.NoMemory) }
         ensures version { self.new.version ≡ self.old.version }
     {
@@ -203,7 +203,7 @@ impl Check {
     }
 
     fn verdict(&self) -> Verdict
-        ensures { (init : List (WordAddr × ℕ)) (entries : List Entry) → Stands self.now init entries
+        ensures { (init : List (WordAddr × ℕ)) (entries : List Entry) → HasRead self.now init entries
             → IsVerdict (initially init) entries result }
     {
         match self.fault {

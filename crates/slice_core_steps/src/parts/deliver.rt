@@ -9,7 +9,10 @@ ghost use Rattle.slice_core_plan.specs.Sends.{cache_room, directory_room, direct
 ghost use Rattle.slice_core_plan.specs.Steps.{after_directory, after_forwarded, after_home, asked_by, block_in};
 ghost use Rattle.slice_core_plan.specs.View.{channels_at, side_at, IsShaped};
 ghost use Rattle.slice_core_plan.specs.Within.{IsPlanned, HasCopy, StandsAt, is_shared};
+ghost use Rattle.slice_queues.specs.Lending.{with_lent};
 ghost use Rattle.slice_queues.specs.Line.{after_take, core_at};
+ghost use Rattle.slice_queues.specs.Ring.{is_listed};
+ghost use Rattle.slice_queues.specs.Slice.{at_local};
 ghost use Rattle.slice_queues_message.specs.declared.channel.Channel.TheVariants as channels;
 
 use super::Parts;
@@ -21,7 +24,7 @@ use slice_core_answer::Delivered;
 use slice_core_log::Entry;
 use slice_core_plan::{Plan, send_from_core, send_from_directory};
 use slice_core_side::Side;
-use slice_queues::{Channel, DataMessage, LineQueues, Pick, RequestMessage};
+use slice_queues::{Channel, DataMessage, Message, Pick, Queues, RequestMessage};
 
 impl<F: MissFile> Parts<F> {
     /// Takes the front message of a channel and does its row, where the table has one.
@@ -112,11 +115,11 @@ impl<F: MissFile> Parts<F> {
     {
         self.stats.count_message(Channel::Req(core));
         let entry = &mut self.entries[local.0];
-        let line = self.queues.line_mut(local);
         entry.state = state;
         entry.owner = owner;
         entry.sharers = sharers;
-        serve_request(line, &mut entry.home, core, sends, writes_home);
+        let home = &mut entry.home;
+        serve_request(&mut self.queues, local, home, core, sends, writes_home);
     }
 
     // The directory takes the block that comes home.
@@ -128,14 +131,13 @@ impl<F: MissFile> Parts<F> {
     {
         self.stats.count_message(Channel::Home);
         let entry = &mut self.entries[local.0];
-        let line = self.queues.line_mut(local);
-        if let Some(block) = line.front_home() {
+        if let Some(block) = self.queues.line(local).front_home() {
             entry.home = *block;
         }
         entry.state = state;
         entry.owner = owner;
         entry.sharers = sharers;
-        line.drop_home();
+        self.queues.drop_at(local, Channel::Home);
     }
 
     // A core takes a forwarded message, and does its row for the requester.
@@ -157,9 +159,9 @@ impl<F: MissFile> Parts<F> {
     {
         self.stats.count_message(Channel::Fwd(core));
         let side = &mut self.sides[core.0 as usize];
-        let line = self.queues.line_mut(local);
-        let _ = line.take_forwarded(core);
-        send_from_core(line, core, requester, side.block(local), sends);
+        let queues = &mut self.queues;
+        queues.drop_at(local, Channel::Fwd(core));
+        send_from_core(queues, local, core, requester, side.block(local), sends);
         side.advance(local, next);
     }
 
@@ -178,16 +180,16 @@ impl<F: MissFile> Parts<F> {
     {
         self.stats.count_message(Channel::Data(core));
         let side = &mut self.sides[core.0 as usize];
-        let line = self.queues.line_mut(local);
-        match line.front_data(core) {
+        let queues = &mut self.queues;
+        match queues.line(local).front_data(core) {
             Some(message) => fill_copy(side, local, place, message, next),
             None => unreachable!(),
         }
-        line.drop_data(core);
+        queues.drop_at(local, Channel::Data(core));
         let first = self.lines.word_at(local, Offset(0)).0;
         let log = &mut self.log;
         let asks = settle_copy(side, log, &mut self.pending, core, local, place, first);
-        ask_to_write(line, core, asks);
+        ask_to_write(queues, local, core, asks);
     }
 
     // A core counts an acknowledgement. What its copy then allows is performed.
@@ -204,7 +206,7 @@ impl<F: MissFile> Parts<F> {
         self.stats.count_message(Channel::Ack { to, from });
         let side = &mut self.sides[to.0 as usize];
         side.acknowledge(local, place, next);
-        let _ = self.queues.line_mut(local).take_ack(to, from);
+        self.queues.drop_at(local, Channel::Ack { to, from });
         let first = self.lines.word_at(local, Offset(0)).0;
         let log = &mut self.log;
         let _ = settle_copy(side, log, &mut self.pending, to, local, place, first);
@@ -214,28 +216,32 @@ impl<F: MissFile> Parts<F> {
 // The directory takes a core's request. Its block becomes the home copy where the row writes that; what is sent carries
 // the home copy as it was.
 fn serve_request(
-    line: &mut LineQueues,
+    queues: &mut Queues,
+    local: Local,
     home: &mut Block,
     core: CoreId,
     sends: DirSends,
     writes_home: bool,
 )
-    requires core { core.0 < length line.old.cores }
-    requires room { directory_room line.old core sends ≡ true }
-    ensures line { line.new ≡ directory_sent (after_take line.old (channels.Req core)) core home.old sends }
-    ensures home { home.new ≡ (if writes_home then block_in home.old (core_at line.old core.0).request else home.old) }
+    requires line { local.0 < length queues.old.channels.lines }
+    requires core { core.0 < length (at_local queues.old.channels local.0).cores }
+    requires room { directory_room (at_local queues.old.channels local.0) core sends ≡ true }
+    ensures line { queues.new ≡ with_lent queues.old local
+        (directory_sent (after_take (at_local queues.old.channels local.0) (channels.Req core)) core home.old sends) }
+    ensures home { home.new ≡ (if writes_home then
+        block_in home.old (core_at (at_local queues.old.channels local.0) core.0).request else home.old) }
 {
     if !writes_home {
-        line.drop_request(core);
-        send_from_directory(line, core, home, sends);
+        queues.drop_at(local, Channel::Req(core));
+        send_from_directory(queues, local, core, home, sends);
         return;
     }
     let before = *home;
-    if let Some(RequestMessage::PutM(block)) = line.front_request(core) {
+    if let Some(RequestMessage::PutM(block)) = queues.line(local).front_request(core) {
         *home = *block;
     }
-    line.drop_request(core);
-    send_from_directory(line, core, &before, sends);
+    queues.drop_at(local, Channel::Req(core));
+    send_from_directory(queues, local, core, &before, sends);
 }
 
 // The copy gets the data that came, and goes to the next state.
@@ -289,12 +295,15 @@ fn settle_copy<F: MissFile>(
 }
 
 // The core asks for the right to write, where a write is left.
-fn ask_to_write(line: &mut LineQueues, core: CoreId, asks: bool)
-    requires core { core.0 < length line.old.cores }
-    requires idle { asks ≡ true → (core_at line.old core.0).request ≡ None }
-    ensures { line.new ≡ asked_by asks line.old core }
+fn ask_to_write(queues: &mut Queues, local: Local, core: CoreId, asks: bool)
+    requires line { local.0 < length queues.old.channels.lines }
+    requires core { core.0 < length (at_local queues.old.channels local.0).cores }
+    requires idle { asks ≡ true → (core_at (at_local queues.old.channels local.0) core.0).request ≡ None }
+    requires listed { is_listed queues.old.ring local.0 ≡ true }
+    ensures { queues.new ≡ with_lent queues.old local (asked_by asks (at_local queues.old.channels local.0) core) }
 {
     if asks {
-        line.send_request(core, RequestMessage::GetM);
+        let message = Message::Request(RequestMessage::GetM);
+        queues.send_at(local, Channel::Req(core), message);
     }
 }

@@ -11,6 +11,7 @@ use super::Parts;
 use address_map::{CoreId, LineAddr, Local};
 use mshr_file::MissFile;
 use slice_core_answer::Evicted;
+use slice_queues_message::{Channel, Message};
 
 impl<F: MissFile> Parts<F> {
     /// Moves the core's copy of a line to its write-back buffer and tells the directory, or says why not.
@@ -45,6 +46,7 @@ impl<F: MissFile> Parts<F> {
     {
         self.stats.count_eviction(core);
         let put = self.sides[core.0 as usize].evict(local);
-        self.queues.line_mut(local).send_request(core, put);
+        let channel = Channel::Req(core);
+        self.queues.send_at(local, channel, Message::Request(put));
     }
 }

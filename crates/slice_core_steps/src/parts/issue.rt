@@ -19,7 +19,7 @@ use slice_core_answer::{Issue, Refused};
 use slice_core_log::Entry;
 use slice_core_plan::{Decision, overwrites};
 use slice_core_side::{Access, Ask, TagState, Way};
-use slice_queues_message::RequestMessage;
+use slice_queues_message::{Channel, Message, RequestMessage};
 
 impl<F: MissFile> Parts<F> {
     /// Accepts a request, or says why not. The log grows before anything changes, so that nothing later takes memory.
@@ -57,7 +57,7 @@ impl<F: MissFile> Parts<F> {
             return Decision::Refuse(Refused::TagRange);
         }
         let side = &self.sides[core.0 as usize];
-        if side.tag(request.tag) != TagState::Free {
+        if !matches!(side.tag(request.tag), TagState::Free) {
             return Decision::Refuse(Refused::TagBusy);
         }
         if overwrites(request.op) && self.counters.contains(&request.word) {
@@ -227,7 +227,8 @@ impl<F: MissFile> Parts<F> {
         self.stats.count_eviction(core);
         let side = &mut self.sides[core.0 as usize];
         let (victim, put) = side.replace(local);
-        self.queues.line_mut(victim).send_request(core, put);
+        let channel = Channel::Req(core);
+        self.queues.send_at(victim, channel, Message::Request(put));
     }
 
     // Opens a miss register for the access, whose copy stands in the array (`held`) or has a way, and asks the
@@ -274,7 +275,9 @@ impl<F: MissFile> Parts<F> {
             Ask::GetS => RequestMessage::GetS,
             Ask::GetM => RequestMessage::GetM,
         };
-        self.queues.line_mut(local).send_request(core, message);
+        let channel = Channel::Req(core);
+        self.queues
+            .send_at(local, channel, Message::Request(message));
         let side = &mut self.sides[core.0 as usize];
         side.open(local, held, next, request.word.offset(), request, since)
     }

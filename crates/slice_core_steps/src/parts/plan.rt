@@ -61,7 +61,7 @@ impl<F: MissFile> Parts<F> {
         };
         let event = event_of_request(core, request);
         plan_row(
-            line,
+            &line,
             core,
             dir_row(self.exclusive, &self.entries[local.0], event),
         )
@@ -111,7 +111,7 @@ impl<F: MissFile> Parts<F> {
         match cache_row(look.state, event_of_forwarded(message)) {
             Row::NoEntry => Plan::Broken(Cell::Entry),
             Row::Blocked => Plan::Blocked,
-            Row::Go(_, sends) if !cache_room(line, core, requester, sends) => {
+            Row::Go(_, sends) if !cache_room(&line, core, requester, sends) => {
                 Plan::Broken(Cell::Full)
             }
             Row::Go(_, _) if is_put_ack(message) && line.front_request(core).is_some() => {
@@ -188,7 +188,7 @@ impl<F: MissFile> Parts<F> {
 }
 
 // What follows from the directory's row for a core's request.
-fn plan_row(line: &LineQueues, core: CoreId, row: DirRow) -> Plan
+fn plan_row(line: &LineQueues<'_>, core: CoreId, row: DirRow) -> Plan
     ensures { result ≡ by_directory_row line.now core row }
 {
     match row {

@@ -1,15 +1,26 @@
-use Rattle.litmus_text.proofs.CommandLemmas.{no_command, no_command_written}
+use Rattle.litmus_text.proofs.CommandLemmas.{unnamed_fault}
 use Rattle.litmus_text.proofs.parse.parse_command.Goals as goal
 
-pub returns-in-None-clause-refused : goal.returns-in-None-clause-refused
-returns-in-None-clause-refused c =
-    rw c.in-Some.ensures.cases.0 (λ command read. no_command_written _ _ c.in-None.ensures.none command read.written)
+pub returns-in_default-named-clause-fault : goal.returns-in_default-named-clause-fault
+returns-in_default-named-clause-fault c =
+    rw c.in-Some.ensures.cases.0 (unnamed_fault _ _ _ c.in_default-named.ensures.none)
 
-pub returns-in-None-clause-form : goal.returns-in-None-clause-form
-returns-in-None-clause-form c =
-    rw c.in-Some.ensures.cases.0 (λ command form. absurd (no_command _ _ c.in-None.ensures.none command form))
+pub returns-in-Stats-clause-fault : goal.returns-in-Stats-clause-fault
+returns-in-Stats-clause-fault c =
+    rw (c.in-Some.ensures.cases.0, c.in-Some-named.ensures.found, c.in-Stats.is)
+    (c.parse_stats.ensures c.args.config.now).fault
 
-pub returns-in-None-clause-range : goal.returns-in-None-clause-range
-returns-in-None-clause-range c =
-    rw c.in-Some.ensures.cases.0
-    (λ command written tag. absurd (no_command_written _ _ c.in-None.ensures.none command written))
+pub returns-in-Waiting-clause-fault : goal.returns-in-Waiting-clause-fault
+returns-in-Waiting-clause-fault c =
+    rw (c.in-Some.ensures.cases.0, c.in-Some-named.ensures.found, c.in-Waiting.is)
+    (c.parse_waiting.ensures c.args.config.now).fault
+
+pub returns-in-Show-clause-fault : goal.returns-in-Show-clause-fault
+returns-in-Show-clause-fault c =
+    rw (c.in-Some.ensures.cases.0, c.in-Some-named.ensures.found, c.in-Show.is)
+    (c.parse_show.ensures c.args.config.now).fault
+
+pub returns-in-Pump-clause-fault : goal.returns-in-Pump-clause-fault
+returns-in-Pump-clause-fault c =
+    rw (c.in-Some.ensures.cases.0, c.in-Some-named.ensures.found, c.in-Pump.is)
+    (c.parse_pump.ensures c.args.config.now).fault

@@ -15,5 +15,4 @@ returns-in-Ok-clause-reading c =
 pub returns-in-Err-clause-fault : goal.returns-in-Err-clause-fault
 returns-in-Err-clause-fault c = λ all left reading.
     rw c.at.ensures
-    (setting_fault all left _ _ _ _ reading c.requires (rw c.as_slice.ensures.value at c.in-Err.ensures.refused)
-    (rw c.as_slice.ensures.value at c.in-Err.ensures.form))
+    (setting_fault all left _ _ _ _ reading c.requires (rw c.as_slice.ensures.value at c.in-Err.ensures.fault))

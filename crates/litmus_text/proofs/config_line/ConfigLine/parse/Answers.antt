@@ -1,10 +1,58 @@
-use Rattle.litmus_text.proofs.FormLemmas.{no_field, no_field_written}
+use Rattle.litmus_text.proofs.ConfigLineLemmas.{count_fault, counter_fault, exclusive_fault, init_fault, misses_fault, nothing_fault, policy_fault, unnamed_fault}
+use Rattle.litmus_text.proofs.FaultLemmas.{handed_on}
+use Rattle.litmus_text.proofs.FormLemmas.{no_field_written, no_words}
 use Rattle.litmus_text.proofs.config_line.ConfigLine.parse.Goals as goal
+
+pub returns-in_default-clause-fault : goal.returns-in_default-clause-fault
+returns-in_default-clause-fault c =
+    rw (no_words (λ w. w.now) c.args.words.now c.in_default.ensures.cases) nothing_fault
 
 pub returns-in_default-named-clause-refused : goal.returns-in_default-named-clause-refused
 returns-in_default-named-clause-refused c =
     rw c.in-Some.ensures.cases.0 (no_field_written _ _ c.in_default-named.ensures.none)
 
-pub returns-in_default-named-clause-form : goal.returns-in_default-named-clause-form
-returns-in_default-named-clause-form c =
-    rw c.in-Some.ensures.cases.0 (λ line form. absurd (no_field _ _ c.in_default-named.ensures.none line form))
+pub returns-in_default-named-clause-fault : goal.returns-in_default-named-clause-fault
+returns-in_default-named-clause-fault c =
+    rw c.in-Some.ensures.cases.0 (unnamed_fault _ _ c.in_default-named.ensures.none)
+
+pub returns-in_err-one_number-in-Count-clause-fault : goal.returns-in_err-one_number-in-Count-clause-fault
+returns-in_err-one_number-in-Count-clause-fault c =
+    rw (c.in-Some.ensures.cases.0, c.in-Some-named.ensures.found, c.in-Count.is)
+    (handed_on _ _ c.from_residual.result
+    c.from_residual.ensures.1
+    (count_fault _ _ _ c.in_err-one_number-in-Count.ensures.fault))
+
+pub returns-in_err-parse_policy-in-Policy-clause-fault : goal.returns-in_err-parse_policy-in-Policy-clause-fault
+returns-in_err-parse_policy-in-Policy-clause-fault c =
+    rw (c.in-Some.ensures.cases.0, c.in-Some-named.ensures.found, c.in-Policy.is)
+    (handed_on _ _ c.from_residual-in_err-parse_policy-in-Policy.result
+    c.from_residual-in_err-parse_policy-in-Policy.ensures.1
+    (policy_fault _ _ c.in_err-parse_policy-in-Policy.ensures.fault))
+
+pub returns-in_err-misses-in-Misses-clause-fault : goal.returns-in_err-misses-in-Misses-clause-fault
+returns-in_err-misses-in-Misses-clause-fault c =
+    rw (c.in-Some.ensures.cases.0, c.in-Some-named.ensures.found, c.in-Misses.is)
+    (handed_on _ _ c.from_residual-in_err-misses-in-Misses.result
+    c.from_residual-in_err-misses-in-Misses.ensures.1
+    (misses_fault _ _ c.in_err-misses-in-Misses.ensures.fault))
+
+pub returns-in_err-setting-in-Exclusive-clause-fault : goal.returns-in_err-setting-in-Exclusive-clause-fault
+returns-in_err-setting-in-Exclusive-clause-fault c =
+    rw (c.in-Some.ensures.cases.0, c.in-Some-named.ensures.found, c.in-Exclusive.is)
+    (handed_on _ _ c.from_residual-in_err-setting-in-Exclusive.result
+    c.from_residual-in_err-setting-in-Exclusive.ensures.1
+    (exclusive_fault _ _ c.in_err-setting-in-Exclusive.ensures.fault))
+
+pub returns-in_err-word-in-Init-clause-fault : goal.returns-in_err-word-in-Init-clause-fault
+returns-in_err-word-in-Init-clause-fault c =
+    rw (c.in-Some.ensures.cases.0, c.in-Some-named.ensures.found, c.in-Init.is)
+    (handed_on _ _ c.from_residual-in_err-word-in-Init.result
+    c.from_residual-in_err-word-in-Init.ensures.1
+    (init_fault _ _ c.in_err-word-in-Init.ensures.fault))
+
+pub returns-in_err-one_number-in-Counter-clause-fault : goal.returns-in_err-one_number-in-Counter-clause-fault
+returns-in_err-one_number-in-Counter-clause-fault c =
+    rw (c.in-Some.ensures.cases.0, c.in-Some-named.ensures.found, c.in-Counter.is)
+    (handed_on _ _ c.from_residual-in_err-one_number-in-Counter.result
+    c.from_residual-in_err-one_number-in-Counter.ensures.1
+    (counter_fault _ _ c.in_err-one_number-in-Counter.ensures.fault))

@@ -1,6 +1,7 @@
-use Rattle.std.proofs.Common.{◌≡◌, ◌∙◌, false, ap, sym, subst, rules, length}
+use Rattle.std.proofs.Common.{◌≡◌, ◌∙◌, false, ap, sym, subst, refl, rules, length}
+use Rattle.std.proofs.Math.ListN.{set}
 use Rattle.mshr_file.specs.Miss.{targets_of}
-use Rattle.slice_core_plan.specs.View.{side_at}
+use Rattle.slice_core_plan.specs.View.{channels_at, side_at}
 use Rattle.slice_core_side.specs.Perform.{asks_to_write}
 use Rattle.slice_core_side.specs.Side.{SideView, array_copy}
 use Rattle.slice_core_side.specs.Steps.{acknowledged, after_change, after_settle}
@@ -8,6 +9,8 @@ use Rattle.slice_core_steps.proofs.ChangedLaws.{changed_copy, changed_stands}
 use Rattle.slice_core_steps.proofs.SettledLaws.{asks-unshared, settles}
 use Rattle.slice_core_steps.proofs.StandsLaws.{read_side}
 use Rattle.slice_core_steps.proofs.parts.Parts.acknowledge.Goals as goal
+use Rattle.slice_queues.specs.Line.{LineChannels, after_take}
+use Rattle.slice_queues.specs.Ring.{with_listed}
 use Rattle.slice_queues_message.specs.declared.channel.Channel.TheVariants as channels
 
 pub settle_copy-requires-clause-held : goal.settle_copy-requires-clause-held
@@ -38,9 +41,15 @@ returns g c =
     let after : c.settle_copy.new.side
     ≡ after_settle c.acknowledge.new.self local (length v.log) c.settle_copy.new.side.misses =
     search rules in
+    let take : LineChannels → LineChannels = λ line. after_take line (channels.Ack core c.args.from) in
+    let lines : c.drop_at.new.self.channels.lines ≡ set v.channels local.0 (take (channels_at v local)) =
+    ap (λ k. k.channels.lines) c.drop_at.ensures
+    ∙ ap (λ p. set p.view.channels local.0 (take (channels_at p.view local))) c.self.view_is in
+    let ring : c.drop_at.new.self.ring ≡ with_listed c.args.self.now.ring local.0 =
+    ap (λ k. k.ring) c.drop_at.ensures ∙ ap (λ p. with_listed p.ring local.0) c.self.view_is in
     settles c.args.self.now _ local core
     (channels.Ack core c.args.from) c.args.place _ c.acknowledge.new.self c.settle_copy.new.side
-    false c.take_ack.new.self c.settle_copy.new.log.items c.count_message.new.self
+    false (after_take (channels_at v local) (channels.Ack core c.args.from)) c.settle_copy.new.log.items c.count_message.new.self
     c.settle_copy.new.pending c.requires.stands is (sym none)
     c.settle_copy.ensures.taken c.settle_copy.ensures.sound after
-    (search rules) (search rules) (search rules) (search rules) (search rules)
+    (search rules) (search rules) refl (search rules) (search rules)

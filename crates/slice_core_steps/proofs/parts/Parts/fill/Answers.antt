@@ -1,5 +1,7 @@
-use Rattle.std.proofs.Common.{◌≡◌, ◌∙◌, ap, subst, rules, length, Option, Some}
+use Rattle.std.proofs.Common.{◌≡◌, ◌<◌, ◌∙◌, ap, subst, refl, rules, length, Option, Some}
+use Rattle.std.proofs.Math.ListN.{set}
 use Rattle.slice_core_plan.specs.Parts.{filled_by}
+use Rattle.slice_core_plan.specs.Steps.{asked_by}
 use Rattle.slice_core_plan.specs.View.{channels_at, side_at}
 use Rattle.slice_core_side.specs.Side.{SideView, array_copy}
 use Rattle.slice_core_side.specs.Steps.{after_change, after_settle}
@@ -7,7 +9,9 @@ use Rattle.slice_core_steps.proofs.ChangedLaws.{changed_stands}
 use Rattle.slice_core_steps.proofs.SettledLaws.{settles}
 use Rattle.slice_core_steps.proofs.StandsLaws.{read_side}
 use Rattle.slice_core_steps.proofs.parts.Parts.fill.Goals as goal
-use Rattle.slice_queues.specs.Line.{core_at}
+use Rattle.slice_queues.proofs.LentLaws.{lent_again}
+use Rattle.slice_queues.specs.Line.{LineChannels, after_take, core_at}
+use Rattle.slice_queues.specs.Ring.{with_listed}
 use Rattle.slice_queues_message.specs.declared.channel.Channel.TheVariants as channels
 use Rattle.slice_queues_message.specs.declared.message.DataMessage.{DataMessage}
 
@@ -25,7 +29,18 @@ returns g c =
     let core = c.args.core in
     let side : c.index_mut-side.result.now ≡ side_at v core =
     read_side _ _ _ _ c.index_mut-side.ensures.value (ap (λ p. p.view.sides) c.self.view_is) c.requires.core in
-    let line : c.line_mut-line.result.now ≡ channels_at v local = search rules in
+    let q = c.self.inside.queues in
+    let there : local.0 < length q.channels.lines = search rules in
+    let asked : LineChannels → LineChannels = λ line.
+    asked_by c.settle_copy-asks.result (after_take line (channels.Data core)) core in
+    let queues = c.ask_to_write.ensures
+    ∙ lent_again q c.drop_at.new.self local _
+    (λ line. asked_by c.settle_copy-asks.result line core) there c.drop_at.ensures in
+    let lines : c.ask_to_write.new.queues.channels.lines ≡ set v.channels local.0 (asked (channels_at v local)) =
+    ap (λ k. k.channels.lines) queues
+    ∙ ap (λ p. set p.view.channels local.0 (asked (channels_at p.view local))) c.self.view_is in
+    let ring : c.ask_to_write.new.queues.ring ≡ with_listed c.args.self.now.ring local.0 =
+    ap (λ k. k.ring) queues ∙ ap (λ p. with_listed p.ring local.0) c.self.view_is in
     let message : Some c.in-Some.message.now ≡ (core_at (channels_at v local) core.0).data = search rules in
     let is = subst
     (λ (s : SideView). c.fill_copy.new.side
@@ -41,7 +56,7 @@ returns g c =
     let logged = c.settle_copy-asks.ensures.log in
     settles c.args.self.now _ local core
     (channels.Data core) c.args.place _ c.fill_copy.new.side c.settle_copy-asks.new.side
-    c.settle_copy-asks.result c.ask_to_write.new.line c.settle_copy-asks.new.log.items c.count_message.new.self
+    c.settle_copy-asks.result (asked (channels_at v local)) c.settle_copy-asks.new.log.items c.count_message.new.self
     c.settle_copy-asks.new.pending c.requires.stands (is ∙ ap copy message) c.settle_copy-asks.ensures.asks
     c.settle_copy-asks.ensures.taken c.settle_copy-asks.ensures.sound after
-    (search rules) (search rules) (search rules) (search rules) (search rules)
+    (search rules) (search rules) refl (search rules) (search rules)

@@ -9,7 +9,7 @@ use Rattle.slice_core_steps.proofs.parts.Parts.plan_forwarded.Goals as goal
 
 pub returns-in-Go-3-clause-within : goal.returns-in-Go-3-clause-within
 returns-in-Go-3-clause-within g c =
-    let line : c.line-line.result.now ≡ channels_at c.args.self.now.view c.args.local = search rules in
+    let line : c.line-line.result ≡ channels_at c.args.self.now.view c.args.local = search rules in
     let side : c.index.result.now ≡ side_at c.args.self.now.view c.args.core =
     read_side _ _ _ _ c.index.ensures (ap (λ p. p.view.sides) c.self.view_is) c.requires.core in
     let row : row_of (copy_of (side_at c.args.self.now.view c.args.core) c.args.local).state

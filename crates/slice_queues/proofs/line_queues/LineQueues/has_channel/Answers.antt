@@ -7,8 +7,8 @@ use Rattle.slice_queues.proofs.line_queues.LineQueues.has_channel.Goals as goal
 
 pub returns-then-to-cores-clause-unchanged : goal.returns-then-to-cores-clause-unchanged
 returns-then-to-cores-clause-unchanged c = λ absent.
-    let past : length c.self.inside.cores.items.items ≤ c.in-Ack.from.0 =
-    omega (arith, c.len-cores.ensures, ltb-false c.in-Ack.from.0 c.len-cores.result absent) in
+    let past : length c.self.inside.cores.now ≤ c.in-Ack.from.0 =
+    omega (arith, ltb-false c.in-Ack.from.0 (length c.self.inside.cores.now) absent) in
     let P : LineChannels → Type 0 = λ line. has (core_at line c.in-Ack.to.0).acks c.in-Ack.from.0 ≡ false in
     let none : has (core_at c.args.self.now c.in-Ack.to.0).acks c.in-Ack.from.0 ≡ false =
     subst P c.self.view_is (has-past_end _ c.in-Ack.to.0 c.in-Ack.from.0 c.self.invariant.within past) in
@@ -20,7 +20,6 @@ returns-else-to-cores-clause-absent c = λ absent.
     omega (
       arith,
       ap (λ l. length l.cores) c.self.view_is,
-      c.len-cores.ensures,
-      ltb-false c.in-Ack.to.0 c.len-cores.result absent,
+      ltb-false c.in-Ack.to.0 (length c.self.inside.cores.now) absent,
     ) in
     rw c.in-Ack.is (no_ack-past_end c.args.self.now c.in-Ack.to c.in-Ack.from past)

@@ -4,28 +4,30 @@ use Rattle.slice_queues_message.specs.Class.{is_of_class}
 use Rattle.slice_queues.specs.Line.{LineChannels}
 use Rattle.slice_queues.specs.Waiting.{line_waiting, HasEachOnceIn}
 use Rattle.slice_queues.proofs.OnceLaws.{line_waiting-once}
-use Rattle.slice_queues.proofs.WaitingLaws.{AllByRecursion-members, marks_of-below, line_left-of_class, HasEachOnceIn-from_all}
+use Rattle.slice_queues.proofs.WaitingLaws.{AllByRecursion-members, marks_of-below, marked_waiting-of_class, HasEachOnceIn-from_all}
 use Rattle.slice_queues.proofs.line_queues.LineQueues.waiting_in.Goals as goal
 
 pub new-requires : goal.new-requires
 new-requires c =
     rw
-    (c.of_class.ensures, c.deref.ensures.value)
+    c.of_class.ensures
     (AllByRecursion-members _ _ (marks_of-below c.args.class _ _ c.self.invariant.marked))
 
 pub returns-clause-order : goal.returns-clause-order
 returns-clause-order c =
     let P : LineChannels → Type 0 = λ line. c.new.result ≡ filter (is_of_class c.args.class) (line_waiting line) in
-    let home : c.waits_at_home-home.result ≡ (is_of_class c.args.class channels.Home && is_some c.self.inside.home) =
+    let home : c.waits_at_home-home.result
+    ≡ (is_of_class c.args.class channels.Home && is_some c.self.inside.head.now.home) =
     search rules in
     subst
     P
     c.self.view_is
     (c.new.ensures
     ∙ rw
-    (c.of_class.ensures, c.deref.ensures.value)
-    (line_left-of_class
-    c.args.class (record { cores = c.self.inside.cores.items.items; home = c.self.inside.home }) c.self.inside.mail _
+    c.of_class.ensures
+    (marked_waiting-of_class
+    c.args.class (record { cores = c.self.inside.cores.now; home = c.self.inside.head.now.home })
+    c.self.inside.head.now.mail _
     c.self.invariant.within.at_most_64 c.self.invariant.marked home))
 
 pub returns-clause-once : goal.returns-clause-once

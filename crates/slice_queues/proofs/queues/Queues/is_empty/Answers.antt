@@ -1,5 +1,5 @@
-use Rattle.std.proofs.Common.{◌≡◌, ℕ, ◌↔◌, IsTrue, subst, false, get_or, List}
-use Rattle.slice_queues.specs.Line.{LineChannels, IsEmptyLine, has_mail, empty_line}
+use Rattle.std.proofs.Common.{◌≡◌, ℕ, ◌↔◌, IsTrue, subst, false, get_or}
+use Rattle.slice_queues.specs.Line.{IsEmptyLine, has_mail, empty_line}
 use Rattle.slice_queues.specs.Slice.{at_local, IsEmptySlice}
 use Rattle.slice_queues.specs.Ring.{QueuesView}
 use Rattle.slice_queues.proofs.MailLaws.{IsEmptyLine-from_no_mail, no_mail-from_IsEmptyLine}
@@ -8,12 +8,8 @@ use Rattle.slice_queues.proofs.queues.Queues.is_empty.Goals as goal
 
 pub returns-clause-lines : goal.returns-clause-lines
 returns-clause-lines c =
-    let lines = c.self.inside.lines.items.items in
+    let lines = c.self.inside.lines in
     let is : IsTrue c.is_zero.result ↔ ((local : ℕ) → has_mail (get_or lines local (empty_line 0)) ≡ false) =
-    subst
-    (λ (lines : List LineChannels). IsTrue c.is_zero.result
-    ↔ ((local : ℕ) → has_mail (get_or lines local (empty_line 0)) ≡ false))
-    c.deref.ensures.value
     c.is_zero.ensures in
     let P : QueuesView → Type 0 =
     λ queues. IsTrue c.is_zero.result ↔ ((local : ℕ) → IsEmptyLine (at_local queues.channels local)) in

@@ -9,8 +9,8 @@ invariant-loop-turn l =
     let began = l.initial.self-inside in
     (now.ring.order
     ≡ drop l.turn began.ring.order
-    ++ filter (λ local. has_mail (get_or began.lines.items.items local (empty_line 0))) (take l.turn began.ring.order))
+    ++ filter (λ local. has_mail (get_or began.lines local (empty_line 0))) (take l.turn began.ring.order))
     × (now.lines ≡ began.lines)
     × (now.locator ≡ began.locator)
-    × IsQueues now.lines.items.items now.ring now.locator
+    × IsQueues now.lines now.ring now.locator
     × (now.count ≡ began.count)

@@ -1,18 +1,17 @@
-use Rattle.std.proofs.Common.{◌<◌, ap, arith, length, List, subst}
-use Rattle.slice_queues.specs.Count.{IsMailCounted}
-use Rattle.slice_queues.specs.Line.{LineChannels}
+use Rattle.std.proofs.Common.{◌<◌, ap, arith, get_or, length}
+use Rattle.slice_queues.specs.Line.{empty_line}
 use Rattle.slice_queues.proofs.CountLaws.{IsMailCounted-lent}
+use Rattle.slice_queues.proofs.LineLaws.{read_default}
 use Rattle.slice_queues.proofs.RingLaws.{IsQueues-take}
 use Rattle.slice_queues.proofs.queues.Queues.take_at.Goals as goal
 
 pub invariant_of-self : goal.invariant_of-self
 invariant_of-self c =
-    let there : c.args.local.0 < length c.self.inside.lines.items.items =
-    omega (arith, ap (λ v. length v.channels.lines) c.self.view_is, c.requires) in
-    let lines : List LineChannels = c.self.inside.lines.items.items in
-    let counted : IsMailCounted lines c.lend.new.self =
-    subst (λ (xs : List LineChannels). IsMailCounted xs c.lend.new.self) c.deref.ensures.value c.lend.ensures.counted in (
-      IsQueues-take _ _ _ c.args.local.0 c.index_mut.result.now _ c.args.channel there c.index_mut.ensures.value
-          c.take.ensures.rest c.self.invariant.0,
-      IsMailCounted-lent lines c.lend.new.self c.args.local.0 _ c.lend.ensures.lent counted,
+    let lines = c.self.inside.lines in
+    let local = c.args.local.0 in
+    let there : local < length lines = omega (arith, ap (λ v. length v.channels.lines) c.self.view_is, c.requires) in
+    rw c.take.ensures.after (
+      IsQueues-take lines _ _ local (get_or lines local (empty_line 0)) _ c.args.channel there
+          (read_default lines local (empty_line 0) _ there) c.take.ensures.rest c.self.invariant.0,
+      IsMailCounted-lent lines c.lend.new.self local _ c.lend.ensures.lent c.lend.ensures.counted,
     )

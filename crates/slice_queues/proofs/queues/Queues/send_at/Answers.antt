@@ -1,0 +1,12 @@
+use Rattle.slice_queues.proofs.CountLaws.{IsMailCounted-lent}
+use Rattle.slice_queues.proofs.RingLaws.{IsQueues-lent}
+use Rattle.slice_queues.proofs.queues.Queues.send_at.Goals as goal
+
+pub invariant_of-self : goal.invariant_of-self
+invariant_of-self c =
+    rw c.send.ensures.after (
+      IsQueues-lent c.self.inside.lines c.self.inside.ring c.lend.new.ring c.self.inside.locator c.args.local.0 _
+          c.lend.ensures.ring c.self.invariant.0,
+      IsMailCounted-lent c.self.inside.lines c.lend.new.count c.args.local.0 _ c.lend.ensures.lent
+          c.lend.ensures.counted,
+    )

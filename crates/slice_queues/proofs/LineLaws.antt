@@ -1,5 +1,5 @@
 -- A send and a take change their own channel alone.
-use Rattle.std.proofs.Common.{rules, eq-eqb, eqb-true, ◌≡◌, ◌≢◌, ℕ, ◌<◌, ◌≤◌, Bool, true, false, List, [], ◌∷◌, ◌++◌, length, map, drop, refl, ap, sym, ◌∙◌, subst, arith, Option, Some, None, zero, suc, replicate, get_or, inl, inr}
+use Rattle.std.proofs.Common.{rules, eq-eqb, eqb-true, ◌≡◌, ◌≢◌, ℕ, ◌<◌, ◌≤◌, Bool, true, false, List, [], ◌∷◌, ◌++◌, length, map, drop, refl, ap, sym, ◌∙◌, subst, arith, Option, Some, None, zero, suc, replicate, get_or, ◌⊎◌, inl, inr}
 use Rattle.std.proofs.Math.ListN.{set, length-set}
 use Rattle.std.proofs.lemmas.List.{get_or-set_same, get_or-set_other, get_or_past, set-get_or, length-map, length-replicate, map-append}
 use Rattle.std.proofs.lemmas.Bool.{cases_eq}
@@ -386,6 +386,15 @@ IsEmptyLine-from_taken old new channel taken empty other = by_name (is_same_chan
         let differs : other ≢ channel = λ here. let clash : false ≡ true =
         sym e ∙ ap (λ c. is_same_channel c channel) here ∙ same_itself channel in cc in
         taken.others other differs ∙ empty other
+
+-- a channel of one of the four kinds that name a core is that core's
+pub of-core : (channel : Channel) (core : CoreId) →
+    channel ≡ channels.Req core ⊎ (channel ≡ channels.Fwd core ⊎ (channel ≡ channels.Data core
+    ⊎ ((from : CoreId) × channel ≡ channels.Ack core from))) → IsOfCore channel core
+of-core channel core (inl request) = rw request refl
+of-core channel core (inr (inl forwarded)) = rw forwarded refl
+of-core channel core (inr (inr (inl reply))) = rw reply refl
+of-core channel core (inr (inr (inr (from, ack)))) = rw ack refl
 
 -- the core of a channel that is there is there
 pub core-there : (line : LineChannels) (channel : Channel) (core : CoreId) → IsOfCore channel core →

@@ -13,8 +13,8 @@ use std::marker::Model;
 /// The channels of one line, to be looked at.
 #[derive(Drop)]
 pub struct LineQueues<'a> {
-    head: &'a LineHead,
-    cores: &'a [CoreQueues],
+    pub(super) head: &'a LineHead,
+    pub(super) cores: &'a [CoreQueues],
 }
 
 impl<'a> Model for LineQueues<'a> {
@@ -34,14 +34,6 @@ impl<'a> LineQueues<'a> {
     ghost use Rattle.slice_queues.specs.Waiting.{line_waiting, HasEachOnce, HasEachOnceIn};
     ghost use Rattle.slice_queues.specs.Line.{core_at, messages_at, after_take, HasRoom, HasChannel, IsEmptyLine, has_mail, TakesInvalidations};
     ghost use Rattle.slice_queues.specs.Mail.{IsLine};
-
-    /// The channels of the line with this head and these cores' channels.
-    pub(crate) fn new(head: &'a LineHead, cores: &'a [CoreQueues]) -> Self
-        requires { IsLine cores.now head.now.mail }
-        ensures { result ≡ record { cores = cores.now; home = head.now.home } }
-    {
-        LineQueues { head, cores }
-    }
 
     /// How many cores the line has.
     pub fn cores(&self) -> usize

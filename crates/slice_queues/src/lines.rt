@@ -128,7 +128,7 @@ impl Lines {
     {
         let head = &self.heads[local.0];
         let run = &self.cores[head.first..head.first + self.width];
-        LineQueues::new(head, run)
+        LineQueues { head, cores: run }
     }
 
     /// Sends the message on a channel of the line, behind those that wait there.
@@ -144,36 +144,14 @@ impl Lines {
             (after_send (slice_index_or self.old local.0 (empty_line 0)) channel message) channel message }
     {
         match channel {
-            Channel::Req(core) => self.send_for(local, core, channel, message),
-            Channel::Fwd(core) => self.send_for(local, core, channel, message),
-            Channel::Data(core) => self.send_for(local, core, channel, message),
-            Channel::Ack { to, .. } => self.send_for(local, to, channel, message),
+            Channel::Req(core) | Channel::Fwd(core) | Channel::Data(core) | Channel::Ack { to: core, .. } => {
+                let head = &mut self.heads[local.0];
+                let place = head.place_of(core, &mut self.cores, self.width);
+                let queues = &mut self.cores[place];
+                send_to(queues, &mut head.mail, core, channel, message);
+            }
             Channel::Home => self.send_home(local, message),
         }
-    }
-
-    // The same for a channel of this core.
-    #[inline(always)]
-    fn send_for(&mut self, local: Local, core: CoreId, channel: Channel, message: Message)
-        requires line { local.0 < length self.old }
-        requires core { IsOfCore channel core }
-        requires there { HasChannel (slice_index_or self.old local.0 (empty_line 0)) channel }
-        requires room { HasRoom (slice_index_or self.old local.0 (empty_line 0)) channel }
-        requires kind { Carries channel message }
-        ensures after { self.new
-            ≡ slice_set self.old local.0 (after_send (slice_index_or self.old local.0 (empty_line 0)) channel message) }
-        ensures sent { SendsOnly (slice_index_or self.old local.0 (empty_line 0))
-            (after_send (slice_index_or self.old local.0 (empty_line 0)) channel message) channel message }
-    {
-        let head = &mut self.heads[local.0];
-        let place = head.place_of(core, &mut self.cores, self.width);
-        send_to(
-            &mut self.cores[place],
-            &mut head.mail,
-            core,
-            channel,
-            message,
-        );
     }
 
     // The same for the channel to the directory.
@@ -203,26 +181,14 @@ impl Lines {
             ≡ slice_set self.old local.0 (after_take (slice_index_or self.old local.0 (empty_line 0)) channel) }
     {
         match channel {
-            Channel::Req(core) => self.drop_for(local, core, channel),
-            Channel::Fwd(core) => self.drop_for(local, core, channel),
-            Channel::Data(core) => self.drop_for(local, core, channel),
-            Channel::Ack { to, .. } => self.drop_for(local, to, channel),
+            Channel::Req(core) | Channel::Fwd(core) | Channel::Data(core) | Channel::Ack { to: core, .. } => {
+                let head = &mut self.heads[local.0];
+                let place = head.place_of(core, &mut self.cores, self.width);
+                let queues = &mut self.cores[place];
+                drop_from(queues, &mut head.mail, core, channel);
+            }
             Channel::Home => self.drop_home(local),
         }
-    }
-
-    // The same for a channel of this core.
-    #[inline(always)]
-    fn drop_for(&mut self, local: Local, core: CoreId, channel: Channel)
-        requires line { local.0 < length self.old }
-        requires core { IsOfCore channel core }
-        requires there { HasChannel (slice_index_or self.old local.0 (empty_line 0)) channel }
-        ensures { self.new
-            ≡ slice_set self.old local.0 (after_take (slice_index_or self.old local.0 (empty_line 0)) channel) }
-    {
-        let head = &mut self.heads[local.0];
-        let place = head.place_of(core, &mut self.cores, self.width);
-        drop_from(&mut self.cores[place], &mut head.mail, core, channel);
     }
 
     // The same for the channel to the directory.

@@ -103,7 +103,10 @@ impl Queues {
         ensures sent { SendsOnly (at_local self.old.channels local.0)
             (after_send (at_local self.old.channels local.0) channel message) channel message }
     {
-        lend(&mut self.ring, &mut self.count, &self.lines, local);
+        self.ring.list(local);
+        if self.count.lent != local.0 {
+            self.count.lend(&self.lines, local);
+        }
         self.lines.send(local, channel, message);
     }
 
@@ -114,7 +117,10 @@ impl Queues {
         requires there { HasChannel (at_local self.old.channels local.0) channel }
         ensures { self.new ≡ with_lent self.old local (after_take (at_local self.old.channels local.0) channel) }
     {
-        lend(&mut self.ring, &mut self.count, &self.lines, local);
+        self.ring.list(local);
+        if self.count.lent != local.0 {
+            self.count.lend(&self.lines, local);
+        }
         self.lines.drop_front(local, channel);
     }
 
@@ -126,7 +132,10 @@ impl Queues {
         ensures { self.new
             ≡ with_lent self.old local (after_invalidating (at_local self.old.channels local.0) cores requester) }
     {
-        lend(&mut self.ring, &mut self.count, &self.lines, local);
+        self.ring.list(local);
+        if self.count.lent != local.0 {
+            self.count.lend(&self.lines, local);
+        }
         self.lines.invalidate(local, cores, requester);
     }
 
@@ -288,21 +297,5 @@ impl Queues {
             LinesWaiting::new(&self.lines, 0, self.lines.len(), slice, slices),
             LinesWaiting::new(&self.lines, 0, 0, slice, slices),
         )
-    }
-}
-
-// The line comes into the ring, and is the one that may be changed.
-#[inline(always)]
-fn lend(ring: &mut LineRing, count: &mut MailCount, lines: &Lines, local: Local)
-    requires ring { local.0 < ring.old.lines }
-    requires line { local.0 < length lines.now }
-    requires counted { IsMailCounted lines.now count.old }
-    ensures ring { ring.new ≡ record ring.old { order = with_listed ring.old.order local.0 } }
-    ensures lent { count.new.lent ≡ local.0 }
-    ensures counted { IsMailCounted lines.now count.new }
-{
-    ring.list(local);
-    if count.lent != local.0 {
-        count.lend(lines, local);
     }
 }

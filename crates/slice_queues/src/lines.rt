@@ -144,7 +144,10 @@ impl Lines {
             (after_send (slice_index_or self.old local.0 (empty_line 0)) channel message) channel message }
     {
         match channel {
-            Channel::Req(core) | Channel::Fwd(core) | Channel::Data(core) | Channel::Ack { to: core, .. } => {
+            Channel::Req(core)
+            | Channel::Fwd(core)
+            | Channel::Data(core)
+            | Channel::Ack { to: core, .. } => {
                 let head = &mut self.heads[local.0];
                 let place = head.place_of(core, &mut self.cores, self.width);
                 let queues = &mut self.cores[place];
@@ -181,7 +184,10 @@ impl Lines {
             ≡ slice_set self.old local.0 (after_take (slice_index_or self.old local.0 (empty_line 0)) channel) }
     {
         match channel {
-            Channel::Req(core) | Channel::Fwd(core) | Channel::Data(core) | Channel::Ack { to: core, .. } => {
+            Channel::Req(core)
+            | Channel::Fwd(core)
+            | Channel::Data(core)
+            | Channel::Ack { to: core, .. } => {
                 let head = &mut self.heads[local.0];
                 let place = head.place_of(core, &mut self.cores, self.width);
                 let queues = &mut self.cores[place];

@@ -68,13 +68,6 @@ impl<F: MissFile> Parts<F> {
         &self.sides
     }
 
-    /// The directory's entries, by local line.
-    pub fn entries(&self) -> &[DirEntry]
-        ensures { result.now ≡ self.now.view.entries }
-    {
-        &self.entries
-    }
-
     /// The configured initial values of the slice's words.
     pub fn init(&self) -> &[(WordAddr, u64)]
         ensures { result.now ≡ self.now.view.init }

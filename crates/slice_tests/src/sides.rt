@@ -45,11 +45,11 @@ fn is_served<F: MissFile>(side: &mut Side<F>, log: &mut Vec<Entry>) -> bool
     requires performable { All IsPerformable (targets_of side.old.misses 3) }
     requires room { length log.old.items + length (targets_of side.old.misses 3) ≤ vec_capacity log.old }
 {
-    let Some(place) = side.place(LINE) else {
+    let Some(place) = side.look(LINE).place else {
         return false;
     };
     side.fill(LINE, place, &Block::zero(), 0, CopyState::M);
-    let Some(place) = side.place(LINE) else {
+    let Some(place) = side.look(LINE).place else {
         return false;
     };
     side.block(LINE).words[0] == 0 && !side.settle(CoreId(0), LINE, place, 24, log)

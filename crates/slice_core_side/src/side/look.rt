@@ -68,14 +68,6 @@ impl<F: MissFile> Side<F> {
         }
     }
 
-    /// Where the line stands in its set, if the array holds it.
-    pub fn place(&self, local: Local) -> Option<usize>
-        ensures place { result ≡ position (holds local) (slots_at self.now.array local) }
-        ensures held { IsSome result ↔ IsSome (array_at self.now.array local) }
-    {
-        self.array.find(local)
-    }
-
     /// The accesses that wait for the line, the oldest first.
     pub fn targets(&self, local: Local) -> ArrayVec<Target, 64>
         ensures { result.items ≡ targets_of self.now.misses local.0 }

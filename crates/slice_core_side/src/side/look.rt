@@ -1,4 +1,4 @@
-ghost use Rattle.std.specs.Prelude.{◌≡◌, ◌↔◌, ◌⊎◌, length, position, IsSome};
+ghost use Rattle.std.specs.Prelude.{◌≡◌, ◌⊎◌, length, position, IsSome};
 ghost use Rattle.std.specs.List.{list_all};
 ghost use Rattle.cache_array.specs.Array.{held_at as array_at, slots_at};
 ghost use Rattle.cache_array.specs.Set.{holds};

@@ -11,7 +11,8 @@ use Rattle.directory_table.specs.declared.state.DirEntry.{DirEntry}
 use Rattle.directory_table.specs.declared.state.DirState.{DirState}
 use Rattle.slice_core_coherence.proofs.BlocksFrame.{by_entry_with, reached_further}
 use Rattle.slice_core_coherence.proofs.BlocksPlaces.{CoresBlocksStand, blocks_given, blocks_passed, blocks_same, core_as, other_mail, with_block_at}
-use Rattle.slice_core_coherence.proofs.Directory.{directory_step, home-sent, same_requester, served}
+use Rattle.slice_core_coherence.proofs.Directory.{directory_step}
+use Rattle.slice_core_coherence.proofs.Served.{home-sent, same_requester, served}
 use Rattle.slice_core_coherence.proofs.Places.{with_core-length}
 use Rattle.slice_core_coherence.specs.Blocks.{AreReachedWith, BlocksStand, CoreBlocksStand, HasValues, block_of_data}
 use Rattle.slice_core_coherence.specs.Stands.{Stands, copies_at}

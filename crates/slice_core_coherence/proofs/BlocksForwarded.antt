@@ -12,7 +12,8 @@ use Rattle.cache_table.specs.declared.state.CopyState.{CopyState}
 use Rattle.directory_table.specs.declared.state.DirEntry.{DirEntry}
 use Rattle.slice_core_coherence.proofs.BlocksFrame.{by_side_with, reached_further}
 use Rattle.slice_core_coherence.proofs.BlocksPlaces.{CoresBlocksStand, blocks_given, blocks_same, blocks_turned, core_as, with_block_at}
-use Rattle.slice_core_coherence.proofs.Forwarded.{below, channels_after, forwarded_as, message_stands, message_step, moved, moved-state}
+use Rattle.slice_core_coherence.proofs.Forwarded.{below, channels_after, forwarded_as, message_stands, message_step}
+use Rattle.slice_core_coherence.proofs.ForwardedPart.{moved, moved-state}
 use Rattle.slice_core_coherence.proofs.Frame.{by_number, with_copy_at}
 use Rattle.slice_core_coherence.proofs.Parts.{IsFirst, first_stands}
 use Rattle.slice_core_coherence.proofs.Places.{with_core-length}

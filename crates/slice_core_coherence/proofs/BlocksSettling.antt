@@ -29,7 +29,8 @@ use Rattle.slice_core_coherence.proofs.Frame.{with_copy_at}
 use Rattle.slice_core_coherence.proofs.LogElsewhere.{log_keeps, targets_of_line}
 use Rattle.slice_core_coherence.proofs.Places.{with_core-length}
 use Rattle.slice_core_coherence.proofs.Rows.{if_go-counted}
-use Rattle.slice_core_coherence.proofs.Settling.{ack_comes, ack_found, ack_has_row, acknowledged_copy, count_stands, count_turn, data_at_hand, data_comes, data_event, data_found, data_has_row, data_row_here, fill_stands, fill_turn, filled-counted, filled-state, filled-wants, filled_copy, in_array, settled-state, waits-held}
+use Rattle.slice_core_coherence.proofs.Settling.{ack_comes, ack_found, ack_has_row, acknowledged_copy, data_comes, data_found, data_has_row, filled-counted, filled-state, filled-wants, filled_copy, in_array, waits-held}
+use Rattle.slice_core_coherence.proofs.SettlingLine.{count_stands, count_turn, data_at_hand, data_event, data_row_here, fill_stands, fill_turn, settled-state}
 use Rattle.slice_core_coherence.specs.Blocks.{AreReachedWith, HasValues, LineReachedWith, block_of_data, has_block}
 use Rattle.slice_core_coherence.specs.Stands.{copies_at, named_by}
 use Rattle.slice_core_log.specs.Log.{IsLegal, initially}

@@ -1,47 +1,41 @@
 -- A forwarded message that a core takes is a turn of its line.
-use Rattle.std.proofs.Common.{◌≡◌, ℕ, ◌+◌, ◌<◌, ◌≤◌, ◌==◌, ◌&&◌, ◌||◌, Bool, true, false, not, drop, if◌then◌else◌, length, Option, Some, None, slice_get, get_or, is_some, refl, sym, ap, ◌∙◌, subst, arith, true≢false}
-use Rattle.std.proofs.Math.Bool.{and-false, or-false, or-true}
+use Rattle.std.proofs.Common.{◌≡◌, ℕ, ◌<◌, ◌≤◌, ◌==◌, ◌&&◌, ◌||◌, Bool, true, false, drop, if◌then◌else◌, length, Some, slice_get, get_or, is_some, refl, sym, ap, ◌∙◌, subst, arith}
+use Rattle.std.proofs.Math.Bool.{and-false, or-true}
 use Rattle.std.proofs.lemmas.Bool.{eq-eqb, ne_eqb}
 use Rattle.address_map.proofs.CoreSets.{has-with_other, has-with_same}
 use Rattle.address_map.specs.CoreSet.{has, with}
 use Rattle.address_map.specs.declared.address.CoreId.{CoreId}
 use Rattle.address_map.specs.declared.address.Local.{Local}
 use Rattle.address_map.specs.declared.block.Block.{Block}
-use Rattle.cache_table.specs.CopyState.{is_waiting}
 use Rattle.cache_table.specs.Law.{sends_data, sends_home, sends_inv_ack}
 use Rattle.cache_table.specs.Row.{row_of}
 use Rattle.cache_table.specs.declared.row.CacheEvent.TheVariants as events
-use Rattle.cache_table.specs.declared.row.CacheSends.{CacheSends}
 use Rattle.cache_table.specs.declared.row.CacheSends.TheVariants as sends
-use Rattle.cache_table.specs.declared.row.Row.{Row}
+use Rattle.cache_table.specs.declared.row.CacheSends.{CacheSends}
 use Rattle.cache_table.specs.declared.row.Row.TheVariants as rows
 use Rattle.cache_table.specs.declared.state.CopyState.{CopyState}
-use Rattle.cache_table.specs.declared.state.CopyState.TheVariants as states
 use Rattle.directory_table.specs.declared.state.DirEntry.{DirEntry}
 use Rattle.slice_core_coherence.proofs.Facts.{data_before_counting}
+use Rattle.slice_core_coherence.proofs.ForwardedPart.{acks_apart, message_by, moved, owes-given, owes-turned, part_after}
 use Rattle.slice_core_coherence.proofs.Frame.{by_number, by_side, read-set, with_copy_at}
 use Rattle.slice_core_coherence.proofs.OwnTurns.{StepStands}
-use Rattle.slice_core_coherence.proofs.Parts.{IsFirst, data_stand, first_at_hand, first_stands, first_taken}
+use Rattle.slice_core_coherence.proofs.Parts.{IsFirst, data_stand, first_at_hand, first_stands}
 use Rattle.slice_core_coherence.proofs.Places.{PartsStand, acks-with_core, acks_kept, acks_turned, parts_as, parts_sent, parts_turned, with_core-length, with_part_at}
-use Rattle.slice_core_coherence.proofs.Rows.{IsAnswer, answers, sends_for}
+use Rattle.slice_core_coherence.proofs.Rows.{answers, sends_for}
 use Rattle.slice_core_coherence.proofs.Turns.{IsQuiet, turn_stands}
 use Rattle.slice_core_coherence.specs.Stands.{AcksStand, AreReached, EntryStands, LineStands, PartStands, Stands, copies_at}
-use Rattle.slice_core_plan.specs.Plan.{asks, by_forwarded_row, event_of_forwarded, forwarded_by, is_put_ack, plan_of, requester_of}
-use Rattle.slice_core_plan.specs.Sends.{cache_room, cache_sent}
+use Rattle.slice_core_plan.specs.Plan.{event_of_forwarded, plan_of, requester_of}
+use Rattle.slice_core_plan.specs.Sends.{cache_sent}
 use Rattle.slice_core_plan.specs.Steps.{after_forwarded}
 use Rattle.slice_core_plan.specs.View.{View, IsShaped, channels_at, entry_at, side_at}
 use Rattle.slice_core_plan.specs.Within.{HasCopy}
-use Rattle.slice_core_plan.specs.declared.decide.Plan.{Plan}
 use Rattle.slice_core_plan.specs.declared.decide.Plan.TheVariants as plans
-use Rattle.slice_core_answer.specs.declared.answer.Cell.TheVariants as cells
 use Rattle.slice_core_protocol.proofs.Frame.{at_place}
 use Rattle.slice_core_protocol.proofs.Promises.{reached_has_room, reached_has_rows}
 use Rattle.slice_core_protocol.specs.Fit.{is_counting, is_no_data}
 use Rattle.slice_core_protocol.specs.Line.{Line, Part}
-use Rattle.slice_core_protocol.specs.Machine.{Reached, Step, acted, after, after_turn, asks_for, change_if, further, given, stands as is_at_hand, stands_ack, taken, turn}
-use Rattle.slice_core_protocol.specs.Line.{Request}
+use Rattle.slice_core_protocol.specs.Machine.{Reached, Step, acted, after, after_turn, change_if, further, given, stands as is_at_hand, stands_ack, taken, turn}
 use Rattle.slice_core_side.proofs.Found.{copy_of-after_advance, copy_of-after_advance_other}
-use Rattle.slice_core_side.specs.Copy.{is_gone, no_copy}
 use Rattle.slice_core_side.specs.Kept.{IsKept}
 use Rattle.slice_core_side.specs.Side.{copy_of, state_of}
 use Rattle.slice_core_side.specs.Steps.{after_advance}
@@ -49,148 +43,9 @@ use Rattle.slice_core_side.specs.declared.copy.CacheCopy.{CacheCopy}
 use Rattle.slice_queues.specs.Line.{CoreChannels, LineChannels, after_send, after_take, core_at, no_messages, with_core}
 use Rattle.slice_queues_message.specs.declared.channel.Channel.TheVariants as channels
 use Rattle.slice_queues_message.specs.declared.message.DataMessage.TheVariants as replies
-use Rattle.slice_queues_message.specs.declared.message.ForwardedMessage.{ForwardedMessage}
 use Rattle.slice_queues_message.specs.declared.message.ForwardedMessage.TheVariants as forwards
+use Rattle.slice_queues_message.specs.declared.message.ForwardedMessage.{ForwardedMessage}
 use Rattle.slice_queues_message.specs.declared.message.Message.TheVariants as messages
-
--- ---- the row that was planned
-
--- what is planned by a row that goes on, and for whom
-row_in : Plan → Row
-row_in (plans.Forwarded next sent requester) = rows.Go next sent
-row_in _ = rows.Blocked
-
-requester_in : CoreId → Plan → CoreId
-requester_in core (plans.Forwarded next sent requester) = requester
-requester_in core _ = core
-
-module _ (v : View) (local : Local) (core : CoreId) (next : CopyState) (sent : CacheSends) (requester : CoreId) where
-  -- the message that was taken, and its row
-  pub record IsMessage (message : ForwardedMessage) : Type 0 where
-    pub waits : slice_get (core_at (channels_at v local) core.0).forwarded 0 ≡ Some message
-    pub row : row_of (state_of (side_at v core) local) (event_of_forwarded message) ≡ rows.Go next sent
-    pub names : requester_of core message ≡ requester
-
-  planned_by : (message : ForwardedMessage) (row : Row)
-      → by_forwarded_row v local core message row ≡ plans.Forwarded next sent requester
-      → (row ≡ rows.Go next sent) × (requester_of core message ≡ requester)
-  unfolding row_in requester_in
-  planned_by message rows.NoEntry is = absurd (cc is)
-  planned_by message rows.Blocked is = absurd (cc is)
-  planned_by message (rows.Go n s) is =
-      by_tests (cache_room (channels_at v local) core (requester_of core message) s)
-      (is_put_ack message && asks v local core) is
-    where
-      by_tests : (room early : Bool)
-          → (if not room then plans.Broken cells.Full else if early then plans.Broken cells.Early
-          else plans.Forwarded n s (requester_of core message)) ≡ plans.Forwarded next sent requester
-          → (rows.Go n s ≡ rows.Go next sent) × (requester_of core message ≡ requester)
-      by_tests false early is = absurd (cc is)
-      by_tests true true is = absurd (cc is)
-      by_tests true false is = (ap row_in is, ap (requester_in core) is)
-
-  pub message_by : (front : Option ForwardedMessage)
-      → slice_get (core_at (channels_at v local) core.0).forwarded 0 ≡ front
-      → forwarded_by v local core front ≡ plans.Forwarded next sent requester
-      → (message : ForwardedMessage) × IsMessage message
-  message_by None waits is = absurd (cc is)
-  message_by (Some message) waits is =
-      let planned = planned_by message (row_of (state_of (side_at v core) local) (event_of_forwarded message)) is in
-      (message, record { waits = waits; row = planned.0; names = planned.1 })
-
--- ---- the core's own part
-
--- the copy that went to its next state, if anything is left of it
-abbrev pub moved : CacheCopy → CopyState → CacheCopy
-moved copy next = if is_gone next then no_copy else record copy { state = next }
-
-pub moved-state : (copy : CacheCopy) (next : CopyState) → (moved copy next).state ≡ next
-moved-state copy states.I = refl
-moved-state copy states.IS_D = refl
-moved-state copy states.IM_AD = refl
-moved-state copy states.IM_A = refl
-moved-state copy states.S = refl
-moved-state copy states.SM_AD = refl
-moved-state copy states.SM_A = refl
-moved-state copy states.M = refl
-moved-state copy states.E = refl
-moved-state copy states.MI_A = refl
-moved-state copy states.SI_A = refl
-moved-state copy states.II_A = refl
-
--- A copy that waits stays, with its count.
-moved-counted : (copy : CacheCopy) (next : CopyState) → is_waiting next ≡ true
-    → (moved copy next).counted ≡ copy.counted
-moved-counted copy states.IS_D waits = refl
-moved-counted copy states.IM_AD waits = refl
-moved-counted copy states.IM_A waits = refl
-moved-counted copy states.SM_AD waits = refl
-moved-counted copy states.SM_A waits = refl
-moved-counted copy states.I waits = absurd (cc waits)
-moved-counted copy states.S waits = absurd (cc waits)
-moved-counted copy states.M waits = absurd (cc waits)
-moved-counted copy states.E waits = absurd (cc waits)
-moved-counted copy states.MI_A waits = absurd (cc waits)
-moved-counted copy states.SI_A waits = absurd (cc waits)
-moved-counted copy states.II_A waits = absurd (cc waits)
-
--- No forwarded message has its core ask for anything.
-asks-nothing : (message : ForwardedMessage) (own : Request) → asks_for (sends_for message) own ≡ own
-asks-nothing (forwards.Inv core) own = refl
-asks-nothing (forwards.FwdGetS core) own = refl
-asks-nothing (forwards.FwdGetM core) own = refl
-asks-nothing forwards.PutAck own = refl
-
--- The core's copy and channels after the message are its part after the row.
-part_after : (copy : CacheCopy) (mail : CoreChannels) (part : Part) (message : ForwardedMessage) (next : CopyState)
-    → IsFirst message part → IsAnswer message part.look.state next (sends_for message) → PartStands copy mail part
-    → PartStands (moved copy next) (record mail { forwarded = drop 1 mail.forwarded })
-    (acted (event_of_forwarded message) 0 next (sends_for message) part)
-part_after copy mail part message next first answer stands =
-    let took = first_taken copy mail part message first stands in record {
-      state = moved-state copy next;
-      request = took.request ∙ sym (asks-nothing message (taken (event_of_forwarded message) part.look).request);
-      incoming = took.incoming;
-      queue = took.queue;
-      named = took.named;
-      wants = λ h. absurd (true≢false (sym h ∙ answer.not_counting));
-      counted = λ waits.
-          let more : part.counted ≡ part.counted + 0 = omega arith in
-          moved-counted copy next waits ∙ stands.counted (answer.waited waits) ∙ more
-          ∙ sym (ap (λ b. if b then part.counted + 0 else 0) waits);
-    }
-
--- ---- acknowledgements
-
--- A turn that sends no Inv-Ack leaves what is owed, as do data that come.
-owes-turned : (message : ForwardedMessage) (next : CopyState) (sent : CacheSends) (part : Part) (to : ℕ)
-    → sends_inv_ack sent ≡ false
-    → stands_ack (acted (event_of_forwarded message) 0 next sent part) to ≡ stands_ack part to
-owes-turned (forwards.Inv core) next sent part to none =
-    ap (λ b. b && part.owes_to == to) (ap (λ b. part.look.sent || b) none ∙ or-false part.look.sent)
-owes-turned (forwards.FwdGetS core) next sent part to none =
-    ap (λ b. b && part.owes_to == to) (ap (λ b. part.look.sent || b) none ∙ or-false part.look.sent)
-owes-turned (forwards.FwdGetM core) next sent part to none =
-    ap (λ b. b && part.owes_to == to) (ap (λ b. part.look.sent || b) none ∙ or-false part.look.sent)
-owes-turned forwards.PutAck next sent part to none =
-    ap (λ b. b && part.owes_to == to) (ap (λ b. part.look.sent || b) none ∙ or-false part.look.sent)
-
-owes-given : (b : Bool) (part : Part) (to : ℕ) → stands_ack (change_if b given part) to ≡ stands_ack part to
-owes-given true part to = refl
-owes-given false part to = refl
-
--- Which acknowledgements wait for the core is no part of its own.
-acks_apart : (copy : CacheCopy) (mail : CoreChannels) (part : Part) (acks : ℕ) → PartStands copy mail part
-    → PartStands copy (record mail { acks = acks }) part
-acks_apart copy mail part acks stands = record {
-  state = stands.state;
-  request = stands.request;
-  incoming = stands.incoming;
-  queue = stands.queue;
-  named = stands.named;
-  wants = stands.wants;
-  counted = stands.counted;
-}
 
 -- ---- the line
 

@@ -11,7 +11,7 @@ use Rattle.directory_table.specs.declared.row.DirRow.TheVariants as rows
 use Rattle.directory_table.specs.declared.row.DirSends.TheVariants as answers
 use Rattle.directory_table.specs.declared.state.DirState.{DirState}
 use Rattle.directory_table.specs.declared.state.DirState.TheVariants as dirs
-use Rattle.slice_core_coherence.proofs.Directory.{row_here}
+use Rattle.slice_core_coherence.proofs.Served.{row_here}
 use Rattle.slice_core_coherence.proofs.Frame.{by_entry}
 use Rattle.slice_core_coherence.specs.Stands.{AreReached, LineStands, Stands, copies_at}
 use Rattle.slice_core_plan.specs.Plan.{by_home_row, plan_of}

@@ -17,8 +17,8 @@ use Rattle.litmus_text.specs.declared.command.Command.{Command}
 use Rattle.litmus_text.specs.declared.command.Command.TheVariants as commands
 use Rattle.litmus_text.specs.declared.fault.LineFault.{LineFault}
 use Rattle.litmus_text.specs.declared.fault.LineFault.TheVariants as faults
-use Rattle.litmus_text.specs.declared.verb.Verb.{Verb}
-use Rattle.litmus_text.specs.declared.verb.Verb.TheVariants as verbs
+use Rattle.litmus_text.specs.declared.parse.Verb.{Verb}
+use Rattle.litmus_text.specs.declared.parse.Verb.TheVariants as verbs
 use Rattle.litmus_text.specs.Command.{HasPick, HasTag, IsFaultOfCommand, IsInRange, IsRead, ReadsAs, Says, parts_of, parts_of_access, parts_of_op, parts_of_pick}
 use Rattle.litmus_text.specs.Form.{Part, Writes, HasForm, IsFaultOf, IsFormFaultOf, key, no_parts, one_part, two_parts}
 use Rattle.litmus_text.specs.Number.{IsNumber}

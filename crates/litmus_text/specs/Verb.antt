@@ -1,7 +1,7 @@
 -- The words with which the commands of a script begin.
 use Rattle.std.specs.Prelude.{ℕ, List, codes}
-use Rattle.litmus_text.specs.declared.verb.Verb.{Verb}
-use Rattle.litmus_text.specs.declared.verb.Verb.TheVariants as verbs
+use Rattle.litmus_text.specs.declared.parse.Verb.{Verb}
+use Rattle.litmus_text.specs.declared.parse.Verb.TheVariants as verbs
 
 abbrev pub name_of_verb : Verb → List ℕ
 name_of_verb verbs.Issue = codes "issue"

@@ -31,7 +31,6 @@ pub use table::value_named;
 pub use word::Words;
 
 mod access;
-mod blanks;
 mod channel;
 mod command;
 mod config_line;
@@ -46,5 +45,4 @@ mod row;
 mod settings;
 mod statement;
 mod table;
-mod verb;
 mod word;

@@ -1,6 +1,8 @@
-ghost use Rattle.std.specs.Prelude.{◌∷◌, codes, IfOk, IfErr, map};
+ghost use Rattle.std.specs.Prelude.{◌≡◌, ◌≢◌, ◌∷◌, codes, IfOk, IfErr, IfSome, IfNone, map};
 ghost use Rattle.address_map.specs.declared.config.Config.{Config};
 ghost use Rattle.litmus_text.specs.Command.{IsFaultOfCommand, IsRead, ReadsAs};
+ghost use Rattle.litmus_text.specs.Verb.{name_of_verb};
+ghost use Rattle.litmus_text.specs.declared.parse.Verb.{Verb};
 
 use super::access::parse_access;
 use super::channel::parse_pick;
@@ -8,8 +10,49 @@ use super::command::Command;
 use super::fault::LineFault;
 use super::number::{no_numbers, number, one_number, tag_number, two_numbers};
 use super::range::{core_in, line_in, slice_in, word_in};
-use super::verb::Verb;
+use super::table::value_named;
 use address_map::{Checked, Request};
+
+/// What a line of a script asks for, by the word with which the line begins.
+#[derive(Clone, Copy)]
+enum Verb {
+    Issue,
+    Evict,
+    Deliver,
+    Hand,
+    Word,
+    State,
+    Log,
+    Stats,
+    Waiting,
+    Show,
+    Pump,
+}
+
+/// Each verb, by its name.
+static VERBS: [(&[u8], Verb); 11] = [
+    (b"issue", Verb::Issue),
+    (b"evict", Verb::Evict),
+    (b"deliver", Verb::Deliver),
+    (b"hand", Verb::Hand),
+    (b"word", Verb::Word),
+    (b"state", Verb::State),
+    (b"log", Verb::Log),
+    (b"stats", Verb::Stats),
+    (b"waiting", Verb::Waiting),
+    (b"show", Verb::Show),
+    (b"pump", Verb::Pump),
+];
+
+impl Verb {
+    /// The verb with this name.
+    fn named(name: &[u8]) -> Option<Verb>
+        ensures found { IfSome result (λ verb. name.now ≡ name_of_verb verb) }
+        ensures none { IfNone result ((verb : Verb) → name.now ≢ name_of_verb verb) }
+    {
+        value_named(&VERBS, name)
+    }
+}
 
 /// The command that a line's words write, at a machine of this configuration. The words are judged
 /// first by their keywords and their count, then as numbers, and last by what the machine has.

@@ -2,7 +2,7 @@ use Rattle.std.proofs.Common.{ℕ, eqb, cond, false, map, ap, ◌∙◌, arith, 
 use Rattle.std.specs.Int.{bit_at}
 use Rattle.std.proofs.lemmas.Simd.{bitmask_splat, bit_mask_l}
 use Rattle.std.proofs.lemmas.List.{get_or-map}
-use Rattle.litmus_text.proofs.blanks.places_of.Goals as goal
+use Rattle.litmus_text.proofs.row.places_of.Goals as goal
 
 pub returns : goal.returns
 returns c = λ k below.

@@ -1,10 +1,10 @@
 use Rattle.std.proofs.Common.{◌≡◌, ◌≢◌, ℕ, List, rules, map}
-use Rattle.litmus_text.specs.declared.verb.TheConstants.{VERBS}
-use Rattle.litmus_text.specs.declared.verb.Verb.{Verb}
-use Rattle.litmus_text.specs.declared.verb.Verb.TheVariants as verbs
+use Rattle.litmus_text.specs.declared.parse.TheConstants.{VERBS}
+use Rattle.litmus_text.specs.declared.parse.Verb.{Verb}
+use Rattle.litmus_text.specs.declared.parse.Verb.TheVariants as verbs
 use Rattle.litmus_text.specs.Verb.{name_of_verb}
 use Rattle.litmus_text.proofs.TableLemmas.{Each, named, unnamed}
-use Rattle.litmus_text.proofs.verb.Verb.named.Goals as goal
+use Rattle.litmus_text.proofs.parse.Verb.named.Goals as goal
 
 abbrev names : List (List ℕ × Verb)
 names = map (λ entry. (entry.0.now, entry.1)) VERBS

@@ -1,6 +1,6 @@
 use Rattle.std.proofs.Common.{◌<◌, ◌/◌, ◌^◌, arith}
 use Rattle.litmus_text.proofs.BlankLemmas.{ends_at_blank, ends_with_line, lowest_set, zeros_below}
-use Rattle.litmus_text.proofs.blanks.part_end.Goals as goal
+use Rattle.litmus_text.proofs.row.part_end.Goals as goal
 
 pub returns-then-end-line-clause-part : goal.returns-then-end-line-clause-part
 returns-then-end-line-clause-part c =

@@ -2,7 +2,7 @@ use Rattle.std.proofs.Common.{ℕ, cond, get_or, ap, ◌∙◌, arith}
 use Rattle.std.proofs.lemmas.Simd.{get_or-chunk}
 use Rattle.litmus_text.specs.Text.{is_blank}
 use Rattle.litmus_text.proofs.BlankLemmas.{either_blank}
-use Rattle.litmus_text.proofs.blanks.blanks_of.Goals as goal
+use Rattle.litmus_text.proofs.row.blanks_of.Goals as goal
 
 pub returns : goal.returns
 returns c = λ k below.

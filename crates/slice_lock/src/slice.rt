@@ -77,7 +77,7 @@ impl<F: MissFile, N: SliceNames> Slice<F, N> {
         let issue = self.booked.lock(rt).ask(port, request)?;
         // The lock is free here: the receipt is copied from the port alone.
         match issue {
-            Issue::Done(_) => return Ok(Answer::Done(port.last())),
+            Issue::Done(_) => Ok(Answer::Done(port.last())),
             undone => Answer::of_undone(Ok(undone)),
         }
     }

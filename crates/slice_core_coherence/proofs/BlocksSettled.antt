@@ -23,8 +23,7 @@ use Rattle.slice_core_coherence.proofs.BlocksFrame.{reached_as}
 use Rattle.slice_core_coherence.proofs.BlocksOwn.{own_reached}
 use Rattle.slice_core_coherence.proofs.BlocksPerforming.{AreAllowed, targets_performed}
 use Rattle.slice_core_coherence.proofs.Frame.{by_number, with_copy_at}
-use Rattle.slice_core_coherence.proofs.Settling.{Asking, asks_on, stays}
-use Rattle.slice_core_coherence.proofs.SettlingLine.{asking, settled-counted, settled-state}
+use Rattle.slice_core_coherence.proofs.SettlingLine.{Asking, asking, asks_on, settled-counted, settled-state, stays}
 use Rattle.slice_core_coherence.specs.Blocks.{LineReachedWith, has_block}
 use Rattle.slice_core_log.specs.declared.entry.Entry.{Entry}
 use Rattle.slice_core_plan.specs.Steps.{asked_by}

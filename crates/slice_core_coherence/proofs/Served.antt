@@ -241,7 +241,7 @@ pub record MayServe (cores : ℕ) (part : ℕ → Part) (core : CoreId) (sent : 
 module _ (cores : ℕ) (line : LineChannels) (copy : ℕ → CacheCopy) (part : ℕ → Part) (core : CoreId) (block : Block)
     (size : length line.cores ≡ cores) (within : core.0 < cores) (stand : PartsStand cores line copy part) where
   -- the line's channels and parts once the request is taken
-  pub taken_line : LineChannels
+  unfoldable pub taken_line : LineChannels
   taken_line = after_take line (channels.Req core)
 
   taken_part : ℕ → Part

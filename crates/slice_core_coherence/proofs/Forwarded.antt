@@ -34,7 +34,7 @@ use Rattle.slice_core_protocol.proofs.Frame.{at_place}
 use Rattle.slice_core_protocol.proofs.Promises.{reached_has_room, reached_has_rows}
 use Rattle.slice_core_protocol.specs.Fit.{is_counting, is_no_data}
 use Rattle.slice_core_protocol.specs.Line.{Line, Part}
-use Rattle.slice_core_protocol.specs.Machine.{Reached, Step, acted, after, after_turn, change_if, further, given, stands as is_at_hand, stands_ack, taken, turn}
+use Rattle.slice_core_protocol.specs.Machine.{Reached, Step, acted, after, after_turn, change_if, further, given, stands as is_at_hand, stands_ack, turn}
 use Rattle.slice_core_side.proofs.Found.{copy_of-after_advance, copy_of-after_advance_other}
 use Rattle.slice_core_side.specs.Kept.{IsKept}
 use Rattle.slice_core_side.specs.Side.{copy_of, state_of}

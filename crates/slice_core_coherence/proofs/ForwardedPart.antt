@@ -1,7 +1,6 @@
 -- A forwarded message that a core takes: the row that was planned, and the core's own part.
 use Rattle.std.proofs.Common.{◌≡◌, ℕ, ◌+◌, ◌==◌, ◌&&◌, ◌||◌, Bool, true, false, not, drop, if◌then◌else◌, Option, Some, None, slice_get, refl, sym, ap, ◌∙◌, arith, true≢false}
 use Rattle.std.proofs.Math.Bool.{or-false}
-use Rattle.address_map.specs.CoreSet.{has, with}
 use Rattle.address_map.specs.declared.address.CoreId.{CoreId}
 use Rattle.address_map.specs.declared.address.Local.{Local}
 use Rattle.cache_table.specs.CopyState.{is_waiting}
@@ -22,7 +21,7 @@ use Rattle.slice_core_plan.specs.declared.decide.Plan.{Plan}
 use Rattle.slice_core_plan.specs.declared.decide.Plan.TheVariants as plans
 use Rattle.slice_core_answer.specs.declared.answer.Cell.TheVariants as cells
 use Rattle.slice_core_protocol.specs.Line.{Part}
-use Rattle.slice_core_protocol.specs.Machine.{acted, after, asks_for, change_if, given, stands_ack, taken, turn}
+use Rattle.slice_core_protocol.specs.Machine.{acted, asks_for, change_if, given, stands_ack, taken}
 use Rattle.slice_core_protocol.specs.Line.{Request}
 use Rattle.slice_core_side.specs.Copy.{is_gone, no_copy}
 use Rattle.slice_core_side.specs.Side.{state_of}

@@ -31,7 +31,7 @@ use Rattle.slice_core_plan.specs.declared.decide.Plan.TheVariants as plans
 use Rattle.slice_core_protocol.proofs.Frame.{at_place}
 use Rattle.slice_core_protocol.specs.Fit.{is_counting, is_get_m, is_get_s, is_no_forward, is_put_m, is_put_s}
 use Rattle.slice_core_protocol.specs.Line.{Forward, Line, Part, fwd_get_m, fwd_get_s}
-use Rattle.slice_core_protocol.specs.Machine.{IsWithin, after, after_service, answered, change_if, entry_of, forwarded, invalidated_by, is_asked_for, stands_ack}
+use Rattle.slice_core_protocol.specs.Machine.{IsWithin, after_service, answered, change_if, entry_of, forwarded, invalidated_by, is_asked_for, stands_ack}
 use Rattle.slice_core_protocol.specs.Promise.{has_room_for_forward, has_room_for_inv, has_room_for_put_ack}
 use Rattle.slice_core_side.specs.declared.copy.CacheCopy.{CacheCopy}
 use Rattle.slice_queues.proofs.InvalidateLaws.{core_at-after_invalidating}

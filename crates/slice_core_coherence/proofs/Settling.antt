@@ -1,6 +1,6 @@
 -- Data or an acknowledgement that a core takes are a step of its line. Where a write is left behind the loads that the
 -- data allow, the right to write is asked for by another.
-use Rattle.std.proofs.Common.{◌≡◌, ℕ, ◌+◌, ◌<◌, ◌≤◌, ◌&&◌, Bool, true, false, not, if◌then◌else◌, List, ◌++◌, length, Option, Some, None, IfSome, IsSome, is_some, refl, sym, ap, ◌∙◌, subst, true≢false}
+use Rattle.std.proofs.Common.{◌≡◌, ℕ, ◌<◌, ◌≤◌, ◌&&◌, Bool, true, false, not, if◌then◌else◌, List, ◌++◌, length, Option, Some, None, IfSome, IsSome, is_some, refl, sym, ap, ◌∙◌, subst, true≢false}
 use Rattle.std.specs.List.{list_all}
 use Rattle.std.proofs.lemmas.Bool.{and_from}
 use Rattle.address_map.specs.CoreSet.{has, without}

@@ -29,7 +29,7 @@ use Rattle.slice_core_protocol.specs.Fit.{is_counting, is_only_data, is_shared_d
 use Rattle.slice_core_protocol.specs.Line.{Line, Look, Part, no_data}
 use Rattle.slice_core_protocol.specs.Machine.{Reached, Step, acknowledged as taken_from, acted, after, after_ack, change_if, count, further, stands as is_at_hand, stands_ack, taken, turn}
 use Rattle.slice_core_side.specs.Perform.{asks_to_write, left_in, settled_state}
-use Rattle.slice_core_side.specs.Steps.{acknowledged, settled, settled_copy}
+use Rattle.slice_core_side.specs.Steps.{acknowledged, settled_copy}
 use Rattle.slice_core_side.specs.declared.copy.CacheCopy.{CacheCopy}
 use Rattle.slice_queues.specs.Line.{CoreChannels, LineChannels, after_take, core_at, no_messages, with_core}
 use Rattle.slice_queues_message.specs.declared.channel.Channel.TheVariants as channels

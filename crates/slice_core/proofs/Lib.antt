@@ -1,3 +1,4 @@
+pub mod LinksAsking
 pub mod LinksStates
 pub mod LinksSteps
 pub mod LinksFrame

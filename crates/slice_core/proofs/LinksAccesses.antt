@@ -31,7 +31,7 @@ use Rattle.slice_core_side.specs.declared.access.Way.TheVariants as ways
 use Rattle.slice_core_side.specs.declared.copy.CacheCopy.{CacheCopy}
 use Rattle.slice_core.proofs.LinksFrame.{links_logged, links_side, links_step, placed}
 use Rattle.slice_core.proofs.LinksRequests.{asked, asked-sent, asked-sent_other}
-use Rattle.slice_core.proofs.LinksStates.{hits_on, leaves_by, opens_to, OpensTo}
+use Rattle.slice_core.proofs.LinksAsking.{hits_on, leaves_by, opens_to, OpensTo}
 use Rattle.slice_core.specs.Sound.{HasLinks, has_sent}
 use Rattle.slice_queues.specs.Line.{LineChannels, after_send, empty_line}
 use Rattle.slice_queues_message.specs.declared.channel.Channel.TheVariants as channels

@@ -23,7 +23,7 @@ use Rattle.slice_core_side.specs.Kept.{IsKept, stands_in_array}
 use Rattle.slice_core_side.specs.Side.{SideView, new_side, state_of}
 use Rattle.slice_core_side.specs.declared.copy.CacheCopy.{CacheCopy}
 use Rattle.slice_core.proofs.LinksRequests.{asked}
-use Rattle.slice_core.proofs.LinksStates.{sent-none}
+use Rattle.slice_core.proofs.LinksAsking.{sent-none}
 use Rattle.slice_core.specs.Sound.{HasLinks, has_sent}
 use Rattle.slice_queues.specs.Line.{CoreChannels, LineChannels, empty_line, no_messages}
 use Rattle.writeback_buffer.specs.Buffer.{held_at as buffer_at}

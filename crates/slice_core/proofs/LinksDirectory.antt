@@ -22,7 +22,7 @@ use Rattle.slice_core_plan.specs.declared.decide.Plan.TheVariants as plans
 use Rattle.slice_core_side.specs.Side.{state_of}
 use Rattle.slice_core.proofs.LinksFrame.{placed, same_local}
 use Rattle.slice_core.proofs.LinksRequests.{asked, asked-directory_sent, asked-taken, asked-taken_other}
-use Rattle.slice_core.proofs.LinksStates.{sent-none}
+use Rattle.slice_core.proofs.LinksAsking.{sent-none}
 use Rattle.slice_core.specs.Sound.{HasLinks, has_sent}
 use Rattle.slice_queues.specs.Line.{LineChannels, after_take, core_at, empty_line}
 use Rattle.slice_queues_message.specs.declared.channel.Channel.TheVariants as channels

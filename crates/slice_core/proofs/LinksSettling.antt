@@ -35,7 +35,8 @@ use Rattle.slice_core_side.specs.Steps.{after_change, after_settle, settled_copy
 use Rattle.slice_core_side.specs.declared.copy.CacheCopy.{CacheCopy}
 use Rattle.slice_core.proofs.LinksFrame.{links_logged, links_step}
 use Rattle.slice_core.proofs.LinksRequests.{asked, asked-ack_taken, asked-asked_by, asked-asked_by_other, asked-data_taken}
-use Rattle.slice_core.proofs.LinksStates.{asked_then, comes_by_ack, comes_by_data, comes_by_exclusive, ComesTo, sent-none, settled-sent, settled-stands, settled-waits, waits-or_leaves}
+use Rattle.slice_core.proofs.LinksAsking.{sent-none}
+use Rattle.slice_core.proofs.LinksStates.{asked_then, comes_by_ack, comes_by_data, comes_by_exclusive, ComesTo, settled-sent, settled-stands, settled-waits, waits-or_leaves}
 use Rattle.slice_core.specs.Sound.{HasLinks, has_sent}
 use Rattle.slice_queues.specs.Line.{after_take, core_at}
 use Rattle.slice_queues_message.specs.declared.channel.Channel.{Channel}

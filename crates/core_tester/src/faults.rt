@@ -4,9 +4,10 @@ use core_thread::Job;
 use core_thread_system::{All, Core, Open, Outcome, Step, System, SystemKeys};
 use drain::{AuditError, AuditFault, audit};
 use mshr_file::MissFile;
+use slice_core_answer::Evicted;
 use std::sync::Wait;
 
-/// The first core stores, and gives the line up. Answers whether both were done.
+/// The first core stores to a line of each slice, and gives that of slice 1 up. Answers whether all was done.
 pub fn stores_and_leaves<F: MissFile, M: SystemKeys, R: Wait>(
     rt: &R,
     jobs: &mut [Job<'_, F, All<M>>],
@@ -16,14 +17,15 @@ pub fn stores_and_leaves<F: MissFile, M: SystemKeys, R: Wait>(
     };
     let program = [
         Step::Access(WordAddr(0), Op::Store(7)),
+        Step::Access(WordAddr(8), Op::Store(8)),
         Step::Settle,
-        Step::Evict(LineAddr(0)),
+        Step::Evict(LineAddr(1)),
     ];
     job.core.run(rt, &program, &Open, LIMIT) == Outcome::Finished
 }
 
 /// Whether an audit of the first two of three cores lacks the third, and one of all finds the first one's line on its
-/// way; each gives back what it was given.
+/// way, in slice 1; once a line of slice 0 is on its way too, one finds that. Each gives back what it was given.
 pub fn faults_come<'a, F: MissFile, M: SystemKeys, R: AllocGlobal + Wait>(
     rt: &R,
     system: &System<F, All<M>>,
@@ -33,8 +35,21 @@ pub fn faults_come<'a, F: MissFile, M: SystemKeys, R: AllocGlobal + Wait>(
     let third = cores.pop();
     let (lacks, mut cores) = fails(rt, system, cores, AuditError::Missing(CoreId(2)), 2);
     let back = put_back(&mut cores, third);
-    let (moves, cores) = fails(rt, system, cores, AuditError::NotQuiet(SliceId(0)), 3);
-    (lacks && back && moves, cores)
+    let (second, mut cores) = fails(rt, system, cores, AuditError::NotQuiet(SliceId(1)), 3);
+    let leaves = first_leaves(rt, &mut cores);
+    let (first, cores) = fails(rt, system, cores, AuditError::NotQuiet(SliceId(0)), 3);
+    (lacks && back && second && leaves && first, cores)
+}
+
+/// The first core gives line 0 up. Answers whether it began to.
+fn first_leaves<F: MissFile, M: SystemKeys, R: Wait>(
+    rt: &R,
+    cores: &mut [Core<'_, F, All<M>>],
+) -> bool {
+    match cores.first_mut() {
+        Some(core) => core.evict(rt, LineAddr(0)) == Evicted::Evicting,
+        None => false,
+    }
 }
 
 /// Whether an audit fails with this error, and so many cores come back.

@@ -11,7 +11,7 @@ pub fn is_found(alloc: Global, audit: &Audit, row: Row) -> Result<bool, AllocErr
         Row::LargeSum => Ok(has(audit, 2, [1, 0]) && has_replies(audit, [0, u64::MAX])),
         Row::FourThreads => has_each(alloc, audit, 8000, [10_000, 10_000]),
         Row::ManyThreads => has_each(alloc, audit, 1280, [20_800, 20_800]),
-        Row::Faults => Ok(audit.receipts.len() == 1 && audit.counters.is_empty()),
+        Row::Faults => Ok(audit.receipts.len() == 2 && audit.counters.is_empty()),
         Row::TwoSlices => Ok(has(audit, 1, [0, 0])),
         Row::TwoCores => Ok(has(audit, 2, [0, 0])),
         Row::Turns => Ok(has(audit, 5, [3, 1])),

@@ -75,9 +75,9 @@ impl Row {
     pub fn configure(self, alloc: Global, exclusive: bool) -> Result<Config, AllocError> {
         let mut config = Config::new(alloc);
         config.cores = self.cores();
+        config.slices = 2;
         config.exclusive = exclusive;
         if self != Row::Faults {
-            config.slices = 2;
             for word in COUNTERS {
                 config.counters.push(word)?;
             }

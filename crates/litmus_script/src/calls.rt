@@ -15,9 +15,7 @@ use super::answers::Issued;
 use address_map::{Checked, CoreId, LineAddr, Request, SliceId, WordAddr};
 use litmus_text::TextFault;
 use mshr_file::MissFile;
-use slice_core::{
-    Class, Delivered, DeliveredNext, Evicted, Issue, LineView, Numbered, Pick, Refused, SliceState,
-};
+use slice_core::{Class, DeliveredNext, Evicted, Issue, LineView, Numbered, Refused, SliceState};
 use std::alloc::Global;
 
 pub(crate) fn build<F: MissFile>(
@@ -69,14 +67,6 @@ pub(crate) fn evict<F: MissFile>(state: &mut SliceState<F>, core: CoreId, line: 
     ensures made { Answers (of_slice.Evict core line) (answers.Evict result) state.old state.new }
 {
     state.evict(core, line)
-}
-
-#[inline(always)]
-pub(crate) fn deliver<F: MissFile>(state: &mut SliceState<F>, pick: Pick) -> Delivered
-    ensures same { IsSameSlice state.old state.new }
-    ensures made { Answers (of_slice.Deliver pick) (answers.Deliver result) state.old state.new }
-{
-    state.deliver(pick)
 }
 
 #[inline(always)]

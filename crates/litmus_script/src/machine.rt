@@ -107,7 +107,7 @@ impl<F: MissFile> Machine<F> {
             (answers.Deliver result) self.old.slices.items self.new.slices.items }
     {
         let slice = self.slice_of(pick.line());
-        calls::deliver(&mut self.slices[slice], pick)
+        self.slices[slice].deliver(pick)
     }
 
     pub fn hand(&mut self, core: CoreId, slice: SliceId) -> Option<Numbered>

@@ -52,7 +52,7 @@ fn is_served<F: MissFile>(side: &mut Side<F>, log: &mut Vec<Entry>) -> bool
     let Some(place) = side.look(LINE).place else {
         return false;
     };
-    side.block(LINE).words[0] == 0 && !side.settle(CoreId(0), LINE, place, 24, log)
+    side.copy(LINE).block.words[0] == 0 && !side.settle(CoreId(0), LINE, place, 24, log)
 }
 
 // A load of the line hits, and answers the word.

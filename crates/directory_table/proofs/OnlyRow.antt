@@ -225,10 +225,15 @@ not_both states.S awaited modified = apart awaited
 not_both states.M awaited modified = apart awaited
 not_both states.S_D awaited modified = apart modified
 
+-- the row that goes on to this
+abbrev row_to : DirState → Option CoreId → ℕ → DirSends → Bool → DirRow
+row_to next owns shares sent writes =
+    rows.Go (record { state = next; owner = owns; sharers = shares; sends = sent; writes_home = writes })
+
 -- a row that goes on and obeys the laws
 abbrev Goes : Bool → DirState → Option CoreId → ℕ → DirEvent → DirState → Option CoreId → ℕ → DirSends → Bool → Type 0
 Goes exclusive state owner sharers event next owns shares sent writes =
-    IsLawful exclusive state owner sharers event (rows.Go next owns shares sent writes)
+    IsLawful exclusive state owner sharers event (row_to next owns shares sent writes)
 
 -- Who reads a line that nobody has becomes its owner under the setting, and is named as one.
 read-granted : (state : DirState) (exclusive : Bool) (owner : Option CoreId) (sharers : ℕ) (core : CoreId)
@@ -303,7 +308,7 @@ same_state a b s t one other owned awaited shares =
 -- ---- two rows
 
 same_row : (a b : DirState) (o p : Option CoreId) (s t : ℕ) (x y : DirSends) (v w : Bool) → a ≡ b → o ≡ p → s ≡ t
-    → x ≡ y → v ≡ w → rows.Go a o s x v ≡ rows.Go b p t y w
+    → x ≡ y → v ≡ w → row_to a o s x v ≡ row_to b p t y w
 same_row a b o p s t x y v w state owner sharers sent writes = cc
 
 -- Two rows that go on and obey the laws send the same.
@@ -332,8 +337,8 @@ same_sends exclusive state owner sharers event a b o p s t x y v w kept small sm
 -- Two rows that go on and obey the laws are one.
 same_goes : (exclusive : Bool) (state : DirState) (owner : Option CoreId) (sharers : ℕ) (event : DirEvent)
     (a b : DirState) (o p : Option CoreId) (s t : ℕ) (x y : DirSends) (v w : Bool) → IsKept state owner sharers event
-    → HasSets (rows.Go a o s x v) → HasSets (rows.Go b p t y w) → Goes exclusive state owner sharers event a o s x v
-    → Goes exclusive state owner sharers event b p t y w → rows.Go a o s x v ≡ rows.Go b p t y w
+    → HasSets (row_to a o s x v) → HasSets (row_to b p t y w) → Goes exclusive state owner sharers event a o s x v
+    → Goes exclusive state owner sharers event b p t y w → row_to a o s x v ≡ row_to b p t y w
 same_goes exclusive state owner sharers event a b o p s t x y v w kept sets sets_too one other =
     let sent =
     same_sends exclusive state owner sharers event a b o p s t x y v w kept.owner_in_m sets.1 sets_too.1 one other in
@@ -358,19 +363,20 @@ pub lawful-only : (exclusive : Bool) (state : DirState) (owner : Option CoreId) 
     (row other : DirRow) → IsKept state owner sharers event → HasSets row → HasSets other
     → IsLawful exclusive state owner sharers event row → IsLawful exclusive state owner sharers event other
     → other ≡ row
-lawful-only exclusive state owner sharers event (rows.Go a o s x v) (rows.Go b p t y w) kept sets sets_too one other =
-    same_goes exclusive state owner sharers event b a p o t s y x w v kept sets_too sets other one
+lawful-only exclusive state owner sharers event (rows.Go step) (rows.Go next) kept sets sets_too one other =
+    same_goes exclusive state owner sharers event next.state step.state next.owner step.owner next.sharers step.sharers
+    next.sends step.sends next.writes_home step.writes_home kept sets_too sets other one
 lawful-only exclusive state owner sharers event rows.Blocked rows.Blocked kept sets sets_too one other = refl
 lawful-only exclusive state owner sharers event rows.NoEntry rows.NoEntry kept sets sets_too one other = refl
-lawful-only exclusive state owner sharers event (rows.Go a o s x v) rows.Blocked kept sets sets_too one other =
+lawful-only exclusive state owner sharers event (rows.Go step) rows.Blocked kept sets sets_too one other =
     apart (one.blocked ∙ sym other.blocked)
-lawful-only exclusive state owner sharers event rows.Blocked (rows.Go b p t y w) kept sets sets_too one other =
+lawful-only exclusive state owner sharers event rows.Blocked (rows.Go next) kept sets sets_too one other =
     apart (other.blocked ∙ sym one.blocked)
-lawful-only exclusive state owner sharers event (rows.Go a o s x v) rows.NoEntry kept sets sets_too one other =
+lawful-only exclusive state owner sharers event (rows.Go step) rows.NoEntry kept sets sets_too one other =
     apart (other.entry kept.owner_in_m ∙ sym (one.entry kept.owner_in_m))
 lawful-only exclusive state owner sharers event rows.Blocked rows.NoEntry kept sets sets_too one other =
     apart (other.entry kept.owner_in_m ∙ sym (one.entry kept.owner_in_m))
-lawful-only exclusive state owner sharers event rows.NoEntry (rows.Go b p t y w) kept sets sets_too one other =
+lawful-only exclusive state owner sharers event rows.NoEntry (rows.Go next) kept sets sets_too one other =
     apart (one.entry kept.owner_in_m ∙ sym (other.entry kept.owner_in_m))
 lawful-only exclusive state owner sharers event rows.NoEntry rows.Blocked kept sets sets_too one other =
     apart (one.entry kept.owner_in_m ∙ sym (other.entry kept.owner_in_m))

@@ -15,7 +15,7 @@ use Rattle.directory_table.specs.declared.row.DirRow.TheVariants as rows
 -- Where the row goes on, its state, owner, sharers, what it sends and whether it writes the home copy have this
 -- property.
 abbrev pub IfGo : DirRow → (DirState → Option CoreId → ℕ → DirSends → Bool → Type 0) → Type 0
-IfGo (rows.Go state owner sharers sent writes) P = P state owner sharers sent writes
+IfGo (rows.Go step) P = P step.state step.owner step.sharers step.sends step.writes_home
 IfGo rows.Blocked P = Unit {0}
 IfGo rows.NoEntry P = Unit {0}
 

@@ -15,10 +15,12 @@ use Rattle.directory_table.specs.declared.row.DirRow.TheVariants as rows
 
 -- the row that leaves the home copy as it is, and the row that writes it
 abbrev pub goes : DirState → Option CoreId → ℕ → DirSends → DirRow
-goes state owner sharers sent = rows.Go state owner sharers sent false
+goes state owner sharers sent =
+    rows.Go (record { state = state; owner = owner; sharers = sharers; sends = sent; writes_home = false })
 
 abbrev pub goes_home : DirState → Option CoreId → ℕ → DirSends → DirRow
-goes_home state owner sharers sent = rows.Go state owner sharers sent true
+goes_home state owner sharers sent =
+    rows.Go (record { state = state; owner = owner; sharers = sharers; sends = sent; writes_home = true })
 
 -- S, or I where no sharer is left
 abbrev pub shared_by : ℕ → DirState

@@ -8,7 +8,7 @@
 //! the sends and the table, and `docs/PROTOCOL.md` shows it. A call looks at one entry, and takes no memory.
 #![tactic(auto)]
 
-pub use row::{DirEvent, DirRow, DirSends, dir_row};
+pub use row::{DirEvent, DirRow, DirSends, DirStep, dir_row};
 pub use state::{DirEntry, DirState};
 
 mod row;

@@ -33,18 +33,24 @@ pub enum DirSends {
     PutAck,
 }
 
+/// What the directory does by a row of the table.
+#[derive(Clone, Copy, Debug, PartialEq, Eq)]
+pub struct DirStep {
+    /// The entry's next state, and its next owner and sharers.
+    pub state: DirState,
+    pub owner: Option<CoreId>,
+    pub sharers: CoreSet,
+    /// What is sent, and to whom.
+    pub sends: DirSends,
+    /// Whether the block that comes along is the home copy then.
+    pub writes_home: bool,
+}
+
 /// One cell of the table.
 #[derive(Clone, Copy, Debug, PartialEq, Eq)]
 pub enum DirRow {
-    /// The entry's next state, owner and sharers, and what is sent. `writes_home` says that the block of the message
-    /// becomes the home copy.
-    Go {
-        state: DirState,
-        owner: Option<CoreId>,
-        sharers: CoreSet,
-        sends: DirSends,
-        writes_home: bool,
-    },
+    /// The directory takes the event, and does this.
+    Go(DirStep),
     /// The request stays at the front of its channel.
     Blocked,
     /// The protocol never brings this event to this state.
@@ -117,13 +123,13 @@ fn cell(exclusive: bool, state: DirState, owner: Option<CoreId>, sharers: CoreSe
 const fn go(state: DirState, owner: Option<CoreId>, sharers: CoreSet, sends: DirSends) -> DirRow
     ensures { result ≡ goes state owner sharers sends }
 {
-    DirRow::Go {
+    DirRow::Go(DirStep {
         state,
         owner,
         sharers,
         sends,
         writes_home: false,
-    }
+    })
 }
 
 /// The row that copies the message's block home.
@@ -135,13 +141,13 @@ const fn go_home(
 ) -> DirRow
     ensures { result ≡ goes_home state owner sharers sends }
 {
-    DirRow::Go {
+    DirRow::Go(DirStep {
         state,
         owner,
         sharers,
         sends,
         writes_home: true,
-    }
+    })
 }
 
 /// S, or I where no sharer is left.

@@ -38,7 +38,7 @@ pub moves : (plan : Plan) (state : List ℕ) → plan ≢ plans.Nothing → plan
 moves plans.Nothing state nothing blocked broken = absurd (nothing refl)
 moves plans.Blocked state nothing blocked broken = absurd (blocked refl)
 moves (plans.Broken cell) state nothing blocked broken = absurd (broken cell refl)
-moves (plans.Directory entry owner sharers sends writes_home) state nothing blocked broken = refl
+moves (plans.Directory step) state nothing blocked broken = refl
 moves (plans.Home entry owner sharers) state nothing blocked broken = refl
 moves (plans.Forwarded next sends requester) state nothing blocked broken = refl
 moves (plans.Fill place next) state nothing blocked broken = refl

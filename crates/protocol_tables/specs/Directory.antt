@@ -64,8 +64,8 @@ text_of_home writes = if writes then codes "block home; " else codes ""
 
 -- a row: what is sent, whether the home copy is written, and the entry afterwards
 abbrev pub text_of_row : DirRow → List ℕ
-text_of_row (rows.Go state owner sharers sent writes) =
-    text_of_sends sent ++ (text_of_home writes ++ text_of_entry state owner sharers)
+text_of_row (rows.Go step) =
+    text_of_sends step.sends ++ (text_of_home step.writes_home ++ text_of_entry step.state step.owner step.sharers)
 text_of_row rows.Blocked = codes "blocked"
 text_of_row rows.NoEntry = codes "-"
 

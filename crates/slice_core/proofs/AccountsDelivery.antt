@@ -149,14 +149,13 @@ keeps-plan plan old local channel answer new sound = by plan
     by plans.Nothing is after = subst Keeps (sym after.1) keeps
     by plans.Blocked is after = subst Keeps (sym after.1) keeps
     by (plans.Broken cell) is after = subst Keeps (sym after.1) keeps
-    by (plans.Directory state owner sharers sent writes) is after =
+    by (plans.Directory step) is after =
         let core = core_of channel in
         let entry = entry_at old.view local in
         let line = after_take (channels_at old.view local) (channels.Req core) in
-        moved old local channel new keeps (after_directory old.view local core state owner sharers sent writes) refl
-        refl refl
-        (shaped-channels (with_entry old.view local _) local (directory_sent line core entry.home sent)
-        (cores-directory line core entry.home sent ∙ cores-taken (channels_at old.view local) (channels.Req core))
+        moved old local channel new keeps (after_directory old.view local core step) refl refl refl
+        (shaped-channels (with_entry old.view local _) local (directory_sent line core entry.home step.sends)
+        (cores-directory line core entry.home step.sends ∙ cores-taken (channels_at old.view local) (channels.Req core))
         (shaped-entry old.view local _ sound.counted.shaped)) after.1
     by (plans.Home state owner sharers) is after =
         moved old local channel new keeps (after_home old.view local state owner sharers) refl refl refl

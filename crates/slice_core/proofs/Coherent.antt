@@ -113,7 +113,7 @@ planned : (plan : Plan) (old : PartsView) (local : Local) (channel : Channel) (a
 planned plans.Nothing old local channel answer new fine after = rw after.0 tt
 planned plans.Blocked old local channel answer new fine after = rw after.0 tt
 planned (plans.Broken cell) old local channel answer new fine after = absurd (fine cell refl)
-planned (plans.Directory state owner sharers sent writes) old local channel answer new fine after = rw after.0 tt
+planned (plans.Directory step) old local channel answer new fine after = rw after.0 tt
 planned (plans.Home state owner sharers) old local channel answer new fine after = rw after.0 tt
 planned (plans.Forwarded next sent requester) old local channel answer new fine after = rw after.0 tt
 planned (plans.Fill place next) old local channel answer new fine after = rw after.0 tt

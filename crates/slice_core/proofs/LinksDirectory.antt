@@ -9,7 +9,7 @@ use Rattle.directory_table.specs.declared.row.DirEvent.{DirEvent}
 use Rattle.directory_table.specs.declared.row.DirEvent.TheVariants as events
 use Rattle.directory_table.specs.declared.row.DirRow.{DirRow}
 use Rattle.directory_table.specs.declared.row.DirRow.TheVariants as rows
-use Rattle.directory_table.specs.declared.row.DirSends.{DirSends}
+use Rattle.directory_table.specs.declared.row.DirStep.{DirStep}
 use Rattle.directory_table.specs.declared.state.DirEntry.{DirEntry}
 use Rattle.directory_table.specs.declared.state.DirState.{DirState}
 use Rattle.directory_table.specs.declared.state.DirState.TheVariants as states
@@ -33,7 +33,7 @@ use Rattle.slice_queues_message.specs.declared.message.RequestMessage.TheVariant
 
 -- the owner that a row leaves, if it leaves one, has the property
 abbrev pub OwnerOf : (CoreId → Type 0) → DirRow → Type 0
-OwnerOf P (rows.Go state owner sharers sent writes) = IfSome owner P
+OwnerOf P (rows.Go step) = IfSome step.owner P
 OwnerOf P rows.Blocked = Unit {0}
 OwnerOf P rows.NoEntry = Unit {0}
 
@@ -116,7 +116,7 @@ cell-owner P false states.S_D owner sharers events.DataHome was asks = was
 
 -- the owner that a plan leaves, if it leaves one, is a core
 abbrev pub IsOwnedPlan : View → Plan → Type 0
-IsOwnedPlan v (plans.Directory state owner sharers sent writes) = IfSome owner (λ core. core.0 < length v.sides)
+IsOwnedPlan v (plans.Directory step) = IfSome step.owner (λ core. core.0 < length v.sides)
 IsOwnedPlan v (plans.Home state owner sharers) = IfSome owner (λ core. core.0 < length v.sides)
 IsOwnedPlan v plan = Unit {0}
 
@@ -135,10 +135,10 @@ module _ (v : View) (local : Local) (links : HasLinks v) (within : local.0 < v.l
           OwnerOf (λ owner. owner.0 < length v.sides) row → IsOwnedPlan v (plan_of v local (channels.Req core))
       by_row message is rows.Blocked e owned = rw (is, e) tt
       by_row message is rows.NoEntry e owned = rw (is, e) tt
-      by_row message is (rows.Go state owner sharers sent writes) e owned =
-          by_room (directory_room (channels_at v local) core sent) refl
+      by_row message is (rows.Go step) e owned =
+          by_room (directory_room (channels_at v local) core step.sends) refl
         where
-          by_room : (room : Bool) → directory_room (channels_at v local) core sent ≡ room →
+          by_room : (room : Bool) → directory_room (channels_at v local) core step.sends ≡ room →
               IsOwnedPlan v (plan_of v local (channels.Req core))
           by_room true has_room = rw (is, e, has_room) owned
           by_room false has_room = rw (is, e, has_room) tt
@@ -155,7 +155,7 @@ module _ (v : View) (local : Local) (links : HasLinks v) (within : local.0 < v.l
   owned_home = by (is_some (channels_at v local).home)
     where
       row : (r : DirRow) → OwnerOf (λ owner. owner.0 < length v.sides) r → IsOwnedPlan v (by_home_row r)
-      row (rows.Go state owner sharers sent writes) owned = owned
+      row (rows.Go step) owned = owned
       row rows.Blocked owned = tt
       row rows.NoEntry owned = tt
 
@@ -197,30 +197,27 @@ links_entry v local entry line shaped links within owned sent = record {
 
 module _ (v : View) (local : Local) (shaped : IsShaped v) (links : HasLinks v) (within : local.0 < v.lines.lines) where
   -- A request that the directory takes keeps the links: nothing is asked for the core's copy then.
-  pub links_directory : (core : CoreId) (state : DirState) (owner : Option CoreId) (sharers : ℕ) (sent : DirSends)
-      (writes : Bool) →
-      core.0 < length v.sides →
-      plan_of v local (channels.Req core) ≡ plans.Directory state owner sharers sent writes →
-      HasLinks (after_directory v local core state owner sharers sent writes)
-  links_directory core state owner sharers sent writes there is =
+  pub links_directory : (core : CoreId) (step : DirStep) → core.0 < length v.sides →
+      plan_of v local (channels.Req core) ≡ plans.Directory step → HasLinks (after_directory v local core step)
+  links_directory core step there is =
       let entry = entry_at v local in
       let line = channels_at v local in
       let taken = after_take line (channels.Req core) in
-      let home : Block = if writes then block_in entry.home (core_at line core.0).request else entry.home in
-      links_entry v local (record { home = home; sharers = sharers; owner = owner; state = state })
-      (directory_sent taken core entry.home sent) shaped links within
+      let home : Block = if step.writes_home then block_in entry.home (core_at line core.0).request else entry.home in
+      links_entry v local (record { home = home; sharers = step.sharers; owner = step.owner; state = step.state })
+      (directory_sent taken core entry.home step.sends) shaped links within
       (subst (IsOwnedPlan v) is (owned_request v local links within core there))
       (λ other inside.
       let copy = state_of (side_at v other) local in
       elim (cases_eq other.0 core.0) [
         | inl same ↦
-            let none : asked (directory_sent taken core entry.home sent) other.0 ≡ None =
-            asked-directory_sent taken core other.0 entry.home sent ∙ ap (asked taken) same
+            let none : asked (directory_sent taken core entry.home step.sends) other.0 ≡ None =
+            asked-directory_sent taken core other.0 entry.home step.sends ∙ ap (asked taken) same
             ∙ asked-taken line core (subst (λ n. core.0 < n) (sym (shaped.cores local within)) there) in
             ap (has_sent copy) none ∙ sent-none copy
         | inr apart ↦
             ap (has_sent copy)
-            (asked-directory_sent taken core other.0 entry.home sent ∙ asked-taken_other line core other.0 apart)
+            (asked-directory_sent taken core other.0 entry.home step.sends ∙ asked-taken_other line core other.0 apart)
             ∙ links.sent other local inside within
       ])
 

@@ -29,8 +29,8 @@ links_accesses = record {
 
 pub links_messages : KeepsMessages IsWhole HasLinks
 links_messages = record {
-  directory = λ v local core state owner sharers sent writes whole inside there is links.
-      links_directory v local whole.shaped links inside core state owner sharers sent writes there is;
+  directory = λ v local core step whole inside there is links.
+      links_directory v local whole.shaped links inside core step there is;
   home = λ v local state owner sharers whole inside is links.
       links_home v local whole.shaped links inside state owner sharers is;
   forwarded = λ v local core next sent requester whole inside there copy is links.

@@ -242,7 +242,7 @@ planned : (plan : Plan) (old : PartsView) (local : Local) (channel : Channel) (a
 planned plans.Nothing old local channel answer new after = same-is old new after.1
 planned plans.Blocked old local channel answer new after = same-is old new after.1
 planned (plans.Broken cell) old local channel answer new after = same-is old new after.1
-planned (plans.Directory state owner sharers sent writes) old local channel answer new after =
+planned (plans.Directory step) old local channel answer new after =
     subst (IsSameSlice old) (sym after.1)
     (lines-changed old _ _ _ _ _ refl)
 planned (plans.Home state owner sharers) old local channel answer new after =

@@ -17,8 +17,8 @@ use Rattle.slice_queues_message.specs.declared.channel.Pick.{Pick}
 
 messages_keep : KeepsMessages Known IsFaithful
 messages_keep = record {
-  directory = λ v local core state owner sharers sent writes known inside there is all. record {
-    reached = directory_keeps v local known.0.shaped inside known.0.few core there state owner sharers sent writes is
+  directory = λ v local core step known inside there is all. record {
+    reached = directory_keeps v local known.0.shaped inside known.0.few core there step is
         all.reached;
     legal = all.legal;
   };

@@ -1,5 +1,5 @@
 -- The blocks of a line once the directory has served a request: they are the machine's.
-use Rattle.std.proofs.Common.{◌≡◌, ℕ, ◌<◌, ◌≤◌, ◌&&◌, Bool, true, false, [], ◌∷◌, ◌++◌, if◌then◌else◌, length, Option, Some, None, unwrap_or, refl, sym, ap, ◌∙◌, subst}
+use Rattle.std.proofs.Common.{◌≡◌, ℕ, ◌<◌, ◌≤◌, ◌&&◌, Bool, true, false, [], ◌∷◌, ◌++◌, if◌then◌else◌, length, Some, None, unwrap_or, refl, sym, ap, ◌∙◌, subst}
 use Rattle.address_map.specs.CoreSet.{has}
 use Rattle.address_map.specs.declared.address.CoreId.{CoreId}
 use Rattle.address_map.specs.declared.address.Local.{Local}
@@ -7,8 +7,8 @@ use Rattle.address_map.specs.declared.block.Block.{Block}
 use Rattle.directory_table.specs.Law.{is_named, requester, sends_data}
 use Rattle.directory_table.specs.declared.row.DirSends.{DirSends}
 use Rattle.directory_table.specs.declared.row.DirSends.TheVariants as answers
+use Rattle.directory_table.specs.declared.row.DirStep.{DirStep}
 use Rattle.directory_table.specs.declared.state.DirEntry.{DirEntry}
-use Rattle.directory_table.specs.declared.state.DirState.{DirState}
 use Rattle.slice_core_coherence.proofs.BlocksFrame.{by_entry_with, reached_further}
 use Rattle.slice_core_coherence.proofs.BlocksPlaces.{CoresBlocksStand, blocks_given, blocks_passed, blocks_same, core_as, other_mail, with_block_at}
 use Rattle.slice_core_coherence.proofs.Directory.{directory_step}
@@ -122,75 +122,74 @@ home_copy core requests.PutS true home blocks same put = same
 home_copy core (requests.PutM block) true home blocks same put = put
 
 module _ (v : View) (local : Local) (shaped : IsShaped v) (inside : local.0 < v.lines.lines)
-    (most : length v.sides ≤ 64) (core : CoreId) (within : core.0 < length v.sides) (state : DirState)
-    (owner : Option CoreId) (sharers : ℕ) (sent : DirSends) (writes : Bool)
-    (is : plan_of v local (channels.Req core) ≡ plans.Directory state owner sharers sent writes) where
+    (most : length v.sides ≤ 64) (core : CoreId) (within : core.0 < length v.sides) (step : DirStep)
+    (is : plan_of v local (channels.Req core) ≡ plans.Directory step) where
   abbrev entry_after : DirEntry
   entry_after = record {
-    home = if writes then block_in (entry_at v local).home (core_at (channels_at v local) core.0).request
+    home = if step.writes_home then block_in (entry_at v local).home (core_at (channels_at v local) core.0).request
         else (entry_at v local).home;
-    sharers = sharers;
-    owner = owner;
-    state = state;
+    sharers = step.sharers;
+    owner = step.owner;
+    state = step.state;
   }
 
   abbrev channels_after : LineChannels
   channels_after =
-      directory_sent (after_take (channels_at v local) (channels.Req core)) core (entry_at v local).home sent
+      directory_sent (after_take (channels_at v local) (channels.Req core)) core (entry_at v local).home step.sends
 
   -- The blocks after that step.
   pub directory_blocks : (l : Line) (reached : Reached v.exclusive (length v.sides) l) (stands : Stands v local l)
       (blocks : Blocks) (written : Block)
       → BlocksStand (length v.sides) (entry_at v local) (channels_at v local) (copies_at v local) blocks
       → BlocksStand (length v.sides) entry_after channels_after (copies_at v local)
-      (blocks_after (directory_step v local shaped inside most core within state owner sharers sent writes is l reached
+      (blocks_after (directory_step v local shaped inside most core within step is l reached
       stands).0 written blocks)
   unfolding directory_step
   directory_blocks l reached stands blocks written stand =
-      let s = served state owner sharers sent writes v local core
-      (core_at (channels_at v local) core.0).request refl is in
+      let s = served step v local core (core_at (channels_at v local) core.0).request refl is in
       let here = stand.core core.0 within in
       record {
         core = λ c below.
             core_as (copies_at v local c) (core_at channels_after c) (blocks.copy c) (blocks.copy c)
-            (if sends_data sent && is_named (Some core) c then (entry_at v local).home else blocks.arriving c)
-            (if sends_data sent && is_named (requester (event_of_request core s.message)) c then blocks.home
+            (if sends_data step.sends && is_named (Some core) c then (entry_at v local).home else blocks.arriving c)
+            (if sends_data step.sends && is_named (requester (event_of_request core s.message)) c then blocks.home
             else blocks.arriving c)
             (blocks.put c) (blocks.put c) refl
-            (ap (λ who. if sends_data sent && is_named who c then blocks.home else blocks.arriving c)
+            (ap (λ who. if sends_data step.sends && is_named who c then blocks.home else blocks.arriving c)
             (same_requester core s.message)
-            ∙ ap (λ b. if sends_data sent && is_named (Some core) c then b else blocks.arriving c) (sym stand.home))
+            ∙ ap (λ b. if sends_data step.sends && is_named (Some core) c then b else blocks.arriving c)
+            (sym stand.home))
             refl
             (answer_blocks (length v.sides) (channels_at v local) (copies_at v local) blocks.copy blocks.arriving
-            blocks.put core (entry_at v local).home (shaped.cores local inside) within stand.core sent c below);
+            blocks.put core (entry_at v local).home (shaped.cores local inside) within stand.core step.sends c below);
         home =
-            ap (λ request. if writes then block_in (entry_at v local).home request else (entry_at v local).home) s.waits
-            ∙ home_copy core s.message writes (entry_at v local).home blocks stand.home
+            ap (λ request. if step.writes_home then block_in (entry_at v local).home request
+            else (entry_at v local).home) s.waits
+            ∙ home_copy core s.message step.writes_home (entry_at v local).home blocks stand.home
             (sym (ap (block_in (blocks.put core.0)) s.waits) ∙ here.in_put);
         mail = ap (λ h. unwrap_or h blocks.mail)
-            (home-sent (after_take (channels_at v local) (channels.Req core)) core (entry_at v local).home sent)
+            (home-sent (after_take (channels_at v local) (channels.Req core)) core (entry_at v local).home step.sends)
             ∙ stand.mail;
       }
 
   -- It performs nothing.
   directory_newest : (l : Line) (reached : Reached v.exclusive (length v.sides) l) (stands : Stands v local l)
       (newest written : Block)
-      → newest_after (directory_step v local shaped inside most core within state owner sharers sent writes is l reached
+      → newest_after (directory_step v local shaped inside most core within step is l reached
       stands).0 written newest ≡ newest
   unfolding directory_step
   directory_newest l reached stands newest written = refl
 
   -- A request that the directory takes leaves each line reached, blocks and all.
-  pub directory_keeps : AreReachedWith v → AreReachedWith (after_directory v local core state owner sharers sent writes)
+  pub directory_keeps : AreReachedWith v → AreReachedWith (after_directory v local core step)
   directory_keeps all =
       let before = all local inside in
       let reached = without_blocks v.exclusive (length v.sides) before.line before.blocks before.newest
       before.reached in
-      let step = directory_step v local shaped inside most core within state owner sharers sent writes is before.line
-      reached before.stands in
+      let taken = directory_step v local shaped inside most core within step is before.line reached before.stands in
       by_entry_with v local shaped inside all entry_after channels_after
       (reached_further v.exclusive (length v.sides) (initially v.init) v.log (first_word v local) entry_after
-      channels_after (copies_at v local) before.line before.blocks before.newest before.reached step.0 before.newest
+      channels_after (copies_at v local) before.line before.blocks before.newest before.reached taken.0 before.newest
       (subst (HasValues (initially v.init) v.log (first_word v local))
       (sym (directory_newest before.line reached before.stands before.newest before.newest)) before.has_values)
-      step.1 (directory_blocks before.line reached before.stands before.blocks before.newest before.blocks_stand))
+      taken.1 (directory_blocks before.line reached before.stands before.blocks before.newest before.blocks_stand))

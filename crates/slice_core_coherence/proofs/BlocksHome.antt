@@ -7,14 +7,14 @@ use Rattle.directory_table.specs.Row as Directory
 use Rattle.directory_table.specs.declared.row.DirEvent.TheVariants as asks
 use Rattle.directory_table.specs.declared.row.DirRow.{DirRow}
 use Rattle.directory_table.specs.declared.row.DirRow.TheVariants as rows
-use Rattle.directory_table.specs.declared.row.DirSends.{DirSends}
+use Rattle.directory_table.specs.declared.row.DirStep.{DirStep}
 use Rattle.directory_table.specs.declared.state.DirEntry.{DirEntry}
 use Rattle.directory_table.specs.declared.state.DirState.{DirState}
 use Rattle.directory_table.specs.declared.state.DirState.TheVariants as dirs
 use Rattle.directory_table.specs.Law.{IfGo}
 use Rattle.directory_table.specs.Row.{cell}
 use Rattle.slice_core_coherence.proofs.BlocksFrame.{by_entry_with, reached_further}
-use Rattle.slice_core_coherence.proofs.Home.{comes_home, home_step}
+use Rattle.slice_core_coherence.proofs.Home.{comes_to, comes_home, home_step}
 use Rattle.slice_core_coherence.specs.Blocks.{AreReachedWith, BlocksStand, HasValues}
 use Rattle.slice_core_coherence.specs.Stands.{Stands, copies_at}
 use Rattle.slice_core_log.specs.Log.{initially}
@@ -41,10 +41,9 @@ home_writes false dirs.M (Some core) sharers = tt
 home_writes false dirs.M None sharers = tt
 home_writes false dirs.S_D owner sharers = refl
 
-writes_home : (exclusive : Bool) (entry : DirEntry) (state : DirState) (owner : Option CoreId) (sharers : ℕ)
-    (sent : DirSends) (writes : Bool)
-    → Directory.row_of exclusive entry asks.DataHome ≡ rows.Go state owner sharers sent writes → writes ≡ true
-writes_home exclusive entry state owner sharers sent writes row =
+writes_home : (exclusive : Bool) (entry : DirEntry) (step : DirStep)
+    → Directory.row_of exclusive entry asks.DataHome ≡ rows.Go step → step.writes_home ≡ true
+writes_home exclusive entry step row =
     subst (λ (r : DirRow). IfGo r (λ next owns shares se w. w ≡ true)) row
     (home_writes exclusive entry.state entry.owner entry.sharers)
 
@@ -75,7 +74,7 @@ module _ (v : View) (local : Local) (shaped : IsShaped v) (inside : local.0 < v.
         core = stand.core;
         home = mail_is (channels_at v local).home (entry_at v local).home blocks.mail known.waits stand.mail
             ∙ sym (ap (λ b. if b then blocks.mail else blocks.home)
-            (writes_home v.exclusive (entry_at v local) state owner sharers _ known.writes known.row));
+            (writes_home v.exclusive (entry_at v local) (comes_to state owner sharers known.writes) known.row));
         mail = refl;
       }
 

@@ -16,8 +16,8 @@ use Rattle.slice_queues_message.specs.declared.channel.Pick.{Pick}
 
 messages_keep : KeepsMessages IsWhole AreReached
 messages_keep = record {
-  directory = λ v local core state owner sharers sent writes whole inside there is all.
-      reached_directory v local whole.shaped inside whole.few core there state owner sharers sent writes is all;
+  directory = λ v local core step whole inside there is all.
+      reached_directory v local whole.shaped inside whole.few core there step is all;
   home = λ v local state owner sharers whole inside is all.
       reached_home v local whole.shaped inside state owner sharers is all;
   forwarded = λ v local core next sent requester whole inside there copy is all.

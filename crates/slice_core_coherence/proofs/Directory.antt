@@ -1,5 +1,5 @@
 -- A request that the directory serves is a step of the line.
-use Rattle.std.proofs.Common.{◌≡◌, ℕ, ◌<◌, ◌≤◌, ◌==◌, Bool, true, false, if◌then◌else◌, length, Option, Some, IsTrue, is_some, refl, sym, ap, ◌∙◌, subst, arith, true≢false}
+use Rattle.std.proofs.Common.{◌≡◌, ℕ, ◌<◌, ◌≤◌, ◌==◌, Bool, true, false, if◌then◌else◌, length, Some, IsTrue, is_some, refl, sym, ap, ◌∙◌, subst, arith, true≢false}
 use Rattle.address_map.specs.CoreSet.{has}
 use Rattle.address_map.specs.declared.address.CoreId.{CoreId}
 use Rattle.address_map.specs.declared.address.Local.{Local}
@@ -10,8 +10,8 @@ use Rattle.directory_table.specs.declared.row.DirEvent.TheVariants as asks
 use Rattle.directory_table.specs.declared.row.DirRow.TheVariants as rows
 use Rattle.directory_table.specs.declared.row.DirSends.TheVariants as answers
 use Rattle.directory_table.specs.declared.row.DirSends.{DirSends}
+use Rattle.directory_table.specs.declared.row.DirStep.{DirStep}
 use Rattle.directory_table.specs.declared.state.DirEntry.{DirEntry}
-use Rattle.directory_table.specs.declared.state.DirState.{DirState}
 use Rattle.slice_core_coherence.proofs.Facts.{data_before_counting, inv_without_ack}
 use Rattle.slice_core_coherence.proofs.Frame.{by_entry}
 use Rattle.slice_core_coherence.proofs.Places.{acks-with_core, acks_kept}
@@ -37,23 +37,23 @@ use Rattle.slice_queues_message.specs.declared.message.RequestMessage.{RequestMe
 -- ---- what the line after the row says of the line before
 
 -- A core to which data come counted nothing.
-calm : (l : Line) (core : CoreId) (state : DirState) (owner : Option CoreId) (sharers : ℕ) (sent : DirSends)
-    → (is_no_data ((after_row l core state owner sharers sent).part core.0).look.incoming ≡ false
-    → is_counting ((after_row l core state owner sharers sent).part core.0).look.state ≡ false)
+calm : (l : Line) (core : CoreId) (step : DirStep) (sent : DirSends)
+    → (is_no_data ((after_row l core (record step { sends = sent })).part core.0).look.incoming ≡ false
+    → is_counting ((after_row l core (record step { sends = sent })).part core.0).look.state ≡ false)
     → IsTrue (sends_data sent) → is_counting (l.part core.0).look.state ≡ false
-calm l core state owner sharers answers.Nothing fresh data' = absurd (true≢false (sym data'))
-calm l core state owner sharers (answers.FwdGetS to) fresh data' = absurd (true≢false (sym data'))
-calm l core state owner sharers (answers.FwdGetM to) fresh data' = absurd (true≢false (sym data'))
-calm l core state owner sharers answers.PutAck fresh data' = absurd (true≢false (sym data'))
-calm l core state owner sharers (answers.Data acks) fresh data' =
+calm l core step answers.Nothing fresh data' = absurd (true≢false (sym data'))
+calm l core step (answers.FwdGetS to) fresh data' = absurd (true≢false (sym data'))
+calm l core step (answers.FwdGetM to) fresh data' = absurd (true≢false (sym data'))
+calm l core step answers.PutAck fresh data' = absurd (true≢false (sym data'))
+calm l core step (answers.Data acks) fresh data' =
     let same = at_place l.part core.0 (answered (answers.Data acks)) in
     sym (ap (λ (p : Part). is_counting p.look.state) same)
     ∙ fresh (ap (λ (p : Part). is_no_data p.look.incoming) same)
-calm l core state owner sharers answers.DataE fresh data' =
+calm l core step answers.DataE fresh data' =
     let same = at_place l.part core.0 (answered answers.DataE) in
     sym (ap (λ (p : Part). is_counting p.look.state) same)
     ∙ fresh (ap (λ (p : Part). is_no_data p.look.incoming) same)
-calm l core state owner sharers (answers.DataAndInv acks set) fresh data' =
+calm l core step (answers.DataAndInv acks set) fresh data' =
     let same = at_place l.part core.0 (answered (answers.DataAndInv acks set)) in
     sym (state_by (has set core.0) _ ∙ ap (λ (p : Part). is_counting p.look.state) same)
     ∙ fresh (incoming_by (has set core.0) _ ∙ ap (λ (p : Part). is_no_data p.look.incoming) same)
@@ -69,25 +69,24 @@ calm l core state owner sharers (answers.DataAndInv acks set) fresh data' =
     incoming_by false q = refl
 
 -- No Inv is sent to a core whose acknowledgement waits.
-settled : (l : Line) (core : CoreId) (state : DirState) (owner : Option CoreId) (sharers : ℕ) (sent : DirSends) (x : ℕ)
-    → (((after_row l core state owner sharers sent).part x).look.inv ≡ true
-    → ((after_row l core state owner sharers sent).part x).look.sent ≡ false)
-    → is_sent_inv sent x ≡ true → (l.part x).look.sent ≡ false
-settled l core state owner sharers sent x none named =
-    sym (ap (λ (d : Bool × ℕ). d.0) same) ∙ sym (sent_by (is_sent_inv sent x))
+settled : (l : Line) (core : CoreId) (step : DirStep) (x : ℕ)
+    → (((after_row l core step).part x).look.inv ≡ true → ((after_row l core step).part x).look.sent ≡ false)
+    → is_sent_inv step.sends x ≡ true → (l.part x).look.sent ≡ false
+settled l core step x none named =
+    sym (ap (λ (d : Bool × ℕ). d.0) same) ∙ sym (sent_by (is_sent_inv step.sends x))
     ∙ none (ap (λ b. (change_if b (invalidated_by core.0) asking).look.inv) named)
   where
     answering : Part
-    answering = change_if (x == core.0) (answered sent) (l.part x)
+    answering = change_if (x == core.0) (answered step.sends) (l.part x)
 
     asking : Part
-    asking = change_if (is_named (forwarded_to sent) x) (forwarded sent core.0) answering
+    asking = change_if (is_named (forwarded_to step.sends) x) (forwarded step.sends core.0) answering
 
     same : debt_of asking ≡ debt_of (l.part x)
     same =
-        debt_if (is_named (forwarded_to sent) x) (forwarded sent core.0) answering
-        (debt-forwarded sent core.0 answering)
-        ∙ debt_if (x == core.0) (answered sent) (l.part x) (debt-answered sent (l.part x))
+        debt_if (is_named (forwarded_to step.sends) x) (forwarded step.sends core.0) answering
+        (debt-forwarded step.sends core.0 answering)
+        ∙ debt_if (x == core.0) (answered step.sends) (l.part x) (debt-answered step.sends (l.part x))
 
     sent_by : (b : Bool) → (change_if b (invalidated_by core.0) asking).look.sent ≡ asking.look.sent
     sent_by true = refl
@@ -124,44 +123,40 @@ room_here cores l core (requests.PutM block) sent room = record {
 module _ (exclusive : Bool) (cores : ℕ) (entry : DirEntry) (line : LineChannels) (copy : ℕ → CacheCopy) (core : CoreId)
     (size : length line.cores ≡ cores) (within : core.0 < cores) (most : cores ≤ 64) (l : Line)
     (reached : Reached exclusive cores l) (stands : LineStands cores entry line copy l) (message : RequestMessage)
-    (waits : (core_at line core.0).request ≡ Some message) (state : DirState) (owner : Option CoreId) (sharers : ℕ)
-    (sent : DirSends) (writes : Bool)
-    (row : Directory.row_of exclusive entry (event_of_request core message) ≡ rows.Go state owner sharers sent writes)
+    (waits : (core_at line core.0).request ≡ Some message) (step : DirStep)
+    (row : Directory.row_of exclusive entry (event_of_request core message) ≡ rows.Go step)
   where
     pub is_asked : is_asked_for l (event_of_request core message) ≡ true
     is_asked = asked_here l core message (sym (ap kind_of_request waits) ∙ (stands.part core.0 within).request)
 
-    pub has_row : Directory.row_of exclusive (entry_of l entry.home) (event_of_request core message)
-        ≡ rows.Go state owner sharers sent writes
+    pub has_row : Directory.row_of exclusive (entry_of l entry.home) (event_of_request core message) ≡ rows.Go step
     has_row = row_here exclusive entry l entry.home (event_of_request core message) stands.entry_stands ∙ row
 
     -- The machine's directory serves the request.
     abbrev pub serving : Step exclusive cores l
     serving =
-        serve (event_of_request core message) entry.home state owner sharers sent writes
-        (within_here cores core message within) is_asked has_row
+        serve (event_of_request core message) entry.home step (within_here cores core message within) is_asked has_row
 
     some : 0 < cores
     some = omega (arith, within)
 
     next : Line
-    next = after_row l core state owner sharers sent
+    next = after_row l core step
 
     next_reached : Reached exclusive cores next
     unfolding next
     next_reached =
-        subst (Reached exclusive cores) (same_service l core message state owner sharers sent) (further reached serving)
+        subst (Reached exclusive cores) (same_service l core message step) (further reached serving)
 
-    room : HasRoomAtService cores l (asks.GetS core) sent
+    room : HasRoomAtService cores l (asks.GetS core) step.sends
     room =
-        room_here cores l core message sent ((reached_has_room exclusive cores l some most reached).serve
-        (event_of_request core message) entry.home state owner sharers sent writes
-        (within_here cores core message within) is_asked has_row)
+        room_here cores l core message step.sends ((reached_has_room exclusive cores l some most reached).serve
+        (event_of_request core message) entry.home step (within_here cores core message within) is_asked has_row)
 
-    may_serve : MayServe cores l.part core sent
+    may_serve : MayServe cores l.part core step.sends
     unfolding next
     may_serve = record {
-      not_counting = calm l core state owner sharers sent
+      not_counting = calm l core step step.sends
           (data_before_counting exclusive cores next some most next_reached core.0 within);
       inv = λ x below named. room.inv x below named;
       named = room.named;
@@ -171,70 +166,68 @@ module _ (exclusive : Bool) (cores : ℕ) (entry : DirEntry) (line : LineChannel
 
     -- The line's directory has the row's entry, the channels have what the row sends, and the request is gone.
     pub served_stands : (home block : Block)
-        → LineStands cores (record { home = home; sharers = sharers; owner = owner; state = state })
-        (directory_sent (after_take line (channels.Req core)) core block sent) copy (after serving)
+        → LineStands cores (record { home = home; sharers = step.sharers; owner = step.owner; state = step.state })
+        (directory_sent (after_take line (channels.Req core)) core block step.sends) copy (after serving)
     unfolding next taken_line
     served_stands home block =
-        subst (λ after'. LineStands cores (record { home = home; sharers = sharers; owner = owner; state = state })
-        (directory_sent (after_take line (channels.Req core)) core block sent) copy after')
-        (sym (same_service l core message state owner sharers sent)) (record {
+        subst (λ after'. LineStands cores
+        (record { home = home; sharers = step.sharers; owner = step.owner; state = step.state })
+        (directory_sent (after_take line (channels.Req core)) core block step.sends) copy after')
+        (sym (same_service l core message step)) (record {
           entry_stands = record { directory = refl; owner = refl; sharers = refl };
-          home = ap is_some (home-sent (after_take line (channels.Req core)) core block sent) ∙ stands.home;
-          part = serve_stands cores line copy l.part core block size within stands.part l state owner sharers sent refl
+          home = ap is_some (home-sent (after_take line (channels.Req core)) core block step.sends) ∙ stands.home;
+          part = serve_stands cores line copy l.part core block size within stands.part l step step.sends refl
               may_serve;
-          acks = acks_kept cores line (directory_sent (after_take line (channels.Req core)) core block sent) l.part
-              next.part
-              (λ x. acks-sent (after_take line (channels.Req core)) core block sent x
+          acks = acks_kept cores line (directory_sent (after_take line (channels.Req core)) core block step.sends)
+              l.part next.part
+              (λ x. acks-sent (after_take line (channels.Req core)) core block step.sends x
               ∙ acks-with_core line core.0 x _ refl)
-              (λ to x below. owes-served (is_named (forwarded_to sent) x) (x == core.0) (is_sent_inv sent x) sent core.0
-              (l.part x) to
-              (settled l core state owner sharers sent x
+              (λ to x below. owes-served (is_named (forwarded_to step.sends) x) (x == core.0) (is_sent_inv step.sends x)
+              step.sends core.0 (l.part x) to
+              (settled l core step x
               (inv_without_ack exclusive cores next some most next_reached x below)))
               stands.acks;
         })
 
 module _ (v : View) (local : Local) (shaped : IsShaped v) (inside : local.0 < v.lines.lines)
-    (most : length v.sides ≤ 64) (core : CoreId) (within : core.0 < length v.sides) (state : DirState)
-    (owner : Option CoreId) (sharers : ℕ) (sent : DirSends) (writes : Bool)
-    (is : plan_of v local (channels.Req core) ≡ plans.Directory state owner sharers sent writes) where
+    (most : length v.sides ≤ 64) (core : CoreId) (within : core.0 < length v.sides) (step : DirStep)
+    (is : plan_of v local (channels.Req core) ≡ plans.Directory step) where
   -- The machine's line goes on by one step, and the slice's line is that line then.
   unfoldable pub directory_step : (l : Line) → Reached v.exclusive (length v.sides) l → Stands v local l
-      → (step : Step v.exclusive (length v.sides) l)
+      → (moved : Step v.exclusive (length v.sides) l)
       × LineStands (length v.sides)
       (record {
-        home = if writes then block_in (entry_at v local).home (core_at (channels_at v local) core.0).request
+        home = if step.writes_home then block_in (entry_at v local).home (core_at (channels_at v local) core.0).request
             else (entry_at v local).home;
-        sharers = sharers;
-        owner = owner;
-        state = state;
+        sharers = step.sharers;
+        owner = step.owner;
+        state = step.state;
       })
-      (directory_sent (after_take (channels_at v local) (channels.Req core)) core (entry_at v local).home sent)
-      (copies_at v local) (after step)
+      (directory_sent (after_take (channels_at v local) (channels.Req core)) core (entry_at v local).home step.sends)
+      (copies_at v local) (after moved)
   directory_step l reached stands =
-      let s = served state owner sharers sent writes v local core
+      let s = served step v local core
       (core_at (channels_at v local) core.0).request refl is in (
         serving v.exclusive (length v.sides) (entry_at v local) (channels_at v local) (copies_at v local) core
-            (shaped.cores local inside) within most l reached stands s.message s.waits state owner sharers sent writes
-            s.row,
+            (shaped.cores local inside) within most l reached stands s.message s.waits step s.row,
         served_stands v.exclusive (length v.sides) (entry_at v local) (channels_at v local) (copies_at v local) core
-            (shaped.cores local inside) within most l reached stands s.message s.waits state owner sharers sent
-            writes s.row
-            (if writes then block_in (entry_at v local).home (core_at (channels_at v local) core.0).request
+            (shaped.cores local inside) within most l reached stands s.message s.waits step s.row
+            (if step.writes_home then block_in (entry_at v local).home (core_at (channels_at v local) core.0).request
             else (entry_at v local).home) (entry_at v local).home,
       )
 
   -- A request that the directory takes leaves each line reached.
-  pub reached_directory : AreReached v → AreReached (after_directory v local core state owner sharers sent writes)
+  pub reached_directory : AreReached v → AreReached (after_directory v local core step)
   reached_directory all =
       let before = all local inside in
-      let step = directory_step before.0 before.1 before.2 in
+      let taken = directory_step before.0 before.1 before.2 in
       by_entry v local shaped inside all
       (record {
-        home = if writes then block_in (entry_at v local).home (core_at (channels_at v local) core.0).request
+        home = if step.writes_home then block_in (entry_at v local).home (core_at (channels_at v local) core.0).request
             else (entry_at v local).home;
-        sharers = sharers;
-        owner = owner;
-        state = state;
+        sharers = step.sharers;
+        owner = step.owner;
+        state = step.state;
       })
-      (directory_sent (after_take (channels_at v local) (channels.Req core)) core (entry_at v local).home sent)
-      (after step.0) (further before.1 step.0) step.1
+      (directory_sent (after_take (channels_at v local) (channels.Req core)) core (entry_at v local).home step.sends)
+      (after taken.0) (further before.1 taken.0) taken.1

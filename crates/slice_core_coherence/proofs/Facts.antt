@@ -1,9 +1,8 @@
 -- What is true of each core of a line that the machine reaches, and is needed to follow its numbers.
-use Rattle.std.proofs.Common.{◌≡◌, ℕ, ◌+◌, ◌<◌, ◌≤◌, ◌==◌, ◌&&◌, ◌||◌, Bool, true, false, not, refl, ap, sym, ◌∙◌, subst, arith, if◌then◌else◌, Option}
+use Rattle.std.proofs.Common.{◌≡◌, ℕ, ◌+◌, ◌<◌, ◌≤◌, ◌==◌, ◌&&◌, ◌||◌, Bool, true, false, not, refl, ap, sym, ◌∙◌, subst, arith, if◌then◌else◌}
 use Rattle.std.proofs.Math.Bool.{or-true}
 use Rattle.std.proofs.lemmas.Bool.{and_parts, eqb-true}
 use Rattle.address_map.proofs.Members.{count_of-most}
-use Rattle.address_map.specs.declared.address.CoreId.{CoreId}
 use Rattle.address_map.specs.declared.block.Block.{Block}
 use Rattle.cache_table.specs.CopyState.{is_waiting}
 use Rattle.cache_table.specs.Law.{sends_data}
@@ -18,7 +17,7 @@ use Rattle.directory_table.specs.declared.row.DirRow.{DirRow}
 use Rattle.directory_table.specs.declared.row.DirRow.TheVariants as replies
 use Rattle.directory_table.specs.declared.row.DirSends.{DirSends}
 use Rattle.directory_table.specs.declared.row.DirSends.TheVariants as answers
-use Rattle.directory_table.specs.declared.state.DirState.{DirState}
+use Rattle.directory_table.specs.declared.row.DirStep.{DirStep}
 use Rattle.slice_core_protocol.proofs.Count.{count_below-some}
 use Rattle.slice_core_protocol.proofs.Each.{all_words, each_fit, each_fit-at, if_so, if_so-at, not-at}
 use Rattle.slice_core_protocol.proofs.Frame.{by_test}
@@ -130,11 +129,9 @@ small-forwarded (answers.FwdGetS owner) core part small = small
 small-forwarded (answers.FwdGetM owner) core part small = small
 small-forwarded answers.PutAck core part small = small
 
-row_awaits : (exclusive : Bool) (line : Line) (home : Block) (event : DirEvent) (state : DirState)
-    (owner : Option CoreId) (sharers : ℕ) (sent : DirSends) (writes : Bool)
-    → Directory.row_of exclusive (entry_of line home) event ≡ replies.Go state owner sharers sent writes
-    → AwaitsInvalidated sent
-row_awaits exclusive line home event state owner sharers sent writes row =
+row_awaits : (exclusive : Bool) (line : Line) (home : Block) (event : DirEvent) (step : DirStep)
+    → Directory.row_of exclusive (entry_of line home) event ≡ replies.Go step → AwaitsInvalidated step.sends
+row_awaits exclusive line home event step row =
     subst (λ (r : DirRow). IfGo r (λ next owns shares sent writes. AwaitsInvalidated sent)) row
     (cell-lawful exclusive line.directory line.owner line.sharers event).acknowledgements
 
@@ -178,7 +175,7 @@ wants_few exclusive cores line
     (further {line = before} reached (count core from next sent within sender here row)) x =
     small-counted (before.part x) (x == core) (x == from) next sent (wants_few exclusive cores before reached x)
 wants_few exclusive cores line
-    (further {line = before} reached (serve event home state owner sharers sent writes within here row)) x =
-    small-served (before.part x) (is_named (requester event) x) (is_named (forwarded_to sent) x) (is_sent_inv sent x)
-    (who event) sent (row_awaits exclusive before home event state owner sharers sent writes row)
+    (further {line = before} reached (serve event home step within here row)) x =
+    small-served (before.part x) (is_named (requester event) x) (is_named (forwarded_to step.sends) x)
+    (is_sent_inv step.sends x) (who event) step.sends (row_awaits exclusive before home event step row)
     (wants_few exclusive cores before reached x)

@@ -9,6 +9,7 @@ use Rattle.directory_table.specs.declared.row.DirEvent.TheVariants as asks
 use Rattle.directory_table.specs.declared.row.DirRow.{DirRow}
 use Rattle.directory_table.specs.declared.row.DirRow.TheVariants as rows
 use Rattle.directory_table.specs.declared.row.DirSends.TheVariants as answers
+use Rattle.directory_table.specs.declared.row.DirStep.{DirStep}
 use Rattle.directory_table.specs.declared.state.DirState.{DirState}
 use Rattle.directory_table.specs.declared.state.DirState.TheVariants as dirs
 use Rattle.slice_core_coherence.proofs.Served.{row_here}
@@ -38,13 +39,18 @@ home_row false dirs.M (Some core) sharers = tt
 home_row false dirs.M None sharers = tt
 home_row false dirs.S_D owner sharers = refl
 
+-- what the directory does by it
+abbrev pub comes_to : DirState → Option CoreId → ℕ → Bool → DirStep
+comes_to state owner sharers writes =
+    record { state = state; owner = owner; sharers = sharers; sends = answers.Nothing; writes_home = writes }
+
 module _ (v : View) (local : Local) (state : DirState) (owner : Option CoreId) (sharers : ℕ) where
   -- what the plan says of the row
   pub record ComesHome : Type 0 where
     pub waits : is_some (channels_at v local).home ≡ true
     pub writes : Bool
     pub row : Directory.row_of v.exclusive (entry_at v local) asks.DataHome
-        ≡ rows.Go state owner sharers answers.Nothing writes
+        ≡ rows.Go (comes_to state owner sharers writes)
 
   pub comes_home : plan_of v local channels.Home ≡ plans.Home state owner sharers → ComesHome
   comes_home is = by (is_some (channels_at v local).home) refl is
@@ -60,15 +66,15 @@ module _ (v : View) (local : Local) (state : DirState) (owner : Option CoreId) (
           → by_home_row row ≡ plans.Home state owner sharers → ComesHome
       by_row waits rows.NoEntry e is = absurd (cc is)
       by_row waits rows.Blocked e is = absurd (cc is)
-      by_row waits (rows.Go s o sh sent writes) e is =
-          let none : sent ≡ answers.Nothing =
+      by_row waits (rows.Go step) e is =
+          let none : step.sends ≡ answers.Nothing =
           subst (λ (r : DirRow). IfGo r (λ next owns shares se w. se ≡ answers.Nothing)) e
           (home_row v.exclusive (entry_at v local).state (entry_at v local).owner (entry_at v local).sharers) in
           record {
             waits = waits;
-            writes = writes;
-            row = e ∙ ap (λ se. rows.Go s o sh se writes) none
-                ∙ ap (λ (t : DirState × Option CoreId × ℕ). rows.Go t.0 t.1 t.2 answers.Nothing writes)
+            writes = step.writes_home;
+            row = e ∙ ap (λ se. rows.Go (record step { sends = se })) none
+                ∙ ap (λ (t : DirState × Option CoreId × ℕ). rows.Go (comes_to t.0 t.1 t.2 step.writes_home))
                 (ap entry_in is);
           }
 
@@ -92,7 +98,7 @@ module _ (v : View) (local : Local) (shaped : IsShaped v) (inside : local.0 < v.
       (after_take (channels_at v local) channels.Home) (copies_at v local) (after step)
   home_step l stands =
       let known = comes_home v local state owner sharers is in (
-        serve asks.DataHome (entry_at v local).home state owner sharers answers.Nothing known.writes tt
+        serve asks.DataHome (entry_at v local).home (comes_to state owner sharers known.writes) tt
             (sym stands.home ∙ known.waits)
             (row_here v.exclusive (entry_at v local) l (entry_at v local).home asks.DataHome stands.entry_stands
             ∙ known.row),

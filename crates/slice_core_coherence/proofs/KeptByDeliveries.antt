@@ -1,11 +1,11 @@
 -- What each message that is taken keeps is kept by each delivery, and by one that takes none.
-use Rattle.std.proofs.Common.{◌≡◌, ℕ, ◌<◌, Bool, Option, Some, None, refl, sym, ap, ◌∙◌, subst}
+use Rattle.std.proofs.Common.{◌≡◌, ℕ, ◌<◌, Option, Some, None, refl, sym, ap, ◌∙◌, subst}
 use Rattle.address_map.specs.Locator.{local_at}
 use Rattle.address_map.specs.declared.address.CoreId.{CoreId}
 use Rattle.address_map.specs.declared.address.Local.{Local}
 use Rattle.cache_table.specs.declared.row.CacheSends.{CacheSends}
 use Rattle.cache_table.specs.declared.state.CopyState.{CopyState}
-use Rattle.directory_table.specs.declared.row.DirSends.{DirSends}
+use Rattle.directory_table.specs.declared.row.DirStep.{DirStep}
 use Rattle.directory_table.specs.declared.state.DirState.{DirState}
 use Rattle.slice_core_answer.specs.declared.answer.Delivered.{Delivered}
 use Rattle.slice_core_answer.specs.declared.answer.Delivered.TheVariants as delivered
@@ -37,21 +37,15 @@ module _ (Whole Fact : View → Type 0) (steps : KeepsMessages Whole Fact) (old 
       → IsFor old.view channel local plan
   planned = is_for old.view local whole.shaped inside
 
-  taken_request : (state : DirState) (owner : Option CoreId) (sharers : ℕ) (sent : DirSends) (writes : Bool)
-      (channel : Channel) → plan_of old.view local channel ≡ plans.Directory state owner sharers sent writes
-      → AfterPlan (plans.Directory state owner sharers sent writes) old local channel answer new → Fact new.view
-  taken_request state owner sharers sent writes (channels.Req core) is after =
+  taken_request : (step : DirStep) (channel : Channel) → plan_of old.view local channel ≡ plans.Directory step
+      → AfterPlan (plans.Directory step) old local channel answer new → Fact new.view
+  taken_request step (channels.Req core) is after =
       seen _ _ after.1 refl
-      (steps.directory old.view local core state owner sharers sent writes more inside (planned (channels.Req core) _
-      is)
-      is all)
-  taken_request state owner sharers sent writes (channels.Fwd core) is after =
-      absurd (planned (channels.Fwd core) _ is)
-  taken_request state owner sharers sent writes (channels.Data core) is after =
-      absurd (planned (channels.Data core) _ is)
-  taken_request state owner sharers sent writes (channels.Ack to from) is after =
-      absurd (planned (channels.Ack to from) _ is)
-  taken_request state owner sharers sent writes channels.Home is after = absurd (planned channels.Home _ is)
+      (steps.directory old.view local core step more inside (planned (channels.Req core) _ is) is all)
+  taken_request step (channels.Fwd core) is after = absurd (planned (channels.Fwd core) _ is)
+  taken_request step (channels.Data core) is after = absurd (planned (channels.Data core) _ is)
+  taken_request step (channels.Ack to from) is after = absurd (planned (channels.Ack to from) _ is)
+  taken_request step channels.Home is after = absurd (planned channels.Home _ is)
 
   taken_home : (state : DirState) (owner : Option CoreId) (sharers : ℕ) (channel : Channel)
       → plan_of old.view local channel ≡ plans.Home state owner sharers
@@ -105,8 +99,7 @@ module _ (Whole Fact : View → Type 0) (steps : KeepsMessages Whole Fact) (old 
   planned_keeps plans.Nothing channel is after = seen _ _ after.1 refl all
   planned_keeps plans.Blocked channel is after = seen _ _ after.1 refl all
   planned_keeps (plans.Broken cell) channel is after = seen _ _ after.1 refl all
-  planned_keeps (plans.Directory state owner sharers sent writes) channel is after =
-      taken_request state owner sharers sent writes channel is after
+  planned_keeps (plans.Directory step) channel is after = taken_request step channel is after
   planned_keeps (plans.Home state owner sharers) channel is after = taken_home state owner sharers channel is after
   planned_keeps (plans.Forwarded next sent requester) channel is after =
       taken_forwarded next sent requester channel is after

@@ -29,7 +29,7 @@ module _ (old new : PartsView) (unbroken : NothingIsBroken old.view) (cell : Cel
       cell_in : Delivered → Cell
       cell_in (delivered.Broken c) = c
       cell_in _ = cell
-  by_plan local channel answer (plans.Directory state owner sharers sent writes) whole after is =
+  by_plan local channel answer (plans.Directory step) whole after is =
       absurd (cc (sym after.0 ∙ is))
   by_plan local channel answer (plans.Home state owner sharers) whole after is = absurd (cc (sym after.0 ∙ is))
   by_plan local channel answer (plans.Forwarded next sent requester) whole after is = absurd (cc (sym after.0 ∙ is))

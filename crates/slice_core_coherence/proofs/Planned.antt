@@ -17,8 +17,7 @@ use Rattle.directory_table.specs.Row.{row_of as dir_row_of}
 use Rattle.directory_table.specs.declared.row.DirEvent.TheVariants as dir_events
 use Rattle.directory_table.specs.declared.row.DirRow.{DirRow}
 use Rattle.directory_table.specs.declared.row.DirRow.TheVariants as dir_rows
-use Rattle.directory_table.specs.declared.row.DirSends.{DirSends}
-use Rattle.directory_table.specs.declared.state.DirState.{DirState}
+use Rattle.directory_table.specs.declared.row.DirStep.{DirStep}
 use Rattle.slice_core_answer.specs.declared.answer.Cell.TheVariants as cells
 use Rattle.slice_core_plan.specs.Plan.{ack_plan, acknowledge_at, asks, by_ack_row, by_data_row, by_directory_row, by_forwarded_row, by_home_row, data_by, data_plan, event_of_data, event_of_forwarded, event_of_request, fill_at, forwarded_by, forwarded_plan, home_plan, is_put_ack, plan_of, request_by, request_plan, requester_of, stands_at}
 use Rattle.slice_core_plan.specs.Sends.{cache_room, directory_room}
@@ -44,7 +43,7 @@ abbrev pub IsFor : View → Channel → Local → Plan → Type 0
 IsFor v channel local plans.Nothing = Unit {0}
 IsFor v channel local plans.Blocked = Unit {0}
 IsFor v channel local (plans.Broken cell) = Unit {0}
-IsFor v (channels.Req core) local (plans.Directory state owner sharers sent writes) = core.0 < length v.sides
+IsFor v (channels.Req core) local (plans.Directory step) = core.0 < length v.sides
 IsFor v channels.Home local (plans.Home state owner sharers) = Unit {0}
 IsFor v (channels.Fwd core) local (plans.Forwarded next sent requester) =
     (core.0 < length v.sides) × HasCopy (side_at v core) local
@@ -85,19 +84,16 @@ module _ (v : View) (local : Local) (shaped : IsShaped v) (inside : local.0 < v.
       by_core core (λ m. request_by v local core m.request) (channels.Req core) tt
       (λ there. by there (core_at (channels_at v local) core.0).request)
     where
-      room : core.0 < length v.sides → (b : Bool) (state : DirState) (owner : Option CoreId) (sharers : ℕ)
-          (sent : DirSends) (writes : Bool)
-          → IsFor v (channels.Req core) local
-          (if b then plans.Directory state owner sharers sent writes else plans.Broken cells.Full)
-      room there true state owner sharers sent writes = there
-      room there false state owner sharers sent writes = tt
+      room : core.0 < length v.sides → (b : Bool) (step : DirStep)
+          → IsFor v (channels.Req core) local (if b then plans.Directory step else plans.Broken cells.Full)
+      room there true step = there
+      room there false step = tt
 
       row : core.0 < length v.sides → (r : DirRow)
           → IsFor v (channels.Req core) local (by_directory_row (channels_at v local) core r)
       row there dir_rows.NoEntry = tt
       row there dir_rows.Blocked = tt
-      row there (dir_rows.Go state owner sharers sent writes) =
-          room there (directory_room (channels_at v local) core sent) state owner sharers sent writes
+      row there (dir_rows.Go step) = room there (directory_room (channels_at v local) core step.sends) step
 
       by : core.0 < length v.sides → (waits : Option RequestMessage)
           → IsFor v (channels.Req core) local (request_by v local core waits)
@@ -110,7 +106,7 @@ module _ (v : View) (local : Local) (shaped : IsShaped v) (inside : local.0 < v.
       by : (waits : Bool) (r : DirRow) → IsFor v channels.Home local (if waits then by_home_row r else plans.Nothing)
       by true dir_rows.NoEntry = tt
       by true dir_rows.Blocked = tt
-      by true (dir_rows.Go state owner sharers sent writes) = tt
+      by true (dir_rows.Go step) = tt
       by false r = tt
 
   for_forwarded : (core : CoreId) → IsFor v (channels.Fwd core) local (forwarded_plan v local core)

@@ -14,8 +14,8 @@ use Rattle.directory_table.specs.declared.row.DirRow.{DirRow}
 use Rattle.directory_table.specs.declared.row.DirRow.TheVariants as rows
 use Rattle.directory_table.specs.declared.row.DirSends.{DirSends}
 use Rattle.directory_table.specs.declared.row.DirSends.TheVariants as dir_sends
+use Rattle.directory_table.specs.declared.row.DirStep.{DirStep}
 use Rattle.directory_table.specs.declared.state.DirEntry.{DirEntry}
-use Rattle.directory_table.specs.declared.state.DirState.{DirState}
 use Rattle.slice_core_answer.specs.declared.answer.Cell.{Cell}
 use Rattle.slice_core_answer.specs.declared.answer.Cell.TheVariants as cells
 use Rattle.slice_core_coherence.proofs.Directory.{room_here}
@@ -116,12 +116,11 @@ module _ (exclusive : Bool) (cores : ℕ) (entry : DirEntry) (line : LineChannel
 
   -- ---- the directory
 
-  sharer_within : (event : DirEvent) (state : DirState) (owner : Option CoreId) (sharers : ℕ) (sent : DirSends)
-      (writes : Bool) → Directory.row_of exclusive (entry_of l entry.home) event
-      ≡ rows.Go state owner sharers sent writes → (x : ℕ) → x < 64 → is_sent_inv sent x ≡ true → x < cores
-  sharer_within event state owner sharers sent writes row x below named =
+  sharer_within : (event : DirEvent) (step : DirStep) → Directory.row_of exclusive (entry_of l entry.home) event
+      ≡ rows.Go step → (x : ℕ) → x < 64 → is_sent_inv step.sends x ≡ true → x < cores
+  sharer_within event step row x below named =
       let kept = reached_coherent exclusive cores l some most reached in
-      let law : Invalidates l.directory l.sharers event sent =
+      let law : Invalidates l.directory l.sharers event step.sends =
       subst (λ (r : DirRow). IfGo r (λ next owns shares se w. Invalidates l.directory l.sharers event se)) row
       (cell-lawful exclusive l.directory l.owner l.sharers event).invalidated in
       let all = sym (law.each x below) ∙ named in
@@ -181,11 +180,10 @@ module _ (exclusive : Bool) (cores : ℕ) (entry : DirEntry) (line : LineChannel
           → by_directory_row line core row ≡ plans.Broken cell → ⊥
       by rows.NoEntry known is = true≢false (sym (has_row rows.NoEntry known))
       by rows.Blocked known is = absurd (cc is)
-      by (rows.Go state owner sharers sent writes) known is =
-          let room = room_for core below sent (sharer_within event state owner sharers sent writes (same ∙ known))
-          (room_here cores l core message sent ((reached_has_room exclusive cores l some most reached).serve event
-          entry.home state owner sharers sent writes (within_here cores core message below) asked (same ∙ known))) in
-          let moves : plans.Directory state owner sharers sent writes ≡ plans.Broken cell =
-          ap (λ b. if b then plans.Directory state owner sharers sent writes else plans.Broken cells.Full) (sym room)
-          ∙ is in
+      by (rows.Go step) known is =
+          let room = room_for core below step.sends (sharer_within event step (same ∙ known))
+          (room_here cores l core message step.sends ((reached_has_room exclusive cores l some most reached).serve event
+          entry.home step (within_here cores core message below) asked (same ∙ known))) in
+          let moves : plans.Directory step ≡ plans.Broken cell =
+          ap (λ b. if b then plans.Directory step else plans.Broken cells.Full) (sym room) ∙ is in
           absurd (cc moves)

@@ -16,8 +16,8 @@ use Rattle.directory_table.specs.declared.row.DirRow.{DirRow}
 use Rattle.directory_table.specs.declared.row.DirRow.TheVariants as rows
 use Rattle.directory_table.specs.declared.row.DirSends.{DirSends}
 use Rattle.directory_table.specs.declared.row.DirSends.TheVariants as answers
+use Rattle.directory_table.specs.declared.row.DirStep.{DirStep}
 use Rattle.directory_table.specs.declared.state.DirEntry.{DirEntry}
-use Rattle.directory_table.specs.declared.state.DirState.{DirState}
 use Rattle.slice_core_answer.specs.declared.answer.Cell.TheVariants as cells
 use Rattle.slice_core_coherence.proofs.Frame.{by_number}
 use Rattle.slice_core_coherence.proofs.Parts.{data_stand, forward_stands, inv_stands, put_ack_stands, request_for, request_stands, with_data, with_forward, with_request}
@@ -48,21 +48,19 @@ use Rattle.slice_queues_message.specs.declared.message.RequestMessage.TheVariant
 
 -- what is planned by a row that goes on
 row_in : Plan → DirRow
-row_in (plans.Directory state owner sharers sent writes) = rows.Go state owner sharers sent writes
+row_in (plans.Directory step) = rows.Go step
 row_in _ = rows.Blocked
 
-module _ (state : DirState) (owner : Option CoreId) (sharers : ℕ) (sent : DirSends) (writes : Bool) where
+module _ (step : DirStep) where
   planned_by : (line : LineChannels) (core : CoreId) (row : DirRow)
-      → by_directory_row line core row ≡ plans.Directory state owner sharers sent writes
-      → row ≡ rows.Go state owner sharers sent writes
+      → by_directory_row line core row ≡ plans.Directory step → row ≡ rows.Go step
   unfolding row_in
   planned_by line core rows.NoEntry is = absurd (cc is)
   planned_by line core rows.Blocked is = absurd (cc is)
-  planned_by line core (rows.Go s o sh se w) is = by_room (directory_room line core se) is
+  planned_by line core (rows.Go other) is = by_room (directory_room line core other.sends) is
     where
-      by_room : (room : Bool) → (if room then plans.Directory s o sh se w else plans.Broken cells.Full)
-          ≡ plans.Directory state owner sharers sent writes
-          → rows.Go s o sh se w ≡ rows.Go state owner sharers sent writes
+      by_room : (room : Bool) → (if room then plans.Directory other else plans.Broken cells.Full) ≡ plans.Directory step
+          → rows.Go other ≡ rows.Go step
       by_room true is = ap row_in is
       by_room false is = absurd (cc is)
 
@@ -70,12 +68,11 @@ module _ (state : DirState) (owner : Option CoreId) (sharers : ℕ) (sent : DirS
   pub record Served (v : View) (local : Local) (core : CoreId) : Type 0 where
     pub message : RequestMessage
     pub waits : (core_at (channels_at v local) core.0).request ≡ Some message
-    pub row : Directory.row_of v.exclusive (entry_at v local) (event_of_request core message)
-        ≡ rows.Go state owner sharers sent writes
+    pub row : Directory.row_of v.exclusive (entry_at v local) (event_of_request core message) ≡ rows.Go step
 
   pub served : (v : View) (local : Local) (core : CoreId) (request : Option RequestMessage)
       → (core_at (channels_at v local) core.0).request ≡ request
-      → request_by v local core request ≡ plans.Directory state owner sharers sent writes → Served v local core
+      → request_by v local core request ≡ plans.Directory step → Served v local core
   served v local core None waits is = absurd (cc is)
   served v local core (Some message) waits is = record {
     message = message;
@@ -111,17 +108,15 @@ within_here cores core (requests.PutM block) below = below
 -- ---- the line after the row
 
 -- Whatever was asked for, what is sent says the rest.
-abbrev pub after_row : Line → CoreId → DirState → Option CoreId → ℕ → DirSends → Line
-after_row line core state owner sharers sent = after_service line (asks.GetS core) state owner sharers sent
+abbrev pub after_row : Line → CoreId → DirStep → Line
+after_row line core step = after_service line (asks.GetS core) step
 
-pub same_service : (line : Line) (core : CoreId) (message : RequestMessage) (state : DirState) (owner : Option CoreId)
-    (sharers : ℕ) (sent : DirSends)
-    → after_service line (event_of_request core message) state owner sharers sent
-    ≡ after_row line core state owner sharers sent
-same_service line core requests.GetS state owner sharers sent = refl
-same_service line core requests.GetM state owner sharers sent = refl
-same_service line core requests.PutS state owner sharers sent = refl
-same_service line core (requests.PutM block) state owner sharers sent = refl
+pub same_service : (line : Line) (core : CoreId) (message : RequestMessage) (step : DirStep)
+    → after_service line (event_of_request core message) step ≡ after_row line core step
+same_service line core requests.GetS step = refl
+same_service line core requests.GetM step = refl
+same_service line core requests.PutS step = refl
+same_service line core (requests.PutM block) step = refl
 
 pub same_requester : (core : CoreId) (message : RequestMessage) → requester (event_of_request core message) ≡ Some core
 same_requester core requests.GetS = refl
@@ -347,21 +342,21 @@ module _ (cores : ℕ) (line : LineChannels) (copy : ℕ → CacheCopy) (part : 
       with_put_ack : Part → Part
       with_put_ack p = record p { look = record p.look { put_ack = true } }
 
-  pub serve_stands : (l : Line) (state : DirState) (owner : Option CoreId) (sharers : ℕ) (sent : DirSends) → l.part ≡ part
+  pub serve_stands : (l : Line) (step : DirStep) (sent : DirSends) → l.part ≡ part
       → MayServe cores part core sent
       → PartsStand cores (directory_sent taken_line core block sent) copy
-      (after_row l core state owner sharers sent).part
+      (after_row l core (record step { sends = sent })).part
   unfolding taken_part data_line data_part
-  serve_stands l state owner sharers answers.Nothing same may = rw same take_stands
-  serve_stands l state owner sharers (answers.Data acks) same may =
+  serve_stands l step answers.Nothing same may = rw same take_stands
+  serve_stands l step (answers.Data acks) same may =
       rw same (give_stands (replies.Data block acks) (may.not_counting refl))
-  serve_stands l state owner sharers answers.DataE same may =
+  serve_stands l step answers.DataE same may =
       rw same (give_stands (replies.DataE block) (may.not_counting refl))
-  serve_stands l state owner sharers (answers.DataAndInv acks set) same may =
+  serve_stands l step (answers.DataAndInv acks set) same may =
       rw same (invalidate_stands (replies.Data block acks) set (may.not_counting refl) may.inv)
-  serve_stands l state owner sharers (answers.FwdGetS to) same may =
+  serve_stands l step (answers.FwdGetS to) same may =
       rw same (forward_to fwd_get_s to may.named refl may.asked)
-  serve_stands l state owner sharers (answers.FwdGetM to) same may =
+  serve_stands l step (answers.FwdGetM to) same may =
       rw same (forward_to fwd_get_m to may.named refl may.asked)
-  serve_stands l state owner sharers answers.PutAck same may =
+  serve_stands l step answers.PutAck same may =
       rw same (acknowledge_put (and_parts _ _ (may.put_ack refl)).0)

@@ -1,5 +1,5 @@
 -- What each step of a slice keeps, and with it each call: a fact of the slice's value, given what else is known of it.
-use Rattle.std.specs.Prelude.{◌≡◌, ℕ, ◌<◌, Bool, true, List, length, Option, Some, IsSome}
+use Rattle.std.specs.Prelude.{◌≡◌, ℕ, ◌<◌, true, List, length, Option, Some, IsSome}
 use Rattle.address_map.specs.Locator.{local_at}
 use Rattle.address_map.specs.Place.{line_of}
 use Rattle.address_map.specs.declared.address.CoreId.{CoreId}
@@ -11,7 +11,7 @@ use Rattle.cache_table.specs.declared.row.CacheSends.{CacheSends}
 use Rattle.cache_table.specs.declared.row.CacheSends.TheVariants as sends
 use Rattle.cache_table.specs.declared.row.Row.TheVariants as rows
 use Rattle.cache_table.specs.declared.state.CopyState.{CopyState}
-use Rattle.directory_table.specs.declared.row.DirSends.{DirSends}
+use Rattle.directory_table.specs.declared.row.DirStep.{DirStep}
 use Rattle.directory_table.specs.declared.state.DirState.{DirState}
 use Rattle.mshr_file.specs.declared.registers.Register.{Register}
 use Rattle.mshr_file.specs.Miss.{has_miss, targets_of, AddsTarget, TakesTargets}
@@ -61,10 +61,9 @@ TakesAllowed v local core copy misses =
 
 -- Each message that is taken keeps the fact.
 pub record KeepsMessages (Whole Fact : View → Type 0) : Type 0 where
-  pub directory : (v : View) (local : Local) (core : CoreId) (state : DirState) (owner : Option CoreId) (sharers : ℕ)
-      (sent : DirSends) (writes : Bool) → Whole v → local.0 < v.lines.lines → core.0 < length v.sides
-      → plan_of v local (channels.Req core) ≡ plans.Directory state owner sharers sent writes → Fact v
-      → Fact (after_directory v local core state owner sharers sent writes)
+  pub directory : (v : View) (local : Local) (core : CoreId) (step : DirStep) → Whole v
+      → local.0 < v.lines.lines → core.0 < length v.sides
+      → plan_of v local (channels.Req core) ≡ plans.Directory step → Fact v → Fact (after_directory v local core step)
   pub home : (v : View) (local : Local) (state : DirState) (owner : Option CoreId) (sharers : ℕ) → Whole v
       → local.0 < v.lines.lines → plan_of v local channels.Home ≡ plans.Home state owner sharers → Fact v
       → Fact (after_home v local state owner sharers)

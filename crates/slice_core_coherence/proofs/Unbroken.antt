@@ -152,7 +152,7 @@ module _ (v : View) (local : Local) (shaped : IsShaped v) (inside : local.0 < v.
           → by_home_row row ≡ plans.Broken cell → ⊥
       by_row rows.NoEntry known entry is = true≢false (sym entry)
       by_row rows.Blocked known entry is = absurd (cc is)
-      by_row (rows.Go state owner sharers sent writes) known entry is = absurd (cc is)
+      by_row (rows.Go step) known entry is = absurd (cc is)
 
       by_home : (waits : Bool) → is_some (channels_at v local).home ≡ waits
           → (if waits then by_home_row row_now else plans.Nothing) ≡ plans.Broken cell → ⊥

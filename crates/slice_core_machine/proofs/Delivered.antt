@@ -143,7 +143,7 @@ module _ (old : PartsView) (local : Local) (channel : Channel) (new : PartsView)
   planned_performs plans.Nothing answer is done = quiet old done.1 (same-view old.view)
   planned_performs plans.Blocked answer is done = quiet old done.1 (same-view old.view)
   planned_performs (plans.Broken cell) answer is done = quiet old done.1 (same-view old.view)
-  planned_performs (plans.Directory state owner sharers sent writes) answer is done =
+  planned_performs (plans.Directory step) answer is done =
       quiet _ done.1 (record { lines = refl; init = refl; log = refl; misses = λ core. refl; tags = λ core. refl })
   planned_performs (plans.Home state owner sharers) answer is done =
       quiet _ done.1 (record { lines = refl; init = refl; log = refl; misses = λ core. refl; tags = λ core. refl })

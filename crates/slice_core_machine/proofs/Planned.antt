@@ -53,7 +53,7 @@ is_for_copy plan = false
 home-for_none : (waits : Bool) (row : DirRow) → is_for_copy (if waits then by_home_row row else plans.Nothing) ≡ false
 home-for_none true dir_rows.NoEntry = refl
 home-for_none true dir_rows.Blocked = refl
-home-for_none true (dir_rows.Go state owner sharers sent writes) = refl
+home-for_none true (dir_rows.Go step) = refl
 home-for_none false row = refl
 
 module _ (v : View) (local : Local) (shaped : IsShaped v) where
@@ -116,8 +116,7 @@ module _ (v : View) (local : Local) where
       row : (r : DirRow) → place_in (by_directory_row (channels_at v local) core r) ≡ None
       row dir_rows.NoEntry = refl
       row dir_rows.Blocked = refl
-      row (dir_rows.Go state owner sharers sent writes) =
-          room (directory_room (channels_at v local) core sent) (plans.Directory state owner sharers sent writes)
+      row (dir_rows.Go step) = room (directory_room (channels_at v local) core step.sends) (plans.Directory step)
           (plans.Broken cells.Full) refl refl
 
       by : (waits : Option RequestMessage) → place_in (request_by v local core waits) ≡ None
@@ -193,7 +192,7 @@ module _ (v : View) (local : Local) where
       by : (waits : Bool) (r : DirRow) → place_in (if waits then by_home_row r else plans.Nothing) ≡ None
       by true dir_rows.NoEntry = refl
       by true dir_rows.Blocked = refl
-      by true (dir_rows.Go state owner sharers sent writes) = refl
+      by true (dir_rows.Go step) = refl
       by false r = refl
 
   pub planned-place : (channel : Channel) (place : ℕ) → place_in (plan_of v local channel) ≡ Some place

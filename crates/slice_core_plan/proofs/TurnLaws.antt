@@ -65,7 +65,7 @@ pub move-planned : (local : Local) (channel : Channel) (plan : Plan) → is_move
 move-planned local channel plans.Nothing moves = cc
 move-planned local channel plans.Blocked moves = cc
 move-planned local channel (plans.Broken cell) moves = cc
-move-planned local channel (plans.Directory a b c d e) moves = (refl, tt)
+move-planned local channel (plans.Directory step) moves = (refl, tt)
 move-planned local channel (plans.Home a b c) moves = (refl, tt)
 move-planned local channel (plans.Forwarded a b c) moves = (refl, tt)
 move-planned local channel (plans.Fill a b) moves = (refl, tt)
@@ -109,7 +109,7 @@ planned-moves : (local : Local) (channel : Channel) (plan : Plan) → IsMove pla
 planned-moves local channel plans.Nothing move = absurd move
 planned-moves local channel plans.Blocked move = absurd move
 planned-moves local channel (plans.Broken cell) move = absurd move
-planned-moves local channel (plans.Directory a b c d e) move = refl
+planned-moves local channel (plans.Directory step) move = refl
 planned-moves local channel (plans.Home a b c) move = refl
 planned-moves local channel (plans.Forwarded a b c) move = refl
 planned-moves local channel (plans.Fill a b) move = refl
@@ -200,7 +200,7 @@ extends-plan plans.Nothing old new local channel answer after = extends-at old n
 extends-plan plans.Blocked old new local channel answer after = extends-at old new _ after.1 (extends-same old.ring)
 extends-plan (plans.Broken cell) old new local channel answer after =
     extends-at old new _ after.1 (extends-same old.ring)
-extends-plan (plans.Directory a b c d e) old new local channel answer after =
+extends-plan (plans.Directory step) old new local channel answer after =
     extends-at old new _ after.1 (extends-listed old.ring local.0)
 extends-plan (plans.Home a b c) old new local channel answer after =
     extends-at old new _ after.1 (extends-listed old.ring local.0)

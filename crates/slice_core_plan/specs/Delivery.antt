@@ -8,7 +8,7 @@ use Rattle.address_map.specs.declared.address.Local.{Local}
 use Rattle.address_map.specs.declared.block.Block.{Block}
 use Rattle.cache_table.specs.declared.row.CacheSends.{CacheSends}
 use Rattle.cache_table.specs.declared.state.CopyState.{CopyState}
-use Rattle.directory_table.specs.declared.row.DirSends.{DirSends}
+use Rattle.directory_table.specs.declared.row.DirStep.{DirStep}
 use Rattle.directory_table.specs.declared.state.DirState.{DirState}
 use Rattle.mshr_file.specs.Miss.{targets_of, IsMissFile, TakesTargets}
 use Rattle.mshr_file.specs.declared.registers.Register.{Register}
@@ -46,14 +46,14 @@ block_in home (Some (requests.PutM block)) = block
 block_in home _ = home
 
 -- The directory did its row for a core's request: the entry, the home copy where the row writes it, and what is sent.
-abbrev pub after_directory : View → Local → CoreId → DirState → Option CoreId → ℕ → DirSends → Bool → View
-after_directory v local core state owner sharers sent writes =
+abbrev pub after_directory : View → Local → CoreId → DirStep → View
+after_directory v local core step =
     let entry = entry_at v local in
     let line = channels_at v local in
-    let home = if writes then block_in entry.home (core_at line core.0).request else entry.home in
+    let home = if step.writes_home then block_in entry.home (core_at line core.0).request else entry.home in
     with_channels
-    (with_entry v local (record { home = home; sharers = sharers; owner = owner; state = state }))
-    local (directory_sent (after_take line (channels.Req core)) core entry.home sent)
+    (with_entry v local (record { home = home; sharers = step.sharers; owner = step.owner; state = step.state }))
+    local (directory_sent (after_take line (channels.Req core)) core entry.home step.sends)
 
 -- The block that came home is the home copy.
 abbrev pub after_home : View → Local → DirState → Option CoreId → ℕ → View
@@ -140,9 +140,9 @@ abbrev pub AfterPlan : Plan → PartsView → Local → Channel → Delivered �
 AfterPlan plans.Nothing old local channel answer new = (answer ≡ delivered.Nothing) × (new ≡ old)
 AfterPlan plans.Blocked old local channel answer new = (answer ≡ delivered.Blocked) × (new ≡ old)
 AfterPlan (plans.Broken cell) old local channel answer new = (answer ≡ delivered.Broken cell) × (new ≡ old)
-AfterPlan (plans.Directory state owner sharers sent writes) old local channel answer new =
+AfterPlan (plans.Directory step) old local channel answer new =
     (answer ≡ delivered.Moved)
-    × Moves old local channel (after_directory old.view local (core_of channel) state owner sharers sent writes) new
+    × Moves old local channel (after_directory old.view local (core_of channel) step) new
 AfterPlan (plans.Home state owner sharers) old local channel answer new =
     (answer ≡ delivered.Moved) × Moves old local channel (after_home old.view local state owner sharers) new
 AfterPlan (plans.Forwarded next sent requester) old local channel answer new =

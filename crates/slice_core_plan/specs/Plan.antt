@@ -52,9 +52,8 @@ event_of_request core (requests.PutM block) = dir_events.PutM core
 abbrev pub by_directory_row : LineChannels → CoreId → DirRow → Plan
 by_directory_row line core dir_rows.NoEntry = plans.Broken cells.Entry
 by_directory_row line core dir_rows.Blocked = plans.Blocked
-by_directory_row line core (dir_rows.Go state owner sharers sent writes) =
-    if directory_room line core sent then plans.Directory state owner sharers sent writes
-    else plans.Broken cells.Full
+by_directory_row line core (dir_rows.Go step) =
+    if directory_room line core step.sends then plans.Directory step else plans.Broken cells.Full
 
 abbrev pub request_by : View → Local → CoreId → Option RequestMessage → Plan
 request_by v local core None = plans.Nothing
@@ -69,7 +68,7 @@ request_plan v local core = request_by v local core (core_at (channels_at v loca
 abbrev pub by_home_row : DirRow → Plan
 by_home_row dir_rows.NoEntry = plans.Broken cells.Entry
 by_home_row dir_rows.Blocked = plans.Blocked
-by_home_row (dir_rows.Go state owner sharers sent writes) = plans.Home state owner sharers
+by_home_row (dir_rows.Go step) = plans.Home step.state step.owner step.sharers
 
 abbrev pub home_plan : View → Local → Plan
 home_plan v local =

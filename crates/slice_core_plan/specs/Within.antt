@@ -34,9 +34,9 @@ abbrev pub IsPlanned : View → Local → Channel → Plan → Type 0
 IsPlanned v local channel plans.Nothing = Unit {0}
 IsPlanned v local channel plans.Blocked = Unit {0}
 IsPlanned v local channel (plans.Broken cell) = Unit {0}
-IsPlanned v local (channels.Req core) (plans.Directory state owner sharers sent writes) =
+IsPlanned v local (channels.Req core) (plans.Directory step) =
     (core.0 < length v.sides) × IsSome (core_at (channels_at v local) core.0).request
-    × (directory_room (channels_at v local) core sent ≡ true)
+    × (directory_room (channels_at v local) core step.sends ≡ true)
 IsPlanned v local channels.Home (plans.Home state owner sharers) = IsSome (channels_at v local).home
 IsPlanned v local (channels.Fwd core) (plans.Forwarded next sent requester) =
     (core.0 < length v.sides) × HasCopy (side_at v core) local

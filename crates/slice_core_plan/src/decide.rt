@@ -4,7 +4,7 @@ ghost use Rattle.slice_core_plan.specs.Plan.{event_of_forwarded, event_of_reques
 
 use address_map::{CoreId, CoreSet, Local, Op};
 use cache_table::{CacheEvent, CacheSends, CopyState};
-use directory_table::{DirEvent, DirSends, DirState};
+use directory_table::{DirEvent, DirState, DirStep};
 use slice_core_answer::{Cell, Refused};
 use slice_core_side::Access;
 use slice_queues_message::{Channel, ForwardedMessage, Pick, RequestMessage};
@@ -29,16 +29,7 @@ pub enum Plan {
     /// The tables have no row for the message, a channel that its row sends to is full, or it came too early.
     Broken(Cell),
     /// The directory takes a request, and does its row.
-    Directory {
-        /// The entry's next state, and its next owner and sharers.
-        state: DirState,
-        owner: Option<CoreId>,
-        sharers: CoreSet,
-        /// What is sent, and to whom.
-        sends: DirSends,
-        /// Whether the block that comes along is the home copy then.
-        writes_home: bool,
-    },
+    Directory(DirStep),
     /// The directory takes the block that comes home.
     Home {
         state: DirState,
@@ -150,7 +141,7 @@ impl Next {
             Plan::Nothing => Next::Nothing,
             Plan::Blocked => Next::Blocked,
             Plan::Broken(cell) => Next::Broken(cell),
-            Plan::Directory { .. }
+            Plan::Directory(_)
             | Plan::Home { .. }
             | Plan::Forwarded { .. }
             | Plan::Fill { .. }

@@ -4,7 +4,6 @@ use Rattle.std.proofs.lemmas.Bool.{eq-eqb, eqb-false, eqb-true, ne_eqb}
 use Rattle.address_map.specs.declared.address.CoreId.{CoreId}
 use Rattle.address_map.specs.declared.block.Block.{Block}
 use Rattle.address_map.specs.CoreSet.{without}
-use Rattle.directory_table.specs.Law.{IfGo}
 use Rattle.directory_table.specs.Row.{cell, row_of, shared_by}
 use Rattle.directory_table.specs.declared.state.DirState.{DirState}
 use Rattle.directory_table.specs.declared.state.DirState.TheVariants as dirs
@@ -12,8 +11,8 @@ use Rattle.directory_table.specs.declared.row.DirEvent.{DirEvent}
 use Rattle.directory_table.specs.declared.row.DirEvent.TheVariants as asks
 use Rattle.directory_table.specs.declared.row.DirRow.{DirRow}
 use Rattle.directory_table.specs.declared.row.DirRow.TheVariants as rows
-use Rattle.directory_table.specs.declared.row.DirSends.{DirSends}
 use Rattle.directory_table.specs.declared.row.DirSends.TheVariants as answers
+use Rattle.directory_table.specs.declared.row.DirStep.{DirStep}
 use Rattle.slice_core_protocol.proofs.Answer.{line_at, told}
 use Rattle.slice_core_protocol.proofs.DataHome.{home_idle, home_shared}
 use Rattle.slice_core_protocol.proofs.ForwardGetM.{by_also, forward_get_m}
@@ -34,8 +33,9 @@ IsKept cores line = (roles : Roles) × IsCoherent cores line roles
 
 -- The line after the row, where it goes on, is coherent.
 abbrev pub IsKeptBy : ℕ → Line → DirEvent → DirRow → Type 0
-IsKeptBy cores line event row = IfGo row (λ state owner sharers sent writes. IsKept cores
-    (after_service line event state owner sharers sent))
+IsKeptBy cores line event (rows.Go step) = IsKept cores (after_service line event step)
+IsKeptBy cores line event rows.Blocked = Unit {0}
+IsKeptBy cores line event rows.NoEntry = Unit {0}
 
 put_s_is : (r : Request) → is_put_s r ≡ true → is_put r ≡ true
 put_s_is put_s e = refl
@@ -196,12 +196,10 @@ rows_kept cores roles s home part most =
 
 -- A turn of the directory keeps the line coherent.
 pub serve_kept : (cores : ℕ) (roles : Roles) (line : Line) (exclusive : Bool) (event : DirEvent) (home : Block)
-    (state : DirState)
-    (owner : Option CoreId) (sharers : ℕ) (sent : DirSends) (writes : Bool) → cores ≤ 64 → IsCoherent cores line roles
+    (step : DirStep) → cores ≤ 64 → IsCoherent cores line roles
     → IsWithin cores event → IsTrue (is_asked_for line event)
-    → row_of exclusive (entry_of line home) event ≡ rows.Go state owner sharers sent writes
-    → IsKept cores (after_service line event state owner sharers sent)
-serve_kept cores roles line exclusive event home state owner sharers sent writes most coherent within asks row =
+    → row_of exclusive (entry_of line home) event ≡ rows.Go step → IsKept cores (after_service line event step)
+serve_kept cores roles line exclusive event home step most coherent within asks row =
     subst (IsKeptBy cores line event) row
     (rows_kept cores roles line.sharers line.home line.part most exclusive line.directory line.owner event coherent
     within asks)

@@ -415,6 +415,6 @@ pub has_room : (exclusive : Bool) (cores : ℕ) (line : Line) (roles : Roles) �
 has_room exclusive cores line roles most coherent = record {
   turn = λ c event next sent within here row. turn_room cores line roles c event next sent coherent within here row;
   ack = ack_sends;
-  serve = λ event home state owner sharers sent writes within wants row.
+  serve = λ event home step within wants row.
       subst (IsRoomy cores line event) row (serve_room exclusive cores roles line event most coherent within wants);
 }

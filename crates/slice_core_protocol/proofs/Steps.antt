@@ -83,8 +83,8 @@ step_kept exclusive cores line roles most coherent (turn c event next sent withi
     turns cores line roles c event next sent coherent within here row
 step_kept exclusive cores line roles most coherent (count c from next sent within sender here row) =
     (roles, ack_kept cores line roles c from next sent coherent within sender here row)
-step_kept exclusive cores line roles most coherent (serve event home state owner sharers sent writes within here row) =
-    serve_kept cores roles line exclusive event home state owner sharers sent writes most coherent within here row
+step_kept exclusive cores line roles most coherent (serve event home step within here row) =
+    serve_kept cores roles line exclusive event home step most coherent within here row
 
 -- An idle core fits, whether it is all three roles or none.
 idle_fits : (role : Bool) → is_fit (record {

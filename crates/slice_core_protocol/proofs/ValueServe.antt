@@ -14,6 +14,7 @@ use Rattle.directory_table.specs.declared.row.DirRow.{DirRow}
 use Rattle.directory_table.specs.declared.row.DirRow.TheVariants as rows
 use Rattle.directory_table.specs.declared.row.DirSends.{DirSends}
 use Rattle.directory_table.specs.declared.row.DirSends.TheVariants as answers
+use Rattle.directory_table.specs.declared.row.DirStep.{DirStep}
 use Rattle.slice_core_protocol.proofs.HasRoom.{has_room}
 use Rattle.slice_core_protocol.proofs.Settings.{by_setting}
 use Rattle.slice_core_protocol.specs.Coherent.{IsCoherent}
@@ -335,41 +336,38 @@ put_m_core _ = 0
 
 -- A turn of the directory keeps the blocks current.
 pub serve_current : (exclusive : Bool) (cores : ℕ) (line : Line) (roles : Roles) (event : DirEvent) (home : Block)
-    (state : DirState)
-    (owner : Option CoreId) (sharers : ℕ) (sent : DirSends) (writes : Bool) (blocks : Blocks) (newest : Block)
-    → cores ≤ 64
+    (step : DirStep) (blocks : Blocks) (newest : Block) → cores ≤ 64
     → IsCoherent cores line roles → IsWithin cores event → IsTrue (is_asked_for line event)
-    → row_of exclusive (entry_of line home) event ≡ rows.Go state owner sharers sent writes
+    → row_of exclusive (entry_of line home) event ≡ rows.Go step
     → IsCurrent cores line blocks newest
-    → IsCurrent cores (after_service line event state owner sharers sent)
-    (served_blocks event sent writes blocks) newest
-serve_current exclusive cores line roles event home state owner sharers sent writes blocks newest most coherent within
+    → IsCurrent cores (after_service line event step) (served_blocks event step.sends step.writes_home blocks) newest
+serve_current exclusive cores line roles event home step blocks newest most coherent within
     wants row current =
-    let room = (has_room exclusive cores line roles most coherent).serve event home state owner sharers sent writes
-    within wants row in
-    let moves : Moves line.directory line.owner event state owner sent writes = subst
+    let room = (has_room exclusive cores line roles most coherent).serve event home step within wants row in
+    let moves : Moves line.directory line.owner event step.state step.owner step.sends step.writes_home = subst
     (RowMoves line.directory line.owner event) row (row_moves exclusive line event) in
     record {
       copy = λ x below h.
-          let free = no_put_ack cores line event sent room x below in
-          current.copy x below (back_newest sent (who event) x (is_named (requester event) x)
+          let free = no_put_ack cores line event step.sends room x below in
+          current.copy x below (back_newest step.sends (who event) x (is_named (requester event) x)
           (line.part x) free.0 free.1 h);
-      arriving = λ x below h. arriving moves x below (sends_data sent && is_named (requester event) x) refl h;
+      arriving = λ x below h. arriving moves x below (sends_data step.sends && is_named (requester event) x) refl h;
       put = λ x below owns h.
-          let back = back_put sent (who event) x (is_named (requester event) x) (line.part x) h in
+          let back = back_put step.sends (who event) x (is_named (requester event) x) (line.part x) h in
           current.put x below (moves.owner_is x owns back.0) back.1;
-      home = home_is moves writes refl;
+      home = home_is moves step.writes_home refl;
       mail = λ h. current.mail (and_parts (not (is_data_home event)) line.home h).1;
     }
   where
-    arriving : Moves line.directory line.owner event state owner sent writes → (x : ℕ) → x < cores → (b : Bool)
-        → (sends_data sent && is_named (requester event) x) ≡ b
-        → is_no_data (sent_to sent (who event) x (is_named (requester event) x) (line.part x)).look.incoming ≡ false
+    arriving : Moves line.directory line.owner event step.state step.owner step.sends step.writes_home → (x : ℕ)
+        → x < cores → (b : Bool) → (sends_data step.sends && is_named (requester event) x) ≡ b
+        → is_no_data (sent_to step.sends (who event) x (is_named (requester event) x) (line.part x)).look.incoming
+        ≡ false
         → (if b then blocks.home else blocks.arriving x) ≡ newest
     arriving moves x below true e h = current.home (moves.gives
-        (and_parts (sends_data sent) (is_named (requester event) x) e).0)
+        (and_parts (sends_data step.sends) (is_named (requester event) x) e).0)
     arriving moves x below false e h = current.arriving x below
-        (back_arriving sent (who event) x (is_named (requester event) x) (line.part x) e h)
+        (back_arriving step.sends (who event) x (is_named (requester event) x) (line.part x) e h)
 
     brought_is : (event : DirEvent) → IsWithin cores event → IsTrue (is_asked_for line event)
         → (is_data_home event ≡ true) ⊎ ((core : CoreId) × (event ≡ asks.PutM core)
@@ -385,8 +383,8 @@ serve_current exclusive cores line roles event home state owner sharers sent wri
     brought_is (asks.PutM core) within wants (inr h) = current.put core.0 within
         (subst (λ y. is_named line.owner y ≡ true) (sym (ap put_m_core h.1)) h.2) wants
 
-    home_is : Moves line.directory line.owner event state owner sent writes → (b : Bool) → writes ≡ b
-        → is_at_home state ≡ true
+    home_is : Moves line.directory line.owner event step.state step.owner step.sends step.writes_home → (b : Bool)
+        → step.writes_home ≡ b → is_at_home step.state ≡ true
         → (if b then brought event blocks else blocks.home) ≡ newest
     home_is moves true e h = brought_is event within wants (moves.brings e)
     home_is moves false e h = current.home (moves.stays h e)

@@ -65,9 +65,8 @@ step_current exclusive cores line roles blocks written newest most coherent curr
     (count c from next sent within sender here row) =
     ack_current cores line roles c from next sent blocks newest coherent within sender here row current
 step_current exclusive cores line roles blocks written newest most coherent current
-    (serve event home state owner sharers sent writes within here row) =
-    serve_current exclusive cores line roles event home state owner sharers sent writes blocks newest most coherent
-    within here row current
+    (serve event home step within here row) =
+    serve_current exclusive cores line roles event home step blocks newest most coherent within here row current
 
 first_current : (cores : ℕ) (blocks : Blocks) → IsCurrent cores first blocks blocks.home
 unfolding has_newest

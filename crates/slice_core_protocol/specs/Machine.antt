@@ -1,7 +1,6 @@
 -- The machine: one line with any number of cores. A step takes one row of one of the two tables, whose event is at
 -- hand.
-use Rattle.std.specs.Prelude.{◌≡◌, ◌<◌, ℕ, ◌+◌, ◌==◌, ◌&&◌, ◌||◌, Bool, true, false, not, Option, None, if◌then◌else◌, IsTrue}
-use Rattle.address_map.specs.declared.address.CoreId.{CoreId}
+use Rattle.std.specs.Prelude.{◌≡◌, ◌<◌, ℕ, ◌+◌, ◌==◌, ◌&&◌, ◌||◌, Bool, true, false, not, None, if◌then◌else◌, IsTrue}
 use Rattle.address_map.specs.declared.block.Block.{Block}
 use Rattle.cache_table.specs.CopyState.{is_waiting}
 use Rattle.cache_table.specs.Law.{sends_data, sends_home, sends_inv_ack}
@@ -16,12 +15,12 @@ use Rattle.cache_table.specs.declared.row.Row.TheVariants as rows
 use Rattle.directory_table.specs.Law.{forwarded_to, is_data_home, is_named, is_sent_inv, requester}
 use Rattle.directory_table.specs.Row as Directory
 use Rattle.directory_table.specs.declared.state.DirEntry.{DirEntry}
-use Rattle.directory_table.specs.declared.state.DirState.{DirState}
 use Rattle.directory_table.specs.declared.state.DirState.TheVariants as dirs
 use Rattle.directory_table.specs.declared.row.DirEvent.{DirEvent}
 use Rattle.directory_table.specs.declared.row.DirEvent.TheVariants as asks
 use Rattle.directory_table.specs.declared.row.DirSends.{DirSends}
 use Rattle.directory_table.specs.declared.row.DirSends.TheVariants as answers
+use Rattle.directory_table.specs.declared.row.DirStep.{DirStep}
 use Rattle.directory_table.specs.declared.row.DirRow.TheVariants as replies
 use Rattle.slice_core_protocol.specs.Fit.{is_fwd_get_m, is_fwd_get_s, is_get_m, is_get_s, is_only_data, is_put_m, is_put_s, is_put_ack_first, is_shared_data}
 use Rattle.slice_core_protocol.specs.Line.{fwd_get_m, fwd_get_s, no_forward, no_data, only_data, shared_data, Line, Look, Part, Request, get_m, get_s, no_request, put_m, put_s}
@@ -161,17 +160,17 @@ who (asks.PutM core) = core.0
 who asks.DataHome = 0
 
 -- The line after the directory's row, with what the row sends to each core.
-abbrev pub after_service : Line → DirEvent → DirState → Option CoreId → ℕ → DirSends → Line
-after_service line event state owner sharers sent =
+abbrev pub after_service : Line → DirEvent → DirStep → Line
+after_service line event step =
     record {
-      directory = state;
-      owner = owner;
-      sharers = sharers;
+      directory = step.state;
+      owner = step.owner;
+      sharers = step.sharers;
       home = not (is_data_home event) && line.home;
       part = λ other.
-          change_if (is_sent_inv sent other) (invalidated_by (who event))
-          (change_if (is_named (forwarded_to sent) other) (forwarded sent (who event))
-          (change_if (is_named (requester event) other) (answered sent) (line.part other)));
+          change_if (is_sent_inv step.sends other) (invalidated_by (who event))
+          (change_if (is_named (forwarded_to step.sends) other) (forwarded step.sends (who event))
+          (change_if (is_named (requester event) other) (answered step.sends) (line.part other)));
     }
 
 -- ---- steps
@@ -189,17 +188,14 @@ pub data Step (exclusive : Bool) (cores : ℕ) (line : Line) : Type 0 where
       ≡ rows.Go next sent
       → Step exclusive cores line
   -- the directory serves a request, or takes the block that comes home
-  serve : (event : DirEvent) (home : Block) (state : DirState) (owner : Option CoreId) (sharers : ℕ) (sent : DirSends)
-      (writes : Bool) → IsWithin cores event → IsTrue (is_asked_for line event)
-      → Directory.row_of exclusive (entry_of line home) event ≡ replies.Go state owner sharers sent writes
-      → Step exclusive cores line
+  serve : (event : DirEvent) (home : Block) (step : DirStep) → IsWithin cores event → IsTrue (is_asked_for line event)
+      → Directory.row_of exclusive (entry_of line home) event ≡ replies.Go step → Step exclusive cores line
 
 -- The line after a step.
 abbrev pub after : {exclusive : Bool} {cores : ℕ} {line : Line} → Step exclusive cores line → Line
 after {line = line} (turn core event next sent within here row) = after_turn line core event next sent
 after {line = line} (count core from next sent within sender here row) = after_ack line core from next sent
-after {line = line} (serve event home state owner sharers sent writes within here row) =
-    after_service line event state owner sharers sent
+after {line = line} (serve event home step within here row) = after_service line event step
 
 -- ---- runs
 

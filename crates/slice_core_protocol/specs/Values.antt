@@ -54,10 +54,11 @@ blocks_after {line = line} (turn core event next sent within here row) written b
   mail = if sends_home sent then blocks.copy core else blocks.mail;
 }
 blocks_after (count core from next sent within sender here row) written blocks = blocks
-blocks_after (serve event home state owner sharers sent writes within here row) written blocks = record blocks {
+blocks_after (serve event home step within here row) written blocks = record blocks {
   arriving = λ other.
-      if DirectoryLaw.sends_data sent && is_named (requester event) other then blocks.home else blocks.arriving other;
-  home = if writes then brought event blocks else blocks.home;
+      if DirectoryLaw.sends_data step.sends && is_named (requester event) other then blocks.home
+      else blocks.arriving other;
+  home = if step.writes_home then brought event blocks else blocks.home;
 }
 
 -- The newest block after a step: what the last write left.
@@ -66,7 +67,7 @@ abbrev pub newest_after : {exclusive : Bool} {cores : ℕ} {line : Line} → Ste
 newest_after (turn core event next sent within here row) written newest =
     if performs event next then written else newest
 newest_after (count core from next sent within sender here row) written newest = newest
-newest_after (serve event home state owner sharers sent writes within here row) written newest = newest
+newest_after (serve event home step within here row) written newest = newest
 
 -- What the line, its blocks and the newest block can come to, by any steps and any written blocks.
 pub data ReachedWith (exclusive : Bool) (cores : ℕ) : Line → Blocks → Block → Type 0 where

@@ -33,7 +33,7 @@ none-planned : (local : Local) (channel : Channel) (plan : Plan) → IsNoBetter 
 none-planned local channel plans.Nothing h = refl
 none-planned local channel plans.Blocked h = cc
 none-planned local channel (plans.Broken cell) h = cc
-none-planned local channel (plans.Directory a b c d e) h = cc
+none-planned local channel (plans.Directory step) h = cc
 none-planned local channel (plans.Home a b c) h = cc
 none-planned local channel (plans.Forwarded a b c) h = cc
 none-planned local channel (plans.Fill a b) h = cc
@@ -46,7 +46,7 @@ blocked-planned : (local : Local) (channel : Channel) (plan : Plan)
 blocked-planned local channel plans.Nothing h = inl refl
 blocked-planned local channel plans.Blocked h = inr refl
 blocked-planned local channel (plans.Broken cell) h = cc
-blocked-planned local channel (plans.Directory a b c d e) h = cc
+blocked-planned local channel (plans.Directory step) h = cc
 blocked-planned local channel (plans.Home a b c) h = cc
 blocked-planned local channel (plans.Forwarded a b c) h = cc
 blocked-planned local channel (plans.Fill a b) h = cc
@@ -59,7 +59,7 @@ stuck-planned : (local : Local) (channel : Channel) (cell : Cell) (plan : Plan)
 stuck-planned local channel cell plans.Nothing h = tt
 stuck-planned local channel cell plans.Blocked h = tt
 stuck-planned local channel cell (plans.Broken other) h = tt
-stuck-planned local channel cell (plans.Directory a b c d e) h = cc
+stuck-planned local channel cell (plans.Directory step) h = cc
 stuck-planned local channel cell (plans.Home a b c) h = cc
 stuck-planned local channel cell (plans.Forwarded a b c) h = cc
 stuck-planned local channel cell (plans.Fill a b) h = cc
@@ -71,7 +71,7 @@ blocked-met : (local : Local) (channel : Channel) (plan : Plan) → nexts.Blocke
 blocked-met local channel plans.Nothing h = cc
 blocked-met local channel plans.Blocked h = refl
 blocked-met local channel (plans.Broken cell) h = cc
-blocked-met local channel (plans.Directory a b c d e) h = cc
+blocked-met local channel (plans.Directory step) h = cc
 blocked-met local channel (plans.Home a b c) h = cc
 blocked-met local channel (plans.Forwarded a b c) h = cc
 blocked-met local channel (plans.Fill a b) h = cc
@@ -82,7 +82,7 @@ broken-met : (local : Local) (channel : Channel) (cell : Cell) (plan : Plan)
 broken-met local channel cell plans.Nothing h = cc
 broken-met local channel cell plans.Blocked h = cc
 broken-met local channel cell (plans.Broken other) h = ap plans.Broken (let e : other ≡ cell = cc in e)
-broken-met local channel cell (plans.Directory a b c d e) h = cc
+broken-met local channel cell (plans.Directory step) h = cc
 broken-met local channel cell (plans.Home a b c) h = cc
 broken-met local channel cell (plans.Forwarded a b c) h = cc
 broken-met local channel cell (plans.Fill a b) h = cc
@@ -95,7 +95,7 @@ moved-there : (local at : Local) (channel other : Channel) (plan : Plan)
 moved-there local at channel other plans.Nothing h = cc
 moved-there local at channel other plans.Blocked h = cc
 moved-there local at channel other (plans.Broken cell) h = cc
-moved-there local at channel other (plans.Directory a b c d e) h = (cc, cc)
+moved-there local at channel other (plans.Directory step) h = (cc, cc)
 moved-there local at channel other (plans.Home a b c) h = (cc, cc)
 moved-there local at channel other (plans.Forwarded a b c) h = (cc, cc)
 moved-there local at channel other (plans.Fill a b) h = (cc, cc)
@@ -171,7 +171,7 @@ moved-by : (plan : Plan) (old new : PartsView) (local : Local) (channel : Channe
 moved-by plans.Nothing old new local channel answer move after = absurd move
 moved-by plans.Blocked old new local channel answer move after = absurd move
 moved-by (plans.Broken cell) old new local channel answer move after = absurd move
-moved-by (plans.Directory a b c d e) old new local channel answer move after = (refl, after.1)
+moved-by (plans.Directory step) old new local channel answer move after = (refl, after.1)
 moved-by (plans.Home a b c) old new local channel answer move after = (refl, after.1)
 moved-by (plans.Forwarded a b c) old new local channel answer move after = (refl, after.1)
 moved-by (plans.Fill a b) old new local channel answer move after = (refl, after.1)
@@ -204,7 +204,7 @@ is-move : (local at : Local) (channel other : Channel) (plan : Plan) → nexts.M
 is-move local at channel other plans.Nothing h = cc
 is-move local at channel other plans.Blocked h = cc
 is-move local at channel other (plans.Broken cell) h = cc
-is-move local at channel other (plans.Directory a b c d e) h = tt
+is-move local at channel other (plans.Directory step) h = tt
 is-move local at channel other (plans.Home a b c) h = tt
 is-move local at channel other (plans.Forwarded a b c) h = tt
 is-move local at channel other (plans.Fill a b) h = tt
@@ -256,7 +256,7 @@ moves-planned : (plan : Plan) (old new : PartsView) (local : Local) (channel : C
 moves-planned plans.Nothing old new local channel after = cc
 moves-planned plans.Blocked old new local channel after = cc
 moves-planned (plans.Broken cell) old new local channel after = cc
-moves-planned (plans.Directory a b c d e) old new local channel after = tt
+moves-planned (plans.Directory step) old new local channel after = tt
 moves-planned (plans.Home a b c) old new local channel after = tt
 moves-planned (plans.Forwarded a b c) old new local channel after = tt
 moves-planned (plans.Fill a b) old new local channel after = tt

@@ -24,12 +24,12 @@ pub planned_request : (v : View) (local : Local) (core : CoreId) (row : DirRow) 
     IsPlanned v local (channels.Req core) (by_directory_row (channels_at v local) core row)
 planned_request v local core rows.NoEntry there waits = tt
 planned_request v local core rows.Blocked there waits = tt
-planned_request v local core (rows.Go state owner sharers sent writes) there waits =
-    by_room (directory_room (channels_at v local) core sent) refl
+planned_request v local core (rows.Go step) there waits =
+    by_room (directory_room (channels_at v local) core step.sends) refl
   where
-    by_room : (room : Bool) → directory_room (channels_at v local) core sent ≡ room →
+    by_room : (room : Bool) → directory_room (channels_at v local) core step.sends ≡ room →
         IsPlanned v local (channels.Req core)
-        (if room then plans.Directory state owner sharers sent writes else plans.Broken cells.Full)
+        (if room then plans.Directory step else plans.Broken cells.Full)
     by_room true e = (there, waits, e)
     by_room false e = tt
 

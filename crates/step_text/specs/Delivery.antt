@@ -15,8 +15,9 @@ abbrev pub text_of_deeds : ℕ → CoreId → Who → Done → Plan → List ℕ
 text_of_deeds slice core who done plans.Nothing = codes "nothing"
 text_of_deeds slice core who done plans.Blocked = codes "waits for " ++ text_of_awaited who
 text_of_deeds slice core who done (plans.Broken cell) = text_of_broken cell
-text_of_deeds slice core who done (plans.Directory state owner sharers sent writes) =
-    codes "to " ++ text_of_entry state owner sharers ++ text_of_dir_sends core sent ++ text_of_home writes
+text_of_deeds slice core who done (plans.Directory step) =
+    codes "to " ++ text_of_entry step.state step.owner step.sharers ++ text_of_dir_sends core step.sends
+    ++ text_of_home step.writes_home
 text_of_deeds slice core who done (plans.Home state owner sharers) =
     codes "to " ++ text_of_entry state owner sharers ++ codes "; block home"
 text_of_deeds slice core who done (plans.Forwarded next sent requester) =

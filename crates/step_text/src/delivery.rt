@@ -36,20 +36,17 @@ impl fmt::Display for Delivery {
             Plan::Nothing => write!(f, "{case}: nothing"),
             Plan::Blocked => write!(f, "{case}: waits for {}", awaited(case.who)),
             Plan::Broken(cell) => write!(f, "{case}: {}", broken(cell)),
-            Plan::Directory {
-                state,
-                owner,
-                sharers,
-                sends,
-                writes_home,
-            } => {
+            Plan::Directory(step) => {
                 let entry = Entry {
-                    state,
-                    owner,
-                    sharers,
+                    state: step.state,
+                    owner: step.owner,
+                    sharers: step.sharers,
                 };
-                let sent = FromDirectory { core, sends };
-                write!(f, "{case}: to {entry}{sent}{}", home(writes_home))
+                let sent = FromDirectory {
+                    core,
+                    sends: step.sends,
+                };
+                write!(f, "{case}: to {entry}{sent}{}", home(step.writes_home))
             }
             Plan::Home {
                 state,

@@ -18,7 +18,7 @@ ghost use Rattle.slice_queues_message.specs.declared.channel.Channel.TheVariants
 use super::Parts;
 use address_map::{Block, CoreId, CoreSet, Local, Offset};
 use cache_table::{CacheSends, CopyState};
-use directory_table::{DirSends, DirState};
+use directory_table::{DirState, DirStep};
 use mshr_file::MissFile;
 use slice_core_answer::Delivered;
 use slice_core_log::Entry;
@@ -52,17 +52,11 @@ impl<F: MissFile> Parts<F> {
             Plan::Nothing => return Delivered::Nothing,
             Plan::Blocked => return Delivered::Blocked,
             Plan::Broken(cell) => return Delivered::Broken(cell),
-            Plan::Directory {
-                state,
-                owner,
-                sharers,
-                sends,
-                writes_home,
-            } => {
+            Plan::Directory(step) => {
                 let Channel::Req(core) = channel else {
                     unreachable!();
                 };
-                self.serve(local, core, state, owner, sharers, sends, writes_home);
+                self.serve(local, core, &step);
             }
             Plan::Home {
                 state,
@@ -96,30 +90,21 @@ impl<F: MissFile> Parts<F> {
     }
 
     // The directory takes a core's request, and does its row.
-    fn serve(
-        &mut self,
-        local: Local,
-        core: CoreId,
-        state: DirState,
-        owner: Option<CoreId>,
-        sharers: CoreSet,
-        sends: DirSends,
-        writes_home: bool,
-    )
+    fn serve(&mut self, local: Local, core: CoreId, step: &DirStep)
         requires line { local.0 < self.old.view.lines.lines }
         requires core { core.0 < length self.old.view.sides }
         requires shaped { IsShaped self.old.view }
-        requires room { directory_room (channels_at self.old.view local) core sends ≡ true }
+        requires room { directory_room (channels_at self.old.view local) core step.now.sends ≡ true }
         ensures { Moves self.old local (channels.Req core)
-            (after_directory self.old.view local core state owner sharers sends writes_home) self.new }
+            (after_directory self.old.view local core step.now) self.new }
     {
         self.stats.count_message(Channel::Req(core));
         let entry = &mut self.entries[local.0];
-        entry.state = state;
-        entry.owner = owner;
-        entry.sharers = sharers;
+        entry.state = step.state;
+        entry.owner = step.owner;
+        entry.sharers = step.sharers;
         let home = &mut entry.home;
-        serve_request(&mut self.queues, local, home, core, sends, writes_home);
+        serve_request(&mut self.queues, local, home, core, step);
     }
 
     // The directory takes the block that comes home.
@@ -215,25 +200,19 @@ impl<F: MissFile> Parts<F> {
 
 // The directory takes a core's request. Its block becomes the home copy where the row writes that; what is sent carries
 // the home copy as it was.
-fn serve_request(
-    queues: &mut Queues,
-    local: Local,
-    home: &mut Block,
-    core: CoreId,
-    sends: DirSends,
-    writes_home: bool,
-)
+fn serve_request(queues: &mut Queues, local: Local, home: &mut Block, core: CoreId, step: &DirStep)
     requires line { local.0 < length queues.old.channels.lines }
     requires core { core.0 < length (at_local queues.old.channels local.0).cores }
-    requires room { directory_room (at_local queues.old.channels local.0) core sends ≡ true }
+    requires room { directory_room (at_local queues.old.channels local.0) core step.now.sends ≡ true }
     ensures line { queues.new ≡ with_lent queues.old local
-        (directory_sent (after_take (at_local queues.old.channels local.0) (channels.Req core)) core home.old sends) }
-    ensures home { home.new ≡ (if writes_home then
+        (directory_sent (after_take (at_local queues.old.channels local.0) (channels.Req core)) core home.old
+        step.now.sends) }
+    ensures home { home.new ≡ (if step.now.writes_home then
         block_in home.old (core_at (at_local queues.old.channels local.0) core.0).request else home.old) }
 {
-    if !writes_home {
+    if !step.writes_home {
         queues.drop_at(local, Channel::Req(core));
-        send_from_directory(queues, local, core, home, sends);
+        send_from_directory(queues, local, core, home, step.sends);
         return;
     }
     let before = *home;
@@ -241,7 +220,7 @@ fn serve_request(
         *home = *block;
     }
     queues.drop_at(local, Channel::Req(core));
-    send_from_directory(queues, local, core, &before, sends);
+    send_from_directory(queues, local, core, &before, step.sends);
 }
 
 // The copy gets the data that came, and goes to the next state.

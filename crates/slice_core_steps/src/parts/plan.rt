@@ -80,15 +80,10 @@ impl<F: MissFile> Parts<F> {
         match dir_row(self.exclusive, &self.entries[local.0], DirEvent::DataHome) {
             DirRow::NoEntry => Plan::Broken(Cell::Entry),
             DirRow::Blocked => Plan::Blocked,
-            DirRow::Go {
-                state,
-                owner,
-                sharers,
-                ..
-            } => Plan::Home {
-                state,
-                owner,
-                sharers,
+            DirRow::Go(step) => Plan::Home {
+                state: step.state,
+                owner: step.owner,
+                sharers: step.sharers,
             },
         }
     }
@@ -194,23 +189,11 @@ fn plan_row(line: &LineQueues<'_>, core: CoreId, row: DirRow) -> Plan
     match row {
         DirRow::NoEntry => Plan::Broken(Cell::Entry),
         DirRow::Blocked => Plan::Blocked,
-        DirRow::Go {
-            state,
-            owner,
-            sharers,
-            sends,
-            writes_home,
-        } => {
-            if !directory_room(line, core, &sends) {
+        DirRow::Go(step) => {
+            if !directory_room(line, core, &step.sends) {
                 return Plan::Broken(Cell::Full);
             }
-            Plan::Directory {
-                state,
-                owner,
-                sharers,
-                sends,
-                writes_home,
-            }
+            Plan::Directory(step)
         }
     }
 }

@@ -36,14 +36,16 @@ pub enum DirSends {
 /// What the directory does by a row of the table.
 #[derive(Clone, Copy, Debug, PartialEq, Eq)]
 pub struct DirStep {
-    /// The entry's next state, and its next owner and sharers.
+    // Small fields stand together: each alone would bring seven bytes of padding that are copied with it.
+    /// The entry's next state, and its next owner.
     pub state: DirState,
     pub owner: Option<CoreId>,
+    /// Whether the block that comes along is the home copy then.
+    pub writes_home: bool,
+    /// The entry's next sharers.
     pub sharers: CoreSet,
     /// What is sent, and to whom.
     pub sends: DirSends,
-    /// Whether the block that comes along is the home copy then.
-    pub writes_home: bool,
 }
 
 /// One cell of the table.

@@ -289,19 +289,19 @@ next-moves v local at class channel other next one left plan so_far first planne
     first-of_class v local class next channel (drop 1 left) (subst P (taken-first left channel (sym first)) so_far) in
     ((λ third of_third. rw moves refl), inr (channel, of_class, is ∙ ap (next_by local channel) planned))
 
--- where neither of two can be moved, no plan comes with the better
-pub plan-for_stuck : (v : View) (next one after_next : Next) → IsPlanFor v next plans.Nothing
+-- where neither of two can be moved, no plan has to come with the better
+pub plan-for_stuck : (v : View) (plan : Plan) (next one after_next : Next) → IsPlanFor v next plan
     → ((local : Local) (channel : Channel) → one ≢ nexts.Move local channel)
-    → after_next ≡ next_or next one → IsPlanFor v after_next plans.Nothing
-plan-for_stuck v next one after_next stuck stays better = rw better (by_better (either-one next one))
+    → after_next ≡ next_or next one → IsPlanFor v after_next plan
+plan-for_stuck v plan next one after_next stuck stays better = rw better (by_better (either-one next one))
   where
-    by_one : (other : Next) → one ≡ other → IsPlanFor v other plans.Nothing
+    by_one : (other : Next) → one ≡ other → IsPlanFor v other plan
     by_one nexts.Nothing e = tt
     by_one nexts.Blocked e = tt
     by_one (nexts.Broken cell) e = tt
     by_one (nexts.Move local channel) e = absurd (stays local channel e)
 
-    by_better : (next_or next one ≡ next) ⊎ (next_or next one ≡ one) → IsPlanFor v (next_or next one) plans.Nothing
+    by_better : (next_or next one ≡ next) ⊎ (next_or next one ≡ one) → IsPlanFor v (next_or next one) plan
     by_better (inl e) = rw e stuck
     by_better (inr e) = rw e (by_one one refl)
 

@@ -35,34 +35,34 @@ impl<F: MissFile> Parts<F> {
         match self.lines.local_of(pick.line()) {
             Some(local) => {
                 let plan = self.plan(local, pick.channel());
-                self.carry_out(local, pick.channel(), plan)
+                self.carry_out(local, pick.channel(), &plan)
             }
             None => Delivered::Nothing,
         }
     }
 
     /// Does what is planned for the front message of a channel of a line.
-    pub(super) fn carry_out(&mut self, local: Local, channel: Channel, plan: Plan) -> Delivered
+    pub(super) fn carry_out(&mut self, local: Local, channel: Channel, plan: &Plan) -> Delivered
         requires line { local.0 < self.old.view.lines.lines }
         requires delivers { CanDeliver self.old }
-        requires planned { IsPlanned self.old.view local channel plan }
-        ensures { AfterPlan plan self.old local channel result self.new }
+        requires planned { IsPlanned self.old.view local channel plan.now }
+        ensures { AfterPlan plan.now self.old local channel result self.new }
     {
         match plan {
             Plan::Nothing => return Delivered::Nothing,
             Plan::Blocked => return Delivered::Blocked,
-            Plan::Broken(cell) => return Delivered::Broken(cell),
+            Plan::Broken(cell) => return Delivered::Broken(*cell),
             Plan::Directory(step) => {
                 let Channel::Req(core) = channel else {
                     unreachable!();
                 };
-                self.serve(local, core, &step);
+                self.serve(local, core, step);
             }
             Plan::Home {
                 state,
                 owner,
                 sharers,
-            } => self.take_home(local, state, owner, sharers),
+            } => self.take_home(local, *state, *owner, *sharers),
             Plan::Forwarded {
                 next,
                 sends,
@@ -71,19 +71,19 @@ impl<F: MissFile> Parts<F> {
                 let Channel::Fwd(core) = channel else {
                     unreachable!();
                 };
-                self.forward(local, core, next, sends, requester);
+                self.forward(local, core, *next, *sends, *requester);
             }
             Plan::Fill { place, next } => {
                 let Channel::Data(core) = channel else {
                     unreachable!();
                 };
-                self.fill(local, core, place, next);
+                self.fill(local, core, *place, *next);
             }
             Plan::Acknowledge { place, next } => {
                 let Channel::Ack { to, from } = channel else {
                     unreachable!();
                 };
-                self.acknowledge(local, to, from, place, next);
+                self.acknowledge(local, to, from, *place, *next);
             }
         }
         Delivered::Moved

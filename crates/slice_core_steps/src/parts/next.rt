@@ -1,5 +1,5 @@
 ghost use Rattle.std.specs.Prelude.{◌≡◌, ℕ, ◌<◌, true};
-ghost use Rattle.slice_core_plan.specs.Next.{next_by, IsNextAt, IsNextIn};
+ghost use Rattle.slice_core_plan.specs.Next.{IsNextAt, IsNextIn};
 ghost use Rattle.slice_core_plan.specs.Parts.{PartsView, AfterDeliverNext, CanDeliver, IsDone, IsNextPick, next_pick, told};
 ghost use Rattle.slice_core_plan.specs.Ring.{has_mail_at, looked_at, next_at, next_in, pick_of};
 ghost use Rattle.slice_core_plan.specs.Turn.{ServesInTurn};
@@ -12,27 +12,7 @@ use address_map::Local;
 use mshr_file::MissFile;
 use slice_core_answer::DeliveredNext;
 use slice_core_plan::{Next, NextPick, Plan};
-use slice_queues::{Channel, Class};
-
-// What is to be delivered next, with the plan for it where it can be moved.
-#[derive(Clone, Copy)]
-struct Found {
-    next: Next,
-    plan: Plan,
-}
-
-impl Found {
-    // What is to be done at one channel.
-    fn of(local: Local, channel: Channel, plan: &Plan) -> Found
-        ensures next { result.next ≡ next_by local channel plan.now }
-        ensures plan { result.plan ≡ plan.now }
-    {
-        Found {
-            next: Next::of(local, channel, *plan),
-            plan: *plan,
-        }
-    }
-}
+use slice_queues::Class;
 
 impl<F: MissFile> Parts<F> {
     /// Makes the delivery that is next of the class, if one can be made. It looks at the lines with mail from the front of
@@ -42,8 +22,9 @@ impl<F: MissFile> Parts<F> {
         ensures step { AfterDeliverNext self.old class result self.new }
         ensures turn { ServesInTurn self.old class result self.new }
     {
-        let (found, looked) = self.find_next(class);
-        let answer = self.deliver_found(found);
+        let mut plan = Plan::Nothing;
+        let (next, looked) = self.find_next(class, &mut plan);
+        let answer = self.deliver_found(next, &plan);
         self.queues.rotate(looked);
         answer
     }
@@ -55,8 +36,9 @@ impl<F: MissFile> Parts<F> {
         ensures next { result ≡ next_pick self.now class }
         ensures found { IsNextPick self.now.view class result }
     {
-        let (found, _) = self.find_next(class);
-        match found.next {
+        let mut plan = Plan::Nothing;
+        let (next, _) = self.find_next(class, &mut plan);
+        match next {
             Next::Nothing => NextPick::Nothing,
             Next::Blocked => NextPick::Blocked,
             Next::Broken(cell) => NextPick::Broken(cell),
@@ -65,69 +47,64 @@ impl<F: MissFile> Parts<F> {
     }
 
     // Makes the delivery that was found, where there is one.
-    fn deliver_found(&mut self, found: Found) -> DeliveredNext
+    fn deliver_found(&mut self, next: Next, plan: &Plan) -> DeliveredNext
         requires delivers { CanDeliver self.old }
-        requires movable { IsMovable self.old.view found.next }
-        requires planned { IsPlanFor self.old.view found.next found.plan }
-        ensures told { told result ≡ pick_of self.old.view.lines found.next }
+        requires movable { IsMovable self.old.view next }
+        requires planned { IsPlanFor self.old.view next plan.now }
+        ensures told { told result ≡ pick_of self.old.view.lines next }
         ensures done { IsDone self.old result self.new }
     {
-        match found.next {
+        match next {
             Next::Nothing => DeliveredNext::Nothing,
             Next::Blocked => DeliveredNext::Blocked,
             Next::Broken(cell) => DeliveredNext::Broken(cell),
             Next::Move(local, channel) => {
                 let pick = channel.at(self.lines.line_at(local));
-                let _ = self.carry_out(local, channel, found.plan);
+                let _ = self.carry_out(local, channel, plan);
                 DeliveredNext::Moved(pick)
             }
         }
     }
 
-    // What is to be delivered next of the class, and how many lines of the ring were looked at for it.
-    fn find_next(&self, class: Class) -> (Found, usize)
+    // What is to be delivered next of the class, and how many lines of the ring were looked at for it. Where a message
+    // can be moved, its plan is written in place: handed on by value it would be copied twice.
+    fn find_next(&self, class: Class, plan: &mut Plan) -> (Next, usize)
         requires shaped { IsShaped self.now.view }
-        ensures next { result.0.next ≡ next_in self.now.view class self.now.ring }
+        ensures next { result.0 ≡ next_in self.now.view class self.now.ring }
         ensures looked { result.1 ≡ looked_at self.now.view class self.now.ring }
-        ensures found { IsNextIn self.now.view class result.0.next }
-        ensures plan { IsPlanFor self.now.view result.0.next result.0.plan }
+        ensures found { IsNextIn self.now.view class result.0 }
+        ensures plan { IsPlanFor self.now.view result.0 plan.new }
         ensures listed { (local : ℕ) → has_mail_at self.now.view local ≡ true → is_listed self.now.ring local ≡ true }
     {
         let mut next = Next::Nothing;
         for index in 0..self.queues.ring_len() {
-            let found = self.next_at(self.queues.ring_at(index), class);
-            if let Next::Move(..) = found.next {
+            let found = self.next_at(self.queues.ring_at(index), class, plan);
+            if let Next::Move(..) = found {
                 return (found, index + 1);
             }
-            next = next.or(found.next);
+            next = next.or(found);
         }
-        let stuck = Found {
-            next,
-            plan: Plan::Nothing,
-        };
-        (stuck, self.queues.ring_len())
+        (next, self.queues.ring_len())
     }
 
     // What is to be delivered next of a line.
-    fn next_at(&self, local: Local, class: Class) -> Found
+    fn next_at(&self, local: Local, class: Class, plan: &mut Plan) -> Next
         requires line { local.0 < self.now.view.lines.lines }
         requires shaped { IsShaped self.now.view }
-        ensures next { result.next ≡ next_at self.now.view class local }
-        ensures found { IsNextAt self.now.view local class result.next }
-        ensures plan { IsPlanFor self.now.view result.next result.plan }
+        ensures next { result ≡ next_at self.now.view class local }
+        ensures found { IsNextAt self.now.view local class result }
+        ensures plan { IsPlanFor self.now.view result plan.new }
     {
         let mut next = Next::Nothing;
         let mut waiting = self.queues.line(local).waiting_in(class);
         while let Some(channel) = waiting.next() {
-            let one = Found::of(local, channel, &self.plan(local, channel));
-            if let Next::Move(..) = one.next {
+            *plan = self.plan(local, channel);
+            let one = Next::of(local, channel, *plan);
+            if let Next::Move(..) = one {
                 return one;
             }
-            next = next.or(one.next);
+            next = next.or(one);
         }
-        Found {
-            next,
-            plan: Plan::Nothing,
-        }
+        next
     }
 }

@@ -11,7 +11,7 @@ pub returns-in-Move-clause-done : goal.returns-in-Move-clause-done
 returns-in-Move-clause-done g c =
     let old = c.args.self.now in
     let at_local = λ (p : PartsView). local_at p.view.lines c.line_at.result.0 ≡ Some c.in-Move.local in
-    let plan_for = λ (n : Next). IsPlanFor old.view n c.args.found.plan in
+    let plan_for = λ (n : Next). IsPlanFor old.view n c.args.plan.now in
     let movable = subst (IsMovable old.view) c.in-Move.is c.requires.movable in
     let planned = subst plan_for c.in-Move.is c.requires.planned in
     rw c.at-pick.ensures

@@ -15,4 +15,4 @@ returns-in-Move-clause-found g c =
     let at_local = λ (p : PartsView). local_at p.view.lines c.line_at.result.0 ≡ Some c.in-Move.local in
     rw c.at.ensures
     (pick-moved p.view class c.in-Move.local c.in-Move.channel c.line_at.result
-    (subst found c.in-Move.is c.find_next-found.ensures.found) (subst at_local c.self.view_is c.line_at.ensures.local))
+    (subst found c.in-Move.is c.find_next-next.ensures.found) (subst at_local c.self.view_is c.line_at.ensures.local))

@@ -9,26 +9,26 @@ pub loop-next-init : goal.loop-next-init
 loop-next-init g c =
     let line = c.line.ensures ∙ ap (λ (p : PartsView). channels_at p.view c.args.local) c.self.view_is in (
       next-begins_at _ _ _ _ _ line c.waiting_in-waiting.ensures.once,
-      tt,
+      (λ plan. tt),
       first-begins _ _ _ _ _ line c.waiting_in-waiting.ensures.order,
     )
 
 pub returns-in-Move-clause-found : goal.returns-in-Move-clause-found
 returns-in-Move-clause-found g c =
     next-moves _ _ _ _ _ _ _ _ _ _ c.loop-next.invariant.0 c.in-Some.ensures.first c.plan.ensures.planned
-    c.of-one.ensures.next c.in-Move.is
+    c.of-one.ensures c.in-Move.is
 
 pub returns-in-Move-clause-next : goal.returns-in-Move-clause-next
 returns-in-Move-clause-next g c =
     first-moves _ _ _ _ _ _ _ _ c.loop-next.invariant.2 c.in-Some.ensures.first c.plan.ensures.planned
-    c.of-one.ensures.next _ _ c.in-Move.is
+    c.of-one.ensures _ _ c.in-Move.is
 
 pub loop-next-preserved : goal.loop-next-preserved
 loop-next-preserved g c = (
   next-more_taken _ _ _ _ _ _ _ _ _ _ c.loop-next.invariant.0 c.in-Some.ensures.first c.in-Some.ensures.rest
       c.plan.ensures.planned
-      c.of-one.ensures.next c.or-next.ensures,
-  plan-for_stuck c.args.self.now.view _ _ _ c.loop-next.invariant.1 c.in_default-next.not-Move c.or-next.ensures,
+      c.of-one.ensures c.or-next.ensures,
+  (λ plan. plan-for_stuck c.args.self.now.view plan _ _ _ (c.loop-next.invariant.1 plan) c.in_default-one.not-Move c.or-next.ensures),
   first-more _ _ _ _ _ _ _ _ c.loop-next.invariant.2 c.in-Some.ensures.first c.plan.ensures.planned
-      c.of-one.ensures.next _ _ c.in_default-next.not-Move c.or-next.ensures c.in-Some.ensures.rest,
+      c.of-one.ensures _ _ c.in_default-one.not-Move c.or-next.ensures c.in-Some.ensures.rest,
 )

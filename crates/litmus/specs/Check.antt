@@ -1,6 +1,14 @@
 -- How a check of a trace ends.
-use Rattle.std.specs.Prelude.{◌≡◌, ℕ, List}
-use Rattle.trace_check.specs.Trace.{IsJudged}
+use Rattle.std.specs.Prelude.{◌≡◌, ℕ, ◌++◌, ◌⊎◌, List, Option, codes, decimal}
+use Rattle.std.specs.Io.KnownBytes.{Appends}
+use Rattle.std.specs.Str.Lines.{lines}
+use Rattle.litmus_script.specs.Play.{IsOfRun}
+use Rattle.litmus_text.specs.Fault.{IsAtLine}
+use Rattle.litmus_text.specs.Statement.{statements_from}
+use Rattle.litmus_text.specs.declared.fault.TextFault.{TextFault}
+use Rattle.trace_check.specs.Trace.{IsFaultAt, IsJudged, IsNoTrace}
+use Rattle.trace_check.specs.declared.verdict.Reason.{Reason}
+use Rattle.trace_check.specs.declared.verdict.Reason.TheVariants as reasons
 use Rattle.trace_check.specs.declared.verdict.Verdict.{Verdict}
 use Rattle.trace_check.specs.declared.verdict.Verdict.TheVariants as verdicts
 
@@ -9,8 +17,26 @@ abbrev pub status_of : Verdict → ℕ
 status_of (verdicts.Legal entries) = 0
 status_of (verdicts.Illegal entry reason) = 1
 
--- the text is a trace, and the status is that of what it comes to
-pub record IsChecked (text : List ℕ) (status : ℕ) : Type 0 where
+abbrev pub text_of_reason : Reason → List ℕ
+text_of_reason reasons.Reply = codes "reply"
+text_of_reason reasons.Order = codes "order"
+text_of_reason reasons.Since = codes "since"
+
+-- the line that tells the verdict
+abbrev pub text_of_verdict : Verdict → List ℕ
+text_of_verdict (verdicts.Legal entries) = codes "legal " ++ (decimal entries ++ codes " entries\n")
+text_of_verdict (verdicts.Illegal entry reason) =
+    codes "illegal entry " ++ (decimal entry ++ (codes ": " ++ (text_of_reason reason ++ codes "\n")))
+
+-- the text is a trace, what it comes to is printed, and the status is that of it
+pub record IsChecked (text : List ℕ) (before after : Option (List ℕ)) (status : ℕ) : Type 0 where
   pub verdict : Verdict
   pub judged : IsJudged text verdict
+  pub printed : Appends before after (text_of_verdict verdict)
   pub is : status ≡ status_of verdict
+
+-- Why a trace wasn't judged: there was no memory, its verdict couldn't be written, or the text is no trace, which the
+-- first line at fault tells.
+abbrev pub IsNotChecked : List ℕ → TextFault → Type 0
+IsNotChecked text fault =
+    IsOfRun fault ⊎ (IsNoTrace text × IsAtLine (IsFaultAt (statements_from 0 (lines text))) fault)

@@ -1,10 +1,22 @@
 -- What is done with the litmus test that a text writes.
-use Rattle.std.specs.Prelude.{ℕ, List}
-use Rattle.litmus_test.specs.Text.{IsLitmusTest, said_by}
+use Rattle.std.specs.Prelude.{ℕ, ◌⊎◌, List}
+use Rattle.std.specs.Str.Lines.{lines}
+use Rattle.litmus_script.specs.Play.{IsOfRun}
+use Rattle.litmus_test.specs.Text.{IsFaultAt, IsLitmusTest, Said, said_by}
 use Rattle.litmus_test.specs.declared.test.LitmusTest.{LitmusTest}
+use Rattle.litmus_text.specs.Fault.{IsAtLine}
+use Rattle.litmus_text.specs.Statement.{statements_from}
+use Rattle.litmus_text.specs.declared.fault.TextFault.{TextFault}
 
 -- the text writes a test, and this holds of it
 pub record IsOfTest (text : List ℕ) (holds : LitmusTest → Type 0) : Type 0 where
   pub test : LitmusTest
   pub written : IsLitmusTest text (said_by test)
   pub is : holds test
+
+-- Why nothing was done with it: there was no memory, the output couldn't be written, or the text writes no test, which the
+-- first line at fault tells.
+abbrev pub IsNotRun : List ℕ → TextFault → Type 0
+IsNotRun text fault =
+    IsOfRun fault
+    ⊎ (((whole : Said) → ¬ IsLitmusTest text whole) × IsAtLine (IsFaultAt (statements_from 0 (lines text))) fault)

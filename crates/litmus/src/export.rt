@@ -1,4 +1,4 @@
-ghost use Rattle.std.specs.Prelude.{◌≡◌, ◌<◌, IfOk, OnOk};
+ghost use Rattle.std.specs.Prelude.{◌≡◌, ◌<◌, IfErr, IfOk, OnOk};
 ghost use Rattle.std.specs.Io.KnownBytes.{Appends};
 ghost use Rattle.litmus_command_line.specs.CommandLine.{number_of};
 ghost use Rattle.protocol_murphi.specs.Model.{model_of};
@@ -18,6 +18,7 @@ pub fn run_export<W: Write>(
     out: &mut W,
 ) -> Result<u8, TextFault>
     ensures status { IfOk result (λ status. status ≡ 0) }
+    ensures fault { IfErr result (λ fault. fault ≡ TextFault.CannotWrite) }
     ensures printed { OnOk result
         (Appends (W.contents out.old) (W.contents out.new) (model_of exclusive closed (number_of cores))) }
 {
@@ -32,6 +33,7 @@ fn print_model<W: Write>(
 ) -> Result<u8, TextFault>
     requires { cores < 64 }
     ensures status { IfOk result (λ status. status ≡ 0) }
+    ensures fault { IfErr result (λ fault. fault ≡ TextFault.CannotWrite) }
     ensures printed { OnOk result (Appends (W.contents out.old) (W.contents out.new) (model_of exclusive closed cores)) }
 {
     let mut answers = Answers { out };

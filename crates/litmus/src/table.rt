@@ -1,4 +1,4 @@
-ghost use Rattle.std.specs.Prelude.{◌≡◌, IfOk, OnOk};
+ghost use Rattle.std.specs.Prelude.{◌≡◌, IfErr, IfOk, OnOk};
 ghost use Rattle.std.specs.Fmt.{WritesInCalls};
 ghost use Rattle.std.specs.Io.KnownBytes.{Appends};
 ghost use Rattle.litmus.specs.Table.{text_of_table};
@@ -16,6 +16,7 @@ use std::io::Write;
 /// status.
 pub fn run_table<W: Write>(table: Table, exclusive: bool, out: &mut W) -> Result<u8, TextFault>
     ensures status { IfOk result (λ status. status ≡ 0) }
+    ensures fault { IfErr result (λ fault. fault ≡ TextFault.CannotWrite) }
     ensures printed { OnOk result (Appends (W.contents out.old) (W.contents out.new) (text_of_table table exclusive)) }
 {
     let mut answers = Answers { out };

@@ -1,4 +1,4 @@
-ghost use Rattle.std.specs.Prelude.{◌≡◌, ◌⊎◌, ℕ, ◌+◌, ◌<◌, ◌^◌, List, [], ◌∷◌, ◌++◌, IfNone, IfOk, IfSome, IsTrue, OnOk, Some, All};
+ghost use Rattle.std.specs.Prelude.{◌≡◌, ◌⊎◌, ℕ, ◌+◌, ◌<◌, ◌^◌, List, [], ◌∷◌, ◌++◌, IfErr, IfNone, IfOk, IfSome, IsTrue, OnOk, Some, All};
 ghost use Rattle.std.specs.Prelude.{codes, decimal};
 ghost use Rattle.std.specs.Fmt.{WritesInCalls};
 ghost use Rattle.std.specs.Io.KnownBytes.{Appends};
@@ -7,6 +7,7 @@ ghost use Rattle.litmus_outcomes.specs.Text.{text_of};
 ghost use Rattle.litmus_rounds.specs.Outcome.{all_sought};
 ghost use Rattle.litmus_rounds.specs.Run.{AreRounds, IsRound, PrintsRounds, PrintsStuck};
 ghost use Rattle.litmus_script.specs.Machine.{bound_of};
+ghost use Rattle.litmus_script.specs.Play.{IsOfRun};
 ghost use Rattle.litmus_walk.specs.Done.{AreDone};
 ghost use Rattle.litmus_walk.specs.Walk.{IsWalkOf};
 ghost use Rattle.slice_core_plan.specs.View.{IsQuiet};
@@ -33,9 +34,10 @@ pub fn run_walk<W: Write, P: Progress>(
     progress: &mut P,
     out: &mut W,
 ) -> Result<u8, TextFault>
-    ensures { IfOk result (λ status.
+    ensures printed { IfOk result (λ status.
         PrintsRounds test.now (bound_of test.now.misses test.now.config) rounds seed status (W.contents out.old) (W.contents out.new)
         ⊎ PrintsStuck rounds status (W.contents out.old) (W.contents out.new)) }
+    ensures fault { IfErr result IsOfRun }
 {
     match test.misses {
         MissKind::Explicit => run_on::<ExplicitFile, W, P>(
@@ -55,12 +57,16 @@ fn run_on<F: MissFile, W: Write, P: Progress>(
     progress: &mut P,
     out: &mut W,
 ) -> Result<u8, TextFault>
-    ensures { IfOk result (λ status.
+    ensures printed { IfOk result (λ status.
         PrintsRounds test.now (F.bound_by test.now.config) rounds seed status (W.contents out.old) (W.contents out.new)
         ⊎ PrintsStuck rounds status (W.contents out.old) (W.contents out.new)) }
+    ensures fault { IfErr result IsOfRun }
 {
     let mut outcomes = Outcomes::new(alloc);
-    match walk_rounds::<F, P>(alloc, test, rounds, seed, progress, &mut outcomes)? {
+    let Ok(stuck) = walk_rounds::<F, P>(alloc, test, rounds, seed, progress, &mut outcomes) else {
+        return Err(TextFault::NoMemory);
+    };
+    match stuck {
         Some(round) => {
             print_stuck(round, out)?;
             Ok(1)
@@ -79,6 +85,7 @@ fn run_on<F: MissFile, W: Write, P: Progress>(
 fn print_stuck<W: Write>(round: u64, out: &mut W) -> Result<(), TextFault>
     ensures printed { OnOk result (Appends (W.contents out.old) (W.contents out.new)
         (codes "stuck round " ++ decimal round ++ codes "\n")) }
+    ensures fault { IfErr result IsOfRun }
 {
     let mut answers = Answers { out };
     match write_stuck(round, &mut answers) {
@@ -101,6 +108,7 @@ fn print_table<W: Write>(
 ) -> Result<(), TextFault>
     ensures printed { (rounds : List (List ℕ)) → IsTableOf rounds outcomes.now → OnOk result
         (Appends (W.contents out.old) (W.contents out.new) (text_of test.now (Some seed) outcomes.now.rows rounds)) }
+    ensures fault { IfErr result IsOfRun }
 {
     let mut answers = Answers { out };
     match write_table(test, outcomes, Some(seed), &mut answers) {
@@ -117,25 +125,23 @@ fn walk_rounds<F: MissFile, P: Progress>(
     seed: u64,
     progress: &mut P,
     outcomes: &mut Outcomes,
-) -> Result<Option<u64>, TextFault>
+) -> Result<Option<u64>, AllocError>
     requires { IsTableOf [] outcomes.old }
     ensures done { IfOk result (λ stuck. IfNone stuck
         (AreRounds test.now (F.bound_by test.now.config) rounds outcomes.new)) }
     ensures stuck { IfOk result (λ stuck. IfSome stuck (λ round. round < rounds)) }
 {
-    let (Ok(lines), Ok(sought)) = (named_lines(alloc, test), Sought::all(alloc, test)) else {
-        return Err(TextFault::NoMemory);
-    };
+    let lines = named_lines(alloc, test)?;
+    let sought = Sought::all(alloc, test)?;
     let mut values = Vec::new(alloc);
     for round in 0..rounds {
         let walked: Walked<F> = walk(alloc, test, &lines, seed.wrapping_add(round))?;
         if !walked.over {
             return Ok(Some(round));
         }
-        match add_outcome(test, &sought, &walked, &mut values, outcomes) {
-            Ok(true) => {}
-            Ok(false) => return Ok(Some(round)),
-            Err(AllocError) => return Err(TextFault::NoMemory),
+        let added = add_outcome(test, &sought, &walked, &mut values, outcomes)?;
+        if !added {
+            return Ok(Some(round));
         }
         progress.done(round + 1, rounds);
     }

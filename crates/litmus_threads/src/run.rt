@@ -1,6 +1,7 @@
-ghost use Rattle.std.specs.Prelude.{IfOk, OnOk};
+ghost use Rattle.std.specs.Prelude.{IfErr, IfOk, OnOk};
 ghost use Rattle.std.specs.Fmt.{WritesInCalls};
 ghost use Rattle.std.specs.Io.KnownBytes.{Appends};
+ghost use Rattle.litmus_script.specs.Play.{IsOfRun};
 ghost use Rattle.litmus_threads.specs.Run.{HasStatus, IsEndOf, IsTold};
 
 use super::rounds::{Run, run_test};
@@ -25,7 +26,8 @@ pub fn play_test<R: Threads + Wait + Sync, W: Write, P: Progress>(
     progress: &mut P,
     out: &mut W,
 ) -> Result<u8, TextFault>
-    ensures { IfOk result (IsEndOf test.now (λ text. Appends (W.contents out.old) (W.contents out.new) text)) }
+    ensures told { IfOk result (IsEndOf test.now (λ text. Appends (W.contents out.old) (W.contents out.new) text)) }
+    ensures fault { IfErr result IsOfRun }
 {
     match run_test(rt, alloc, test, seed, limit, progress) {
         Ok(run) => tell(test, &run, out),
@@ -37,6 +39,7 @@ pub fn play_test<R: Threads + Wait + Sync, W: Write, P: Progress>(
 fn tell<W: Write>(test: &LitmusTest<'_>, run: &Run, out: &mut W) -> Result<u8, TextFault>
     ensures told { OnOk result (IsTold test.now (λ text. Appends (W.contents out.old) (W.contents out.new) text) run.now) }
     ensures status { IfOk result (HasStatus test.now run.now) }
+    ensures fault { IfErr result IsOfRun }
 {
     let mut answers = Answers { out };
     match write_run(test, run, &mut answers) {

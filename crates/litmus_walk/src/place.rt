@@ -1,4 +1,4 @@
-ghost use Rattle.std.specs.Prelude.{◌≡◌, ◌+◌, ◌<◌, ◌^◌, IfSome};
+ghost use Rattle.std.specs.Prelude.{◌≡◌, ◌+◌, ◌<◌, ◌^◌, ◌↔◌, All, IfSome, IsTrue, false, replicate};
 
 /// A step of a thread. Threads and steps count from 0.
 #[derive(Clone, Copy, Debug, PartialEq, Eq)]
@@ -11,17 +11,17 @@ pub struct StepPlace {
 #[derive(Clone, Copy)]
 pub(crate) struct Place {
     pub step: usize,
-    open: [bool; 64],
+    waits: [bool; 64],
 }
 
 impl Place {
     /// Before the first step.
     pub fn first() -> Self
-        ensures { result.step ≡ 0 }
+        ensures { result ≡ record { step = 0; waits = replicate 64 false } }
     {
         Place {
             step: 0,
-            open: [false; 64],
+            waits: [false; 64],
         }
     }
 
@@ -29,29 +29,31 @@ impl Place {
     pub fn free_tag(&self) -> Option<u8>
         ensures { IfSome result (λ tag. tag < 64) }
     {
-        let tag = self.open.iter().position(|open| !*open)?;
+        let tag = self.waits.iter().position(|waits| !*waits)?;
         Some(tag as u8)
     }
 
     /// Whether no reply is waited for.
-    pub fn is_settled(&self) -> bool {
-        !self.open.contains(&true)
+    pub fn is_settled(&self) -> bool
+        ensures { IsTrue result ↔ All (λ waits. waits ≡ false) self.now.waits }
+    {
+        !self.waits.contains(&true)
     }
 
     /// The step of this number is done.
     pub fn go_behind(&mut self, step: usize)
         requires { step + 1 < 2 ^ 64 }
-        ensures { self.new.step ≡ step + 1 }
+        ensures { self.new ≡ record self.old { step = step + 1 } }
     {
         self.step = step + 1;
     }
 
     /// A reply is waited for under the tag, or no more.
-    pub fn set_open(&mut self, tag: u8, open: bool)
+    pub fn set_waiting(&mut self, tag: u8, waits: bool)
         ensures { self.new.step ≡ self.old.step }
     {
-        if let Some(place) = self.open.get_mut(tag as usize) {
-            *place = open;
+        if let Some(place) = self.waits.get_mut(tag as usize) {
+            *place = waits;
         }
     }
 }

@@ -14,10 +14,10 @@ ghost use Rattle.litmus_walk.specs.Walk.{Makes, made_of};
 use super::place::StepPlace;
 use address_map::{Checked, CoreId, LineAddr, Request, SliceId, WordAddr};
 use litmus_script::{Issued, Machine};
-use litmus_text::{Command, TextFault};
+use litmus_text::Command;
 use mshr_file::MissFile;
 use slice_core::{Entry, LineWaiting, Numbered, Pick};
-use std::alloc::Global;
+use std::alloc::{AllocError, Global};
 use std::marker::Model;
 
 /// A call that was made of a machine, and the step that made it, if it was one.
@@ -70,19 +70,23 @@ impl<F: MissFile> Recorded<F> {
     ghost use Rattle.litmus_walk.specs.Walk.{IsFresh};
 
     /// A new machine, of which no call was made yet.
-    pub fn new(alloc: Global, config: Checked) -> Result<Self, TextFault>
+    pub fn new(alloc: Global, config: Checked) -> Result<Self, AllocError>
         ensures { IfOk result (IsFresh config (F.bound_by config)) }
     {
+        let Ok(machine) = Machine::build(alloc, config) else {
+            return Err(AllocError);
+        };
         Ok(Recorded {
-            machine: Machine::build(alloc, config)?,
+            machine,
             calls: Vec::new(alloc),
         })
     }
 
-    fn push(&mut self, made: Made) -> Result<(), TextFault>
+    fn push(&mut self, made: Made) -> Result<(), AllocError>
         ensures { OnOk result (self.new ≡ made_of self.old made) }
     {
-        self.calls.push(made).map_err(|_| TextFault::NoMemory)
+        self.calls.push(made)?;
+        Ok(())
     }
 
     pub fn issue(
@@ -90,20 +94,22 @@ impl<F: MissFile> Recorded<F> {
         step: StepPlace,
         core: CoreId,
         request: Request,
-    ) -> Result<Issued, TextFault>
+    ) -> Result<Issued, AllocError>
         requires { HasCore self.old.config core }
         ensures made { IfOk result (λ issued. Makes self.old
             (record { command = commands.Issue core request; step = Some step; done = is_done issued }) self.new) }
         ensures issued { IfOk result (λ issued. IsIssued ((line_of_word request.word).0 % self.old.config.slices) core request
             issued self.old.slices self.new.slices) }
     {
-        let issued = self.machine.issue(core, request)?;
+        let Ok(issued) = self.machine.issue(core, request) else {
+            return Err(AllocError);
+        };
         let command = Command::Issue { core, request };
         self.push(Made::by_step(step, command, is_done(issued)))?;
         Ok(issued)
     }
 
-    pub fn evict(&mut self, step: StepPlace, core: CoreId, line: LineAddr) -> Result<(), TextFault>
+    pub fn evict(&mut self, step: StepPlace, core: CoreId, line: LineAddr) -> Result<(), AllocError>
         requires { HasCore self.old.config core }
         ensures { OnOk result (Makes self.old
             (record { command = commands.Evict core line; step = Some step; done = true }) self.new) }
@@ -113,7 +119,7 @@ impl<F: MissFile> Recorded<F> {
         Ok(())
     }
 
-    pub fn deliver(&mut self, pick: Pick) -> Result<(), TextFault>
+    pub fn deliver(&mut self, pick: Pick) -> Result<(), AllocError>
         ensures { OnOk result (Makes self.old
             (record { command = commands.Deliver pick; step = None; done = true }) self.new) }
     {
@@ -122,7 +128,7 @@ impl<F: MissFile> Recorded<F> {
         Ok(())
     }
 
-    pub fn hand(&mut self, core: CoreId, slice: SliceId) -> Result<Option<Numbered>, TextFault>
+    pub fn hand(&mut self, core: CoreId, slice: SliceId) -> Result<Option<Numbered>, AllocError>
         requires core { HasCore self.old.config core }
         requires slice { slice.0 < self.old.config.slices }
         ensures made { OnOk result (Makes self.old

@@ -9,11 +9,10 @@ use super::walker::Walker;
 use address_map::LineAddr;
 use litmus_script::copy_of;
 use litmus_test::LitmusTest;
-use litmus_text::TextFault;
 use mshr_file::MissFile;
 use rand_core::{Rng, SeedableRng};
 use rand_xoshiro::Xoshiro256PlusPlus;
-use std::alloc::Global;
+use std::alloc::{AllocError, Global};
 
 /// A walk that makes so many moves and isn't over is stuck.
 const MOST_MOVES: usize = 1_000_000;
@@ -32,15 +31,16 @@ pub fn walk<F: MissFile>(
     test: &LitmusTest<'_>,
     lines: &[LineAddr],
     seed: u64,
-) -> Result<Walked<F>, TextFault>
+) -> Result<Walked<F>, AllocError>
     ensures walk { IfOk result (λ walked. IsWalkOf test.now (F.bound_by test.now.config) walked.recorded) }
     ensures over { IfOk result (λ walked. IsTrue walked.over → All (λ state. IsQuiet state.view) walked.recorded.slices) }
     ensures done { IfOk result (λ walked. IsTrue walked.over → AreDone test.now.threads.items walked.recorded.calls) }
 {
-    let recorded = Recorded::new(alloc, copy_of(alloc, &test.config)?)?;
-    let Ok(mut walker) = Walker::new(alloc, test, recorded) else {
-        return Err(TextFault::NoMemory);
+    let Ok(config) = copy_of(alloc, &test.config) else {
+        return Err(AllocError);
     };
+    let recorded = Recorded::new(alloc, config)?;
+    let mut walker = Walker::new(alloc, test, recorded)?;
     walk_on(alloc, test, lines, seed, &mut walker)?;
     let over = walker.is_over(test);
     let Walker { recorded, .. } = walker;
@@ -54,7 +54,7 @@ fn walk_on<F: MissFile>(
     lines: &[LineAddr],
     seed: u64,
     walker: &mut Walker<F>,
-) -> Result<(), TextFault>
+) -> Result<(), AllocError>
     requires { walker.old.recorded.config ≡ test.now.config }
     ensures walks { OnOk result (Walks test.now.threads.items walker.old.recorded walker.new.recorded) }
     ensures done { OnOk result (GoesOn test.now.threads.items (steps_of walker.old.places.items) walker.old.recorded.calls
@@ -63,9 +63,7 @@ fn walk_on<F: MissFile>(
     let mut generator = Xoshiro256PlusPlus::seed_from_u64(seed);
     let mut moves = Vec::new(alloc);
     for _ in 0..MOST_MOVES {
-        let Ok(()) = walker.list_moves(test, lines, &mut moves) else {
-            return Err(TextFault::NoMemory);
-        };
+        walker.list_moves(test, lines, &mut moves)?;
         let Some(to) = draw(&mut generator, &moves, walker.replies.len()) else {
             break;
         };

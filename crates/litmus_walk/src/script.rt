@@ -1,13 +1,14 @@
-ghost use Rattle.std.specs.Prelude.{IfOk, OnOk};
+ghost use Rattle.std.specs.Prelude.{IfErr, IfOk, OnOk};
 ghost use Rattle.std.specs.Fmt.{WritesInCalls};
 ghost use Rattle.std.specs.Io.KnownBytes.{Appends};
 ghost use Rattle.litmus_walk.specs.Script.{PrintsWalk, text_of_call, text_of_calls, text_of_script, text_of_step};
 ghost use Rattle.litmus_script.specs.Machine.{bound_of};
+ghost use Rattle.litmus_script.specs.Play.{IsOfRun};
 
 use super::moves::named_lines;
 use super::place::StepPlace;
 use super::recorded::Made;
-use super::round::{Walked, walk};
+use super::round::walk;
 use address_map::Checked;
 use litmus_script::Answers;
 use litmus_test::LitmusTest;
@@ -25,8 +26,9 @@ pub fn write_walk<W: io::Write>(
     seed: u64,
     out: &mut W,
 ) -> Result<u8, TextFault>
-    ensures { IfOk result (λ status. PrintsWalk test.now (bound_of test.now.misses test.now.config) status
+    ensures printed { IfOk result (λ status. PrintsWalk test.now (bound_of test.now.misses test.now.config) status
         (W.contents out.old) (W.contents out.new)) }
+    ensures fault { IfErr result IsOfRun }
 {
     match test.misses {
         MissKind::Explicit => write_on::<ExplicitFile, W>(alloc, test, seed, out),
@@ -40,13 +42,16 @@ fn write_on<F: MissFile, W: io::Write>(
     seed: u64,
     out: &mut W,
 ) -> Result<u8, TextFault>
-    ensures { IfOk result (λ status. PrintsWalk test.now (F.bound_by test.now.config) status
+    ensures printed { IfOk result (λ status. PrintsWalk test.now (F.bound_by test.now.config) status
         (W.contents out.old) (W.contents out.new)) }
+    ensures fault { IfErr result IsOfRun }
 {
     let Ok(lines) = named_lines(alloc, test) else {
         return Err(TextFault::NoMemory);
     };
-    let walked: Walked<F> = walk(alloc, test, &lines, seed)?;
+    let Ok(walked) = walk::<F>(alloc, test, &lines, seed) else {
+        return Err(TextFault::NoMemory);
+    };
     print_script(&test.config, test.misses, walked.recorded.calls(), out)?;
     if walked.over { Ok(0) } else { Ok(1) }
 }
@@ -58,6 +63,7 @@ fn print_script<W: io::Write>(
     out: &mut W,
 ) -> Result<(), TextFault>
     ensures printed { OnOk result (Appends (W.contents out.old) (W.contents out.new) (text_of_script config.now misses calls.now)) }
+    ensures fault { IfErr result IsOfRun }
 {
     let mut answers = Answers { out };
     match write_script(config, misses, calls, &mut answers) {

@@ -1,4 +1,4 @@
-ghost use Rattle.std.specs.Prelude.{◌≡◌, ◌+◌, ◌<◌, ◌^◌, All, IfOk, IfSome, IsTrue, List, OnOk, Some, length, slice_get, slice_set};
+ghost use Rattle.std.specs.Prelude.{◌≡◌, ◌+◌, ◌<◌, ◌^◌, ◌↔◌, All, IfOk, IfSome, IsTrue, List, OnOk, Some, length, slice_get, slice_set};
 ghost use Rattle.std.specs.List.{AllByRecursion};
 ghost use Rattle.litmus_test.specs.declared.test.Action.TheVariants as actions;
 ghost use Rattle.litmus_test.specs.declared.test.Thread.{Thread};
@@ -13,7 +13,6 @@ use super::recorded::Recorded;
 use address_map::{LineAddr, Op, Request, WordAddr};
 use litmus_script::Issued;
 use litmus_test::{Action, LitmusTest, Thread};
-use litmus_text::TextFault;
 use mshr_file::MissFile;
 use slice_core::{Entry, Pick};
 use std::alloc::{AllocError, Global};
@@ -55,7 +54,7 @@ impl<F: MissFile> Walker<F> {
     }
 
     /// Makes the move.
-    pub fn go(&mut self, test: &LitmusTest<'_>, to: Move) -> Result<(), TextFault>
+    pub fn go(&mut self, test: &LitmusTest<'_>, to: Move) -> Result<(), AllocError>
         requires { self.old.recorded.config ≡ test.now.config }
         ensures walks { OnOk result (Walks test.now.threads.items self.old.recorded self.new.recorded) }
         ensures done { OnOk result (GoesOn test.now.threads.items (steps_of self.old.places.items) self.old.recorded.calls
@@ -68,7 +67,7 @@ impl<F: MissFile> Walker<F> {
         }
     }
 
-    fn step(&mut self, test: &LitmusTest<'_>, thread: usize) -> Result<(), TextFault>
+    fn step(&mut self, test: &LitmusTest<'_>, thread: usize) -> Result<(), AllocError>
         requires { self.old.recorded.config ≡ test.now.config }
         ensures walks { OnOk result (Walks test.now.threads.items self.old.recorded self.new.recorded) }
         ensures done { OnOk result (GoesOn test.now.threads.items (steps_of self.old.places.items) self.old.recorded.calls
@@ -102,7 +101,7 @@ impl<F: MissFile> Walker<F> {
         at: StepPlace,
         word: WordAddr,
         op: Op,
-    ) -> Result<(), TextFault>
+    ) -> Result<(), AllocError>
         requires core { HasCore self.old.recorded.config program.now.core }
         requires asks { slice_get program.now.steps.items at.step ≡ Some (actions.Access word op) }
         requires stands { slice_get (steps_of self.old.places.items) at.thread ≡ Some at.step }
@@ -122,7 +121,7 @@ impl<F: MissFile> Walker<F> {
         {
             Issued::Done { .. } => self.done(at),
             Issued::Pending(_) => {
-                self.set_open(at.thread, tag, true);
+                self.set_waiting(at.thread, tag, true);
                 self.done(at);
             }
             Issued::Stall(_) => {}
@@ -150,17 +149,17 @@ impl<F: MissFile> Walker<F> {
     }
 
     // The thread waits for a reply under the tag, or no more.
-    fn set_open(&mut self, thread: usize, tag: u8, open: bool)
+    fn set_waiting(&mut self, thread: usize, tag: u8, waits: bool)
         ensures recorded { self.new.recorded ≡ self.old.recorded }
         ensures steps { steps_of self.new.places.items ≡ steps_of self.old.places.items }
     {
         if let Some(place) = self.places.get_mut(thread) {
-            place.set_open(tag, open);
+            place.set_waiting(tag, waits);
         }
     }
 
     /// Delivers a message. What it lets be performed has replies that wait.
-    fn deliver(&mut self, test: &LitmusTest<'_>, pick: Pick) -> Result<(), TextFault>
+    fn deliver(&mut self, test: &LitmusTest<'_>, pick: Pick) -> Result<(), AllocError>
         ensures walks { OnOk result (Walks test.now.threads.items self.old.recorded self.new.recorded) }
         ensures done { OnOk result (GoesOn test.now.threads.items (steps_of self.old.places.items) self.old.recorded.calls
             (steps_of self.new.places.items) self.new.recorded.calls) }
@@ -177,14 +176,12 @@ impl<F: MissFile> Walker<F> {
                 continue;
             };
             let line = entry.word.line();
-            let Ok(()) = self.replies.push(Reply { thread, line }) else {
-                return Err(TextFault::NoMemory);
-            };
+            self.replies.push(Reply { thread, line })?;
         }
         Ok(())
     }
 
-    fn hand(&mut self, test: &LitmusTest<'_>, reply: usize) -> Result<(), TextFault>
+    fn hand(&mut self, test: &LitmusTest<'_>, reply: usize) -> Result<(), AllocError>
         requires { self.old.recorded.config ≡ test.now.config }
         ensures walks { OnOk result (Walks test.now.threads.items self.old.recorded self.new.recorded) }
         ensures done { OnOk result (GoesOn test.now.threads.items (steps_of self.old.places.items) self.old.recorded.calls
@@ -199,22 +196,22 @@ impl<F: MissFile> Walker<F> {
         };
         let slice = self.recorded.slice_of(line);
         if let Some(given) = self.recorded.hand(program.core, slice)? {
-            self.set_open(thread, given.entry.tag, false);
+            self.set_waiting(thread, given.entry.tag, false);
         }
         Ok(())
     }
 
     /// Whether all threads are done, nothing is in flight and each reply is handed out.
     pub fn is_over(&self, test: &LitmusTest<'_>) -> bool
-        ensures quiet { IsTrue result → All (λ state. IsQuiet state.view) self.now.recorded.slices }
-        ensures ended { IsTrue result → AreAtEnd test.now.threads.items (steps_of self.now.places.items) }
+        ensures { IsTrue result ↔ AreAtEnd test.now.threads.items (steps_of self.now.places.items)
+            × All (λ state. IsQuiet state.view) self.now.recorded.slices }
     {
         self.are_at_end(test) && self.recorded.is_quiet()
     }
 
     // Whether each thread stands behind its last step.
     fn are_at_end(&self, test: &LitmusTest<'_>) -> bool
-        ensures { IsTrue result → AreAtEnd test.now.threads.items (steps_of self.now.places.items) }
+        ensures { IsTrue result ↔ AreAtEnd test.now.threads.items (steps_of self.now.places.items) }
     {
         for number in 0..test.threads.len() {
             if !self.is_at_end(number, &test.threads[number]) {
@@ -225,7 +222,7 @@ impl<F: MissFile> Walker<F> {
     }
 
     fn is_at_end(&self, number: usize, thread: &Thread) -> bool
-        ensures { IsTrue result → slice_get (steps_of self.now.places.items) number ≡ Some (length thread.now.steps.items) }
+        ensures { IsTrue result ↔ (slice_get (steps_of self.now.places.items) number ≡ Some (length thread.now.steps.items)) }
     {
         match self.places.get(number) {
             Some(place) => place.step == thread.steps.len(),

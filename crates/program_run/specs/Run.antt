@@ -3,6 +3,7 @@
 use Rattle.std.specs.Prelude.{◌≡◌, ◌⊎◌, ℕ, ◌*◌, ◌-◌, ◌^◌, ◌+◌, ◌%◌, ◌==◌, ◌||◌, nat_lt, not, Bool, true, false, if◌then◌else◌, List, [], ◌∷◌, ◌++◌, length, map, filter, min, position, replicate, slice_get, slice_set, codes, decimal, All, Contains, Option, None, Some}
 use Rattle.std.specs.Io.KnownBytes.{Appends}
 use Rattle.std.specs.List.{flat_map, range_with_len}
+use Rattle.std.specs.Str.Lines.{lines}
 use Rattle.address_map.specs.Locator.{local_at}
 use Rattle.address_map.specs.Place.{line_of}
 use Rattle.address_map.specs.declared.address.CoreId.{CoreId}
@@ -12,9 +13,13 @@ use Rattle.address_map.specs.declared.request.Request.{Request}
 use Rattle.cache_table.specs.CopyState.{is_leaving}
 use Rattle.litmus_script.specs.Issued.{IsIssued}
 use Rattle.litmus_script.specs.Machine.{HasAt, IsAnswered, IsMade, IsNewMachine, log_at}
+use Rattle.litmus_script.specs.Play.{IsOfRun}
 use Rattle.litmus_script.specs.declared.answers.Issued.{Issued}
 use Rattle.litmus_script.specs.declared.answers.Issued.TheVariants as issues
+use Rattle.litmus_text.specs.Statement.{statements_from}
+use Rattle.litmus_text.specs.declared.fault.TextFault.{TextFault}
 use Rattle.mshr_file.specs.Miss.{Bound}
+use Rattle.program_text.specs.Fault.{IsFault}
 use Rattle.program_text.specs.declared.programs.Access.{Access}
 use Rattle.program_text.specs.declared.programs.CoreProgram.{CoreProgram}
 use Rattle.slice_core.specs.Facts.{copy_at, front_at}
@@ -346,3 +351,7 @@ pub record IsProgramsRun (config : Config) (bound : Bound) (programs : List Core
   pub end : RunState
   pub runs : Runs config programs start end
   pub prints : PrintsEnd config programs form seed status end before after
+
+-- Why no programs were run: the text is at fault, there was no memory, or the report couldn't be written.
+abbrev pub IsNotRun : List ℕ → TextFault → Type 0
+IsNotRun text fault = IsFault (statements_from 0 (lines text)) fault ⊎ IsOfRun fault

@@ -1,10 +1,11 @@
-ghost use Rattle.std.specs.Prelude.{◌≡◌, ◌++◌, [], Contains, IfNone, IfOk, IfSome, OnOk, codes, decimal};
+ghost use Rattle.std.specs.Prelude.{◌≡◌, ◌++◌, [], Contains, IfErr, IfNone, IfOk, IfSome, OnOk, codes, decimal};
 ghost use Rattle.std.specs.Fmt.{WritesInCalls};
 ghost use Rattle.std.specs.Io.KnownBytes.{Appends};
 ghost use Rattle.litmus_script.specs.Machine.{bound_of};
 ghost use Rattle.program_text.specs.Fault.{IsProgramText, programs_of, settings_of};
 ghost use Rattle.program_text.specs.declared.programs.Programs.{Programs};
-ghost use Rattle.program_run.specs.Run.{IsProgramsRun, Leads, Runs, text_of, text_of_stuck};
+ghost use Rattle.litmus_script.specs.Play.{IsOfRun};
+ghost use Rattle.program_run.specs.Run.{IsNotRun, IsProgramsRun, Leads, Runs, text_of, text_of_stuck};
 
 use super::json::write_json;
 use super::moves::Move;
@@ -17,7 +18,7 @@ use mshr_file::{ExplicitFile, InvertedFile, MissFile};
 use program_text::Programs;
 use rand_core::{Rng, SeedableRng};
 use rand_xoshiro::Xoshiro256PlusPlus;
-use std::alloc::Global;
+use std::alloc::{AllocError, Global};
 use std::fmt;
 use std::io::Write;
 
@@ -37,10 +38,11 @@ pub fn run_programs<W: Write>(
     form: Form,
     out: &mut W,
 ) -> Result<u8, TextFault>
-    ensures { IfOk result (λ status. (programs : Programs)
+    ensures done { IfOk result (λ status. (programs : Programs)
         × IsProgramText input.now (settings_of programs) (programs_of programs)
         × IsProgramsRun programs.config (bound_of programs.misses programs.config) programs.cores.items form seed status
         (W.contents out.old) (W.contents out.new)) }
+    ensures fault { IfErr result (IsNotRun input.now) }
 {
     let programs = Programs::read(alloc, input)?;
     run_read(alloc, &programs, seed, form, out)
@@ -54,8 +56,9 @@ fn run_read<W: Write>(
     form: Form,
     out: &mut W,
 ) -> Result<u8, TextFault>
-    ensures { IfOk result (λ status. IsProgramsRun programs.now.config (bound_of programs.now.misses programs.now.config)
+    ensures done { IfOk result (λ status. IsProgramsRun programs.now.config (bound_of programs.now.misses programs.now.config)
         programs.now.cores.items form seed status (W.contents out.old) (W.contents out.new)) }
+    ensures fault { IfErr result IsOfRun }
 {
     match programs.misses {
         MissKind::Explicit => run_on::<ExplicitFile, W>(alloc, programs, seed, form, out),
@@ -70,11 +73,16 @@ fn run_on<F: MissFile, W: Write>(
     form: Form,
     out: &mut W,
 ) -> Result<u8, TextFault>
-    ensures { IfOk result (λ status. IsProgramsRun programs.now.config (F.bound_by programs.now.config)
+    ensures done { IfOk result (λ status. IsProgramsRun programs.now.config (F.bound_by programs.now.config)
         programs.now.cores.items form seed status (W.contents out.old) (W.contents out.new)) }
+    ensures fault { IfErr result IsOfRun }
 {
-    let mut runner: Runner<F> = Runner::new(alloc, programs)?;
-    run(alloc, programs, seed, &mut runner)?;
+    let Ok(mut runner) = Runner::<F>::new(alloc, programs) else {
+        return Err(TextFault::NoMemory);
+    };
+    let Ok(()) = run(alloc, programs, seed, &mut runner) else {
+        return Err(TextFault::NoMemory);
+    };
     if runner.is_over(programs) {
         print_report(runner.tally(), seed, form, out)?;
         Ok(0)
@@ -90,15 +98,13 @@ fn run<F: MissFile>(
     programs: &Programs,
     seed: u64,
     runner: &mut Runner<F>,
-) -> Result<(), TextFault>
+) -> Result<(), AllocError>
     ensures { OnOk result (Leads (Runs runner.old.config programs.now.cores.items) runner.old runner.new) }
 {
     let mut generator = Xoshiro256PlusPlus::seed_from_u64(seed);
     let mut moves = Vec::new(alloc);
     for made in 0..u64::MAX {
-        let Ok(()) = runner.list_moves(programs, &mut moves) else {
-            return Err(TextFault::NoMemory);
-        };
+        runner.list_moves(programs, &mut moves)?;
         let Some(to) = draw(&mut generator, moves.as_slice()) else {
             return Ok(());
         };
@@ -126,6 +132,7 @@ fn print_report<W: Write>(
     out: &mut W,
 ) -> Result<(), TextFault>
     ensures printed { OnOk result (Appends (W.contents out.old) (W.contents out.new) (text_of form tally.now seed)) }
+    ensures fault { IfErr result IsOfRun }
 {
     let mut answers = Answers { out };
     match write_form(tally, seed, form, &mut answers) {
@@ -145,6 +152,7 @@ fn write_form<W: fmt::Write>(tally: &Tally, seed: u64, form: Form, out: &mut W) 
 
 fn print_stuck<W: Write>(seed: u64, out: &mut W) -> Result<(), TextFault>
     ensures printed { OnOk result (Appends (W.contents out.old) (W.contents out.new) (text_of_stuck seed)) }
+    ensures fault { IfErr result IsOfRun }
 {
     let mut answers = Answers { out };
     match write_stuck(seed, &mut answers) {

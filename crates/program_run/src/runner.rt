@@ -29,7 +29,6 @@ use super::tally::Tally;
 use super::victim::find_victim;
 use address_map::{CoreId, LineAddr, SliceId};
 use litmus_script::{Issued, Machine, copy_of};
-use litmus_text::TextFault;
 use mshr_file::MissFile;
 use program_text::{Access, CoreProgram, Programs};
 use slice_core::{Access as Asked, Decision, Delivered, Entry, Message, Pick, Way};
@@ -61,23 +60,24 @@ impl<F: MissFile> Runner<F> {
     ghost use Rattle.program_run.specs.Run.{IsNewRunner};
 
     /// Each program stands before its first access, on a new machine.
-    pub fn new(alloc: Global, programs: &Programs) -> Result<Self, TextFault>
+    pub fn new(alloc: Global, programs: &Programs) -> Result<Self, AllocError>
         ensures { IfOk result
             (IsNewRunner programs.now.config (F.bound_by programs.now.config) programs.now.cores.items) }
     {
-        let config = copy_of(alloc, &programs.config)?;
-        let Ok(observer) = Observer::new(alloc, &config) else {
-            return Err(TextFault::NoMemory);
+        let Ok(config) = copy_of(alloc, &programs.config) else {
+            return Err(AllocError);
         };
+        let observer = Observer::new(alloc, &config)?;
         let first = Place {
             asked: 0,
             waits: false,
         };
-        let Ok(places) = vec![in alloc; first; programs.cores.len()] else {
-            return Err(TextFault::NoMemory);
+        let places = vec![in alloc; first; programs.cores.len()]?;
+        let Ok(machine) = Machine::build(alloc, config) else {
+            return Err(AllocError);
         };
         Ok(Runner {
-            machine: Machine::build(alloc, config)?,
+            machine,
             places,
             observer,
         })
@@ -106,7 +106,7 @@ impl<F: MissFile> Runner<F> {
     }
 
     /// Makes the move.
-    pub fn go(&mut self, programs: &Programs, to: Move) -> Result<(), TextFault>
+    pub fn go(&mut self, programs: &Programs, to: Move) -> Result<(), AllocError>
         ensures { OnOk result (Leads (Makes self.old.config programs.now.cores.items to) self.old self.new) }
     {
         match to {
@@ -118,7 +118,7 @@ impl<F: MissFile> Runner<F> {
         }
     }
 
-    fn ask(&mut self, programs: &[CoreProgram], number: usize) -> Result<(), TextFault>
+    fn ask(&mut self, programs: &[CoreProgram], number: usize) -> Result<(), AllocError>
         ensures { OnOk result (Leads (Makes self.old.config programs.now (Move.Ask number)) self.old self.new) }
     {
         let cores = self.machine.config.cores();
@@ -128,12 +128,15 @@ impl<F: MissFile> Runner<F> {
         }
     }
 
-    fn access(&mut self, number: usize, core: CoreId, access: Access) -> Result<(), TextFault>
+    fn access(&mut self, number: usize, core: CoreId, access: Access) -> Result<(), AllocError>
         requires { HasCore self.old.config core }
         ensures { OnOk result (Leads (Accesses self.old.config number core access) self.old self.new) }
     {
         let room = makes_room(decide(&self.machine, core, access));
-        match self.machine.issue(core, request_of(access))? {
+        let Ok(issued) = self.machine.issue(core, request_of(access)) else {
+            return Err(AllocError);
+        };
+        match issued {
             Issued::Done { reply, .. } => {
                 self.observer.hit(core, access.word, access.op, reply);
                 go_on(&mut self.places, number, false);

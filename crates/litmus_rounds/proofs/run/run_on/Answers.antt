@@ -2,9 +2,9 @@ use Rattle.std.proofs.Common.{inl, sym, ◌∙◌}
 use Rattle.litmus_rounds.proofs.RoundLemmas.{told_none, told_some}
 use Rattle.litmus_rounds.proofs.run.run_on.Goals as goal
 
-pub returns-then-forbidden-eq0 : goal.returns-then-forbidden-eq0
-returns-then-forbidden-eq0 g c =
-    let are = rw c.in-None.is at c.in_ok-round.ensures.done in
+pub returns-then-forbidden-eq0-clause-printed : goal.returns-then-forbidden-eq0-clause-printed
+returns-then-forbidden-eq0-clause-printed g c =
+    let are = rw c.in-None.is at c.in-Ok.ensures.done in
     let counted = c.forbidden.ensures are.rounds are.table_of in
     inl (record {
       table = c.walk_rounds.new.outcomes;
@@ -13,9 +13,9 @@ returns-then-forbidden-eq0 g c =
       told = told_none _ (sym counted ∙ c.if-forbidden-eq0.true);
     })
 
-pub returns : goal.returns
-returns g c =
-    let are = rw c.in-None.is at c.in_ok-round.ensures.done in
+pub returns-clause-printed : goal.returns-clause-printed
+returns-clause-printed g c =
+    let are = rw c.in-None.is at c.in-Ok.ensures.done in
     let counted = c.forbidden.ensures are.rounds are.table_of in
     inl (record {
       table = c.walk_rounds.new.outcomes;

@@ -16,5 +16,5 @@ add_outcome-requires-clause-quiet g c = c.in_ok-walked.ensures.over c.if-not-wal
 
 pub loop-round-preserved : goal.loop-round-preserved
 loop-round-preserved g c =
-    let added = c.in-Ok-true.ensures c.in-Ok-true.field-0-test in
+    let added = c.in_ok-added.ensures c.if-not-added.false in
     rounds_push _ _ _ _ _ added.0 c.loop-round.invariant added.1 added.2

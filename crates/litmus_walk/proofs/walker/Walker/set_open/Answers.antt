@@ -1,7 +1,0 @@
-use Rattle.litmus_walk.proofs.DoneLemmas.{steps-kept}
-use Rattle.litmus_walk.proofs.walker.Walker.set_open.Goals as goal
-
-pub returns-in-Some-clause-steps : goal.returns-in-Some-clause-steps
-returns-in-Some-clause-steps g c =
-    steps-kept c.args.self.now.places.items c.args.thread c.in-Some.place.now c.set_open.new.self c.in-Some.ensures.value
-    c.set_open.ensures

@@ -1,8 +1,4 @@
-ghost use Rattle.std.specs.Prelude.{◌≡◌};
-ghost use Rattle.slice_core_side.specs.Access.{event_of};
-
-use address_map::Op;
-use cache_table::{CacheEvent, CopyState};
+use cache_table::CopyState;
 use slice_core_answer::Stall;
 
 /// What a miss asks the directory for.
@@ -45,14 +41,4 @@ pub enum Access {
     },
     /// It has to be asked again later, for this reason.
     Stall(Stall),
-}
-
-/// The event of the cache's table that an access is.
-pub const fn event_of(op: Op) -> CacheEvent
-    ensures { result ≡ event_of op }
-{
-    match op {
-        Op::Load => CacheEvent::Load,
-        Op::Store(_) | Op::Add(_) | Op::Cas { .. } => CacheEvent::Write,
-    }
 }

@@ -12,7 +12,7 @@
 //! one.
 #![tactic(auto)]
 
-pub use access::{Access, Ask, Way, event_of};
+pub use access::{Access, Ask, Way};
 pub use copy::CacheCopy;
 pub use side::{CopyLook, Side};
 pub use tags::TagState;

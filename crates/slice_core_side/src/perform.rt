@@ -12,8 +12,9 @@ use mshr_file::MissFile;
 use slice_core_log::{Entry, performed, reply_to};
 use target_list::Target;
 
-/// How many of the line's targets a copy in this state performs.
-pub fn count_allowed<F: MissFile>(file: &F, local: Local, state: CopyState) -> usize
+/// How many of the targets that wait for the line, `waiting` of them, a copy in this state performs.
+pub fn count_allowed<F: MissFile>(file: &F, local: Local, waiting: usize, state: CopyState) -> usize
+    requires { waiting ≡ length (targets_of (F.misses file.now) local.0) }
     ensures few { result ≤ length (targets_of (F.misses file.now) local.0) }
     ensures allowed { take result (targets_of (F.misses file.now) local.0)
         ≡ performed_in state (targets_of (F.misses file.now) local.0) }
@@ -22,7 +23,7 @@ pub fn count_allowed<F: MissFile>(file: &F, local: Local, state: CopyState) -> u
 {
     match state {
         CopyState::S => file.front_loads(local),
-        CopyState::M | CopyState::E => file.waiting(local),
+        CopyState::M | CopyState::E => waiting,
         _ => 0,
     }
 }

@@ -4,10 +4,11 @@ ghost use Rattle.cache_array.specs.Set.{holds};
 ghost use Rattle.mshr_file.specs.Miss.{has_miss, can_open, can_join, AddsTarget, IsMissFile};
 ghost use Rattle.writeback_buffer.specs.Buffer.{held_at as buffer_at};
 ghost use Rattle.slice_core_log.specs.Op.{reply_of};
+ghost use Rattle.slice_core_side.specs.Access.{event_of};
 ghost use Rattle.slice_core_side.specs.Copy.{word_at};
 
 use super::Side;
-use crate::access::{Access, Ask, Way, event_of};
+use crate::access::{Access, Ask, Way};
 use crate::copy::CacheCopy;
 use crate::tags::TagState;
 use address_map::{Local, Offset, Op, Request};
@@ -19,7 +20,7 @@ use target_list::Target;
 
 impl<F: MissFile> Side<F> {
     ghost use Rattle.slice_core_side.specs.Side.{array_copy};
-    ghost use Rattle.slice_core_side.specs.Access.{access_of, alone_of, in_way, CanStand, IsAlone, IsWithin};
+    ghost use Rattle.slice_core_side.specs.Access.{access_of, alone_of, CanStand, IsAlone, IsWithin};
     ghost use Rattle.slice_core_side.specs.Steps.{after_hit, after_join, after_open, target_of};
 
     /// What is to be done with an access to a line.
@@ -91,20 +92,9 @@ impl<F: MissFile> Side<F> {
             Row::Go(next, CacheSends::GetM) => (next, Ask::GetM),
             _ => return Access::Stall(Stall::NoTarget),
         };
-        if room {
-            self.decide_way(local, next, ask)
-        } else {
-            Access::Stall(Stall::NoRegister)
+        if !room {
+            return Access::Stall(Stall::NoRegister);
         }
-    }
-
-    // Where the copy of a line that stands nowhere is to stand.
-    fn decide_way(&self, local: Local, next: CopyState, ask: Ask) -> Access
-        requires absent { array_at self.now.array local ≡ None }
-        requires stays { buffer_at self.now.buffer.entries local.0 ≡ None }
-        ensures decided { result ≡ in_way self.now local next ask }
-        ensures within { IsAlone self.now local true result }
-    {
         let way = if self.array.has_way(local) {
             Way::Free
         } else if !self.has_victim(local) {
@@ -209,5 +199,15 @@ impl<F: MissFile> Side<F> {
             offset,
             tag: request.tag,
         }
+    }
+}
+
+// The event of the cache's table that an access is.
+fn event_of(op: Op) -> CacheEvent
+    ensures { result ≡ event_of op }
+{
+    match op {
+        Op::Load => CacheEvent::Load,
+        Op::Store(_) | Op::Add(_) | Op::Cas { .. } => CacheEvent::Write,
     }
 }

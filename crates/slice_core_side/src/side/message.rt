@@ -81,7 +81,7 @@ impl<F: MissFile> Side<F> {
     {
         let waiting = self.file.waiting(local);
         let copy = self.array.value_mut(local, place);
-        let count = count_allowed(&self.file, local, copy.state);
+        let count = count_allowed(&self.file, local, waiting, copy.state);
         perform(
             &mut self.file,
             &mut self.tags,

@@ -1,5 +1,5 @@
 ghost use Rattle.std.specs.Prelude.{◌≡◌, ◌<◌, length};
-ghost use Rattle.slice_core_plan.specs.Plan.{plan_of, planned_at, request_plan, home_plan, forwarded_plan, data_plan, ack_plan, by_directory_row};
+ghost use Rattle.slice_core_plan.specs.Plan.{plan_of, planned_at, request_plan, home_plan, forwarded_plan, data_plan, ack_plan};
 ghost use Rattle.slice_core_plan.specs.View.{View, IsShaped};
 ghost use Rattle.slice_core_plan.specs.Within.{IsPlanned};
 ghost use Rattle.slice_queues_message.specs.declared.channel.Channel.TheVariants as channels;
@@ -14,7 +14,7 @@ use slice_core_plan::{
     Plan, cache_room, directory_room, event_of_forwarded, event_of_request, is_put_ack,
     requester_of,
 };
-use slice_queues::{Channel, DataMessage, LineQueues, Pick};
+use slice_queues::{Channel, DataMessage, Pick};
 
 impl<F: MissFile> Parts<F> {
     /// What is to be done with the message in front of a pick: a delivery there does it.
@@ -60,11 +60,14 @@ impl<F: MissFile> Parts<F> {
             return Plan::Nothing;
         };
         let event = event_of_request(core, request);
-        plan_row(
-            &line,
-            core,
-            dir_row(self.exclusive, &self.entries[local.0], event),
-        )
+        match dir_row(self.exclusive, &self.entries[local.0], event) {
+            DirRow::NoEntry => Plan::Broken(Cell::Entry),
+            DirRow::Blocked => Plan::Blocked,
+            DirRow::Go(step) if !directory_room(&line, core, &step.sends) => {
+                Plan::Broken(Cell::Full)
+            }
+            DirRow::Go(step) => Plan::Directory(step),
+        }
     }
 
     // The directory's row for the block that comes home.
@@ -178,22 +181,6 @@ impl<F: MissFile> Parts<F> {
                 Some(place) => Plan::Acknowledge { place, next },
                 None => Plan::Broken(Cell::Entry),
             },
-        }
-    }
-}
-
-// What follows from the directory's row for a core's request.
-fn plan_row(line: &LineQueues<'_>, core: CoreId, row: DirRow) -> Plan
-    ensures { result ≡ by_directory_row line.now core row }
-{
-    match row {
-        DirRow::NoEntry => Plan::Broken(Cell::Entry),
-        DirRow::Blocked => Plan::Blocked,
-        DirRow::Go(step) => {
-            if !directory_room(line, core, &step.sends) {
-                return Plan::Broken(Cell::Full);
-            }
-            Plan::Directory(step)
         }
     }
 }

@@ -1,6 +1,10 @@
-ghost use Rattle.std.specs.Prelude.{◌≡◌, ◌<◌, IfErr, IfOk};
+ghost use Rattle.std.specs.Prelude.{◌≡◌, ◌<◌, ◌⊎◌, IfErr, IfOk};
+ghost use Rattle.std.specs.Str.Lines.{lines};
+ghost use Rattle.litmus_chart.specs.Fault.{IsChartFault, StopsAt};
 ghost use Rattle.litmus_script.specs.Play.{IsOfRun};
+ghost use Rattle.litmus_script.specs.Script.{commands_of};
 ghost use Rattle.litmus_text.specs.Command.{HasCore, IsInRange};
+ghost use Rattle.litmus_text.specs.Statement.{statements_from};
 
 use super::arrow::{Fate, Participant};
 use super::note::{begin_cross, begin_note, write_participants};
@@ -20,8 +24,10 @@ use std::io::Write;
 
 /// Draws the run of a script: a sequence diagram in Mermaid's words. Answers the exit status. A fault ends the chart;
 /// what was written before it stays.
+#[tactic(auto, using(crate::proofs::FaultLemmas::fault_of_script))]
 pub fn run_chart<W: Write>(alloc: Global, input: &[u8], out: &mut W) -> Result<u8, TextFault>
-    ensures { IfOk result (λ status. status ≡ 0) }
+    ensures status { IfOk result (λ status. status ≡ 0) }
+    ensures fault { IfErr result (IsChartFault (statements_from 0 (lines input.now))) }
 {
     let mut answers = Answers { out };
     match Script::read(alloc, input)? {
@@ -32,9 +38,13 @@ pub fn run_chart<W: Write>(alloc: Global, input: &[u8], out: &mut W) -> Result<u
 }
 
 /// The chart of a script that says nothing has those who take part in any other.
-fn chart_of_nothing<W: Write>(alloc: Global, out: &mut Answers<'_, W>) -> Result<(), TextFault> {
+fn chart_of_nothing<W: Write>(alloc: Global, out: &mut Answers<'_, W>) -> Result<(), TextFault>
+    ensures fault { IfErr result IsOfRun }
+{
     let Settings { config, .. } = Settings::new(alloc);
-    let config = config.check().map_err(TextFault::Config)?;
+    let Ok(config) = config.check() else {
+        unreachable!();
+    };
     written(write_participants(&config, out))
 }
 
@@ -42,7 +52,10 @@ fn chart_of<W: Write>(
     alloc: Global,
     script: Script<'_>,
     out: &mut Answers<'_, W>,
-) -> Result<(), TextFault> {
+) -> Result<(), TextFault>
+    ensures fault { IfErr result
+        (λ fault. IsOfRun fault ⊎ StopsAt script.entry.config (commands_of script.entry.commands) fault) }
+{
     match script.misses {
         MissKind::Explicit => chart_on::<ExplicitFile, W>(alloc, script, out),
         MissKind::Inverted => chart_on::<InvertedFile, W>(alloc, script, out),
@@ -54,7 +67,10 @@ fn chart_on<F: MissFile, W: Write>(
     alloc: Global,
     script: Script<'_>,
     out: &mut Answers<'_, W>,
-) -> Result<(), TextFault> {
+) -> Result<(), TextFault>
+    ensures fault { IfErr result
+        (λ fault. IsOfRun fault ⊎ StopsAt script.entry.config (commands_of script.entry.commands) fault) }
+{
     let Script {
         config,
         commands,
@@ -145,7 +161,10 @@ impl<F: MissFile> Deliverer for Chart<F> {
 }
 
 impl<F: MissFile> Chart<F> {
-    fn new(alloc: Global, config: Checked) -> Result<Self, TextFault> {
+    fn new(alloc: Global, config: Checked) -> Result<Self, TextFault>
+        ensures config { IfOk result (λ chart. chart.machine.config ≡ config) }
+        ensures fault { IfErr result IsOfRun }
+    {
         Ok(Chart {
             machine: Machine::build(alloc, config)?,
             picture: Picture::new(alloc),

@@ -1,5 +1,6 @@
 -- Lists that ascend strictly by a number of each element.
-use Rattle.std.proofs.Common.{◌≡◌, ℕ, ◌+◌, ◌<◌, ◌≤◌, Bool, true, false, suc, zero, List, [], ◌∷◌, length, get_or, ⊎_elim, refl, sym, add-one, arith}
+use Rattle.std.proofs.Common.{◌≡◌, ℕ, ◌+◌, ◌<◌, ◌≤◌, Bool, true, false, suc, zero, List, [], ◌∷◌, length, get_or}
+use Rattle.std.proofs.Common.{⊎_elim, refl, sym, add-one, arith}
 use Rattle.std.specs.Prelude.{nat_lt, All}
 use Rattle.std.specs.List.{IsAllAdjacentAnswer, AllAdjacentBelow}
 use Rattle.std.proofs.lemmas.Bool.{ltb-true, and_parts, and_right, cases_eq}

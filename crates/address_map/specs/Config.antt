@@ -1,5 +1,6 @@
 -- Which configurations a machine can be built from.
-use Rattle.std.specs.Prelude.{◌≡◌, ◌⊎◌, ℕ, ◌<◌, ◌*◌, Bool, false, ◌==◌, ◌||◌, ◌&&◌, not, nat_le, ◌≤◌, ◌/◌, ◌%◌, List, [], ◌∷◌, length, Option, Result, Ok, Err, find, All, IsTrue, codes}
+use Rattle.std.specs.Prelude.{◌≡◌, ◌⊎◌, ℕ, ◌<◌, ◌*◌, Bool, false, ◌==◌, ◌||◌, ◌&&◌, not, nat_le, ◌≤◌, ◌/◌, ◌%◌, List}
+use Rattle.std.specs.Prelude.{[], ◌∷◌, length, Option, Result, Ok, Err, find, All, IsTrue, codes}
 use Rattle.std.specs.Int.{is_power_of_two}
 use Rattle.std.specs.Option.{option_map_or}
 use Rattle.address_map.specs.declared.config.Config.{Config}

@@ -1,5 +1,7 @@
 -- The order of a set's lines is the order of their last uses, or where uses move nothing, of their insertions.
-use Rattle.std.proofs.Common.{◌≡◌, ℕ, ◌+◌, ◌<◌, ◌≤◌, Bool, true, false, cond, not, List, [], ◌∷◌, ◌++◌, get_or, refl, ap, ◌∙◌, arith, inl, inr, Option, Some, None, option_to_list, find, All, AllPairs, append-nil, ◌⊎◌, IfSome}
+use Rattle.std.proofs.Common.{◌≡◌, ℕ, ◌+◌, ◌<◌, ◌≤◌, Bool, true, false, cond, not, List, [], ◌∷◌, ◌++◌, get_or, refl}
+use Rattle.std.proofs.Common.{ap, ◌∙◌, arith, inl, inr, Option, Some, None, option_to_list, find, All, AllPairs}
+use Rattle.std.proofs.Common.{append-nil, ◌⊎◌, IfSome}
 use Rattle.std.specs.Set.{remove_key}
 use Rattle.std.proofs.lemmas.Bool.{cases_lt}
 use Rattle.std.proofs.lemmas.List.Quantifiers.{all_pairs_push, position-Some}
@@ -8,7 +10,8 @@ use Rattle.address_map.specs.declared.address.Local.{Local}
 use Rattle.address_map.specs.declared.config.PolicyKind.{PolicyKind}
 use Rattle.address_map.specs.declared.config.PolicyKind.TheVariants.{Lru, Fifo, Random}
 use Rattle.cache_array.proofs.Orders.{AllPairs-remove_key, TellsApart, gone, its_own, found_passes}
-use Rattle.cache_array.specs.History.{Event, is_line, moved_to_end, order_after, events_since_insertion, events_since_use}
+use Rattle.cache_array.specs.History.{Event, is_line, moved_to_end, order_after, events_since_insertion}
+use Rattle.cache_array.specs.History.{events_since_use}
 use Rattle.cache_array.specs.History.Event.{Inserted, Used, Removed}
 use Rattle.cache_array.specs.Policy.{IsPreferred, prefers_of, moves_of, choice_of, picked_by, first_allowed}
 

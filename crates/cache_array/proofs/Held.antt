@@ -1,15 +1,18 @@
 -- What an array holds after each change of a line's slot, as equations about the array alone, and that it is in order
 -- again.
-use Rattle.std.proofs.Common.{◌≡◌, ◌≢◌, ℕ, ◌<◌, Bool, true, false, List, length, get_or, refl, ap, sym, ◌∙◌, subst, arith, inl, inr, Some, None, IsSome, position, eq-eqb}
+use Rattle.std.proofs.Common.{◌≡◌, ◌≢◌, ℕ, ◌<◌, Bool, true, false, List, length, get_or, refl, ap, sym, ◌∙◌, subst}
+use Rattle.std.proofs.Common.{arith, inl, inr, Some, None, IsSome, position, eq-eqb}
 use Rattle.std.proofs.lemmas.Bool.{cases_eq}
 use Rattle.address_map.specs.declared.address.Local.{Local}
 use Rattle.cache_array.specs.declared.set.Slot.{Slot}
-use Rattle.cache_array.specs.Set.{SetView, empty_set, holds, value_in, after_insert, after_write, after_use, after_remove}
+use Rattle.cache_array.specs.Set.{SetView, empty_set, holds, value_in, after_insert, after_write, after_use}
+use Rattle.cache_array.specs.Set.{after_remove}
 use Rattle.cache_array.specs.Array.{ArrayView, set_index, slots_at, with_slots, held_at, HasWay, IsArray}
 use Rattle.cache_array.specs.Victim.{ShareSet}
 use Rattle.cache_array.proofs.Places.{position-written}
 use Rattle.cache_array.proofs.Slots.{value-insert, others-insert, others-write, length-held_removed}
-use Rattle.cache_array.proofs.Sets.{index_within, set-same, slots-same, slots-other, sets_only, is_array, its_set, leaves-insert, leaves-write, leaves-use, leaves-remove}
+use Rattle.cache_array.proofs.Sets.{index_within, set-same, slots-same, slots-other, sets_only, is_array, its_set}
+use Rattle.cache_array.proofs.Sets.{leaves-insert, leaves-write, leaves-use, leaves-remove}
 
 module _ {V P : Type 0} (array : ArrayView V P) (line : Local) (sound : IsArray array) where
   -- the line's value is the one that was written, every other is as it was, and it stands where it stood

@@ -1,5 +1,6 @@
 -- A line's slot by its place: its value is read there, lent there and changed there.
-use Rattle.std.proofs.Common.{◌≡◌, ℕ, ◌↔◌, Bool, List, [], ◌∷◌, get_or, set, refl, ap, sym, ◌∙◌, subst, Option, Some, None, IsSome, is_some, option_map, find, position}
+use Rattle.std.proofs.Common.{◌≡◌, ℕ, ◌↔◌, Bool, List, [], ◌∷◌, get_or, set, refl, ap, sym, ◌∙◌, subst, Option, Some}
+use Rattle.std.proofs.Common.{None, IsSome, is_some, option_map, find, position}
 use Rattle.address_map.specs.declared.address.Local.{Local}
 use Rattle.cache_array.specs.declared.set.Slot.{Slot}
 use Rattle.cache_array.specs.Set.{SetView, holds, value_in, after_write}

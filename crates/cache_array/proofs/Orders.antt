@@ -1,5 +1,6 @@
 -- Lists of lines in which none stands twice.
-use Rattle.std.proofs.Common.{◌≡◌, ◌≢◌, ℕ, Bool, true, false, cond, List, [], ◌∷◌, ◌++◌, get_or, suc, refl, ap, sym, ◌∙◌, arith, Option, Some, None, option_to_list, find, All, AllPairs, eq-eqb, append-nil}
+use Rattle.std.proofs.Common.{◌≡◌, ◌≢◌, ℕ, Bool, true, false, cond, List, [], ◌∷◌, ◌++◌, get_or, suc, refl, ap, sym}
+use Rattle.std.proofs.Common.{◌∙◌, arith, Option, Some, None, option_to_list, find, All, AllPairs, eq-eqb, append-nil}
 use Rattle.std.specs.Set.{remove_key}
 use Rattle.std.proofs.lemmas.Bool.{eqb-true}
 use Rattle.std.proofs.lemmas.List.Elements.{All-cons, All-nil, All-append}

@@ -1,5 +1,7 @@
 -- The first element of a list that passes a test: where it stands, and the list without it or with it at the end.
-use Rattle.std.proofs.Common.{◌≡◌, ℕ, ◌+◌, ◌<◌, ◌≤◌, Bool, true, false, cond, not, List, [], ◌∷◌, ◌++◌, length, map, get_or, set, zero, suc, refl, ap, sym, ◌∙◌, arith, Some, None, option_to_list, find, position, remove, drop, nat_lt}
+use Rattle.std.proofs.Common.{◌≡◌, ℕ, ◌+◌, ◌<◌, ◌≤◌, Bool, true, false, cond, not, List, [], ◌∷◌, ◌++◌, length, map}
+use Rattle.std.proofs.Common.{get_or, set, zero, suc, refl, ap, sym, ◌∙◌, arith, Some, None, option_to_list, find}
+use Rattle.std.proofs.Common.{position, remove, drop, nat_lt}
 use Rattle.std.specs.List.{position_or_len, refill, swap}
 use Rattle.std.specs.Set.{remove_key}
 use Rattle.std.proofs.lemmas.Bool.{ltb-true, ltb-false}

@@ -1,17 +1,22 @@
 -- The array: what each call leaves of its values and its sets.
-use Rattle.std.proofs.Common.{◌≡◌, ◌≢◌, ℕ, ◌-◌, ◌%◌, ◌<◌, Bool, true, List, [], ◌∷◌, ◌++◌, length, replicate, get_or, set, refl, ap, sym, ◌∙◌, subst, arith, inl, inr, Option, Some, None, IsTrue, IsSome, is_some, if◌then◌else◌, bit_and}
+use Rattle.std.proofs.Common.{◌≡◌, ◌≢◌, ℕ, ◌-◌, ◌%◌, ◌<◌, Bool, true, List, [], ◌∷◌, ◌++◌, length, replicate, get_or}
+use Rattle.std.proofs.Common.{set, refl, ap, sym, ◌∙◌, subst, arith, inl, inr, Option, Some, None, IsTrue, IsSome}
+use Rattle.std.proofs.Common.{is_some, if◌then◌else◌, bit_and}
 use Rattle.std.specs.Int.{is_power_of_two, IsPowerOfTwo}
 use Rattle.std.specs.Set.{remove_key}
 use Rattle.std.proofs.Math.Nat.{mod-lt}
 use Rattle.std.proofs.lemmas.Bool.{cases_eq}
-use Rattle.std.proofs.lemmas.List.{length-set, length-replicate, get_or-replicate, get_or_default, get_or-set_same, get_or-set_other}
+use Rattle.std.proofs.lemmas.List.{length-set, length-replicate, get_or-replicate, get_or_default, get_or-set_same}
+use Rattle.std.proofs.lemmas.List.{get_or-set_other}
 use Rattle.std.proofs.lemmas.List.Elements.{All-nil}
 use Rattle.std.proofs.lemmas.Map.Views.{All-remove_key}
 use Rattle.address_map.specs.declared.address.Local.{Local}
 use Rattle.cache_array.specs.declared.set.Slot.{Slot}
 use Rattle.cache_array.specs.History.{is_line, moved_to_end}
-use Rattle.cache_array.specs.Set.{SetView, empty_set, lines_of, value_in, after_insert, after_write, after_use, after_remove}
-use Rattle.cache_array.specs.Array.{ArrayView, set_index, set_of, slots_at, with_slots, lines_at, held_at, HasWay, empty_array, IsSet, IsArray, SetsOnly}
+use Rattle.cache_array.specs.Set.{SetView, empty_set, lines_of, value_in, after_insert, after_write, after_use}
+use Rattle.cache_array.specs.Set.{after_remove}
+use Rattle.cache_array.specs.Array.{ArrayView, set_index, set_of, slots_at, with_slots, lines_at, held_at, HasWay}
+use Rattle.cache_array.specs.Array.{empty_array, IsSet, IsArray, SetsOnly}
 use Rattle.cache_array.proofs.Orders.{apart-removed, apart-pushed, apart-moved, all-pushed, all-moved}
 use Rattle.cache_array.proofs.Powers.{power_some, power_from_ones, masked}
 use Rattle.cache_array.proofs.Slots as one

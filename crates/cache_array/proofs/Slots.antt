@@ -1,5 +1,7 @@
 -- One set: what each call leaves of its values and its lines.
-use Rattle.std.proofs.Common.{◌≡◌, ◌≢◌, ℕ, ◌+◌, ◌<◌, ◌≤◌, Bool, true, false, cond, not, List, [], ◌∷◌, ◌++◌, length, get_or, set, suc, refl, ap, sym, ◌∙◌, arith, Option, Some, None, option_map, option_to_list, find, All, eq-eqb, length-append, is_some, position, remove, slice_get}
+use Rattle.std.proofs.Common.{◌≡◌, ◌≢◌, ℕ, ◌+◌, ◌<◌, ◌≤◌, Bool, true, false, cond, not, List, [], ◌∷◌, ◌++◌, length}
+use Rattle.std.proofs.Common.{get_or, set, suc, refl, ap, sym, ◌∙◌, arith, Option, Some, None, option_map}
+use Rattle.std.proofs.Common.{option_to_list, find, All, eq-eqb, length-append, is_some, position, remove, slice_get}
 use Rattle.std.specs.List.{position_or_len, refill, AllZip}
 use Rattle.std.specs.Option.{option_or}
 use Rattle.std.specs.Set.{remove_key}
@@ -13,7 +15,8 @@ use Rattle.cache_array.specs.History.{is_line, moved_to_end}
 use Rattle.std.proofs.lemmas.Option.{slice_get_within, slice_get-get_or}
 use Rattle.cache_array.specs.Policy.{IsAllowed}
 use Rattle.cache_array.specs.Victim.{line_in}
-use Rattle.cache_array.specs.Set.{SetView, holds, lines_of, value_in, after_insert, after_write, after_use, after_remove}
+use Rattle.cache_array.specs.Set.{SetView, holds, lines_of, value_in, after_insert, after_write, after_use}
+use Rattle.cache_array.specs.Set.{after_remove}
 use Rattle.cache_array.proofs.Orders.{found_passes, same_line, gone, AreApart}
 use Rattle.cache_array.proofs.Places.{remove_key-map, moved_to_end-map, moved_within}
 

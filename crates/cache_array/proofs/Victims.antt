@@ -1,5 +1,7 @@
 -- The victim of a set, from the slot that the policy chose.
-use Rattle.std.proofs.Common.{◌≡◌, ◌≢◌, ℕ, ◌+◌, ◌%◌, ◌<◌, Bool, true, false, cond, ◌||◌, ◌↔◌, List, [], ◌∷◌, length, take, get_or, zero, suc, refl, ap, sym, ◌∙◌, subst, Option, Some, None, is_some, option_map, find, slice_get, All, eq-eqb, IfSome, IsSomeAnd, MatchOption}
+use Rattle.std.proofs.Common.{◌≡◌, ◌≢◌, ℕ, ◌+◌, ◌%◌, ◌<◌, Bool, true, false, cond, ◌||◌, ◌↔◌, List, [], ◌∷◌, length}
+use Rattle.std.proofs.Common.{take, get_or, zero, suc, refl, ap, sym, ◌∙◌, subst, Option, Some, None, is_some}
+use Rattle.std.proofs.Common.{option_map, find, slice_get, All, eq-eqb, IfSome, IsSomeAnd, MatchOption}
 use Rattle.std.specs.List.{AllZip, list_any}
 use Rattle.std.proofs.lemmas.Bool.{ne_eqb}
 use Rattle.std.proofs.lemmas.Grind.{take_at_read}

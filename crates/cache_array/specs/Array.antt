@@ -1,5 +1,6 @@
 -- A private cache's array: its sets, seen as lists of slots, and above them the values that it holds by line.
-use Rattle.std.specs.Prelude.{◌≡◌, ◌≢◌, ℕ, ◌%◌, ◌<◌, ◌≤◌, List, length, replicate, slice_set, slice_index_or, Option, All, AllPairs, EachIndex}
+use Rattle.std.specs.Prelude.{◌≡◌, ◌≢◌, ℕ, ◌%◌, ◌<◌, ◌≤◌, List, length, replicate, slice_set, slice_index_or, Option}
+use Rattle.std.specs.Prelude.{All, AllPairs, EachIndex}
 use Rattle.std.specs.Int.{IsPowerOfTwo}
 use Rattle.address_map.specs.declared.address.Local.{Local}
 use Rattle.cache_array.specs.declared.set.Slot.{Slot}

@@ -1,6 +1,7 @@
 -- Which slot of a set a policy gives up. The slots are named by their place in the set's list, and a list of the same
 -- length says which of them may go.
-use Rattle.std.specs.Prelude.{◌≡◌, ◌≢◌, ℕ, ◌%◌, ◌<◌, Bool, true, false, List, map, filter, length, position, slice_get, Option, Some, All, MatchOption, ⊤}
+use Rattle.std.specs.Prelude.{◌≡◌, ◌≢◌, ℕ, ◌%◌, ◌<◌, Bool, true, false, List, map, filter, length, position, slice_get}
+use Rattle.std.specs.Prelude.{Option, Some, All, MatchOption, ⊤}
 use Rattle.std.specs.List.{enumerate_from}
 use Rattle.address_map.specs.declared.address.Local.{Local}
 use Rattle.address_map.specs.declared.config.PolicyKind.{PolicyKind}

@@ -1,4 +1,5 @@
-ghost use Rattle.std.specs.Prelude.{◌≡◌, ◌<◌, ◌↔◌, ◌%◌, Bool, false, List, length, position, None, Some, is_some, IsTrue, IsSome, IfSome, IfOk, MatchOption, option_copied};
+ghost use Rattle.std.specs.Prelude.{◌≡◌, ◌<◌, ◌↔◌, ◌%◌, Bool, false, List, length, position, None, Some, is_some};
+ghost use Rattle.std.specs.Prelude.{IsTrue, IsSome, IfSome, IfOk, MatchOption, option_copied};
 ghost use Rattle.std.specs.List.{AllZip};
 ghost use Rattle.std.specs.Borrow.{sem};
 ghost use Rattle.std.specs.Fn.{FnReturnsAt};
@@ -28,11 +29,13 @@ impl<V, P> Model for CacheArray<V, P> {
 
     ghost view = { λ array. record { sets = boxed_slice_items array.sets; policy = array.policy } };
 
-    ghost invariant = { λ array. IsArray {V = V} {P = P} (record { sets = boxed_slice_items array.sets; policy = array.policy }) };
+    ghost invariant = { λ array. IsArray {V = V} {P = P}
+        (record { sets = boxed_slice_items array.sets; policy = array.policy }) };
 }
 
 impl<V: Copy, P: Policy + Drop> CacheArray<V, P> {
-    ghost use Rattle.cache_array.specs.Array.{set_index, slots_at, with_slots, lines_at, held_at, HasWay, empty_array, IsArray, SetsOnly};
+    ghost use Rattle.cache_array.specs.Array.{set_index, slots_at, with_slots, lines_at, held_at, HasWay, empty_array};
+    ghost use Rattle.cache_array.specs.Array.{IsArray, SetsOnly};
     ghost use Rattle.cache_array.specs.Lending.{LendsValue};
     ghost use Rattle.cache_array.specs.Victim.{Answers, flags_of, line_in, some_may_go, NoneMayGo, IsVictim};
 
@@ -137,9 +140,11 @@ impl<V: Copy, P: Policy + Drop> CacheArray<V, P> {
     /// Uses a line that the array holds.
     pub fn touch(&mut self, line: Local)
         requires { IsSome (held_at self.old line) }
-        ensures after { self.new ≡ with_slots self.old line (after_use (P.moves self.old.policy) (slots_at self.old line) line) }
+        ensures after { self.new ≡ with_slots self.old line
+            (after_use (P.moves self.old.policy) (slots_at self.old line) line) }
         ensures held { SetsOnly self.old self.new line (held_at self.old line) }
-        ensures order { lines_at self.new line ≡ after_event (P.moves self.old.policy) (Used line) (lines_at self.old line) }
+        ensures order { lines_at self.new line ≡ after_event (P.moves self.old.policy) (Used line)
+            (lines_at self.old line) }
     {
         let Some(place) = self.find(line) else {
             unreachable!();
@@ -150,9 +155,11 @@ impl<V: Copy, P: Policy + Drop> CacheArray<V, P> {
     /// Uses a line that stands there in its set.
     pub fn touch_at(&mut self, line: Local, place: usize)
         requires { position (holds line) (slots_at self.old line) ≡ Some place }
-        ensures after { self.new ≡ with_slots self.old line (after_use (P.moves self.old.policy) (slots_at self.old line) line) }
+        ensures after { self.new ≡ with_slots self.old line
+            (after_use (P.moves self.old.policy) (slots_at self.old line) line) }
         ensures held { SetsOnly self.old self.new line (held_at self.old line) }
-        ensures order { lines_at self.new line ≡ after_event (P.moves self.old.policy) (Used line) (lines_at self.old line) }
+        ensures order { lines_at self.new line ≡ after_event (P.moves self.old.policy) (Used line)
+            (lines_at self.old line) }
     {
         if self.policy.moves_on_use() {
             let index = self.set_index(line);
@@ -167,7 +174,8 @@ impl<V: Copy, P: Policy + Drop> CacheArray<V, P> {
         requires room { HasWay self.old line }
         ensures after { self.new ≡ with_slots self.old line (after_insert (slots_at self.old line) line value) }
         ensures held { SetsOnly self.old self.new line (Some value) }
-        ensures order { lines_at self.new line ≡ after_event (P.moves self.old.policy) (Inserted line) (lines_at self.old line) }
+        ensures order { lines_at self.new line ≡ after_event (P.moves self.old.policy) (Inserted line)
+            (lines_at self.old line) }
     {
         let index = self.set_index(line);
         let set = &mut self.sets[index];
@@ -179,7 +187,8 @@ impl<V: Copy, P: Policy + Drop> CacheArray<V, P> {
         ensures value { result ≡ held_at self.old line }
         ensures after { self.new ≡ with_slots self.old line (after_remove (slots_at self.old line) line) }
         ensures held { SetsOnly self.old self.new line None }
-        ensures order { lines_at self.new line ≡ after_event (P.moves self.old.policy) (Removed line) (lines_at self.old line) }
+        ensures order { lines_at self.new line ≡ after_event (P.moves self.old.policy) (Removed line)
+            (lines_at self.old line) }
     {
         let index = self.set_index(line);
         let set = &mut self.sets[index];

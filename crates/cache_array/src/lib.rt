@@ -27,8 +27,8 @@
 //! its line among those of one set, or goes where it is told that the line stands. A loan copies no value. A use under
 //! LRU and a removal move the slots behind the line's by one place, and a use of the last slot moves nothing.
 //!
-//! No call can let an array grow: its sets stand in a boxed slice, and the room of a set's list is, by its type, that of
-//! its ways.
+//! No call can let an array grow: its sets stand in a boxed slice, and the room of a set's list is, by its type, that
+//! of its ways.
 #![tactic(auto)]
 
 pub use array::CacheArray;

@@ -2,7 +2,8 @@ ghost use Rattle.std.specs.Prelude.{◌≡◌, ◌<◌, ℕ, Bool, List, Option,
 ghost use Rattle.address_map.specs.declared.address.Local.{Local};
 ghost use Rattle.address_map.specs.declared.config.PolicyKind.TheVariants as policies;
 ghost use Rattle.cache_array.specs.History.{Event};
-ghost use Rattle.cache_array.specs.Policy.{allowed_slots, first_allowed, picked_by, choice_of, moves_of, prefers_of, IsAllowed, IsPreferred, CanPickEach};
+ghost use Rattle.cache_array.specs.Policy.{allowed_slots, first_allowed, picked_by, choice_of, moves_of, prefers_of};
+ghost use Rattle.cache_array.specs.Policy.{IsAllowed, IsPreferred, CanPickEach};
 
 use address_map::PolicyKind;
 

@@ -1,7 +1,8 @@
 -- The laws leave each row no choice: a state is known from its facts, and what is sent from what it is.
 use Rattle.std.proofs.Common.{◌≡◌, Bool, true, false, if◌then◌else◌, refl, sym, ◌∙◌}
 use Rattle.cache_table.specs.CopyState.{is_leaving, is_readable, is_waiting, is_writer}
-use Rattle.cache_table.specs.Law.{IsLawful, asked_to_write, awaits_data, holds_data, is_clean, is_sharer, sends_data, sends_get, sends_get_m, sends_home, sends_inv_ack, sends_put, sends_put_m}
+use Rattle.cache_table.specs.Law.{IsLawful, asked_to_write, awaits_data, holds_data, is_clean, is_sharer, sends_data}
+use Rattle.cache_table.specs.Law.{sends_get, sends_get_m, sends_home, sends_inv_ack, sends_put, sends_put_m}
 use Rattle.cache_table.specs.declared.state.CopyState.{CopyState}
 use Rattle.cache_table.specs.declared.state.CopyState.TheVariants as states
 use Rattle.cache_table.specs.declared.row.CacheEvent.{CacheEvent}

@@ -11,8 +11,8 @@ use std::sync::Wait;
 use std::thread::Threads;
 
 /// Each core adds one more than its number ten times to each counter, in a thread of its own, beside a mover. Where
-/// memory or a thread is wanting it says which, and lets the cores do what is left, one after the other. Answers whether
-/// all finished.
+/// memory or a thread is wanting it says which, and lets the cores do what is left, one after the other. Answers
+/// whether all finished.
 pub fn add_in_want<
     F: MissFile + Send,
     M: SystemKeys + Send + Sync,
@@ -58,8 +58,8 @@ fn finish<F: MissFile, M: SystemKeys, R: Wait>(rt: &R, job: &mut Job<'_, F, All<
     }
 }
 
-/// Whether an audit that wanted memory gave both cores back, and finds what the row wants when it is made again, which it
-/// says.
+/// Whether an audit that wanted memory gave both cores back, and finds what the row wants when it is made again, which
+/// it says.
 pub fn is_found_again<F: MissFile, M: SystemKeys, R: AllocGlobal + Print + Wait>(
     rt: &R,
     system: &System<F, All<M>>,

@@ -1,7 +1,10 @@
 -- What a core has made: nothing, a request or a turn, and one thing after another.
-use Rattle.std.proofs.Common.{◌≡◌, ℕ, ◌+◌, ◌<◌, ◌≤◌, ◌⊎◌, Bool, true, false, List, [], ◌∷◌, ◌++◌, refl, sym, ap, ◌∙◌, subst, inl, inr, arith, append-nil, append_assoc, Option, Some, None, Result, Ok, Err, eq-eqb}
+use Rattle.std.proofs.Common.{◌≡◌, ℕ, ◌+◌, ◌<◌, ◌≤◌, ◌⊎◌, Bool, true, false, List, [], ◌∷◌, ◌++◌, refl, sym, ap, ◌∙◌}
+use Rattle.std.proofs.Common.{subst, inl, inr, arith, append-nil, append_assoc, Option, Some, None, Result, Ok, Err}
+use Rattle.std.proofs.Common.{eq-eqb}
 use Rattle.std.proofs.Math.Seq.{take-length}
-use Rattle.std.specs.Prelude.{◌==◌, if◌then◌else◌, IsSomeAnd, MatchOption, OnErr, length, slice_get, slice_index_or, take}
+use Rattle.std.specs.Prelude.{◌==◌, if◌then◌else◌, IsSomeAnd, MatchOption, OnErr, length, slice_get, slice_index_or}
+use Rattle.std.specs.Prelude.{take}
 use Rattle.std.proofs.lemmas.Bool.{cases_eq, ne_eqb}
 use Rattle.std.proofs.lemmas.List.{map-append, take_more}
 use Rattle.std.proofs.lemmas.Nat.{mod_below}
@@ -319,7 +322,8 @@ pub settled-at : (program : List Step) (place at : ℕ) (step : Step) (v : CoreV
     → IsSettledBy v (slice_index_or program place step) → v.tags ≡ 0
 settled-at program place at step v within same found settled =
     let is : place ≡ at = omega (arith, same) in
-    let here : IsSomeAnd (slice_get program place) (IsSettledBy v) = is-step-at (IsSettledBy v) program place step within settled in
+    let here : IsSomeAnd (slice_get program place) (IsSettledBy v) =
+    is-step-at (IsSettledBy v) program place step within settled in
     let there : IsSomeAnd (slice_get program at) (IsSettledBy v) =
     subst (λ n. IsSomeAnd (slice_get program n) (IsSettledBy v)) is here in
     subst (λ step. IsSomeAnd step (IsSettledBy v)) found there

@@ -1,5 +1,6 @@
 -- What a core's calls answer, and what they leave.
-use Rattle.std.specs.Prelude.{◌≡◌, ℕ, ◌+◌, ◌<◌, ◌%◌, nat_le, if◌then◌else◌, Option, Some, None, Result, Ok, Err, MatchOption}
+use Rattle.std.specs.Prelude.{◌≡◌, ℕ, ◌+◌, ◌<◌, ◌%◌, nat_le, if◌then◌else◌, Option, Some, None, Result, Ok, Err}
+use Rattle.std.specs.Prelude.{MatchOption}
 use Rattle.address_map.specs.Config.{word_count}
 use Rattle.address_map.specs.CoreSet.{has, with, without}
 use Rattle.address_map.specs.Place.{line_of, slice_of}

@@ -1,5 +1,6 @@
 ghost use Rattle.std.specs.Prelude.{◌≡◌, ◌+◌, ◌<◌, ◌≤◌, ◌%◌, slice_get, Err, None, IfSome, OnErr, OnOk};
-ghost use Rattle.core_thread_system.specs.Answers.{AfterCollect, AfterIssue, IsAtItsSlice, IsJudgedThere, refusal_of, tags_after};
+ghost use Rattle.core_thread_system.specs.Answers.{AfterCollect, AfterIssue, IsAtItsSlice, IsJudgedThere, refusal_of};
+ghost use Rattle.core_thread_system.specs.Answers.{tags_after};
 ghost use Rattle.core_thread_system.specs.Core.{accepted_of, asked_of, core_of, port_at, receipts_of, with_port};
 ghost use Rattle.receipt_ledger.specs.Answers.{AfterReply, AfterRequest, IsJudged};
 ghost use Rattle.receipt_ledger.specs.Port.{AreOwn, with_seen};
@@ -266,7 +267,8 @@ impl<'a, F: MissFile, M: SystemNames> Core<'a, F, M> {
     /// slice's log doesn't have, or of a slice that isn't there, is `Unknown`.
     pub fn learn<R: Wait>(&mut self, rt: &R, receipt: &Receipt) -> Result<(), LearnError>
         ensures slice { OnOk result (receipt.now.slice.0 < M.setup.slices) }
-        ensures learnt { OnOk result (self.new ≡ with_port self.old receipt.now.slice.0 (with_seen (port_at self.old receipt.now.slice.0) receipt.now.number)) }
+        ensures learnt { OnOk result (self.new ≡ with_port self.old receipt.now.slice.0
+            (with_seen (port_at self.old receipt.now.slice.0) receipt.now.number)) }
         ensures unknown { OnErr result (self.new ≡ self.old) }
     {
         let slice = receipt.slice;

@@ -1,9 +1,9 @@
 //! A machine of several slices that threads share, and the cores that ask it.
 //!
 //! A [`System`] has each slice of the configured machine behind a lock of its own (`slice_lock`). [`System::build`]
-//! makes it, and for each core a [`PortSet`]: its port of each slice, of which there are always four. A [`Core`] is such
-//! a set in the hands of one thread, with the system that it asks. It knows the slice of each word, and which of its
-//! tags are in flight.
+//! makes it, and for each core a [`PortSet`]: its port of each slice, of which there are always four. A [`Core`] is
+//! such a set in the hands of one thread, with the system that it asks. It knows the slice of each word, and which of
+//! its tags are in flight.
 //!
 //! - [`Core::issue`] asks the word's slice. A word past the memory, a tag above 63 and a tag in flight are refused by
 //!   the core itself.

@@ -23,7 +23,8 @@ pub trait SystemNames {
     ghost numbers: { (Self.S0.number ≡ 0) × (Self.S1.number ≡ 1) × (Self.S2.number ≡ 2) × (Self.S3.number ≡ 3) };
 
     /// They are slices of this machine.
-    ghost setups: { (Self.S0.setup ≡ setup) × (Self.S1.setup ≡ setup) × (Self.S2.setup ≡ setup) × (Self.S3.setup ≡ setup) };
+    ghost setups: { (Self.S0.setup ≡ setup) × (Self.S1.setup ≡ setup) × (Self.S2.setup ≡ setup)
+        × (Self.S3.setup ≡ setup) };
 }
 
 /// What whoever builds a system picks: the configuration, and the name of each ledger of each slice.

@@ -5,8 +5,8 @@ use std::sync::Wait;
 /// A step of a core's program.
 #[derive(Clone, Copy, Debug, PartialEq, Eq)]
 pub enum Step {
-    /// Asks for an access by the lowest free tag. Where no tag is free or the request has to wait, the core makes a turn
-    /// and tries again.
+    /// Asks for an access by the lowest free tag. Where no tag is free or the request has to wait, the core makes a
+    /// turn and tries again.
     Access(WordAddr, Op),
     /// Makes turns until no tag is in flight.
     Settle,

@@ -112,7 +112,8 @@ impl<'a, F: MissFile, M: SystemNames> Core<'a, F, M> {
         op: Op,
         pace: &mut Pace<'_, G>,
     ) -> Result<bool, Halt>
-        ensures made { IfOk result (λ accepted. HasMade M.setup self.old (if accepted then steps.Access word op ∷ [] else []) self.new) }
+        ensures made { IfOk result (λ accepted. HasMade M.setup self.old
+            (if accepted then steps.Access word op ∷ [] else []) self.new) }
         ensures halted { OnErr result (HasMade M.setup self.old [] self.new) }
         ensures reason { IfErr result (IsHaltOf M.setup (steps.Access word op)) }
     {

@@ -22,7 +22,8 @@ impl<'a, F: MissFile, M: SystemNames> Core<'a, F, M> {
     ) -> Result<ArrayVec<u64, 8>, Unsettled>
         requires slice { slice.0 < M.setup.slices }
         requires whole { length cores.old ≡ M.setup.cores }
-        ensures settled { IfOk result (λ values. AreSettled M.setup slice.0 (map (λ c. port_at c slice.0) cores.old) values.items) }
+        ensures settled { IfOk result (λ values. AreSettled M.setup slice.0
+            (map (λ c. port_at c slice.0) cores.old) values.items) }
         ensures cores { cores.new ≡ cores.old }
     {
         let _few = system.slices();

@@ -1,11 +1,16 @@
 -- The laws leave a row of the directory no choice: what is sent and who owns the line are known from the entry and the
 -- event, and the next state from who owns and shares the line.
-use Rattle.std.proofs.Common.{◌≡◌, ℕ, ◌<◌, ◌&&◌, ◌||◌, Bool, true, false, not, if◌then◌else◌, Option, Some, None, is_some, refl, sym, ap, ◌∙◌, inl, inr, IfSome}
+use Rattle.std.proofs.Common.{◌≡◌, ℕ, ◌<◌, ◌&&◌, ◌||◌, Bool, true, false, not, if◌then◌else◌, Option, Some, None}
+use Rattle.std.proofs.Common.{is_some, refl, sym, ap, ◌∙◌, inl, inr, IfSome}
 use Rattle.std.proofs.lemmas.Bool.{cases_lt, ne_eqb}
 use Rattle.address_map.specs.declared.address.CoreId.{CoreId}
 use Rattle.address_map.specs.CoreSet.{count_of, has}
 use Rattle.address_map.proofs.CoreSets.{has-zero, same_from_has}
-use Rattle.directory_table.specs.Law.{AwaitsInvalidated, HasOwnerInM, HasSets, HasSharersInS, IsKept, IsLawful, IsSet, Replies, Serves, acknowledges_put, forwarded_get_m, forwarded_get_s, forwarded_to, getter, invalidated_by, is_awaited, is_data_home, is_idle, is_modified, is_sent_inv, is_shared, is_written_back, reader, sends_data, sends_inv, sends_only_copy, writer}
+use Rattle.directory_table.specs.Law.{AwaitsInvalidated, HasOwnerInM, HasSets, HasSharersInS, IsKept, IsLawful, IsSet}
+use Rattle.directory_table.specs.Law.{Replies, Serves, acknowledges_put, forwarded_get_m, forwarded_get_s, forwarded_to}
+use Rattle.directory_table.specs.Law.{getter, invalidated_by, is_awaited, is_data_home, is_idle, is_modified}
+use Rattle.directory_table.specs.Law.{is_sent_inv, is_shared, is_written_back, reader, sends_data, sends_inv}
+use Rattle.directory_table.specs.Law.{sends_only_copy, writer}
 use Rattle.directory_table.specs.Row.{shared_by}
 use Rattle.directory_table.specs.declared.state.DirState.{DirState}
 use Rattle.directory_table.specs.declared.state.DirState.TheVariants as states
@@ -255,7 +260,8 @@ read-granted states.S_D false owner sharers core next shares sent writes kept ro
 
 -- An owner after a read was made one by it.
 read-owner : (exclusive : Bool) (state : DirState) (owner : Option CoreId) (sharers : ℕ) (core : CoreId)
-    (next : DirState) (c : CoreId) (shares : ℕ) (sent : DirSends) (writes : Bool) → IsKept state owner sharers (events.GetS core)
+    (next : DirState) (c : CoreId) (shares : ℕ) (sent : DirSends) (writes : Bool)
+    → IsKept state owner sharers (events.GetS core)
     → Goes exclusive state owner sharers (events.GetS core) next (Some c) shares sent writes
     → Some c ≡ (if exclusive && is_idle state then Some core else None)
 read-owner exclusive state owner sharers core next c shares sent writes kept row =

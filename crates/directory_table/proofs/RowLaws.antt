@@ -1,10 +1,12 @@
 -- The laws hold in each cell of the table.
-use Rattle.std.proofs.Common.{◌≡◌, ℕ, ◌+◌, ◌==◌, ◌<◌, ◌≤◌, ◌&&◌, ◌||◌, Bool, true, false, not, if◌then◌else◌, Option, Some, refl, ap, ◌∙◌, rules, arith, inl, inr, IsTrue}
+use Rattle.std.proofs.Common.{◌≡◌, ℕ, ◌+◌, ◌==◌, ◌<◌, ◌≤◌, ◌&&◌, ◌||◌, Bool, true, false, not, if◌then◌else◌, Option}
+use Rattle.std.proofs.Common.{Some, refl, ap, ◌∙◌, rules, arith, inl, inr, IsTrue}
 use Rattle.std.proofs.lemmas.Bool.{cases_lt, eq-eqb, ne_eqb}
 use Rattle.std.proofs.lemmas.Bool.Decides.{eqb_tells}
 use Rattle.address_map.specs.declared.address.CoreId.{CoreId}
 use Rattle.address_map.specs.CoreSet.{has, only, with, without}
-use Rattle.address_map.proofs.CoreSets.{has-zero, has-with, has-with_same, has-with_below, has-only_below, has-without, has-only, only-past, only-some, with-past, with-some}
+use Rattle.address_map.proofs.CoreSets.{has-zero, has-with, has-with_same, has-with_below, has-only_below, has-without}
+use Rattle.address_map.proofs.CoreSets.{has-only, only-past, only-some, with-past, with-some}
 use Rattle.directory_table.specs.Law.{IsLawful, IsSet, HasSets, messages_to}
 use Rattle.directory_table.specs.Row.{cell, row_of}
 use Rattle.directory_table.specs.declared.state.DirEntry.{DirEntry}

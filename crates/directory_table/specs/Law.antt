@@ -1,6 +1,7 @@
 -- Laws of the table, in words that are not its cells: who owns and who shares a line, from whom its data come, and what
 -- each core is sent.
-use Rattle.std.specs.Prelude.{◌≡◌, ◌≢◌, ◌⊎◌, ℕ, ◌+◌, ◌==◌, ◌<◌, ◌≤◌, ◌&&◌, ◌||◌, Bool, true, false, not, if◌then◌else◌, Option, Some, None, is_some, IfSome, IsTrue, IsFalse}
+use Rattle.std.specs.Prelude.{◌≡◌, ◌≢◌, ◌⊎◌, ℕ, ◌+◌, ◌==◌, ◌<◌, ◌≤◌, ◌&&◌, ◌||◌, Bool, true, false, not, if◌then◌else◌}
+use Rattle.std.specs.Prelude.{Option, Some, None, is_some, IfSome, IsTrue, IsFalse}
 use Rattle.address_map.specs.declared.address.CoreId.{CoreId}
 use Rattle.address_map.specs.CoreSet.{count_of, has}
 use Rattle.directory_table.specs.declared.state.DirState.{DirState}
@@ -88,8 +89,8 @@ abbrev pub is_data_home : DirEvent → Bool
 is_data_home events.DataHome = true
 is_data_home _ = false
 
--- The protocol can bring the event: a block comes home while it is awaited, and requests at any time, for a Put may come
--- late. Only the owner never asks for its own line, nor gives it up as one that it can only read.
+-- The protocol can bring the event: a block comes home while it is awaited, and requests at any time, for a Put may
+-- come late. Only the owner never asks for its own line, nor gives it up as one that it can only read.
 abbrev pub can_come : DirState → Option CoreId → DirEvent → Bool
 can_come state owner (events.GetS core) = not (is_named owner core.0)
 can_come state owner (events.GetM core) = not (is_named owner core.0)

@@ -50,7 +50,8 @@ cell exclusive states.M (Some owner) sharers (events.GetM core) =
 cell exclusive states.M (Some owner) sharers (events.PutS core) =
     if owner.0 == core.0 then rows.NoEntry else goes states.M (Some owner) sharers sends.PutAck
 cell exclusive states.M (Some owner) sharers (events.PutM core) =
-    if owner.0 == core.0 then goes_home states.I None sharers sends.PutAck else goes states.M (Some owner) sharers sends.PutAck
+    if owner.0 == core.0 then goes_home states.I None sharers sends.PutAck
+    else goes states.M (Some owner) sharers sends.PutAck
 -- S_D: the block is on its way home, and until it comes nobody else is served.
 cell exclusive states.S_D owner sharers (events.GetS core) = rows.Blocked
 cell exclusive states.S_D owner sharers (events.GetM core) = rows.Blocked

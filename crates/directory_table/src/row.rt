@@ -1,6 +1,9 @@
 ghost use Rattle.std.specs.Prelude.{◌≡◌};
 ghost use Rattle.address_map.specs.CoreSet.{count_of, without};
-ghost use Rattle.directory_table.specs.Law.{AwaitsHome, AwaitsInvalidated, ForgetsNobody, GivesOnlyCopy, GrantsWriting, HasOwnerInM, IfGo, IsOnlyLawful, HasExactly, HasSharersInS, Invalidates, IsOfSet, KnowsRequester, Replies, SendsOneToEach, Serves, brings_home, can_come, has_entry, has_to_wait, is_blocked, is_sharer_after};
+ghost use Rattle.directory_table.specs.Law.{AwaitsHome, AwaitsInvalidated, ForgetsNobody, GivesOnlyCopy, GrantsWriting};
+ghost use Rattle.directory_table.specs.Law.{HasOwnerInM, IfGo, IsOnlyLawful, HasExactly, HasSharersInS, Invalidates};
+ghost use Rattle.directory_table.specs.Law.{IsOfSet, KnowsRequester, Replies, SendsOneToEach, Serves, brings_home};
+ghost use Rattle.directory_table.specs.Law.{can_come, has_entry, has_to_wait, is_blocked, is_sharer_after};
 ghost use Rattle.directory_table.specs.Row.{cell, goes, goes_home, row_of, shared_by};
 
 use super::state::{DirEntry, DirState};
@@ -73,7 +76,8 @@ pub fn dir_row(exclusive: bool, entry: &DirEntry, event: DirEvent) -> DirRow
     ensures served { IfGo result (λ _ _ _ sent _. Serves entry.now.state entry.now.owner event sent) }
     ensures replied { IfGo result (λ _ _ _ sent _. Replies event sent) }
     ensures known { IfGo result (λ _ owner sharers _ _. KnowsRequester event owner sharers) }
-    ensures granted { IfGo result (λ _ owner _ _ _. GrantsWriting exclusive entry.now.state entry.now.owner event owner) }
+    ensures granted { IfGo result (λ _ owner _ _ _. GrantsWriting exclusive entry.now.state
+        entry.now.owner event owner) }
     ensures invalidated { IfGo result (λ _ _ _ sent _. Invalidates entry.now.state entry.now.sharers event sent) }
     ensures acknowledgements { IfGo result (λ _ _ _ sent _. AwaitsInvalidated sent) }
     ensures sharers { let after = is_sharer_after exclusive entry.now.state entry.now.owner entry.now.sharers event

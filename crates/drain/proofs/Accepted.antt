@@ -1,5 +1,6 @@
 -- As many receipts are gathered as requests were accepted.
-use Rattle.std.proofs.Common.{◌≡◌, ℕ, ◌<◌, ◌≤◌, ◌∙◌, List, [], ◌∷◌, length, true, if◌then◌else◌, refl, sym, ap, arith, sum_by, filter, length-append, lt-ltb}
+use Rattle.std.proofs.Common.{◌≡◌, ℕ, ◌<◌, ◌≤◌, ◌∙◌, List, [], ◌∷◌, length, true, if◌then◌else◌, refl, sym, ap, arith}
+use Rattle.std.proofs.Common.{sum_by, filter, length-append, lt-ltb}
 use Rattle.std.specs.Prelude.{◌==◌, nat_lt}
 use Rattle.std.specs.List.{AllByRecursion, range_with_len}
 use Rattle.std.proofs.lemmas.List.Sums.{sum_by-cons}
@@ -24,7 +25,8 @@ by-slice c cores f adds below =
     (λ number. additive-flat_map f adds (receipts_of_core c) (filter (λ v. v.core.0 == number) cores))
     (range_with_len 0 c.cores)
     ∙ by-number (λ v. v.core.0) (λ v. f (receipts_of_core c v)) c.cores cores below
-    ∙ sum_by-same (λ v. f (receipts_of_core c v)) (λ v. sum_by (λ slice. f (receipts_of v slice)) (range_with_len 0 c.slices))
+    ∙ sum_by-same (λ v. f (receipts_of_core c v)) (λ v. sum_by (λ slice. f (receipts_of v slice))
+    (range_with_len 0 c.slices))
     (λ v. additive-flat_map f adds (receipts_of v) (range_with_len 0 c.slices)) cores
     ∙ sum_by-swap (λ v slice. f (receipts_of v slice)) cores (range_with_len 0 c.slices)
 

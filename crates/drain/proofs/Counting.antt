@@ -1,5 +1,6 @@
 -- Cores that are counted: of each number how many there are, and whether they are as many as the machine has.
-use Rattle.std.proofs.Common.{◌≡◌, ℕ, zero, suc, ◌+◌, ◌<◌, ◌≤◌, ◌∙◌, inl, inr, true, false, List, [], ◌∷◌, ◌++◌, length, refl, sym, ap, cond, arith, sum_by, filter, take, get_or, set, subst, eq-eqb}
+use Rattle.std.proofs.Common.{◌≡◌, ℕ, zero, suc, ◌+◌, ◌<◌, ◌≤◌, ◌∙◌, inl, inr, true, false, List, [], ◌∷◌, ◌++◌, length}
+use Rattle.std.proofs.Common.{refl, sym, ap, cond, arith, sum_by, filter, take, get_or, set, subst, eq-eqb}
 use Rattle.std.specs.Prelude.{◌==◌}
 use Rattle.std.specs.List.{AllByRecursion, range_with_len}
 use Rattle.std.proofs.lemmas.Bool.{cases_eq, ne_eqb}
@@ -15,7 +16,8 @@ use Rattle.drain.proofs.Sums.{by-number, below-more}
 times-sum : (n : ℕ) (xs : List ℕ) → times n xs ≡ sum_by (λ x. 1) (filter (λ x. x == n) xs)
 times-sum n [] = refl
 times-sum n (x ∷ xs) =
-    elim (x == n) as (λ b. cond b 1 0 + times n xs ≡ sum_by (λ y. 1) (cond b (x ∷ filter (λ y. y == n) xs) (filter (λ y. y == n) xs))) [
+    elim (x == n) as (λ b. cond b 1 0 + times n xs ≡ sum_by (λ y. 1)
+    (cond b (x ∷ filter (λ y. y == n) xs) (filter (λ y. y == n) xs))) [
       | true ↦ ap (λ k. 1 + k) (times-sum n xs) ∙ sym (sum_by-cons (λ y. 1) x (filter (λ y. y == n) xs))
       | false ↦ ap (λ k. 0 + k) (times-sum n xs) ∙ (omega arith)
     ]
@@ -82,11 +84,13 @@ counted-more cores counts i n v within here number long counted core few =
           let inside : core < length counts = omega (arith, long, few) in
           let now = get_or-set_same counts core (get_or counts core 0 + 1) 0 inside in
           let one : one_at core v.core.0 ≡ 1 = ap (λ b. cond b 1 0) (eq-eqb v.core.0 core (sym number ∙ sym same)) in
-          subst (λ (k : ℕ). get_or (set counts k (get_or counts k 0 + 1)) core 0 ≡ times core (numbers_of (take (i + 1) cores)))
+          subst (λ (k : ℕ). get_or (set counts k (get_or counts k 0 + 1)) core 0 ≡ times core
+          (numbers_of (take (i + 1) cores)))
           same (omega (arith, so_far, more, now, one))
       | inr other ↦
           let now = get_or-set_other counts n core (get_or counts n 0 + 1) 0 other in
-          let none : one_at core v.core.0 ≡ 0 = ap (λ b. cond b 1 0) (ne_eqb v.core.0 core (λ is. other (sym is ∙ sym number))) in
+          let none : one_at core v.core.0 ≡ 0 = ap (λ b. cond b 1 0)
+          (ne_eqb v.core.0 core (λ is. other (sym is ∙ sym number))) in
           omega (arith, so_far, more, now, none)
     ]
 

@@ -1,6 +1,7 @@
 -- A list of which one element after the other is changed in its place, and what stands at an element's rank among those
 -- that pass a test.
-use Rattle.std.proofs.Common.{◌≡◌, ℕ, zero, suc, ◌+◌, ◌<◌, ◌≤◌, ◌∙◌, Bool, true, false, List, [], ◌∷◌, length, refl, sym, ap, cond, arith, filter, get_or, set, map}
+use Rattle.std.proofs.Common.{◌≡◌, ℕ, zero, suc, ◌+◌, ◌<◌, ◌≤◌, ◌∙◌, Bool, true, false, List, [], ◌∷◌, length, refl}
+use Rattle.std.proofs.Common.{sym, ap, cond, arith, filter, get_or, set, map}
 
 -- the list with its first elements changed
 abbrev pub changed : {X : Type 0} → (X → X) → ℕ → List X → List X
@@ -33,7 +34,8 @@ pub changed-more : {X : Type 0} (f : X → X) (i : ℕ) (xs : List X) (d : X) �
 changed-more f i xs d within =
     let next : suc i ≡ i + 1 = omega arith in changed-suc f i xs d within ∙ ap (λ n. changed f n xs) next
 
-unchanged-suc : {X : Type 0} (f : X → X) (i : ℕ) (xs : List X) (d : X) → i < length xs → f (get_or xs i d) ≡ get_or xs i d
+unchanged-suc : {X : Type 0} (f : X → X) (i : ℕ) (xs : List X) (d : X) → i < length xs
+    → f (get_or xs i d) ≡ get_or xs i d
     → changed f i xs ≡ changed f (suc i) xs
 unchanged-suc f zero [] d within same = refl
 unchanged-suc f zero (x ∷ xs) d within same = ap (λ y. y ∷ xs) (sym same)
@@ -96,7 +98,8 @@ ranked p g zero (x ∷ xs) d none within passes =
 ranked p g (suc i) [] d none within passes = absurd (omega (arith, within))
 ranked p g (suc i) (x ∷ xs) d none within passes =
     let rest = ranked p g i xs d none (omega (arith, within)) passes in
-    elim (p x) as (λ b. get_or (map g (cond b (x ∷ filter p xs) (filter p xs))) (cond b (suc (rank p i xs)) (rank p i xs)) none
+    elim (p x) as (λ b. get_or (map g (cond b (x ∷ filter p xs) (filter p xs)))
+    (cond b (suc (rank p i xs)) (rank p i xs)) none
     ≡ g (get_or xs i d)) [
       | true ↦ rest
       | false ↦ rest

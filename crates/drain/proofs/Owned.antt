@@ -1,5 +1,6 @@
 -- What all receipts add to a word is what those of the word's own slice add to it.
-use Rattle.std.proofs.Common.{◌≡◌, ℕ, suc, ◌+◌, ◌<◌, ◌≤◌, ◌∙◌, ◌%◌, ◌/◌, List, [], ◌∷◌, true, if◌then◌else◌, inl, inr, refl, sym, ap, arith, subst, sum_by, lt-ltb}
+use Rattle.std.proofs.Common.{◌≡◌, ℕ, suc, ◌+◌, ◌<◌, ◌≤◌, ◌∙◌, ◌%◌, ◌/◌, List, [], ◌∷◌, true, if◌then◌else◌, inl, inr}
+use Rattle.std.proofs.Common.{refl, sym, ap, arith, subst, sum_by, lt-ltb}
 use Rattle.std.specs.List.{AllByRecursion}
 use Rattle.std.proofs.lemmas.Bool.{cases_eq, eqb-true, ne_eqb}
 use Rattle.std.proofs.lemmas.List.{map-append}

@@ -1,5 +1,6 @@
 -- Cores that take replies, one after the other and in turns: they make nothing.
-use Rattle.std.proofs.Common.{◌≡◌, ℕ, zero, suc, ◌<◌, ◌≤◌, ◌∙◌, List, [], ◌∷◌, ◌++◌, length, refl, sym, ap, arith, subst, get_or, set, append_assoc, Option, Some, None}
+use Rattle.std.proofs.Common.{◌≡◌, ℕ, zero, suc, ◌<◌, ◌≤◌, ◌∙◌, List, [], ◌∷◌, ◌++◌, length, refl, sym, ap, arith}
+use Rattle.std.proofs.Common.{subst, get_or, set, append_assoc, Option, Some, None}
 use Rattle.std.proofs.lemmas.List.{append-nil, map-append}
 use Rattle.address_map.specs.declared.address.WordAddr.{WordAddr}
 use Rattle.address_map.specs.declared.config.Config.{Config}
@@ -43,7 +44,8 @@ same-core c v = record { core = refl; each = λ slice few. same-port (port_at v 
 core-then : (c : Config) (u v w : CoreView) → HasMade c u [] v → HasMade c v [] w → HasMade c u [] w
 core-then c u v w first later = record {
   core = later.core ∙ first.core;
-  each = λ slice few. port-then (port_at u slice) (port_at v slice) (port_at w slice) (first.each slice few) (later.each slice few);
+  each = λ slice few. port-then (port_at u slice) (port_at v slice) (port_at w slice)
+      (first.each slice few) (later.each slice few);
 }
 
 pub same-cores : (c : Config) (cores : List CoreView) → HaveMadeNothing c cores cores
@@ -79,29 +81,34 @@ of-four P p0 p1 p2 p3 (suc (suc (suc (suc n)))) few = absurd (omega (arith, few)
 
 -- A reply of one slice: the other ports stay as they were.
 at-slice : (c : Config) (old : CoreView) (p : PortView) (tags next : ℕ) (slice : ℕ) → slice < 4
-    → HasAccepted (port_at old slice) [] p → HasMade c old [] (record (with_port old slice p) { tags = tags; next = next })
+    → HasAccepted (port_at old slice) [] p → HasMade c old []
+    (record (with_port old slice p) { tags = tags; next = next })
 at-slice c old p tags next =
     of-four
     (λ slice. HasAccepted (port_at old slice) [] p
     → HasMade c old [] (record (with_port old slice p) { tags = tags; next = next }))
     (λ got. record {
       core = refl;
-      each = of-four (λ k. HasAccepted (port_at old k) [] (port_at (record (with_port old 0 p) { tags = tags; next = next }) k))
+      each = of-four (λ k. HasAccepted (port_at old k) []
+          (port_at (record (with_port old 0 p) { tags = tags; next = next }) k))
           got (same-port old.p1) (same-port old.p2) (same-port old.p3);
     })
     (λ got. record {
       core = refl;
-      each = of-four (λ k. HasAccepted (port_at old k) [] (port_at (record (with_port old 1 p) { tags = tags; next = next }) k))
+      each = of-four (λ k. HasAccepted (port_at old k) []
+          (port_at (record (with_port old 1 p) { tags = tags; next = next }) k))
           (same-port old.p0) got (same-port old.p2) (same-port old.p3);
     })
     (λ got. record {
       core = refl;
-      each = of-four (λ k. HasAccepted (port_at old k) [] (port_at (record (with_port old 2 p) { tags = tags; next = next }) k))
+      each = of-four (λ k. HasAccepted (port_at old k) []
+          (port_at (record (with_port old 2 p) { tags = tags; next = next }) k))
           (same-port old.p0) (same-port old.p1) got (same-port old.p3);
     })
     (λ got. record {
       core = refl;
-      each = of-four (λ k. HasAccepted (port_at old k) [] (port_at (record (with_port old 3 p) { tags = tags; next = next }) k))
+      each = of-four (λ k. HasAccepted (port_at old k) []
+          (port_at (record (with_port old 3 p) { tags = tags; next = next }) k))
           (same-port old.p0) (same-port old.p1) (same-port old.p2) got;
     })
 

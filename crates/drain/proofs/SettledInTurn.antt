@@ -1,5 +1,6 @@
 -- Slices that are settled in turn.
-use Rattle.std.proofs.Common.{◌≡◌, ℕ, ◌+◌, ◌<◌, ◌≤◌, ◌∙◌, List, true, false, Option, Some, None, MatchOption, arith, inl, inr, map, sym, subst}
+use Rattle.std.proofs.Common.{◌≡◌, ℕ, ◌+◌, ◌<◌, ◌≤◌, ◌∙◌, List, true, false, Option, Some, None, MatchOption, arith}
+use Rattle.std.proofs.Common.{inl, inr, map, sym, subst}
 use Rattle.std.proofs.lemmas.Bool.{cases_eq, false≢true}
 use Rattle.std.specs.Prelude.{is_some}
 use Rattle.address_map.specs.declared.address.SliceId.{SliceId}
@@ -30,7 +31,8 @@ abbrev pub AreTried : Config → List CoreView → ℕ → Option SliceId → Li
 AreTried c cores n differs counters =
     MatchOption differs (AreValued c cores n counters) (λ slice. (slice.0 < c.slices) × AreSettledBelow c cores slice.0)
 
-pub tried-settled : (c : Config) (cores : List CoreView) (n : ℕ) (differs : Option SliceId) (old new : List CounterValue)
+pub tried-settled : (c : Config) (cores : List CoreView) (n : ℕ) (differs : Option SliceId)
+    (old new : List CounterValue)
     → AreTried c cores n differs old → IsSettledSlice c cores n → new ≡ map (with_slice c cores n) old
     → AreTried c cores (n + 1) differs new
 tried-settled c cores n None old new tried here set = record {

@@ -1,5 +1,6 @@
 -- One counter after the other, while a slice is settled: its own get the values that it has for them, in turn.
-use Rattle.std.proofs.Common.{◌≡◌, ℕ, ◌+◌, ◌<◌, ◌≤◌, ◌∙◌, ◌/◌, ◌%◌, Bool, true, false, List, length, if◌then◌else◌, refl, sym, ap, cond, arith, filter, get_or, map, set, eq-eqb, eqb-true}
+use Rattle.std.proofs.Common.{◌≡◌, ℕ, ◌+◌, ◌<◌, ◌≤◌, ◌∙◌, ◌/◌, ◌%◌, Bool, true, false, List, length, if◌then◌else◌}
+use Rattle.std.proofs.Common.{refl, sym, ap, cond, arith, filter, get_or, map, set, eq-eqb, eqb-true}
 use Rattle.std.proofs.lemmas.Bool.{ne_eqb}
 use Rattle.std.proofs.lemmas.List.{length-map}
 use Rattle.address_map.specs.declared.address.WordAddr.{WordAddr}
@@ -8,7 +9,8 @@ use Rattle.core_thread_system.specs.Core.{CoreView}
 use Rattle.drain.specs.Receipts.{ports_of}
 use Rattle.drain.specs.Valued.{home_of, settled_counter, settled_value, with_slice}
 use Rattle.drain.specs.declared.report.CounterValue.{CounterValue}
-use Rattle.drain.proofs.InPlace.{all-changed, changed, changed-more, map-at, next-unchanged, rank, rank-more, rank-most, rank-within, ranked, unchanged-more}
+use Rattle.drain.proofs.InPlace.{all-changed, changed, changed-more, map-at, next-unchanged, rank, rank-more, rank-most}
+use Rattle.drain.proofs.InPlace.{rank-within, ranked, unchanged-more}
 use Rattle.drain.proofs.Valued.{in_slice, map-same, map-twice}
 use Rattle.address_map.specs.Place.{is_of_slice}
 use Rattle.slice_lock.specs.Settled.{AreSettled}
@@ -26,7 +28,8 @@ pub record IsNext (c : Config) (cores : List CoreView) (slice : ℕ) (old : List
   pub values_are : values ≡ map (in_slice c cores slice) (filter (is_of_slice c slice) c.counters)
   pub within : i < length old
 
-pub next-is : (c : Config) (cores left : List CoreView) (slice : ℕ) (old : List CounterValue) (values shown : List ℕ) (i : ℕ)
+pub next-is : (c : Config) (cores left : List CoreView) (slice : ℕ) (old : List CounterValue)
+    (values shown : List ℕ) (i : ℕ)
     → left ≡ cores → map (λ (counter : CounterValue). counter.word) old ≡ c.counters
     → AreSettled c slice (ports_of cores slice) values → shown ≡ values → i < length old
     → IsNext c left slice old shown i
@@ -71,7 +74,8 @@ module _ (c : Config) (cores : List CoreView) (slice : ℕ) (old now : List Coun
       omega (arith, long, same, within)
 
   -- Whether the counter is of the slice.
-  test-at : (b : Bool) → is_of_slice c slice (get_or now i d).word ≡ b → is_of_slice c slice (get_or c.counters i d.word) ≡ b
+  test-at : (b : Bool) → is_of_slice c slice (get_or now i d).word ≡ b
+      → is_of_slice c slice (get_or c.counters i d.word) ≡ b
   test-at b test =
       ap (is_of_slice c slice) (word-at ∙ ap (λ (counter : CounterValue). counter.word) (sym as-it-was)) ∙ test
 

@@ -1,5 +1,6 @@
 -- Sums over numbers and lists, and over lists that are cut into parts.
-use Rattle.std.proofs.Common.{◌≡◌, ℕ, zero, suc, ◌+◌, ◌<◌, ◌≤◌, ◌∙◌, true, false, List, [], ◌∷◌, ◌++◌, refl, sym, ap, cond, arith, inl, inr, filter, sum_by, eq-eqb}
+use Rattle.std.proofs.Common.{◌≡◌, ℕ, zero, suc, ◌+◌, ◌<◌, ◌≤◌, ◌∙◌, true, false, List, [], ◌∷◌, ◌++◌, refl, sym, ap}
+use Rattle.std.proofs.Common.{cond, arith, inl, inr, filter, sum_by, eq-eqb}
 use Rattle.std.specs.List.{flat_map, range_with_len, AllByRecursion}
 use Rattle.std.specs.Prelude.{◌==◌}
 use Rattle.std.proofs.lemmas.Bool.{cases_eq, ne_eqb}
@@ -91,7 +92,8 @@ picked-cons : {X : Type 0} (number : X → ℕ) (f : X → ℕ) (k : ℕ) (x : X
     → picked number f k (x ∷ xs) ≡ term (number x) (f x) k + picked number f k xs
 unfolding picked term
 picked-cons number f k x xs =
-    elim (number x == k) as (λ b. sum_by f (cond b (x ∷ filter (λ y. number y == k) xs) (filter (λ y. number y == k) xs))
+    elim (number x == k) as (λ b. sum_by f (cond b (x ∷ filter (λ y. number y == k) xs)
+    (filter (λ y. number y == k) xs))
     ≡ cond b (f x) 0 + picked number f k xs) [
       | true ↦ sum_by-cons f x (filter (λ y. number y == k) xs)
       | false ↦ omega arith
@@ -103,7 +105,8 @@ zero-past : (g : ℕ → ℕ) (m a n : ℕ) → m < a → ((k : ℕ) → a ≤ k
 zero-past g m a zero past zeros = refl
 zero-past g m a (suc n) past zeros =
     let here = zeros a (omega arith) (omega arith) (λ same. omega (arith, same, past)) in
-    let rest = zero-past g m (a + 1) n (omega (arith, past)) (λ k from within other. zeros k (omega (arith, from)) (omega (arith, within)) other) in
+    let rest = zero-past g m (a + 1) n (omega (arith, past))
+    (λ k from within other. zeros k (omega (arith, from)) (omega (arith, within)) other) in
     let whole = sum_by-cons g a (range_with_len (a + 1) n) in
     omega (arith, here, rest, whole)
 
@@ -132,8 +135,8 @@ one-term m v n within =
     (λ k from inside other. ap (λ b. cond b v 0) (ne_eqb m k (λ same. other (sym same))))
     ∙ ap (λ b. cond b v 0) (eq-eqb m m refl)
 
--- Where all elements bear numbers below a limit, the sum over the numbers below it of what those elements give that bear
--- the number is the sum over all elements.
+-- Where all elements bear numbers below a limit, the sum over the numbers below it of what those elements give that
+-- bear the number is the sum over all elements.
 pub by-number : {X : Type 0} (number : X → ℕ) (f : X → ℕ) (limit : ℕ) (xs : List X)
     → AllByRecursion (λ x. number x < limit) xs
     → sum_by (λ k. sum_by f (filter (λ x. number x == k) xs)) (range_with_len 0 limit) ≡ sum_by f xs

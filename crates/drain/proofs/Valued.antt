@@ -1,5 +1,7 @@
 -- The values of counters while slices are settled one after the other, and once all are.
-use Rattle.std.proofs.Common.{◌≡◌, ℕ, ◌+◌, ◌<◌, ◌≤◌, ◌∙◌, ◌%◌, ◌/◌, ◌^◌, Bool, true, false, List, [], ◌∷◌, if◌then◌else◌, inl, inr, refl, sym, ap, cond, arith, filter, map, subst, lt-ltb, le-ltb, eq-eqb}
+use Rattle.std.proofs.Common.{◌≡◌, ℕ, ◌+◌, ◌<◌, ◌≤◌, ◌∙◌, ◌%◌, ◌/◌, ◌^◌, Bool, true, false, List, [], ◌∷◌}
+use Rattle.std.proofs.Common.{if◌then◌else◌, inl, inr, refl, sym, ap, cond, arith, filter, map, subst, lt-ltb, le-ltb}
+use Rattle.std.proofs.Common.{eq-eqb}
 use Rattle.std.specs.Prelude.{◌==◌, nat_lt}
 use Rattle.std.proofs.lemmas.Bool.{cases_eq, cases_lt, eqb-true, ne_eqb}
 use Rattle.std.proofs.lemmas.Nat.{mod_below}
@@ -46,7 +48,8 @@ pub none-set : (c : Config) (cores : List CoreView) (words : List WordAddr)
     → map unset_counter words ≡ map (with_slices c cores 0) words
 none-set c cores words =
     map-same unset_counter (with_slices c cores 0)
-    (λ word. ap (λ b. if b then settled_counter c cores word else unset_counter word) (sym (le-ltb (home_of c word) 0 (omega arith))))
+    (λ word. ap (λ b. if b then settled_counter c cores word else unset_counter word)
+    (sym (le-ltb (home_of c word) 0 (omega arith))))
     words
 
 -- a counter that was set or not, and that a slice other than its own leaves as it is

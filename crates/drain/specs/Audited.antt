@@ -42,8 +42,8 @@ AreSettledWith c cores counters =
 
 -- The cores are those of the machine, each once. The receipts are all of theirs, by core, then slice, then in the order
 -- in which they were handed out, and as many as requests were accepted. Each counter, in the configured order, has the
--- value that its slice's log leaves there, and that is its initial value and what all receipts add to it, modulo 2^64. And
--- each slice has a history.
+-- value that its slice's log leaves there, and that is its initial value and what all receipts add to it, modulo 2^64.
+-- And each slice has a history.
 pub record IsAudited (c : Config) (cores : List CoreView) (receipts : List Receipt) (counters : List CounterValue)
     : Type 0 where
   pub whole : AreWhole c cores

@@ -13,9 +13,9 @@ use mshr_file::MissFile;
 use std::alloc::Global;
 use std::sync::Wait;
 
-/// Audits a machine with all its cores, in any order: each of the configured cores once. Each slice has to be quiet, and
-/// what the cores asked it for and got is to be just what its log has. Where the audit fails the cores are given back as
-/// they were.
+/// Audits a machine with all its cores, in any order: each of the configured cores once. Each slice has to be quiet,
+/// and what the cores asked it for and got is to be just what its log has. Where the audit fails the cores are given
+/// back as they were.
 pub fn audit<'a, F: MissFile, M: SystemNames, R: Wait>(
     rt: &R,
     alloc: Global,

@@ -12,8 +12,8 @@ use mshr_file::MissFile;
 use slice_lock::Unsettled;
 use std::sync::Wait;
 
-/// Settles each slice with all cores, and sets its counters to the values that they have there. A slice that isn't quiet
-/// comes before one that differs.
+/// Settles each slice with all cores, and sets its counters to the values that they have there. A slice that isn't
+/// quiet comes before one that differs.
 pub(crate) fn settle_all<'a, F: MissFile, M: SystemNames, R: Wait>(
     rt: &R,
     system: &System<F, M>,

@@ -14,8 +14,8 @@ pub record IsOfTest (text : List ℕ) (holds : LitmusTest → Type 0) : Type 0 w
   pub written : IsLitmusTest text (said_by test)
   pub is : holds test
 
--- Why nothing was done with it: there was no memory, the output couldn't be written, or the text writes no test, which the
--- first line at fault tells.
+-- Why nothing was done with it: there was no memory, the output couldn't be written, or the text writes no test, which
+-- the first line at fault tells.
 abbrev pub IsNotRun : List ℕ → TextFault → Type 0
 IsNotRun text fault =
     IsOfRun fault

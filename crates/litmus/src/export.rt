@@ -34,7 +34,8 @@ fn print_model<W: Write>(
     requires { cores < 64 }
     ensures status { IfOk result (λ status. status ≡ 0) }
     ensures fault { IfErr result (λ fault. fault ≡ TextFault.CannotWrite) }
-    ensures printed { OnOk result (Appends (W.contents out.old) (W.contents out.new) (model_of exclusive closed cores)) }
+    ensures printed { OnOk result (Appends (W.contents out.old) (W.contents out.new)
+        (model_of exclusive closed cores)) }
 {
     let mut answers = Answers { out };
     match write_model(exclusive, closed, cores, &mut answers) {

@@ -11,7 +11,8 @@
 //!   outcomes, and tells a [`Progress`] how far it is. [`write_walk`] prints a round of such a schedule as a script.
 //! - [`run_programs`] runs programs on a random schedule, and reports what each core and each line met.
 //! - [`run_check`] judges a trace, and writes what it comes to.
-//! - [`run_table`] prints a table of the protocol with its legend, and [`run_export`] the protocol of one line as a model.
+//! - [`run_table`] prints a table of the protocol with its legend, and [`run_export`] the protocol of one line as a
+//!   model.
 //!
 //! Running, drawing, reading and walking are crates of their own.
 #![tactic(auto)]

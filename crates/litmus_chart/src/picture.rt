@@ -36,8 +36,8 @@ impl Picture {
         }
     }
 
-    /// What an access of a core can change: the line itself, and the core's lines in the same set, of which one may have to
-    /// leave for it.
+    /// What an access of a core can change: the line itself, and the core's lines in the same set, of which one may
+    /// have to leave for it.
     pub fn look<F: MissFile>(
         &self,
         alloc: Global,
@@ -71,8 +71,8 @@ impl Picture {
         self.names.name(core, line)
     }
 
-    /// Draws what an access of a core changed: the line itself, and the one that had to leave for it, in the order in which
-    /// they were first asked for.
+    /// Draws what an access of a core changed: the line itself, and the one that had to leave for it, in the order in
+    /// which they were first asked for.
     pub fn write_access<F: MissFile, W: Write>(
         &self,
         now: &Machine<F>,

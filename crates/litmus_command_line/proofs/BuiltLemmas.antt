@@ -5,7 +5,8 @@ use Rattle.std.specs.Borrow.{Bor}
 use Rattle.clap.specs.declared.builder.command.Command.{Command}
 use Rattle.clap.specs.declared.builder.command.Command.TheViews.{out-Command as fields_of}
 use Rattle.clap.specs.Words.{App, Text, app_of, with_subcommand}
-use Rattle.litmus_command_line.specs.CommandLine.{IsExport, IsLockup, IsTable, IsTablesProgram, IsWith, export_app, table_app, table_program}
+use Rattle.litmus_command_line.specs.CommandLine.{IsExport, IsLockup, IsTable, IsTablesProgram, IsWith, export_app}
+use Rattle.litmus_command_line.specs.CommandLine.{table_app, table_program}
 
 -- the program with a subcommand that is known
 pub with_known : {E : Type 0} (made : Result Command E) (program before known app : App) → program ≡ before

@@ -1,9 +1,12 @@
 ghost use Rattle.std.specs.Prelude.{◌≡◌, map, IfOk, IfSome, IsOkAnd, string_bytes, codes, false};
 ghost use Rattle.clap.specs.declared.builder.command.Command.TheViews.{out-Command as fields_of};
-ghost use Rattle.litmus_command_line.specs.CommandLine.{IsAsked, IsLine, IsLockup, IsRead, IsTable, IsWith, chart_app, check_app};
-ghost use Rattle.litmus_command_line.specs.CommandLine.{answering_app, file_rule, flag_rule, is_given, page_app, script_app, test_app, top_app, word_of};
+ghost use Rattle.litmus_command_line.specs.CommandLine.{IsAsked, IsLine, IsLockup, IsRead, IsTable, IsWith, chart_app};
+ghost use Rattle.litmus_command_line.specs.CommandLine.{check_app};
+ghost use Rattle.litmus_command_line.specs.CommandLine.{answering_app, file_rule, flag_rule, is_given, page_app};
+ghost use Rattle.litmus_command_line.specs.CommandLine.{script_app, test_app, top_app, word_of};
 ghost use Rattle.litmus_command_line.specs.CommandLine.{IsNumberOf, IsNumberIfGiven, litmus_app, number_rule};
-ghost use Rattle.litmus_command_line.specs.CommandLine.{IsExport, IsOpenExport, number_rule_or, run_app, try_app, walk_app, word_of_number};
+ghost use Rattle.litmus_command_line.specs.CommandLine.{IsExport, IsOpenExport, number_rule_or, run_app, try_app};
+ghost use Rattle.litmus_command_line.specs.CommandLine.{walk_app, word_of_number};
 ghost use Rattle.std.specs.Option.{option_map};
 ghost use Rattle.clap.specs.Words.{app_of, found_of, rows_of, rule_of, first_of, subcommand_rows_of};
 
@@ -17,8 +20,8 @@ use std::alloc::{AllocError, Global};
 #[derive(Clone, Copy, Debug, PartialEq, Eq)]
 pub enum CommandLine<'a> {
     /// Run the script in this file. With `echo`, print each command's line before its answer, and with `beside` on its
-    /// left; with `explain`, what happened behind it; with `vcd`, the run as waves in place of answers. With `from_murphi`
-    /// the file is a model checker's trace: print it as a script.
+    /// left; with `explain`, what happened behind it; with `vcd`, the run as waves in place of answers. With
+    /// `from_murphi` the file is a model checker's trace: print it as a script.
     Script {
         file: &'a str,
         echo: bool,

@@ -1,5 +1,6 @@
 -- What one more round makes of the rows: one of them counts it, or a new one does.
-use Rattle.std.proofs.Common.{zero, suc, ◌||◌, ◌≡◌, ℕ, ◌+◌, ◌<◌, ◌≤◌, List, [], ◌∷◌, ◌++◌, length, get_or, set, take, drop, Bool, true, false, cond, Some, refl, ap, sym, subst, ◌∙◌, arith, nat_eq, drop-cons}
+use Rattle.std.proofs.Common.{zero, suc, ◌||◌, ◌≡◌, ℕ, ◌+◌, ◌<◌, ◌≤◌, List, [], ◌∷◌, ◌++◌, length, get_or, set, take}
+use Rattle.std.proofs.Common.{drop, Bool, true, false, cond, Some, refl, ap, sym, subst, ◌∙◌, arith, nat_eq, drop-cons}
 use Rattle.std.specs.Cmp.Lexicographic.{slice_cmp, pointwise}
 use Rattle.std.specs.List.{All, AllPairs, Any, insert, list_any, slice_get, sum_by}
 use Rattle.std.specs.Ordering.{nat_cmp}
@@ -13,7 +14,8 @@ use Rattle.std.proofs.lemmas.List.Sums.{sum_by-cons, sum_by-insert, sum_by-set, 
 use Rattle.std.proofs.lemmas.Option.{slice_get_within}
 use Rattle.std.proofs.Math.Seq.{take-append_seam}
 use Rattle.litmus_outcomes.specs.Table.{RowView, AreRowsOf, IsBelow, IsGapFor, IsRowOf, count_of}
-use Rattle.litmus_outcomes.proofs.Counting.{above_first, alike, alike_itself, any_has, ascending_rest, has_outcome, unlike, unlike_back}
+use Rattle.litmus_outcomes.proofs.Counting.{above_first, alike, alike_itself, any_has, ascending_rest, has_outcome}
+use Rattle.litmus_outcomes.proofs.Counting.{unlike, unlike_back}
 
 -- ---- lists in two parts
 

@@ -1,5 +1,6 @@
 -- Cells that are written one by one.
-use Rattle.std.proofs.Common.{arith, ◌≡◌, ◌⊎◌, ℕ, ◌+◌, List, [], ◌∷◌, ◌++◌, length, get_or, map, ◌<◌, codes, decimal, drop, ap, sym, refl, subst, ◌∙◌, append_assoc, inl, inr}
+use Rattle.std.proofs.Common.{arith, ◌≡◌, ◌⊎◌, ℕ, ◌+◌, List, [], ◌∷◌, ◌++◌, length, get_or, map, ◌<◌, codes, decimal}
+use Rattle.std.proofs.Common.{drop, ap, sym, refl, subst, ◌∙◌, append_assoc, inl, inr}
 use Rattle.std.specs.Fmt.{WritesInCalls}
 use Rattle.std.specs.List.{flat_map, zip}
 use Rattle.std.proofs.lemmas.List.{at_drop_more, length-map}

@@ -1,5 +1,6 @@
 -- Counting rounds row by row: each round is counted by one row.
-use Rattle.std.proofs.Common.{zero, suc, ◌||◌, ◌≡◌, ℕ, ◌+◌, ◌<◌, ◌≤◌, List, [], ◌∷◌, length, get_or, take, Bool, true, false, cond, refl, ap, sym, ◌∙◌, arith, nat_eq}
+use Rattle.std.proofs.Common.{zero, suc, ◌||◌, ◌≡◌, ℕ, ◌+◌, ◌<◌, ◌≤◌, List, [], ◌∷◌, length, get_or, take, Bool, true}
+use Rattle.std.proofs.Common.{false, cond, refl, ap, sym, ◌∙◌, arith, nat_eq}
 use mathlib.Core.Bool.{true≢false}
 use Rattle.std.specs.Cmp.Lexicographic.{slice_cmp, pointwise, bytes_decides, texts_ties}
 use Rattle.std.specs.List.{All, AllPairs, Any, count_by, list_any, sum_by}

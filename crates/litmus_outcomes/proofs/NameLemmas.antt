@@ -1,5 +1,6 @@
 -- What a litmus test keeps to gives each name a request.
-use Rattle.std.proofs.Common.{zero, suc, ◌≡◌, ℕ, ◌<◌, List, [], ◌∷◌, length, true, IsSome, Some, refl, sym, subst, arith}
+use Rattle.std.proofs.Common.{zero, suc, ◌≡◌, ℕ, ◌<◌, List, [], ◌∷◌, length, true, IsSome, Some, refl, sym, subst}
+use Rattle.std.proofs.Common.{arith}
 use mathlib.Core.Bool.{true≢false}
 use Rattle.std.specs.List.{All, slice_get}
 use Rattle.std.proofs.lemmas.List.Elements.{All-get_or}

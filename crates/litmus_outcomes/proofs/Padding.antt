@@ -1,5 +1,6 @@
 -- Numbers to the right in 8 places: what the layout `{:>8}` makes of them.
-use Rattle.std.proofs.Common.{◌≡◌, ℕ, zero, suc, ◌-◌, ◌^◌, List, [], ◌∷◌, ◌++◌, length, replicate, refl, ap, ◌∙◌, arith, append-nil}
+use Rattle.std.proofs.Common.{◌≡◌, ℕ, zero, suc, ◌-◌, ◌^◌, List, [], ◌∷◌, ◌++◌, length, replicate, refl, ap, ◌∙◌, arith}
+use Rattle.std.proofs.Common.{append-nil}
 use lib.Utf8.{encode}
 use Rattle.std.specs.List.{repeat}
 use Rattle.std.specs.Fmt.{decimal, format_spec, styled_decimal, padded_integral, char_count}

@@ -1,5 +1,6 @@
 -- What a search finds among ascending rows.
-use Rattle.std.proofs.Common.{◌≡◌, ℕ, ◌+◌, List, length, get_or, take, drop, ap, ◌∙◌, arith, Result, Ok, Err, IfOk, IfErr, length-take, length-drop}
+use Rattle.std.proofs.Common.{◌≡◌, ℕ, ◌+◌, List, length, get_or, take, drop, ap, ◌∙◌, arith, Result, Ok, Err, IfOk}
+use Rattle.std.proofs.Common.{IfErr, length-take, length-drop}
 use Rattle.std.specs.Cmp.Lexicographic.{slice_cmp, bytes_decides, texts_ties}
 use Rattle.std.specs.List.{All, AllPairs, AllWithin}
 use Rattle.std.specs.List.Sorted.{IsSearchInRange, IsBinarySearchResult, IsNonDecreasingBy, IsSortedBy}

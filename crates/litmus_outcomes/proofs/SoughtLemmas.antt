@@ -1,5 +1,6 @@
 -- How many requests steps make.
-use Rattle.std.proofs.Common.{◌≡◌, ℕ, ◌+◌, ◌<◌, ◌≤◌, List, [], ◌∷◌, ◌++◌, length, get_or, take, Bool, true, false, refl, arith, IsTrue, ◌↔◌, ap, ◌∙◌, append_assoc, length-append, length-take}
+use Rattle.std.proofs.Common.{◌≡◌, ℕ, ◌+◌, ◌<◌, ◌≤◌, List, [], ◌∷◌, ◌++◌, length, get_or, take, Bool, true, false, refl}
+use Rattle.std.proofs.Common.{arith, IsTrue, ◌↔◌, ap, ◌∙◌, append_assoc, length-append, length-take}
 use Rattle.std.proofs.lemmas.List.{take_more}
 use mathlib.Core.Bool.{false≢true}
 use Rattle.address_map.specs.Place.{line_of, slice_of}

@@ -1,5 +1,6 @@
 -- Rounds have one table.
-use Rattle.std.proofs.Common.{zero, suc, ◌≡◌, ◌⊎◌, ℕ, ◌<◌, ◌≤◌, List, [], ◌∷◌, take, cond, Some, refl, ap, sym, subst, ◌∙◌, arith, nat_eq, inl, inr}
+use Rattle.std.proofs.Common.{zero, suc, ◌≡◌, ◌⊎◌, ℕ, ◌<◌, ◌≤◌, List, [], ◌∷◌, take, cond, Some, refl, ap, sym, subst}
+use Rattle.std.proofs.Common.{◌∙◌, arith, nat_eq, inl, inr}
 use Rattle.std.specs.Cmp.Lexicographic.{pointwise, slice_cmp}
 use Rattle.std.specs.List.{AllPairs, Contains, slice_get}
 use Rattle.std.specs.Ordering.{is_lt, nat_cmp}

@@ -1,6 +1,7 @@
 -- The table of the outcomes of some rounds. An outcome is a list of values: those of the named replies, in the order of
 -- the names, and then those of the counters. Rounds are a list of outcomes, and are numbered from 0.
-use Rattle.std.specs.Prelude.{◌≡◌, ℕ, List, ◌<◌, ◌≤◌, ◌^◌, length, take, drop, HoldsAt, All, Any, AllPairs, slice_get, Some, count_by, sum_by, nat_eq}
+use Rattle.std.specs.Prelude.{◌≡◌, ℕ, List, ◌<◌, ◌≤◌, ◌^◌, length, take, drop, HoldsAt, All, Any, AllPairs, slice_get}
+use Rattle.std.specs.Prelude.{Some, count_by, sum_by, nat_eq}
 use Rattle.std.specs.Cmp.Lexicographic.{pointwise, slice_cmp}
 use Rattle.std.specs.Ordering.{nat_cmp}
 use Rattle.std.specs.declared.cmp.Ordering.TheVariants.{Less}

@@ -1,5 +1,6 @@
 -- The table as text: a line for each row, and a last one with how many rounds had a forbidden outcome.
-use Rattle.std.specs.Prelude.{ℕ, ◌+◌, ◌-◌, ◌%◌, ◌^◌, List, [], ◌++◌, length, map, replicate, codes, decimal, Option, Some, None, count_by}
+use Rattle.std.specs.Prelude.{ℕ, ◌+◌, ◌-◌, ◌%◌, ◌^◌, List, [], ◌++◌, length, map, replicate, codes, decimal, Option}
+use Rattle.std.specs.Prelude.{Some, None, count_by}
 use Rattle.std.specs.List.{flat_map, zip}
 use Rattle.address_map.specs.declared.address.WordAddr.{WordAddr}
 use Rattle.litmus_test.specs.declared.test.LitmusTest.{LitmusTest}

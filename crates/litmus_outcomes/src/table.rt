@@ -1,4 +1,5 @@
-ghost use Rattle.std.specs.Prelude.{◌≡◌, ◌+◌, ◌^◌, ◌<◌, ◌≤◌, ℕ, List, [], ◌∷◌, ◌++◌, Any, IfErr, IfOk, IsOk, OnErr, OnOk};
+ghost use Rattle.std.specs.Prelude.{◌≡◌, ◌+◌, ◌^◌, ◌<◌, ◌≤◌, ℕ, List, [], ◌∷◌, ◌++◌, Any, IfErr, IfOk, IsOk, OnErr};
+ghost use Rattle.std.specs.Prelude.{OnOk};
 ghost use Rattle.std.specs.Prelude.{count_by, insert, vec_len};
 ghost use Rattle.litmus_outcomes.specs.Forbid.{is_forbidden};
 ghost use Rattle.litmus_outcomes.specs.Table.{IsGapFor, IsPlaceOf, IsSound, IsTableOf, TableView};

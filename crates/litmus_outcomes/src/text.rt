@@ -11,8 +11,8 @@ use litmus_test::{LitmusTest, NamedReply};
 use std::{fmt, str};
 
 /// Writes the table: a line for each outcome, ascending, and a last line with how many rounds had a forbidden outcome.
-/// Where the seed of round 0 is given, each outcome's line has the seed of its first round. A name that is no text isn't
-/// written: that is an error, as where the writer has one.
+/// Where the seed of round 0 is given, each outcome's line has the seed of its first round. A name that is no text
+/// isn't written: that is an error, as where the writer has one.
 pub fn write_table<W: fmt::Write>(
     test: &LitmusTest<'_>,
     outcomes: &Outcomes,

@@ -3,7 +3,8 @@ use Rattle.std.proofs.Common.{ℕ, ◌+◌, ◌<◌, List, [], ◌∷◌, ◌++�
 use Rattle.std.proofs.lemmas.List.{append-nil, take_more}
 use Rattle.litmus_rounds.specs.Outcome.{AddsMatch, Match}
 
-pub match_push : {X : Type 0} (P : X → ℕ → Type 0) (xs : List X) (values : List ℕ) (x : X) (value : ℕ) → Match P xs values
+pub match_push : {X : Type 0} (P : X → ℕ → Type 0) (xs : List X) (values : List ℕ) (x : X) (value : ℕ)
+    → Match P xs values
     → P x value → Match P (xs ++ x ∷ []) (values ++ value ∷ [])
 match_push P [] [] x value all one = (one, tt)
 match_push P [] (v ∷ vs) x value all one = absurd all
@@ -15,7 +16,8 @@ pub adds_none : {X : Type 0} (P : X → ℕ → Type 0) (values : List ℕ) → 
 adds_none P values = record { values = []; added = sym (append-nil values); each = tt }
 
 -- one more was added
-pub adds_push : {X : Type 0} (P : X → ℕ → Type 0) (xs : List X) (old new : List ℕ) (x : X) (value : ℕ) → AddsMatch P xs old new
+pub adds_push : {X : Type 0} (P : X → ℕ → Type 0) (xs : List X) (old new : List ℕ) (x : X) (value : ℕ)
+    → AddsMatch P xs old new
     → P x value → AddsMatch P (xs ++ x ∷ []) old (new ++ value ∷ [])
 adds_push P xs old new x value adds one = record {
   values = adds.values ++ value ∷ [];
@@ -25,7 +27,8 @@ adds_push P xs old new x value adds one = record {
 
 -- the next of a list matches, behind those before it
 pub match_next : {X : Type 0} (P : X → ℕ → Type 0) (xs : List X) (i : ℕ) (d : X) (values : List ℕ) (value : ℕ)
-    → Match P (take i xs) values → P (get_or xs i d) value → i < length xs → Match P (take (i + 1) xs) (values ++ value ∷ [])
+    → Match P (take i xs) values → P (get_or xs i d) value → i < length xs
+    → Match P (take (i + 1) xs) (values ++ value ∷ [])
 match_next P xs i d values value all one within =
     subst (λ taken. Match P taken (values ++ value ∷ [])) (sym (take_more xs i d within))
     (match_push P (take i xs) values (get_or xs i d) value all one)

@@ -1,5 +1,6 @@
 -- One more round.
-use Rattle.std.proofs.Common.{◌≡◌, ◌+◌, ℕ, List, [], ◌∷◌, ◌++◌, ap, refl, length, length-append, get_or, sym, subst, arith, inl, inr, ◌∙◌}
+use Rattle.std.proofs.Common.{◌≡◌, ◌+◌, ℕ, List, [], ◌∷◌, ◌++◌, ap, refl, length, length-append, get_or, sym, subst}
+use Rattle.std.proofs.Common.{arith, inl, inr, ◌∙◌}
 use Rattle.std.proofs.Math.ListN.{get_or-append}
 use Rattle.std.proofs.Math.Seq.{get_or-append_seam}
 use Rattle.std.proofs.lemmas.Bool.{cases_lt}
@@ -19,7 +20,8 @@ all_push P xs x all one = λ j d below. elim (cases_lt j (length xs)) [
 ]
 
 -- no round
-pub no_rounds : (test : LitmusTest) (bound : Bound) (table : TableView) → IsTableOf [] table → AreRounds test bound 0 table
+pub no_rounds : (test : LitmusTest) (bound : Bound) (table : TableView) → IsTableOf [] table
+    → AreRounds test bound 0 table
 no_rounds test bound table none = record {
   rounds = [];
   table_of = none;

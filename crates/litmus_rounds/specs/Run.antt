@@ -1,5 +1,6 @@
 -- The rounds of a litmus test without threads, and what they print.
-use Rattle.std.specs.Prelude.{◌≡◌, ℕ, ◌<◌, List, length, All, codes, decimal, ◌++◌, count_by, nat_eq, if◌then◌else◌, Option, Some}
+use Rattle.std.specs.Prelude.{◌≡◌, ℕ, ◌<◌, List, length, All, codes, decimal, ◌++◌, count_by, nat_eq, if◌then◌else◌}
+use Rattle.std.specs.Prelude.{Option, Some}
 use Rattle.std.specs.Io.KnownBytes.{Appends}
 use Rattle.litmus_outcomes.specs.Forbid.{is_forbidden}
 use Rattle.litmus_outcomes.specs.Table.{IsTableOf, TableView}
@@ -31,8 +32,10 @@ pub record AreRounds (test : LitmusTest) (bound : Bound) (count : ℕ) (table : 
 abbrev pub status_of : ℕ → ℕ
 status_of count = if nat_eq count 0 then 0 else 1
 
--- the table of so many rounds is printed, of which the first has the seed; status 1 says that one had a forbidden outcome
-pub record PrintsRounds (test : LitmusTest) (bound : Bound) (count seed status : ℕ) (before after : Option (List ℕ)) : Type 0 where
+-- the table of so many rounds is printed, of which the first has the seed; status 1 says that one had a forbidden
+-- outcome
+pub record PrintsRounds (test : LitmusTest) (bound : Bound) (count seed status : ℕ)
+    (before after : Option (List ℕ)) : Type 0 where
   pub table : TableView
   pub rounds : AreRounds test bound count table
   pub printed : Appends before after (text_of test (Some seed) table.rows rounds.rounds)

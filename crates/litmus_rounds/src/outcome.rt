@@ -66,7 +66,8 @@ fn read_counters<F: MissFile>(
 ) -> Result<bool, AllocError>
     requires { recorded.now.config ≡ test.now.config }
     ensures { IfOk result (λ read. IsTrue read
-        → AddsMatch (HasWord test.now.config recorded.now.slices) test.now.config.counters values.old.items values.new.items) }
+        → AddsMatch (HasWord test.now.config recorded.now.slices) test.now.config.counters
+        values.old.items values.new.items) }
 {
     for counter in test.config.counters() {
         let Some(value) = recorded.word_now(*counter) else {

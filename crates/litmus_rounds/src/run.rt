@@ -1,4 +1,5 @@
-ghost use Rattle.std.specs.Prelude.{◌≡◌, ◌⊎◌, ℕ, ◌+◌, ◌<◌, ◌^◌, List, [], ◌∷◌, ◌++◌, IfErr, IfNone, IfOk, IfSome, IsTrue, OnOk, Some, All};
+ghost use Rattle.std.specs.Prelude.{◌≡◌, ◌⊎◌, ℕ, ◌+◌, ◌<◌, ◌^◌, List, [], ◌∷◌, ◌++◌, IfErr, IfNone, IfOk, IfSome};
+ghost use Rattle.std.specs.Prelude.{IsTrue, OnOk, Some, All};
 ghost use Rattle.std.specs.Prelude.{codes, decimal};
 ghost use Rattle.std.specs.Fmt.{WritesInCalls};
 ghost use Rattle.std.specs.Io.KnownBytes.{Appends};
@@ -35,7 +36,8 @@ pub fn run_walk<W: Write, P: Progress>(
     out: &mut W,
 ) -> Result<u8, TextFault>
     ensures printed { IfOk result (λ status.
-        PrintsRounds test.now (bound_of test.now.misses test.now.config) rounds seed status (W.contents out.old) (W.contents out.new)
+        PrintsRounds test.now (bound_of test.now.misses test.now.config) rounds seed status
+        (W.contents out.old) (W.contents out.new)
         ⊎ PrintsStuck rounds status (W.contents out.old) (W.contents out.new)) }
     ensures fault { IfErr result IsOfRun }
 {
@@ -95,7 +97,8 @@ fn print_stuck<W: Write>(round: u64, out: &mut W) -> Result<(), TextFault>
 }
 
 fn write_stuck<W: fmt::Write>(round: u64, out: &mut W) -> fmt::Result
-    ensures { OnOk result (WritesInCalls W.write_str_gives out.old (codes "stuck round " ++ decimal round ++ codes "\n") out.new) }
+    ensures { OnOk result (WritesInCalls W.write_str_gives out.old
+        (codes "stuck round " ++ decimal round ++ codes "\n") out.new) }
 {
     writeln!(out, "stuck round {round}")
 }
@@ -163,7 +166,8 @@ fn add_outcome<F: MissFile>(
     requires quiet { All (λ state. IsQuiet state.view) walked.now.recorded.slices }
     ensures { IfOk result (λ added. IsTrue added → (outcome : List ℕ)
         × IsRound test.now (F.bound_by test.now.config) outcome
-        × ((rounds : List (List ℕ)) → IsTableOf rounds outcomes.old → IsTableOf (rounds ++ outcome ∷ []) outcomes.new)) }
+        × ((rounds : List (List ℕ)) → IsTableOf rounds outcomes.old
+        → IsTableOf (rounds ++ outcome ∷ []) outcomes.new)) }
 {
     if !read_outcome(test, sought, &walked.recorded, values)? {
         return Ok(false);

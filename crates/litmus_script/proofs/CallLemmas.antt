@@ -19,9 +19,11 @@ use Rattle.litmus_script.specs.Machine.{Answers}
 
 -- .. an access, whose answer is known
 pub issued : (old new : PartsView) (core : CoreId) (request : Request) (answer known : Result Issue Refused)
-    → AfterIssue old core request answer new → answer ≡ known → Answers (calls.Issue core request) (answers.Issue known) old new
+    → AfterIssue old core request answer new → answer ≡ known
+    → Answers (calls.Issue core request) (answers.Issue known) old new
 issued old new core request answer known after is =
-    subst (λ (a : Result Issue Refused). Answers (calls.Issue core request) (answers.Issue a) old new) is (record { made = after })
+    subst (λ (a : Result Issue Refused). Answers (calls.Issue core request) (answers.Issue a) old new) is
+    (record { made = after })
 
 pub evicted : (old new : PartsView) (core : CoreId) (line : LineAddr) (answer : Evicted)
     → AfterEvict old core line answer new → Answers (calls.Evict core line) (answers.Evict answer) old new

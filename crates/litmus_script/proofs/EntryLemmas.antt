@@ -52,13 +52,16 @@ tag_first tag word reply since (ops.Cas expect new) = refl
 
 -- three numbers, an access, and two numbers
 pub entry_pieces : (core seq tag word reply since : ℕ) (op : Op) →
-    line_of_parts (key (codes "entry") ∷ num core ∷ num seq ∷ num tag ∷ (parts_of_op op word ++ num reply ∷ num since ∷ []))
-    ≡ ((((((codes "entry" ++ spaced core) ++ spaced seq) ++ spaced tag) ++ (codes " " ++ text_of_parts (parts_of_op op word)))
+    line_of_parts (key (codes "entry") ∷ num core ∷ num seq ∷ num tag
+    ∷ (parts_of_op op word ++ num reply ∷ num since ∷ []))
+    ≡ ((((((codes "entry" ++ spaced core) ++ spaced seq) ++ spaced tag)
+    ++ (codes " " ++ text_of_parts (parts_of_op op word)))
     ++ spaced reply) ++ spaced since) ++ codes "\n"
 entry_pieces core seq tag word reply since op =
     let behind : List ℕ → List ℕ = λ rest. (codes "entry" ++ (codes " " ++ (decimal core ++ (codes " " ++ (decimal seq
     ++ (codes " " ++ rest)))))) ++ codes "\n" in
-    ap behind (tag_first tag word reply since op ∙ ap (λ rest. decimal tag ++ (codes " " ++ rest)) (access_pieces word reply since op))
+    ap behind (tag_first tag word reply since op ∙ ap (λ rest. decimal tag ++ (codes " " ++ rest))
+    (access_pieces word reply since op))
     ∙ entry (codes "entry") (codes " ") (decimal core) (decimal seq) (decimal tag) (text_of_parts (parts_of_op op word))
     (decimal reply) (decimal since) (codes "\n")
 

@@ -1,5 +1,6 @@
 -- A machine that is built has its slices in order, and what they have counted is alike.
-use Rattle.std.proofs.Common.{◌≡◌, ℕ, ◌+◌, ◌<◌, ◌≤◌, List, [], ◌∷◌, ◌++◌, length, get_or, sym, ap, below_more, ◌∙◌, subst, arith, inl, inr, length-append}
+use Rattle.std.proofs.Common.{◌≡◌, ℕ, ◌+◌, ◌<◌, ◌≤◌, List, [], ◌∷◌, ◌++◌, length, get_or, sym, ap, below_more, ◌∙◌}
+use Rattle.std.proofs.Common.{subst, arith, inl, inr, length-append}
 use Rattle.std.proofs.lemmas.List.Elements.{All-from_get_or, All-head, All-nil, All-tail, All-weaker}
 use Rattle.std.proofs.Math.ListN.{get_or-append}
 use Rattle.std.proofs.lemmas.List.{get_or_default}
@@ -36,7 +37,8 @@ are_slices_push config slices i p each count is = λ j d below. elim (cases_lt j
 ]
 
 -- one more new state, of the next slice
-pub are_new_push : (config : Config) (bound : Bound) (slices : List PartsView) (i : ℕ) (p : PartsView) → AreNew config bound slices
+pub are_new_push : (config : Config) (bound : Bound) (slices : List PartsView) (i : ℕ) (p : PartsView)
+    → AreNew config bound slices
     → length slices ≡ i → IsNew config bound (record { 0 = i }) p → AreNew config bound (slices ++ p ∷ [])
 are_new_push config bound slices i p each count is = λ j d below. elim (cases_lt j (length slices)) [
   | inl before ↦ rw (get_or-append slices (p ∷ []) d j before) (each j d before)
@@ -46,14 +48,17 @@ are_new_push config bound slices i p each count is = λ j d below. elim (cases_l
       (rw (get_or-append_seam slices p [] d) (rw count is))
 ]
 
-like : (config : Config) (first other : StatsView) → IsCountOf config first → IsCountOf config other → IsLike first other
-like config first other one two = record { cores = two.cores ∙ sym one.cores; exclusive = two.exclusive ∙ sym one.exclusive }
+like : (config : Config) (first other : StatsView) → IsCountOf config first
+    → IsCountOf config other → IsLike first other
+like config first other one two =
+    record { cores = two.cores ∙ sym one.cores; exclusive = two.exclusive ∙ sym one.exclusive }
 
 -- counts of one machine are alike
 pub are_alike : (config : Config) (all : List StatsView) → 1 ≤ length all → All (IsCountOf config) all → AreAlike all
 are_alike config [] some each = absurd (omega (arith, some))
 are_alike config (first ∷ rest) some each =
-    All-weaker (IsCountOf config) (IsLike first) (λ other. like config first other (All-head (IsCountOf config) first rest each)) rest
+    All-weaker (IsCountOf config) (IsLike first) (λ other. like config first other
+    (All-head (IsCountOf config) first rest each)) rest
     (All-tail (IsCountOf config) first rest each)
 
 -- what holds of each state before this place, and of the one there, holds of each before the next place
@@ -65,11 +70,13 @@ each_more P slices i p here within before holds k d below =
     (subst P (here ∙ get_or_default slices i p d within) holds) k below
 
 -- what holds of the state at each place holds of each state
-each_has : (P : PartsView → Type 0) (slices : List PartsView) → ((i : ℕ) (d : PartsView) → i < length slices → P (get_or slices i d))
+each_has : (P : PartsView → Type 0) (slices : List PartsView)
+    → ((i : ℕ) (d : PartsView) → i < length slices → P (get_or slices i d))
     → All P slices
 each_has P [] each = All-nil P
 each_has P (p ∷ more) each = All-from_get_or P (p ∷ more) p (λ i below. each i p below)
 
 -- each slice of a machine has its cores
 pub have_cores : (config : Config) (slices : List PartsView) → AreSlicesOf config slices → HaveCores config.cores slices
-have_cores config slices each = each_has (λ p. length p.view.sides ≡ config.cores) slices (λ i d below. (each i d below).cores)
+have_cores config slices each =
+    each_has (λ p. length p.view.sides ≡ config.cores) slices (λ i d below. (each i d below).cores)

@@ -1,5 +1,6 @@
 -- Deliveries in one slice after another.
-use Rattle.std.proofs.Common.{◌≡◌, ℕ, ◌+◌, ◌*◌, ◌/◌, ◌%◌, ◌<◌, ◌≤◌, Bool, true, false, List, [], ◌∷◌, ◌++◌, length, Option, refl, sym, ap, subst, ◌∙◌, arith, add-one, inl, inr, length-append, zero, suc}
+use Rattle.std.proofs.Common.{◌≡◌, ℕ, ◌+◌, ◌*◌, ◌/◌, ◌%◌, ◌<◌, ◌≤◌, Bool, true, false, List, [], ◌∷◌, ◌++◌, length}
+use Rattle.std.proofs.Common.{Option, refl, sym, ap, subst, ◌∙◌, arith, add-one, inl, inr, length-append, zero, suc}
 use Rattle.std.proofs.lemmas.List.Folds.{list_any-append, list_all-append}
 use Rattle.std.proofs.lemmas.Nat.{div-add-mod', mod_below}
 use Rattle.std.proofs.Math.Nat.{div-mul-le_self, mul-le-mul_right}
@@ -7,15 +8,18 @@ use Rattle.std.specs.Prelude.{◌&&◌, ◌||◌, cond}
 use Rattle.std.specs.List.{list_all, list_any}
 use Rattle.slice_core_answer.specs.declared.answer.DeliveredNext.{DeliveredNext}
 use Rattle.slice_core_answer.specs.declared.answer.DeliveredNext.TheVariants as deliveries
-use Rattle.litmus_script.specs.Pump.{AreRounds, ComesTo, Delivers, IsRound, Moves, MovesTimes, Pumps, is_moved, is_nothing, round_after, round_of}
+use Rattle.litmus_script.specs.Pump.{AreRounds, ComesTo, Delivers, IsRound, Moves, MovesTimes, Pumps, is_moved}
+use Rattle.litmus_script.specs.Pump.{is_nothing, round_after, round_of}
 use Rattle.litmus_script.specs.declared.answers.Pumped.{Pumped}
 use Rattle.litmus_script.specs.declared.answers.Pumped.TheVariants as pumps
 use Rattle.litmus_script.specs.declared.pump.Round.{Round}
 use Rattle.litmus_script.specs.declared.pump.Round.TheVariants as rounds
 
 -- what a round comes to with one answer more
-round_by : (moved empty : Bool) (answer : DeliveredNext) → (let round : Round = cond moved rounds.Moved (cond empty rounds.Empty rounds.Stuck) in
-    round_after round answer ≡ cond (moved || (is_moved answer || false)) rounds.Moved (cond (empty && (is_nothing answer && true)) rounds.Empty rounds.Stuck))
+round_by : (moved empty : Bool) (answer : DeliveredNext)
+    → (let round : Round = cond moved rounds.Moved (cond empty rounds.Empty rounds.Stuck) in
+    round_after round answer ≡ cond (moved || (is_moved answer || false)) rounds.Moved
+    (cond (empty && (is_nothing answer && true)) rounds.Empty rounds.Stuck))
 round_by true empty (deliveries.Moved pick) = refl
 round_by true empty deliveries.Nothing = refl
 round_by true empty deliveries.Blocked = refl
@@ -29,14 +33,16 @@ round_by false false deliveries.Nothing = refl
 round_by false false deliveries.Blocked = refl
 round_by false false (deliveries.Broken cell) = refl
 
-round_more : (given : List DeliveredNext) (answer : DeliveredNext) → round_after (round_of given) answer ≡ round_of (given ++ answer ∷ [])
+round_more : (given : List DeliveredNext) (answer : DeliveredNext)
+    → round_after (round_of given) answer ≡ round_of (given ++ answer ∷ [])
 round_more given answer =
     rw (list_any-append is_moved given (answer ∷ []), list_all-append is_nothing given (answer ∷ []))
     (round_by (list_any is_moved given) (list_all is_nothing given) answer)
 
 -- ---- rounds
 
-of_moved : (moved empty : Bool) → rounds.Moved ≡ cond moved rounds.Moved (cond empty rounds.Empty rounds.Stuck) → moved ≡ true
+of_moved : (moved empty : Bool) → rounds.Moved ≡ cond moved rounds.Moved (cond empty rounds.Empty rounds.Stuck)
+    → moved ≡ true
 of_moved true empty is = refl
 of_moved false true is = cc
 of_moved false false is = cc
@@ -61,7 +67,8 @@ within slices calls before few =
 
 module _ {D : Type 0} (tells : D → ℕ → DeliveredNext → Option (List ℕ) → Option (List ℕ) → D → Type 0) where
   -- one more slice is asked
-  pub delivers_more : (slice next : ℕ) (given : List DeliveredNext) (answer : DeliveredNext) (a b c : D) (x y z : Option (List ℕ))
+  pub delivers_more : (slice next : ℕ) (given : List DeliveredNext) (answer : DeliveredNext) (a b c : D)
+      (x y z : Option (List ℕ))
       → next ≡ slice + length given → Delivers tells slice given a b x y → tells b next answer y z c
       → Delivers tells slice (given ++ answer ∷ []) a c x z
   delivers_more slice next [] answer a b c x y z is made one =
@@ -69,7 +76,8 @@ module _ {D : Type 0} (tells : D → ℕ → DeliveredNext → Option (List ℕ)
         c,
         z,
         subst (λ n. tells a n answer x z c) here
-            (subst (λ (d : D). tells d next answer x z c) made.0 (subst (λ (t : Option (List ℕ)). tells b next answer t z c) made.1 one)),
+            (subst (λ (d : D). tells d next answer x z c) made.0
+            (subst (λ (t : Option (List ℕ)). tells b next answer t z c) made.1 one)),
         (refl, refl),
       )
   delivers_more slice next (first ∷ given) answer a b c x y z is (mid, middle, here, rest) one =
@@ -81,7 +89,8 @@ module _ {D : Type 0} (tells : D → ℕ → DeliveredNext → Option (List ℕ)
 
   -- a round over one slice more
   pub comes_to_more : (n : ℕ) (round after : Round) (answer : DeliveredNext) (a b c : D) (x y z : Option (List ℕ))
-      → ComesTo tells n round a b x y → tells b n answer y z c → after ≡ round_after round answer → ComesTo tells (n + 1) after a c x z
+      → ComesTo tells n round a b x y → tells b n answer y z c → after ≡ round_after round answer
+      → ComesTo tells (n + 1) after a c x z
   comes_to_more n round after answer a b c x y z so_far one is = record {
     given = so_far.given ++ answer ∷ [];
     made = record {
@@ -99,7 +108,8 @@ module _ {D : Type 0} (tells : D → ℕ → DeliveredNext → Option (List ℕ)
       rw (add-one n) (b, y, before, record { given = last.given; round = last.made; moved = moved })
 
   -- a pump that ends with a round in which no message waited
-  pub pumps_empty : (slices calls : ℕ) (a c : D) (x z : Option (List ℕ)) → AreRounds tells slices (calls / slices) rounds.Empty a c x z
+  pub pumps_empty : (slices calls : ℕ) (a c : D) (x z : Option (List ℕ))
+      → AreRounds tells slices (calls / slices) rounds.Empty a c x z
       → Pumps tells slices calls pumps.Empty a c x z
   pumps_empty slices calls a c x z (turns, mid, middle, few, moves, last) =
       let none = of_empty (list_any is_moved last.given) (list_all is_nothing last.given) last.came in
@@ -110,11 +120,13 @@ module _ {D : Type 0} (tells : D → ℕ → DeliveredNext → Option (List ℕ)
         given = last.given;
         moves = moves;
         made = last.made.made;
-        ends = inl (record { whole = last.made.whole; within = within slices calls turns few; still = none.0; said = rw none.1 refl });
+        ends = inl (record { whole = last.made.whole; within = within slices calls turns few; still = none.0;
+            said = rw none.1 refl });
       }
 
   -- .. in which messages waited, and none was delivered
-  pub pumps_stuck : (slices calls : ℕ) (a c : D) (x z : Option (List ℕ)) → AreRounds tells slices (calls / slices) rounds.Stuck a c x z
+  pub pumps_stuck : (slices calls : ℕ) (a c : D) (x z : Option (List ℕ))
+      → AreRounds tells slices (calls / slices) rounds.Stuck a c x z
       → Pumps tells slices calls pumps.Left a c x z
   pumps_stuck slices calls a c x z (turns, mid, middle, few, moves, last) =
       let none = of_stuck (list_any is_moved last.given) (list_all is_nothing last.given) last.came in
@@ -125,7 +137,8 @@ module _ {D : Type 0} (tells : D → ℕ → DeliveredNext → Option (List ℕ)
         given = last.given;
         moves = moves;
         made = last.made.made;
-        ends = inl (record { whole = last.made.whole; within = within slices calls turns few; still = none.0; said = rw none.1 refl });
+        ends = inl (record { whole = last.made.whole; within = within slices calls turns few; still = none.0;
+            said = rw none.1 refl });
       }
 
   -- a pump that ends with the calls that make no whole round
@@ -153,20 +166,24 @@ module _ {D V : Type 0} (view : D → V) (Inv : D → Type 0)
     (step : (old new : D) (slice : ℕ) (answer : DeliveredNext) (before after : Option (List ℕ)) → Inv old
     → tells old slice answer before after new → Inv new × shows (view old) slice answer before after (view new)) where
   delivers_shown : (slice : ℕ) (given : List DeliveredNext) (old new : D) (before after : Option (List ℕ)) → Inv old
-      → Delivers tells slice given old new before after → Inv new × Delivers shows slice given (view old) (view new) before after
+      → Delivers tells slice given old new before after
+      → Inv new × Delivers shows slice given (view old) (view new) before after
   delivers_shown slice [] old new before after inv none = (subst Inv (sym none.0) inv, (ap view none.0, none.1))
   delivers_shown slice (answer ∷ more) old new before after inv (next, middle, one, rest) =
       let here = step old next slice answer before middle inv one in
       let there = delivers_shown (slice + 1) more next new middle after here.0 rest in
       (there.0, (view next, middle, here.1, there.1))
 
-  moves_shown : (slices : ℕ) (old new : D) (before after : Option (List ℕ)) → Inv old → Moves tells slices old new before after
+  moves_shown : (slices : ℕ) (old new : D) (before after : Option (List ℕ)) → Inv old
+      → Moves tells slices old new before after
       → Inv new × Moves shows slices (view old) (view new) before after
   moves_shown slices old new before after inv moves =
       let made = delivers_shown 0 moves.given old new before after inv moves.round.made in
-      (made.0, record { given = moves.given; round = record { whole = moves.round.whole; made = made.1 }; moved = moves.moved })
+      (made.0, record { given = moves.given; round = record { whole = moves.round.whole; made = made.1 };
+      moved = moves.moved })
 
-  times_shown : (slices n : ℕ) (old new : D) (before after : Option (List ℕ)) → Inv old → MovesTimes tells slices n old new before after
+  times_shown : (slices n : ℕ) (old new : D) (before after : Option (List ℕ)) → Inv old
+      → MovesTimes tells slices n old new before after
       → Inv new × MovesTimes shows slices n (view old) (view new) before after
   times_shown slices zero old new before after inv none = (subst Inv (sym none.0) inv, (ap view none.0, none.1))
   times_shown slices (suc n) old new before after inv (mid, middle, first, last) =
@@ -175,7 +192,8 @@ module _ {D V : Type 0} (view : D → V) (Inv : D → Type 0)
       (one.0, (view mid, middle, many.1, one.1))
 
   pub pumps_shown : (slices calls : ℕ) (pumped : Pumped) (old new : D) (before after : Option (List ℕ)) → Inv old
-      → Pumps tells slices calls pumped old new before after → Pumps shows slices calls pumped (view old) (view new) before after
+      → Pumps tells slices calls pumped old new before after
+      → Pumps shows slices calls pumped (view old) (view new) before after
   pumps_shown slices calls pumped old new before after inv done =
       let many = times_shown slices done.turns old done.mid before done.middle inv done.moves in
       let made = delivers_shown 0 done.given done.mid new done.middle after many.0 done.made in

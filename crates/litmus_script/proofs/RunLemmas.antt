@@ -2,7 +2,8 @@
 use Rattle.std.proofs.Common.{ℕ, List, Option, ap, inr}
 use Rattle.litmus_text.specs.declared.fault.TextFault.{TextFault}
 use Rattle.litmus_script.specs.Machine.{bound_of}
-use Rattle.litmus_script.specs.Script.{IsPlayedOn, IsPlayedUpTo, IsRun, IsRunUpTo, IsScript, IsSetUp, Playing, commands_of}
+use Rattle.litmus_script.specs.Script.{IsPlayedOn, IsPlayedUpTo, IsRun, IsRunUpTo, IsScript, IsSetUp, Playing}
+use Rattle.litmus_script.specs.Script.{commands_of}
 use Rattle.litmus_script.specs.declared.script.Script.{Script}
 
 set_up : (all : List (ℕ × List (List ℕ))) (script : Script) → IsScript all script
@@ -15,14 +16,17 @@ set_up all script read = record {
 }
 
 -- a fault ends the run of what was read
-pub run_up_to : (plays : Playing) (all : List (ℕ × List (List ℕ))) (script : Script) (before after : Option (List ℕ)) (fault : TextFault)
+pub run_up_to : (plays : Playing) (all : List (ℕ × List (List ℕ))) (script : Script)
+    (before after : Option (List ℕ)) (fault : TextFault)
     → IsScript all script
-    → IsPlayedUpTo plays script.config (bound_of script.misses script.config) (commands_of script.commands) before after fault
+    → IsPlayedUpTo plays script.config (bound_of script.misses script.config)
+    (commands_of script.commands) before after fault
     → IsRunUpTo plays all before after fault
 run_up_to plays all script before after fault read played = inr (script.config, _, _, set_up all script read, played)
 
 -- it is run to its end
-pub run_of : (plays : Playing) (all : List (ℕ × List (List ℕ))) (script : Script) (before after : Option (List ℕ)) → IsScript all script
+pub run_of : (plays : Playing) (all : List (ℕ × List (List ℕ))) (script : Script) (before after : Option (List ℕ))
+    → IsScript all script
     → IsPlayedOn plays script.config (bound_of script.misses script.config) (commands_of script.commands) before after
     → IsRun plays all before after
 run_of plays all script before after read played = inr (script.config, _, _, set_up all script read, played)

@@ -1,5 +1,6 @@
 -- How a script's configuration is read, line by line.
-use Rattle.std.proofs.Common.{◌≡◌, ℕ, List, [], ◌∷◌, ◌++◌, Option, Some, None, Ok, Err, refl, sym, subst, ◌∙◌, inl, inr, append_assoc}
+use Rattle.std.proofs.Common.{◌≡◌, ℕ, List, [], ◌∷◌, ◌++◌, Option, Some, None, Ok, Err, refl, sym, subst, ◌∙◌, inl, inr}
+use Rattle.std.proofs.Common.{append_assoc}
 use Rattle.std.specs.Prelude.{Result}
 use Rattle.std.specs.Option.{option_map_or}
 use Rattle.address_map.specs.Config.{checked_of, first_fault}
@@ -9,9 +10,11 @@ use Rattle.litmus_text.specs.Settings.{default_settings}
 use Rattle.litmus_text.specs.declared.fault.TextFault.{TextFault}
 use Rattle.litmus_text.specs.declared.settings.Settings.{Settings}
 use Rattle.litmus_script.specs.Fault.{BeginsAsConfig}
-use Rattle.litmus_script.specs.Script.{BeginOtherwise, Configures, IsConfigFault, IsConfigured, IsLineFault, IsNotConfigured, IsRefused, TakesLine}
+use Rattle.litmus_script.specs.Script.{BeginOtherwise, Configures, IsConfigFault, IsConfigured, IsLineFault}
+use Rattle.litmus_script.specs.Script.{IsNotConfigured, IsRefused, TakesLine}
 
-configures_more : (a b c : Settings) (done : List (ℕ × List (List ℕ))) (s : ℕ × List (List ℕ)) → Configures a done b → TakesLine s.1 b c
+configures_more : (a b c : Settings) (done : List (ℕ × List (List ℕ))) (s : ℕ × List (List ℕ))
+    → Configures a done b → TakesLine s.1 b c
     → Configures a (done ++ s ∷ []) c
 configures_more a b c [] s none line = (c, subst (λ x. TakesLine s.1 x c) none line, refl)
 configures_more a b c (d ∷ done) s so_far line =
@@ -31,7 +34,8 @@ configured_more all left s old new so_far line = record {
 }
 
 -- a line that configures is at fault
-pub not_configured_line : (all left : List (ℕ × List (List ℕ))) (s : ℕ × List (List ℕ)) (settings : Settings) (fault : TextFault)
+pub not_configured_line : (all left : List (ℕ × List (List ℕ))) (s : ℕ × List (List ℕ))
+    (settings : Settings) (fault : TextFault)
     → IsConfigured all settings (s ∷ left) → BeginsAsConfig s.1 → IsLineFault s fault → IsNotConfigured all fault
 not_configured_line all left s settings fault so_far begins wrong =
     record { settings = settings; left = s ∷ left; read = so_far; wrong = inl (begins, wrong) }
@@ -50,7 +54,8 @@ not_configured_machine all left settings fault so_far others refused =
 abbrev refusal : ConfigError → Result Config ConfigError
 refusal fault = Err fault
 
-refused_from : (c : Config) (e : ConfigError) (fault : Option ConfigError) (whole : Result Config ConfigError) → whole ≡ Err e
+refused_from : (c : Config) (e : ConfigError) (fault : Option ConfigError) (whole : Result Config ConfigError)
+    → whole ≡ Err e
     → whole ≡ option_map_or refusal fault (Ok c) → fault ≡ Some e
 refused_from c e None whole is of = cc
 refused_from c e (Some f) whole is of = cc

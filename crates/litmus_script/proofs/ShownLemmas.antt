@@ -11,9 +11,11 @@ use Rattle.litmus_script.specs.Shown.{text_of_lines, text_of_trace, version_for}
 
 -- the first line, the values that words begin with, and what was performed
 pub trace_text : (cores : ℕ) (init : List (WordAddr × ℕ)) (log : List Entry) → text_of_trace cores init log ≡
-    line_of_parts (parts_of_first (version_for cores log)) ++ (text_of_lines (map (λ pair. lines.Init pair.0 pair.1) init)
+    line_of_parts (parts_of_first (version_for cores log))
+    ++ (text_of_lines (map (λ pair. lines.Init pair.0 pair.1) init)
     ++ text_of_lines (map lines.Entry log))
 trace_text cores init log =
     ap (λ (rest : List ℕ). line_of_parts (parts_of_first (version_for cores log)) ++ rest)
-    (flat_map-append (λ (line : TraceLine). line_of_parts (parts_of_line line)) (map (λ (pair : WordAddr × ℕ). lines.Init pair.0 pair.1) init)
+    (flat_map-append (λ (line : TraceLine). line_of_parts (parts_of_line line))
+    (map (λ (pair : WordAddr × ℕ). lines.Init pair.0 pair.1) init)
     (map lines.Entry log))

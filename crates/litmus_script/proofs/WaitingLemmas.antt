@@ -1,12 +1,14 @@
 -- The lines of the messages in flight, in the pieces in which they are written.
-use Rattle.std.proofs.Common.{◌≡◌, ◌≢◌, ℕ, List, [], ◌∷◌, ◌++◌, Option, Some, None, codes, drop, refl, sym, subst, ap, append_assoc, ◌∙◌}
+use Rattle.std.proofs.Common.{◌≡◌, ◌≢◌, ℕ, List, [], ◌∷◌, ◌++◌, Option, Some, None, codes, drop, refl, sym, subst, ap}
+use Rattle.std.proofs.Common.{append_assoc, ◌∙◌}
 use Rattle.std.proofs.Output.{writes_in_calls_append}
 use Rattle.std.proofs.lemmas.Grind.{flat_map-append}
 use Rattle.std.specs.Fmt.{WritesInCalls}
 use Rattle.std.specs.List.{slice_get}
 use Rattle.address_map.specs.declared.address.Local.{Local}
 use Rattle.step_text.specs.Message.{text_of_message}
-use Rattle.litmus_script.specs.Waiting.{flights_of, in_flight, lines_of, picks_of, receiver_state, text_at, text_in_front, text_of_flights, text_of_plan}
+use Rattle.litmus_script.specs.Waiting.{flights_of, in_flight, lines_of, picks_of, receiver_state, text_at}
+use Rattle.litmus_script.specs.Waiting.{text_in_front, text_of_flights, text_of_plan}
 use Rattle.litmus_text.specs.Command.{parts_of}
 use Rattle.litmus_text.specs.declared.command.Command.TheVariants.{Deliver}
 use Rattle.script_text.specs.Line.{text_of_parts}
@@ -25,7 +27,8 @@ use Rattle.slice_queues_message.specs.declared.message.Message.{Message}
 pub lines_of_slices : (state : PartsView) (more : List PartsView) → lines_of (in_flight (state ∷ more)) ≡
     lines_of (flights_of state.view (picks_of state.view)) ++ lines_of (in_flight more)
 lines_of_slices state more =
-    flat_map-append (λ (flight : View × Pick). text_at flight.0 flight.1) (flights_of state.view (picks_of state.view)) (in_flight more)
+    flat_map-append (λ (flight : View × Pick). text_at flight.0 flight.1)
+    (flights_of state.view (picks_of state.view)) (in_flight more)
 
 -- where messages are in flight their lines are the text
 pub text_of_some : (flights : List (View × Pick)) → flights ≢ [] → text_of_flights flights ≡ lines_of flights
@@ -33,7 +36,8 @@ text_of_some [] some = absurd (some refl)
 text_of_some (flight ∷ more) some = refl
 
 -- what a delivery does that can be made
-pub moves : (plan : Plan) (state : List ℕ) → plan ≢ plans.Nothing → plan ≢ plans.Blocked → ((cell : Cell) → plan ≢ plans.Broken cell)
+pub moves : (plan : Plan) (state : List ℕ) → plan ≢ plans.Nothing → plan ≢ plans.Blocked
+    → ((cell : Cell) → plan ≢ plans.Broken cell)
     → codes "moves" ≡ text_of_plan plan state
 moves plans.Nothing state nothing blocked broken = absurd (nothing refl)
 moves plans.Blocked state nothing blocked broken = absurd (blocked refl)
@@ -72,9 +76,11 @@ module _ {W : Type 0} (took : W → List ℕ → W → Type 0) (v : View) where
       ≡ (deliver ++ (codes "   " ++ (name ++ codes "   "))) ++ (does ++ codes "\n") =
       append_assoc (deliver ++ codes "   " ++ name ++ codes "   ") does (codes "\n")
       ∙ ap (λ (text : List ℕ). text ++ (does ++ codes "\n"))
-      (append_assoc (deliver ++ codes "   ") name (codes "   ") ∙ append_assoc deliver (codes "   ") (name ++ codes "   ")) in
+      (append_assoc (deliver ++ codes "   ") name (codes "   ")
+      ∙ append_assoc deliver (codes "   ") (name ++ codes "   ")) in
       let written = subst (λ (text : List ℕ). WritesInCalls took old text new) (sym pieces)
       (writes_in_calls_append took old _ mid _ new words (rest at refl)) in
       subst (λ (m : Option Message). WritesInCalls took old (text_in_front v pick (Some at) m) new) front
-      (subst (λ (p : Plan). WritesInCalls took old (((deliver ++ codes "   " ++ name ++ codes "   ") ++ text_of_plan p (receiver_state v at (channel_of pick))) ++ codes "\n") new)
+      (subst (λ (p : Plan). WritesInCalls took old (((deliver ++ codes "   " ++ name ++ codes "   ")
+      ++ text_of_plan p (receiver_state v at (channel_of pick))) ++ codes "\n") new)
       planned written)

@@ -27,7 +27,8 @@ text_of_delivered (deliveries.Broken cell) = codes "broken " ++ text_of_cell cel
 -- a reply that is handed out, or that there is none
 abbrev pub text_of_handed : Option Numbered → List ℕ
 text_of_handed (Some given) =
-    codes "receipt " ++ decimal given.number ++ codes " tag " ++ decimal given.entry.tag ++ codes " reply " ++ decimal given.entry.reply
+    codes "receipt " ++ decimal given.number ++ codes " tag " ++ decimal given.entry.tag ++ codes " reply "
+    ++ decimal given.entry.reply
 text_of_handed None = codes "none"
 
 -- the value of a word, or that its slice isn't quiet

@@ -19,8 +19,8 @@ abbrev pub IsFaultBehind : Config → List (List ℕ) → LineFault → Type 0
 IsFaultBehind config words fault =
     (BeginsAsConfig words × IsLateFault words fault) ⊎ ((¬ BeginsAsConfig words) × IsFaultOfCommand config words fault)
 
--- Why the statement of this number isn't played: it has a fault of this kind, and nothing is written for it. Or there is
--- no memory, or the output can't be written.
+-- Why the statement of this number isn't played: it has a fault of this kind, and nothing is written for it. Or there
+-- is no memory, or the output can't be written.
 abbrev pub IsNotPlayed : (LineFault → Type 0) → ℕ → Option (List ℕ) → Option (List ℕ) → TextFault → Type 0
 IsNotPlayed Wrong number before after (faults.Line n fault) = (n ≡ number) × Wrong fault × (after ≡ before)
 IsNotPlayed Wrong number before after (faults.Config error) = ⊥

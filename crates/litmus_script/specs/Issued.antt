@@ -24,7 +24,8 @@ answer_of (issues.Refused refused) = Err refused
 
 -- what stands where there is no entry
 abbrev pub no_entry : Entry
-no_entry = record { op = ops.Load; word = record { 0 = 0 }; seq = 0; reply = 0; since = 0; core = record { 0 = 0 }; tag = 0 }
+no_entry =
+    record { op = ops.Load; word = record { 0 = 0 }; seq = 0; reply = 0; since = 0; core = record { 0 = 0 }; tag = 0 }
 
 -- an access that is done says the reply of its entry, and want of memory is not said
 abbrev pub IsSaid : Issued → List Entry → Type 0

@@ -1,5 +1,6 @@
 -- A machine is one slice's state for each slice of its configuration.
-use Rattle.std.specs.Prelude.{◌≡◌, ℕ, ◌<◌, List, length, map, slice_get, slice_index_or, slice_set, [], Option, None, Some}
+use Rattle.std.specs.Prelude.{◌≡◌, ℕ, ◌<◌, List, length, map, slice_get, slice_index_or, slice_set, [], Option, None}
+use Rattle.std.specs.Prelude.{Some}
 use Rattle.std.specs.Option.{option_map_or}
 use Rattle.address_map.specs.Locator.{lines_of, local_at}
 use Rattle.address_map.specs.declared.address.LineAddr.{LineAddr}

@@ -31,7 +31,8 @@ abbrev pub Adds : Option (List ℕ) → Option (List ℕ) → List ℕ → Type 
 Adds before after text = Appends before after (text ++ codes "\n")
 
 -- a pump's deliveries are told like this, and then what is left is written
-pub record PrintsPump (tells : Telling) (slices calls : ℕ) (old new : List PartsView) (before after : Option (List ℕ)) : Type 0 where
+pub record PrintsPump (tells : Telling) (slices calls : ℕ) (old new : List PartsView)
+    (before after : Option (List ℕ)) : Type 0 where
   pub pumped : Pumped
   pub middle : Option (List ℕ)
   pub pumps : Pumps tells slices calls pumped old new before middle
@@ -47,7 +48,8 @@ Prints config (commands.Evict core line) old new before after =
     (answer : Evicted) × IsAnswered (line.0 % config.slices) (calls.Evict core line) (answers.Evict answer) old new
     × Adds before after (text_of_evicted answer)
 Prints config (commands.Deliver pick) old new before after =
-    (answer : Delivered) × IsAnswered ((line_of pick).0 % config.slices) (calls.Deliver pick) (answers.Deliver answer) old new
+    (answer : Delivered) × IsAnswered ((line_of pick).0 % config.slices) (calls.Deliver pick)
+    (answers.Deliver answer) old new
     × Adds before after (text_of_delivered answer)
 Prints config (commands.Hand core slice) old new before after =
     (answer : Option Numbered) × IsAnswered slice.0 (calls.Hand core) (answers.Hand answer) old new
@@ -66,5 +68,6 @@ Prints config commands.Show old new before after = (new ≡ old) × Appends befo
 Prints config (commands.Pump calls) old new before after = PrintsPump Silently config.slices calls old new before after
 
 -- The command's answer is printed. As a record it isn't unfolded where it is handed on.
-pub record IsPrinted (config : Config) (command : Command) (old new : List PartsView) (before after : Option (List ℕ)) : Type 0 where
+pub record IsPrinted (config : Config) (command : Command) (old new : List PartsView)
+    (before after : Option (List ℕ)) : Type 0 where
   pub printed : Prints config command old new before after

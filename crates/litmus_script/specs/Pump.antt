@@ -1,5 +1,6 @@
 -- What a pump does: deliveries in one slice after another, round and round.
-use Rattle.std.specs.Prelude.{◌≡◌, ◌⊎◌, ℕ, zero, suc, ◌+◌, ◌*◌, ◌<◌, ◌≤◌, Bool, true, false, List, [], ◌∷◌, length, if◌then◌else◌, Option}
+use Rattle.std.specs.Prelude.{◌≡◌, ◌⊎◌, ℕ, zero, suc, ◌+◌, ◌*◌, ◌<◌, ◌≤◌, Bool, true, false, List, [], ◌∷◌, length}
+use Rattle.std.specs.Prelude.{if◌then◌else◌, Option}
 use Rattle.std.specs.List.{list_all, list_any}
 use Rattle.slice_core.specs.declared.run.Call.TheVariants as calls
 use Rattle.slice_core.specs.declared.run.CallAnswer.TheVariants as answers
@@ -17,8 +18,8 @@ use Rattle.litmus_script.specs.declared.pump.Round.TheVariants as rounds
 abbrev pub IsDelivered : ℕ → DeliveredNext → List PartsView → List PartsView → Type 0
 IsDelivered slice answer old new = IsAnswered slice (calls.DeliverNext classes.Any) (answers.DeliverNext answer) old new
 
--- A telling of deliveries: what the next delivery of a slice, by its answer, does to the slices of a machine, and what is
--- written of it behind what was written before.
+-- A telling of deliveries: what the next delivery of a slice, by its answer, does to the slices of a machine, and what
+-- is written of it behind what was written before.
 abbrev pub Telling : Type 1
 Telling = List PartsView → ℕ → DeliveredNext → Option (List ℕ) → Option (List ℕ) → List PartsView → Type 0
 
@@ -79,8 +80,8 @@ pub record EndsOut (slices calls before : ℕ) (given : List DeliveredNext) (pum
   pub few : length given < slices
   pub said : pumped ≡ pumps.Left
 
--- A pump of so many calls at most: rounds over all slices, each of which delivers a message, and then the calls that end
--- it. What is said is `left`, but where the last round found no message in any slice.
+-- A pump of so many calls at most: rounds over all slices, each of which delivers a message, and then the calls that
+-- end it. What is said is `left`, but where the last round found no message in any slice.
 pub record Pumps {D : Type 0} (tells : D → ℕ → DeliveredNext → Option (List ℕ) → Option (List ℕ) → D → Type 0)
     (slices calls : ℕ) (pumped : Pumped) (old new : D) (before after : Option (List ℕ)) : Type 0 where
   pub turns : ℕ
@@ -113,7 +114,8 @@ pub record ComesTo {D : Type 0} (tells : D → ℕ → DeliveredNext → Option 
   pub came : round ≡ round_of given
 
 -- Of so many rounds all delivered a message, or a round that delivered none was the last.
-abbrev pub AreRounds : {D : Type 0} → (D → ℕ → DeliveredNext → Option (List ℕ) → Option (List ℕ) → D → Type 0) → ℕ → ℕ → Round
+abbrev pub AreRounds : {D : Type 0} → (D → ℕ → DeliveredNext → Option (List ℕ) → Option (List ℕ) → D → Type 0) → ℕ → ℕ
+    → Round
     → D → D → Option (List ℕ) → Option (List ℕ) → Type 0
 AreRounds tells slices count rounds.Moved old new before after = MovesTimes tells slices count old new before after
 AreRounds {D} tells slices count last old new before after =

@@ -39,7 +39,8 @@ BeginOtherwise [] = Unit {0}
 BeginOtherwise (statement ∷ more) = ¬ BeginsAsConfig statement.1
 
 -- the first statements make these settings, and those are left
-pub record IsConfigured (all : List (ℕ × List (List ℕ))) (settings : Settings) (left : List (ℕ × List (List ℕ))) : Type 0 where
+pub record IsConfigured (all : List (ℕ × List (List ℕ))) (settings : Settings)
+    (left : List (ℕ × List (List ℕ))) : Type 0 where
   pub done : List (ℕ × List (List ℕ))
   pub split : all ≡ done ++ left
   pub configured : Configures default_settings done settings
@@ -101,8 +102,8 @@ IsReadAs all (Some script) = IsScript all script
 
 -- ---- a run
 
--- A style of playing: what a command on this line does to the slices of a machine, and what is written of it behind what
--- was written before.
+-- A style of playing: what a command on this line does to the slices of a machine, and what is written of it behind
+-- what was written before.
 abbrev pub Playing : Type 1
 Playing = Config → List PartsView → List ℕ → Command → Option (List ℕ) → Option (List ℕ) → List PartsView → Type 0
 
@@ -117,7 +118,8 @@ Echoed true plays config old line command before after new =
     (middle : Option (List ℕ)) × Adds before middle line × plays config old line command middle after new
 
 -- the commands are played on these slices, up to the last
-abbrev pub HasPlayed : Playing → Config → List (ℕ × List (List ℕ)) → List PartsView → Option (List ℕ) → Option (List ℕ) → Type 0
+abbrev pub HasPlayed : Playing → Config → List (ℕ × List (List ℕ)) → List PartsView → Option (List ℕ)
+    → Option (List ℕ) → Type 0
 HasPlayed plays config commands start before after =
     (end : List PartsView) × PlaysAll (plays config) config commands start end before after
 
@@ -136,12 +138,14 @@ pub record IsStoppedOn (plays : Playing) (config : Config) (bound : Bound) (comm
   pub stopped : PlaysUpTo (plays config) config commands start before after fault
 
 -- .. or there was no memory for a new machine
-abbrev pub IsPlayedUpTo : Playing → Config → Bound → List (ℕ × List (List ℕ)) → Option (List ℕ) → Option (List ℕ) → TextFault → Type 0
+abbrev pub IsPlayedUpTo : Playing → Config → Bound → List (ℕ × List (List ℕ)) → Option (List ℕ)
+    → Option (List ℕ) → TextFault → Type 0
 IsPlayedUpTo plays config bound commands before after fault =
     ((fault ≡ faults.NoMemory) × (after ≡ before)) ⊎ IsStoppedOn plays config bound commands before after fault
 
 -- the machine that the first statements configure, and the commands behind them
-pub record IsSetUp (all : List (ℕ × List (List ℕ))) (config : Config) (bound : Bound) (commands : List (ℕ × List (List ℕ))) : Type 0 where
+pub record IsSetUp (all : List (ℕ × List (List ℕ))) (config : Config) (bound : Bound)
+    (commands : List (ℕ × List (List ℕ))) : Type 0 where
   pub settings : Settings
   pub configured : IsConfigured all settings commands
   pub checked : checked_of settings.config ≡ Ok config

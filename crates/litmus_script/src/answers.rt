@@ -1,7 +1,8 @@
 ghost use Rattle.std.specs.Prelude.{◌≡◌, ◌↔◌, ◌++◌, IfErr, IsOk, OnOk, codes, decimal};
 ghost use Rattle.std.specs.Io.KnownBytes.{Appends};
 ghost use Rattle.slice_core_answer.specs.Text.{text_of_evicted};
-ghost use Rattle.litmus_script.specs.Answer.{WritesLine, text_of_delivered, text_of_handed, text_of_issued, text_of_pumped, text_of_word};
+ghost use Rattle.litmus_script.specs.Answer.{WritesLine, text_of_delivered, text_of_handed, text_of_issued};
+ghost use Rattle.litmus_script.specs.Answer.{text_of_pumped, text_of_word};
 
 use arrayvec::ArrayString;
 use itoa::Buffer;

@@ -20,7 +20,8 @@ pub trait Deliverer: Sized + Drop {
         ensures count { result ≡ (config_of self.now).slices }
         ensures some { 0 < result };
 
-    /// Makes the next delivery of the slice with this number, where one can be made, and writes what there is to say of it.
+    /// Makes the next delivery of the slice with this number, where one can be made, and writes what there is to say of
+    /// it.
     fn deliver_next<W: Write>(
         &mut self,
         slice: usize,
@@ -28,6 +29,7 @@ pub trait Deliverer: Sized + Drop {
     ) -> Result<DeliveredNext, TextFault>
         requires { slice < (config_of self.old).slices }
         ensures config { config_of self.new ≡ config_of self.old }
-        ensures delivers { IfOk result (λ answer. delivers self.old slice answer (W.contents out.old) (W.contents out.new) self.new) }
+        ensures delivers { IfOk result (λ answer. delivers self.old slice answer (W.contents out.old)
+            (W.contents out.new) self.new) }
         ensures fault { IfErr result IsOfRun };
 }

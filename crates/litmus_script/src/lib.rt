@@ -7,7 +7,8 @@
 //! - [`Answers`] is where answers go, and the functions beside it write the text of each.
 //! - [`issue`] is an access of one slice, with what became of it as it is printed.
 //! - [`copy_of`] makes an equal configuration, for another machine.
-//! - [`pump_slices`] has a [`Deliverer`], which the [`Machine`] is, deliver whatever waits, round and round over the slices.
+//! - [`pump_slices`] has a [`Deliverer`], which the [`Machine`] is, deliver whatever waits, round and round over the
+//!   slices.
 #![tactic(auto)]
 
 pub use answers::{

@@ -8,7 +8,8 @@ ghost use Rattle.slice_core.specs.declared.run.CallAnswer.TheVariants as answers
 ghost use Rattle.slice_core_plan.specs.View.{IsQuiet};
 ghost use Rattle.slice_queues_message.specs.Pick.{line_of};
 ghost use Rattle.litmus_script.specs.Issued.{IsIssued, IsOutOfMemory};
-ghost use Rattle.litmus_script.specs.Machine.{AreWaiting, HasNoLine, IsAnswered, IsFront, IsLineView, IsMachine, IsNewMachine};
+ghost use Rattle.litmus_script.specs.Machine.{AreWaiting, HasNoLine, IsAnswered, IsFront, IsLineView, IsMachine};
+ghost use Rattle.litmus_script.specs.Machine.{IsNewMachine};
 ghost use Rattle.litmus_script.specs.Machine.{IsQuietWord, IsShownLine, IsShownWord, counts_in, init_at, log_at};
 
 use super::answers::Issued;
@@ -94,7 +95,8 @@ impl<F: MissFile> Machine<F> {
     pub fn evict(&mut self, core: CoreId, line: LineAddr) -> Evicted
         requires { HasCore self.old.config core }
         ensures config { self.new.config ≡ self.old.config }
-        ensures answered { IsAnswered (line.0 % self.old.config.slices) (of_slice.Evict core line) (answers.Evict result)
+        ensures answered { IsAnswered (line.0 % self.old.config.slices)
+            (of_slice.Evict core line) (answers.Evict result)
             self.old.slices.items self.new.slices.items }
     {
         let slice = self.slice_of(line);

@@ -110,7 +110,8 @@ impl<F: MissFile> Machine<F> {
     fn run_word<W: Write>(&self, word: WordAddr, out: &mut W) -> Result<(), TextFault>
         requires { word.0 / 8 < self.now.config.lines }
         ensures fault { IfErr result IsOfRun }
-        ensures printed { OnOk result (IsPrinted self.now.config (commands.Word word) self.now.slices.items self.now.slices.items
+        ensures printed { OnOk result (IsPrinted self.now.config (commands.Word word)
+            self.now.slices.items self.now.slices.items
             (W.contents out.old) (W.contents out.new)) }
     {
         let shown = self.word_now(word);
@@ -122,7 +123,8 @@ impl<F: MissFile> Machine<F> {
     pub fn run_state<W: Write>(&self, line: LineAddr, out: &mut W) -> Result<(), TextFault>
         requires { HasLine self.now.config line }
         ensures fault { IfErr result IsOfRun }
-        ensures printed { OnOk result (IsPrinted self.now.config (commands.State line) self.now.slices.items self.now.slices.items
+        ensures printed { OnOk result (IsPrinted self.now.config (commands.State line)
+            self.now.slices.items self.now.slices.items
             (W.contents out.old) (W.contents out.new)) }
     {
         let shown = self.line_now(line);
@@ -132,7 +134,8 @@ impl<F: MissFile> Machine<F> {
 
     fn run_log<W: Write>(&self, slice: SliceId, out: &mut W) -> Result<(), TextFault>
         ensures fault { IfErr result IsOfRun }
-        ensures printed { OnOk result (IsPrinted self.now.config (commands.Log slice) self.now.slices.items self.now.slices.items
+        ensures printed { OnOk result (IsPrinted self.now.config (commands.Log slice)
+            self.now.slices.items self.now.slices.items
             (W.contents out.old) (W.contents out.new)) }
     {
         let init = self.init_of(slice);
@@ -143,7 +146,8 @@ impl<F: MissFile> Machine<F> {
 
     fn run_stats<W: Write>(&self, out: &mut W) -> Result<(), TextFault>
         ensures fault { IfErr result IsOfRun }
-        ensures printed { OnOk result (IsPrinted self.now.config commands.Stats self.now.slices.items self.now.slices.items
+        ensures printed { OnOk result (IsPrinted self.now.config commands.Stats
+            self.now.slices.items self.now.slices.items
             (W.contents out.old) (W.contents out.new)) }
     {
         let Ok(stats) = self.stats() else {

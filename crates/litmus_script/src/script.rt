@@ -4,8 +4,10 @@ ghost use Rattle.address_map.specs.Config.{checked_of};
 ghost use Rattle.litmus_script.specs.Machine.{bound_of};
 ghost use Rattle.litmus_script.specs.Play.{IsCommandFault, PlaysAll, PlaysOne, PlaysUpTo};
 ghost use Rattle.litmus_script.specs.Fault.{BeginsAsConfig, IsFaultBehind};
-ghost use Rattle.litmus_script.specs.Script.{BeginOtherwise, IsConfigured, IsLineFault, IsNotConfigured, IsReadAs, IsRefused, IsScript, TakesLine, commands_of, left_of, said_by};
-ghost use Rattle.litmus_script.specs.Script.{Echoed, HasPlayed, IsPlayedOn, IsPlayedUpTo, IsRun, IsRunUpTo, Plainly, Playing};
+ghost use Rattle.litmus_script.specs.Script.{BeginOtherwise, IsConfigured, IsLineFault, IsNotConfigured, IsReadAs};
+ghost use Rattle.litmus_script.specs.Script.{IsRefused, IsScript, TakesLine, commands_of, left_of, said_by};
+ghost use Rattle.litmus_script.specs.Script.{Echoed, HasPlayed, IsPlayedOn, IsPlayedUpTo, IsRun, IsRunUpTo, Plainly};
+ghost use Rattle.litmus_script.specs.Script.{Playing};
 ghost use Rattle.address_map.specs.declared.config.Config.{Config};
 ghost use Rattle.litmus_text.specs.Command.{IsFaultOfCommand};
 ghost use Rattle.litmus_text.specs.Statement.{statements_from};
@@ -64,9 +66,11 @@ fn run_read<S: Style, W: Write>(
     style: &S,
     out: &mut W,
 ) -> Result<(), TextFault>
-    ensures played { OnOk result (IsPlayedOn (S.playing style.now) script.entry.config (bound_of script.entry.misses script.entry.config)
+    ensures played { OnOk result (IsPlayedOn (S.playing style.now) script.entry.config
+        (bound_of script.entry.misses script.entry.config)
         (commands_of script.entry.commands) (W.contents out.old) (W.contents out.new)) }
-    ensures fault { IfErr result (IsPlayedUpTo (S.playing style.now) script.entry.config (bound_of script.entry.misses script.entry.config)
+    ensures fault { IfErr result (IsPlayedUpTo (S.playing style.now) script.entry.config
+        (bound_of script.entry.misses script.entry.config)
         (commands_of script.entry.commands) (W.contents out.old) (W.contents out.new)) }
 {
     let Script {
@@ -88,9 +92,11 @@ fn run_on<F: MissFile, S: Style, W: Write>(
     style: &S,
     out: &mut W,
 ) -> Result<(), TextFault>
-    ensures played { OnOk result (IsPlayedOn (S.playing style.now) config (F.bound_by config) (commands_of commands.entry)
+    ensures played { OnOk result (IsPlayedOn (S.playing style.now) config (F.bound_by config)
+        (commands_of commands.entry)
         (W.contents out.old) (W.contents out.new)) }
-    ensures fault { IfErr result (IsPlayedUpTo (S.playing style.now) config (F.bound_by config) (commands_of commands.entry)
+    ensures fault { IfErr result (IsPlayedUpTo (S.playing style.now) config (F.bound_by config)
+        (commands_of commands.entry)
         (W.contents out.old) (W.contents out.new)) }
 {
     let machine: Machine<F> = Machine::build(alloc, config)?;
@@ -110,7 +116,8 @@ pub trait Style {
     ) -> Result<(), TextFault>
         ensures played { OnOk result (HasPlayed (playing self.now) machine.config (commands_of commands.entry)
             machine.slices.items (W.contents out.old) (W.contents out.new)) }
-        ensures fault { IfErr result (PlaysUpTo (playing self.now machine.config) machine.config (commands_of commands.entry)
+        ensures fault { IfErr result (PlaysUpTo (playing self.now machine.config) machine.config
+            (commands_of commands.entry)
             machine.slices.items (W.contents out.old) (W.contents out.new)) };
 }
 
@@ -143,9 +150,11 @@ fn play_echoed<F: MissFile, W: Write>(
     commands: Commands<'_>,
     out: &mut W,
 ) -> Result<(), TextFault>
-    ensures played { OnOk result (HasPlayed (Echoed true Plainly) machine.config (commands_of commands.entry) machine.slices.items
+    ensures played { OnOk result (HasPlayed (Echoed true Plainly) machine.config
+        (commands_of commands.entry) machine.slices.items
         (W.contents out.old) (W.contents out.new)) }
-    ensures fault { IfErr result (PlaysUpTo (Echoed true Plainly machine.config) machine.config (commands_of commands.entry)
+    ensures fault { IfErr result (PlaysUpTo (Echoed true Plainly machine.config) machine.config
+        (commands_of commands.entry)
         machine.slices.items (W.contents out.old) (W.contents out.new)) }
 {
     let mut echo = Echo { player: machine };
@@ -158,9 +167,11 @@ fn play_alone<F: MissFile, W: Write>(
     commands: Commands<'_>,
     out: &mut W,
 ) -> Result<(), TextFault>
-    ensures played { OnOk result (HasPlayed (Echoed false Plainly) machine.config (commands_of commands.entry) machine.slices.items
+    ensures played { OnOk result (HasPlayed (Echoed false Plainly) machine.config
+        (commands_of commands.entry) machine.slices.items
         (W.contents out.old) (W.contents out.new)) }
-    ensures fault { IfErr result (PlaysUpTo (Echoed false Plainly machine.config) machine.config (commands_of commands.entry)
+    ensures fault { IfErr result (PlaysUpTo (Echoed false Plainly machine.config) machine.config
+        (commands_of commands.entry)
         machine.slices.items (W.contents out.old) (W.contents out.new)) }
 {
     let mut player = machine;
@@ -218,7 +229,8 @@ impl Commands<'_> {
     /// Plays the commands in order, up to the first fault.
     pub fn play<P: Player, W: Write>(self, player: &mut P, out: &mut W) -> Result<(), TextFault>
         ensures config { P.config_of player.new ≡ P.config_of player.old }
-        ensures played { OnOk result (PlaysAll P.plays (P.config_of player.old) (commands_of self.entry) player.old player.new
+        ensures played { OnOk result (PlaysAll P.plays (P.config_of player.old)
+            (commands_of self.entry) player.old player.new
             (W.contents out.old) (W.contents out.new)) }
         ensures fault { IfErr result (PlaysUpTo P.plays (P.config_of player.old) (commands_of self.entry) player.old
             (W.contents out.old) (W.contents out.new)) }
@@ -258,7 +270,8 @@ fn play_statement<P: Player, W: Write>(
     out: &mut W,
 ) -> Result<(), TextFault>
     ensures config { P.config_of player.new ≡ P.config_of player.old }
-    ensures played { OnOk result (PlaysOne P.plays (P.config_of player.old) (said_by statement.now).1 player.old player.new
+    ensures played { OnOk result (PlaysOne P.plays (P.config_of player.old)
+        (said_by statement.now).1 player.old player.new
         (W.contents out.old) (W.contents out.new)) }
     ensures fault { IfErr result (IsCommandFault (P.config_of player.old) (said_by statement.now)
         (W.contents out.old) (W.contents out.new)) }
@@ -287,7 +300,8 @@ fn read_settings<'a>(
     first: Statement<'a>,
     statements: &mut Statements<'a>,
 ) -> Result<(Settings, Option<Statement<'a>>), TextFault>
-    ensures read { IfOk result (λ read. IsConfigured (said_by first.entry ∷ statements.old) read.0 (left_of read.1 statements.new)) }
+    ensures read { IfOk result (λ read. IsConfigured (said_by first.entry ∷ statements.old) read.0
+        (left_of read.1 statements.new)) }
     ensures last { IfOk result (λ read. BeginOtherwise (left_of read.1 statements.new)) }
     ensures fault { IfErr result (IsNotConfigured (said_by first.entry ∷ statements.old)) }
 {

@@ -15,7 +15,8 @@ impl<F: MissFile> Machine<F> {
     /// Shows all that isn't at rest.
     pub fn run_show<W: Write>(&self, out: &mut W) -> Result<(), TextFault>
         ensures fault { IfErr result IsOfRun }
-        ensures printed { OnOk result (IsPrinted self.now.config commands.Show self.now.slices.items self.now.slices.items
+        ensures printed { OnOk result (IsPrinted self.now.config commands.Show
+            self.now.slices.items self.now.slices.items
             (W.contents out.old) (W.contents out.new)) }
     {
         let mut answers = Answers { out };

@@ -22,7 +22,8 @@ pub fn write_trace<W: Write>(
     log: &[Entry],
     out: &mut W,
 ) -> fmt::Result
-    ensures { OnOk result (WritesInCalls W.write_str_gives out.old (text_of_trace config.now.cores init.now log.now) out.new) }
+    ensures { OnOk result (WritesInCalls W.write_str_gives out.old
+        (text_of_trace config.now.cores init.now log.now) out.new) }
 {
     write_first(config, log, out)?;
     write_init(init, out)?;

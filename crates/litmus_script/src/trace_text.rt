@@ -1,5 +1,5 @@
-//! The lines of a trace behind its first. The text of each is put together before it is written, since a log has one for
-//! each access.
+//! The lines of a trace behind its first. The text of each is put together before it is written, since a log has one
+//! for each access.
 ghost use Rattle.std.specs.Prelude.{◌≡◌, ◌+◌, ◌≤◌, [], ◌++◌, length, codes, decimal, OnOk};
 ghost use Rattle.std.specs.Fmt.{WritesInCalls};
 ghost use Rattle.script_text.specs.Line.{line_of_parts, text_of_parts};
@@ -15,8 +15,8 @@ use slice_core::Entry;
 use std::fmt;
 use std::fmt::Write;
 
-/// Room for the longest line, that of a compare-exchange: eight numbers of at most twenty digits, and the words and blanks
-/// around them.
+/// Room for the longest line, that of a compare-exchange: eight numbers of at most twenty digits, and the words and
+/// blanks around them.
 const LINE_ROOM: usize = 192;
 
 /// The text of a line, as far as it is put together.
@@ -24,7 +24,8 @@ type LineText = ArrayString<LINE_ROOM>;
 
 /// Writes the line of a word and the value that it begins with.
 pub(crate) fn write_initial<W: Write>(word: WordAddr, value: u64, out: &mut W) -> fmt::Result
-    ensures { OnOk result (WritesInCalls W.write_str_gives out.old (line_of_parts (parts_of_line (lines.Init word value))) out.new) }
+    ensures { OnOk result (WritesInCalls W.write_str_gives out.old
+        (line_of_parts (parts_of_line (lines.Init word value))) out.new) }
 {
     let mut text = LineText::new();
     push_initial(word, value, &mut text);
@@ -44,7 +45,8 @@ fn push_initial(word: WordAddr, value: u64, text: &mut LineText)
 
 /// Writes the line of an entry.
 pub(crate) fn write_entry<W: Write>(entry: &Entry, out: &mut W) -> fmt::Result
-    ensures { OnOk result (WritesInCalls W.write_str_gives out.old (line_of_parts (parts_of_line (lines.Entry entry.now))) out.new) }
+    ensures { OnOk result (WritesInCalls W.write_str_gives out.old
+        (line_of_parts (parts_of_line (lines.Entry entry.now))) out.new) }
 {
     let mut text = LineText::new();
     push_entry(entry, &mut text);

@@ -6,7 +6,8 @@ ghost use Rattle.address_map.specs.declared.address.Local.{Local};
 ghost use Rattle.litmus_script.specs.Answer.{WritesLine};
 ghost use Rattle.litmus_script.specs.Play.{IsOfRun};
 ghost use Rattle.litmus_script.specs.Prints.{IsPrinted};
-ghost use Rattle.litmus_script.specs.Waiting.{flights_of, in_flight, lines_of, picks_of, receiver_state, text_at, text_of_waiting};
+ghost use Rattle.litmus_script.specs.Waiting.{flights_of, in_flight, lines_of, picks_of, receiver_state, text_at};
+ghost use Rattle.litmus_script.specs.Waiting.{text_of_waiting};
 ghost use Rattle.litmus_text.specs.declared.command.Command.TheVariants as commands;
 ghost use Rattle.slice_core_side.specs.Side.{state_of};
 ghost use Rattle.slice_core_plan.specs.View.{View, side_at};
@@ -28,7 +29,8 @@ impl<F: MissFile> Machine<F> {
     /// Shows the messages in flight.
     pub fn run_waiting<W: io::Write>(&self, out: &mut W) -> Result<(), TextFault>
         ensures fault { IfErr result IsOfRun }
-        ensures printed { OnOk result (IsPrinted self.now.config commands.Waiting self.now.slices.items self.now.slices.items
+        ensures printed { OnOk result (IsPrinted self.now.config commands.Waiting
+            self.now.slices.items self.now.slices.items
             (W.contents out.old) (W.contents out.new)) }
     {
         let mut answers = Answers { out };
@@ -103,7 +105,8 @@ fn write_blocked<F: MissFile, W: Write>(
     out: &mut W,
 ) -> fmt::Result
     ensures { OnOk result ((local : Local) → local_at state.now.view.lines (line_of pick).0 ≡ Some local
-        → WritesLine W.write_str_gives out.old (codes "blocked: " ++ receiver_state state.now.view local (channel_of pick)) out.new) }
+        → WritesLine W.write_str_gives out.old (codes "blocked: "
+        ++ receiver_state state.now.view local (channel_of pick)) out.new) }
 {
     let Some(view) = state.line_view(pick.line()) else {
         // A line with a message is the slice's own, so this isn't met.

@@ -1,5 +1,7 @@
 -- What a test says, by its threads, its names and its outcomes.
-use Rattle.std.proofs.Common.{◌≡◌, ◌≢◌, ℕ, zero, suc, Bool, true, false, cond, not, ◌||◌, ◌&&◌, ap₂, ◌+◌, ◌-◌, ◌/◌, take, ◌<◌, ◌≤◌, List, [], ◌∷◌, ◌++◌, length, get_or, map, Some, refl, sym, ap, subst, ◌∙◌, inl, inr, arith, eq-eqb, length-append, append-nil, vec_len, Vec, Global, Bor}
+use Rattle.std.proofs.Common.{◌≡◌, ◌≢◌, ℕ, zero, suc, Bool, true, false, cond, not, ◌||◌, ◌&&◌, ap₂, ◌+◌, ◌-◌, ◌/◌}
+use Rattle.std.proofs.Common.{take, ◌<◌, ◌≤◌, List, [], ◌∷◌, ◌++◌, length, get_or, map, Some, refl, sym, ap, subst, ◌∙◌}
+use Rattle.std.proofs.Common.{inl, inr, arith, eq-eqb, length-append, append-nil, vec_len, Vec, Global, Bor}
 use Rattle.std.specs.Prelude.{All, Contains, IsTrue, slice_get, unwrap_or, ◌==◌}
 use Rattle.std.specs.List.{list_all, list_any, position, position_or_len}
 use Rattle.std.specs.Str.{bytes_eq}
@@ -25,7 +27,9 @@ use Rattle.litmus_test.specs.Claim.{claimed, claims_of}
 use Rattle.litmus_test.specs.declared.test.Forbidden.{Forbidden}
 use Rattle.litmus_test.specs.Name.{is_name}
 use Rattle.litmus_test.specs.Sound.{IsOutcomeOf, IsReplyOf, IsSound, IsStepOf, IsThreadOf, reads_value}
-use Rattle.litmus_test.specs.Text.{Reply, MayAccess, MayBegin, MayForbid, MayName, MayOverwrite, pairs_of, said_named, MayStep, said_step, Said, has_core, has_name, pair_of, last_steps, program_of, reply_of, said_by, with_step}
+use Rattle.litmus_test.specs.Text.{Reply, MayAccess, MayBegin, MayForbid, MayName, MayOverwrite, pairs_of, said_named}
+use Rattle.litmus_test.specs.Text.{MayStep, said_step, Said, has_core, has_name, pair_of, last_steps, program_of}
+use Rattle.litmus_test.specs.Text.{reply_of, said_by, with_step}
 use Rattle.litmus_test.proofs.SoundLemmas.{of_both, sound_name, sound_outcome, sound_step, sound_thread}
 
 -- a test of what is seen of each element
@@ -133,7 +137,8 @@ sound_last test action i d t steps b may is last here pushed =
     let few : length t.steps.items < 4096 = rw here (few_steps test i d may last) in
     let was : IsThreadOf test.config t = rw here (test.sound.programs i d within) in
     let long : length steps.items ≤ 4096 =
-    rw (pushed, cond-append b t.steps.items (action ∷ []), length-append) (few_more b (length t.steps.items) action few) in
+    rw (pushed, cond-append b t.steps.items (action ∷ []), length-append)
+    (few_more b (length t.steps.items) action few) in
     sound_step test.config test.rounds test.movers ts test.names.items test.forbidden.items i t
     (record { core = t.core; steps = steps }) (cond b (action ∷ []) []) at
     (record { core = refl; steps = pushed ∙ cond-append b t.steps.items (action ∷ []) })
@@ -413,7 +418,8 @@ forbidden_said test f fs claims i whole pairs pushed =
     rw (pushed, map-append) (ap (λ xs. map pairs_of test.forbidden.items ++ xs ∷ []) same)
 
 pub with_forbidden : (said : Said) (fs gs : List (List Pair)) → fs ≡ gs
-    → let one : Said = record said { forbidden = fs } in let other : Said = record said { forbidden = gs } in one ≡ other
+    → let one : Said = record said { forbidden = fs } in let other : Said =
+        record said { forbidden = gs } in one ≡ other
 with_forbidden said fs gs same = ap (λ xs. let s : Said = record said { forbidden = xs } in s) same
 
 -- the names behind which a name was put
@@ -430,5 +436,6 @@ pub name_pushed : (was : LitmusTest) (before now : Vec NamedReply Global) (name 
 unfolding said_by
 name_pushed was before now name thread step same pushed here at =
     rw (pushed, map-append, same)
-    (ap₂ (λ t s. map reply_of was.names.items ++ (let r : Reply = record { name = name.now; thread = t; step = s } in r) ∷ [])
+    (ap₂ (λ t s. map reply_of was.names.items ++ (let r : Reply = record { name = name.now; thread = t; step = s } in r)
+    ∷ [])
     here at)

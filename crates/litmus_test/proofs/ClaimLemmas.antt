@@ -1,5 +1,6 @@
 -- Claims are read word by word.
-use Rattle.std.proofs.Common.{Bor, map, drop, get_or, ◌+◌, ◌≤◌, add-one, ◌≡◌, ℕ, ◌<◌, List, [], ◌∷◌, ◌++◌, length, refl, sym, ap, subst, ◌∙◌, append_assoc, append-nil, suc, arith}
+use Rattle.std.proofs.Common.{Bor, map, drop, get_or, ◌+◌, ◌≤◌, add-one, ◌≡◌, ℕ, ◌<◌, List, [], ◌∷◌, ◌++◌, length, refl}
+use Rattle.std.proofs.Common.{sym, ap, subst, ◌∙◌, append_assoc, append-nil, suc, arith}
 use Rattle.std.proofs.Math.Seq.{drop-cons}
 use Rattle.std.proofs.lemmas.List.{length-map, get_or-map, map-append, drop_all}
 use Rattle.litmus_test.specs.declared.claim.Claim.{Claim}

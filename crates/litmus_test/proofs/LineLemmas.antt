@@ -10,7 +10,8 @@ use Rattle.litmus_test.specs.declared.keyword.Keyword.{Keyword}
 use Rattle.litmus_test.specs.declared.keyword.Keyword.TheVariants as keywords
 use Rattle.litmus_test.specs.declared.version.Version.{Version}
 use Rattle.litmus_test.specs.Keyword.{name_of_keyword}
-use Rattle.litmus_test.specs.Line.{Line, setting, thread, load, store, add, cas, settle, evict, forbid, IsSettingName, WritesSetting, WritesLine}
+use Rattle.litmus_test.specs.Line.{Line, setting, thread, load, store, add, cas, settle, evict, forbid, IsSettingName}
+use Rattle.litmus_test.specs.Line.{WritesSetting, WritesLine}
 
 -- a word that is none of the names of settings
 pub record IsOther (word : List ℕ) : Type 0 where

@@ -1,5 +1,6 @@
 -- What the statements that are left say, all of them say.
-use Rattle.std.proofs.Common.{◌≡◌, ℕ, List, [], ◌∷◌, ◌++◌, length, map, refl, sym, ap, subst, ◌∙◌, arith, inr, length-append, append_assoc}
+use Rattle.std.proofs.Common.{◌≡◌, ℕ, List, [], ◌∷◌, ◌++◌, length, map, refl, sym, ap, subst, ◌∙◌, arith, inr}
+use Rattle.std.proofs.Common.{length-append, append_assoc}
 use Rattle.std.specs.Prelude.{Result, Ok, Err, OnOk}
 use Rattle.litmus_text.specs.declared.fault.TextFault.{TextFault}
 use Rattle.litmus_text.specs.declared.fault.TextFault.TheVariants as faults
@@ -20,9 +21,11 @@ use Rattle.litmus_test.specs.declared.test.LitmusTest.{LitmusTest}
 use Rattle.litmus_test.specs.declared.test.Pair.{Pair}
 use Rattle.litmus_test.specs.declared.version.Version.{Version}
 use Rattle.litmus_test.specs.Claim.{claims_of}
-use Rattle.litmus_test.specs.Line.{Line, setting, thread, load, store, add, cas, settle, evict, forbid, BeginsAsSetting, WritesSetting, WritesLine, line_of, parts_of_first}
+use Rattle.litmus_test.specs.Line.{Line, setting, thread, load, store, add, cas, settle, evict, forbid, BeginsAsSetting}
+use Rattle.litmus_test.specs.Line.{WritesSetting, WritesLine, line_of, parts_of_first}
 use Rattle.litmus_test.specs.Sound.{IsChecked}
-use Rattle.litmus_test.specs.Text.{AreLines, IsFaultAt, IsLitmusTest, Said, Says, said_by, said_nothing, IsEarly, MayFollow, MaySet, pair_of, said_line, said_setting}
+use Rattle.litmus_test.specs.Text.{AreLines, IsFaultAt, IsLitmusTest, Said, Says, said_by, said_nothing, IsEarly}
+use Rattle.litmus_test.specs.Text.{MayFollow, MaySet, pair_of, said_line, said_setting}
 use Rattle.litmus_test.specs.Reading.{IsBegun, IsReading, IsNoMemoryOr, IsNoNextLine, SayNothing, SayOnly, said_first}
 use Rattle.litmus_test.proofs.BodyLemmas.{length-with_step}
 use Rattle.litmus_test.proofs.LineLemmas.{no_empty_line, only_setting, setting_name}
@@ -62,7 +65,8 @@ reading_only version start said all left whole reading says =
     subst (λ (s : Said). Says version s left whole) (reading.only parts.0 parts.1.0) parts.1.1
 
 -- nothing was read yet
-pub reading_none : (version : Version) (said : Said) (all : List (ℕ × List (List ℕ))) → IsReading version said said all all
+pub reading_none : (version : Version) (said : Said) (all : List (ℕ × List (List ℕ)))
+    → IsReading version said said all all
 unfolding Says
 reading_none version said all = record { done = []; split = refl; says = refl; only = λ other h. sym h }
 
@@ -176,7 +180,8 @@ no_next_setting version said words x begins only may line written follows =
     may (subst (MayFollow said) (setting_only version words x begins only line written) follows)
 
 -- a line that is no setting begins the threads or the outcomes
-pub begun_line : (said : Said) (line : ReadLine) → MayFollow said (line_of line) → IsBegun (said_line said (line_of line))
+pub begun_line : (said : Said) (line : ReadLine) → MayFollow said (line_of line)
+    → IsBegun (said_line said (line_of line))
 unfolding MayFollow
 begun_line said (read_lines.Thread core) may =
     let program : CoreId × List Action = (record { 0 = core }, []) in

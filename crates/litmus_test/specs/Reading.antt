@@ -52,7 +52,8 @@ said_first preamble = record {
 }
 
 -- where so much was said before, the statements say the whole, and nothing else
-pub record SayOnly (version : Version) (said : Said) (statements : List (ℕ × List (List ℕ))) (whole : Said) : Type 0 where
+pub record SayOnly (version : Version) (said : Said) (statements : List (ℕ × List (List ℕ)))
+    (whole : Said) : Type 0 where
   pub says : Says version said statements whole
   pub only : (other : Said) → Says version said statements other → other ≡ whole
 

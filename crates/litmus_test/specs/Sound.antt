@@ -1,5 +1,6 @@
 -- What each litmus test keeps to.
-use Rattle.std.specs.Prelude.{◌≡◌, ◌≢◌, ℕ, Bool, true, false, ◌<◌, ◌≤◌, ◌/◌, List, length, All, AllPairs, Contains, IsTrue, Some, slice_get, vec_len, None}
+use Rattle.std.specs.Prelude.{◌≡◌, ◌≢◌, ℕ, Bool, true, false, ◌<◌, ◌≤◌, ◌/◌, List, length, All, AllPairs, Contains}
+use Rattle.std.specs.Prelude.{IsTrue, Some, slice_get, vec_len, None}
 use Rattle.address_map.specs.Config.{first_fault}
 use Rattle.address_map.specs.declared.address.LineAddr.{LineAddr}
 use Rattle.address_map.specs.declared.address.WordAddr.{WordAddr}

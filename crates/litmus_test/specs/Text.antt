@@ -1,5 +1,6 @@
 -- What the text of a litmus test says.
-use Rattle.std.specs.Prelude.{◌≡◌, ◌⊎◌, ℕ, Bool, true, false, ◌-◌, ◌<◌, ◌≤◌, ◌/◌, ◌==◌, List, [], ◌∷◌, ◌++◌, length, map, Contains, unwrap_or}
+use Rattle.std.specs.Prelude.{◌≡◌, ◌⊎◌, ℕ, Bool, true, false, ◌-◌, ◌<◌, ◌≤◌, ◌/◌, ◌==◌, List, [], ◌∷◌, ◌++◌, length}
+use Rattle.std.specs.Prelude.{map, Contains, unwrap_or}
 use Rattle.std.specs.List.{list_all, list_any, position}
 use Rattle.std.specs.Str.{bytes_eq}
 use Rattle.std.specs.Str.Lines.{lines}
@@ -23,7 +24,8 @@ use Rattle.litmus_test.specs.declared.test.LitmusTest.{LitmusTest}
 use Rattle.litmus_test.specs.declared.test.TheConstants.{MOST_ROUNDS, MOST_MOVERS, MOST_STEPS, MOST_NAMES}
 use Rattle.litmus_test.specs.declared.version.Version.{Version}
 use Rattle.litmus_test.specs.Sound.{IsChecked}
-use Rattle.litmus_test.specs.Line.{Line, setting, thread, load, store, add, cas, settle, evict, forbid, IsNoFirstLine, WritesLine, parts_of_first}
+use Rattle.litmus_test.specs.Line.{Line, setting, thread, load, store, add, cas, settle, evict, forbid, IsNoFirstLine}
+use Rattle.litmus_test.specs.Line.{WritesLine, parts_of_first}
 
 -- a name, and the step whose reply it stands for: the thread and the step, from 0
 pub record Reply : Type 0 where

@@ -1,4 +1,5 @@
-ghost use Rattle.std.specs.Prelude.{◌≡◌, ◌==◌, ◌<◌, ◌≤◌, ◌/◌, ◌↔◌, IfErr, IfSome, IsTrue, OnErr, OnOk, length, unwrap_or, vec_len};
+ghost use Rattle.std.specs.Prelude.{◌≡◌, ◌==◌, ◌<◌, ◌≤◌, ◌/◌, ◌↔◌, IfErr, IfSome, IsTrue, OnErr, OnOk, length};
+ghost use Rattle.std.specs.Prelude.{unwrap_or, vec_len};
 ghost use Rattle.std.specs.List.{list_all, list_any, position};
 ghost use Rattle.std.specs.Str.{bytes_eq};
 ghost use Rattle.litmus_text.specs.Fault.{IsAtLine};
@@ -11,7 +12,8 @@ ghost use Rattle.litmus_test.specs.Line.{line_of, evict, thread, forbid};
 ghost use Rattle.litmus_test.specs.Name.{is_name};
 ghost use Rattle.litmus_test.specs.Reading.{IsNoMemoryOr};
 ghost use Rattle.litmus_test.specs.Sound.{IsStepOf, reads_value};
-ghost use Rattle.litmus_test.specs.Text.{MayFollow, MayBegin, MayStep, MayAccess, MayName, MayOverwrite, MayForbid, said_by, said_line, said_step, said_named, last_steps};
+ghost use Rattle.litmus_test.specs.Text.{MayFollow, MayBegin, MayStep, MayAccess, MayName, MayOverwrite, MayForbid};
+ghost use Rattle.litmus_test.specs.Text.{said_by, said_line, said_step, said_named, last_steps};
 
 use super::claim::Claim;
 use super::line::Line;
@@ -310,7 +312,8 @@ impl<'a> LitmusTest<'a> {
     }
 
     fn place_of(&self, name: &[u8]) -> Option<usize>
-        ensures value { result ≡ position (λ (named : NamedReply). bytes_eq named.name.now name.now) self.now.names.items }
+        ensures value { result ≡ position (λ (named : NamedReply). bytes_eq named.name.now name.now)
+            self.now.names.items }
         ensures within { IfSome result (λ place. place < vec_len self.now.names) }
     {
         self.names.iter().position(|reply| reply.name == name)

@@ -1,4 +1,5 @@
-ghost use Rattle.std.specs.Prelude.{◌≡◌, ◌+◌, ℕ, ◌≤◌, List, ◌∷◌, [], map, take, drop, IfOk, IfErr, IfSome, IfNone, IsTrue};
+ghost use Rattle.std.specs.Prelude.{◌≡◌, ◌+◌, ℕ, ◌≤◌, List, ◌∷◌, [], map, take, drop, IfOk, IfErr, IfSome, IfNone};
+ghost use Rattle.std.specs.Prelude.{IsTrue};
 ghost use Rattle.std.specs.List.{position};
 ghost use Rattle.litmus_test.specs.Name.{is_name as is_name_lem};
 ghost use Rattle.litmus_test.specs.Claim.{IsClaim, WritesClaims, is_equals_sign, claims_of};

@@ -1,8 +1,8 @@
 //! Litmus tests: a program for each of some cores, over few words, and outcomes that must not come.
 //!
 //! A [`LitmusTest`] is what a litmus text says. Its threads are numbered in the order of the text, and so are the steps
-//! of each. A [`NamedReply`] is a step whose reply an outcome has under a name. All that it speaks of is there, which each
-//! test keeps to (specs/Sound.antt).
+//! of each. A [`NamedReply`] is a step whose reply an outcome has under a name. All that it speaks of is there, which
+//! each test keeps to (specs/Sound.antt).
 //!
 //! [`LitmusTest::read`] reads a text. At Ok its lines say this test and no other, and a text is refused only where it
 //! says none. The line that a fault names is the first with which it can say none (`IsFaultAt`); want of memory is a

@@ -36,8 +36,8 @@ pub(super) enum Line<'a> {
 }
 
 impl<'a> Line<'a> {
-    /// The line that these words write. They are judged first by their keywords, their count and their names, and then as
-    /// numbers.
+    /// The line that these words write. They are judged first by their keywords, their count and their names, and then
+    /// as numbers.
     pub(super) fn parse(version: Version, words: &[&'a [u8]]) -> Result<Self, LineFault>
         requires { ¬ BeginsAsSetting (map (λ w. w.now) words.now) }
         ensures { ReadsAs version (map (λ w. w.now) words.now) result }

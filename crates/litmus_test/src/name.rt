@@ -1,6 +1,7 @@
 ghost use Rattle.std.specs.Prelude.{◌≡◌, slice_index};
 ghost use Rattle.std.specs.List.{list_all};
-ghost use Rattle.litmus_test.specs.Name.{is_name as is_name_lem, is_letter as is_letter_lem, is_digit as is_digit_lem, may_stand as may_stand_lem};
+ghost use Rattle.litmus_test.specs.Name.{is_name as is_name_lem, is_letter as is_letter_lem, is_digit as is_digit_lem};
+ghost use Rattle.litmus_test.specs.Name.{may_stand as may_stand_lem};
 
 use super::test::LONGEST_NAME;
 

@@ -4,7 +4,8 @@ ghost use Rattle.litmus_text.specs.Fault.{IsAtLine, IsFirstFault};
 ghost use Rattle.litmus_text.specs.Statement.{statements_from};
 ghost use Rattle.litmus_test.specs.declared.version.Version.{Version};
 ghost use Rattle.litmus_test.specs.Line.{BeginsAsSetting};
-ghost use Rattle.litmus_test.specs.Reading.{IsBegun, IsNoMemoryOr, IsNoNextLine, IsReading, SayNothing, SayOnly, said_first};
+ghost use Rattle.litmus_test.specs.Reading.{IsBegun, IsNoMemoryOr, IsNoNextLine, IsReading, SayNothing, SayOnly};
+ghost use Rattle.litmus_test.specs.Reading.{said_first};
 ghost use Rattle.litmus_test.specs.Sound.{IsChecked};
 ghost use Rattle.litmus_test.specs.Text.{AreLines, IsFaultAt, IsLitmusTest, Said, Says, said_by, said_nothing};
 
@@ -45,7 +46,8 @@ impl<'a> LitmusTest<'a> {
         requires { ¬ BeginsAsSetting (map (λ w. w.now) statement.now.words.items) }
         ensures reading { OnOk result
             ((start : Said) (all left : List (ℕ × List (List ℕ)))
-            → IsReading version start (said_by self.old) all ((statement.now.number, map (λ w. w.now) statement.now.words.items) ∷ left)
+            → IsReading version start (said_by self.old) all
+            ((statement.now.number, map (λ w. w.now) statement.now.words.items) ∷ left)
             → IsReading version start (said_by self.new) all left) }
         ensures begun { OnOk result (IsBegun (said_by self.new)) }
         ensures refused { IfErr result (IsNoMemoryOr
@@ -86,7 +88,8 @@ impl<'a> LitmusTest<'a> {
         requires { IsBegun (said_by self.old) }
         ensures reading { OnOk result
             ((start : Said) (all left : List (ℕ × List (List ℕ)))
-            → IsReading version start (said_by self.old) all ((statement.now.number, map (λ w. w.now) statement.now.words.items) ∷ left)
+            → IsReading version start (said_by self.old) all
+            ((statement.now.number, map (λ w. w.now) statement.now.words.items) ∷ left)
             → IsReading version start (said_by self.new) all left) }
         ensures begun { OnOk result (IsBegun (said_by self.new)) }
         ensures refused { IfErr result (IsNoMemoryOr
@@ -127,7 +130,8 @@ impl Preamble {
         requires { BeginsAsSetting (map (λ w. w.now) statement.now.words.items) }
         ensures reading { OnOk result
             ((version : Version) (start : Said) (all left : List (ℕ × List (List ℕ)))
-            → IsReading version start (said_first self.old) all ((statement.now.number, map (λ w. w.now) statement.now.words.items) ∷ left)
+            → IsReading version start (said_first self.old) all
+            ((statement.now.number, map (λ w. w.now) statement.now.words.items) ∷ left)
             → IsReading version start (said_first self.new) all left) }
         ensures refused { (version : Version) → IfErr result (IsNoMemoryOr
             (IsNoNextLine version (said_first self.old) (map (λ w. w.now) statement.now.words.items))) }

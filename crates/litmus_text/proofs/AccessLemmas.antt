@@ -28,7 +28,8 @@ no_entry name other accesses.Store = other.1.0
 no_entry name other accesses.Add = other.1.1.0
 no_entry name other accesses.Cas = other.1.1.1.0
 
-pub named_access : (name : List ℕ) (access : Access) → Some access ≡ value_named names name → name ≡ name_of_access access
+pub named_access : (name : List ℕ) (access : Access) → Some access ≡ value_named names name
+    → name ≡ name_of_access access
 named_access name access found =
     named (λ name access. name ≡ name_of_access access) names name (Some access) found (search rules)
 

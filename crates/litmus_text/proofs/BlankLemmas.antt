@@ -1,5 +1,7 @@
 -- A line's blanks as bits, and the parts of the line between them.
-use Rattle.std.proofs.Common.{inl, inr, ◌≡◌, ℕ, ◌+◌, ◌-◌, ◌<◌, ◌≤◌, ◌/◌, ◌^◌, ◌%◌, max, Bool, true, false, ◌||◌, cond, eqb, bit_or, ltb, List, [], ◌∷◌, ◌++◌, length, get_or, take, drop, refl, sym, ap, ◌∙◌, arith, append-nil, append_assoc, length-drop, get_or-drop, shr-shr, w64, suc, zero}
+use Rattle.std.proofs.Common.{inl, inr, ◌≡◌, ℕ, ◌+◌, ◌-◌, ◌<◌, ◌≤◌, ◌/◌, ◌^◌, ◌%◌, max, Bool, true, false, ◌||◌, cond}
+use Rattle.std.proofs.Common.{eqb, bit_or, ltb, List, [], ◌∷◌, ◌++◌, length, get_or, take, drop, refl, sym, ap, ◌∙◌}
+use Rattle.std.proofs.Common.{arith, append-nil, append_assoc, length-drop, get_or-drop, shr-shr, w64, suc, zero}
 use Rattle.std.specs.Int.{bit_at, trailing_zeros}
 use Rattle.std.specs.Int.Count.{trailing_of_zero}
 use Rattle.std.specs.List.{position_or_len, slice_split, All}
@@ -62,7 +64,8 @@ module _ (line : List ℕ) (bits at zeros : ℕ) (blanks : AreBlanks bits line) 
   no_blank : (k : ℕ) → k < zeros → at + k < length line → is_blank (get_or (drop at line) k 0) ≡ false
   no_blank k below inside =
       ap is_blank (get_or-drop at line k 0)
-      ∙ clear_tells (is_blank (get_or line (at + k) 0)) (sym (blanks (at + k) inside) ∙ sym (shifted bits at k) ∙ clear k below)
+      ∙ clear_tells (is_blank (get_or line (at + k) 0))
+      (sym (blanks (at + k) inside) ∙ sym (shifted bits at k) ∙ clear k below)
 
   -- the part ends at the next blank
   pub ends_at_blank : at + zeros < length line → bit_at (bits / 2 ^ at) zeros ≡ 1
@@ -70,10 +73,12 @@ module _ (line : List ℕ) (bits at zeros : ℕ) (blanks : AreBlanks bits line) 
   ends_at_blank inside set =
       let here : is_blank (get_or (drop at line) zeros 0) ≡ true =
       ap is_blank (get_or-drop at line zeros 0)
-      ∙ set_tells (is_blank (get_or line (at + zeros) 0)) (sym (blanks (at + zeros) inside) ∙ sym (shifted bits at zeros) ∙ set) in
+      ∙ set_tells (is_blank (get_or line (at + zeros) 0))
+      (sym (blanks (at + zeros) inside) ∙ sym (shifted bits at zeros) ∙ set) in
       let few : zeros ≤ length (drop at line) = simp length-drop (omega arith) in
       ap (λ p. at + p)
-      (sym (position_or_len_is is_blank (drop at line) zeros 0 few (λ k below. no_blank k below (omega arith)) (λ inside. here)))
+      (sym (position_or_len_is is_blank (drop at line) zeros 0 few
+      (λ k below. no_blank k below (omega arith)) (λ inside. here)))
 
   -- or with the line
   pub ends_with_line : length line ≤ at + zeros → length line ≡ at + position_or_len is_blank (drop at line)
@@ -106,12 +111,14 @@ words_of_part bs =
           split ∙ filter-append (λ w. ltb 0 (length w)) (take p bs ∷ []) (slice_split is_blank (drop (p + 1) bs))
       | inr outside ↦
           let end : length bs ≤ p = ltb-false p (length bs) outside in
-          let whole : words bs ≡ parts_with_bytes (bs ∷ []) = ap parts_with_bytes (slice_split_none is_blank bs (no_blanks bs end)) in
+          let whole : words bs ≡ parts_with_bytes (bs ∷ []) =
+          ap parts_with_bytes (slice_split_none is_blank bs (no_blanks bs end)) in
           rw (take_all p bs end, drop_all (p + 1) bs (omega arith), append-nil) whole
     ]
 
 -- a row with the words before a place goes on with the part that begins there
-pub row_goes_on : (row : List (List ℕ)) (line : List ℕ) (at end : ℕ) → end ≡ at + position_or_len is_blank (drop at line)
+pub row_goes_on : (row : List (List ℕ)) (line : List ℕ) (at end : ℕ)
+    → end ≡ at + position_or_len is_blank (drop at line)
     → row ++ words (drop at line) ≡ words line
     → (row ++ parts_with_bytes (take (end - at) (drop at line) ∷ [])) ++ words (drop (end + 1) line) ≡ words line
 row_goes_on row line at end e so_far =

@@ -1,5 +1,6 @@
 -- What words are that write a command.
-use Rattle.std.proofs.Common.{◌≡◌, ◌≢◌, ℕ, ◌-◌, ◌<◌, ◌≤◌, List, [], ◌∷◌, Result, IsErrAnd, drop, get_or, take, length, map, refl, arith, subst, sym, ◌∙◌}
+use Rattle.std.proofs.Common.{◌≡◌, ◌≢◌, ℕ, ◌-◌, ◌<◌, ◌≤◌, List, [], ◌∷◌, Result, IsErrAnd, drop, get_or, take, length}
+use Rattle.std.proofs.Common.{map, refl, arith, subst, sym, ◌∙◌}
 use Rattle.std.proofs.lemmas.List.{take_all}
 use Rattle.std.proofs.lemmas.Result.{err_from_is_err_and}
 use Rattle.std.specs.Prelude.{codes}
@@ -19,7 +20,8 @@ use Rattle.litmus_text.specs.declared.fault.LineFault.{LineFault}
 use Rattle.litmus_text.specs.declared.fault.LineFault.TheVariants as faults
 use Rattle.litmus_text.specs.declared.parse.Verb.{Verb}
 use Rattle.litmus_text.specs.declared.parse.Verb.TheVariants as verbs
-use Rattle.litmus_text.specs.Command.{HasPick, HasTag, IsFaultOfCommand, IsInRange, IsRead, ReadsAs, Says, parts_of, parts_of_access, parts_of_op, parts_of_pick}
+use Rattle.litmus_text.specs.Command.{HasPick, HasTag, IsFaultOfCommand, IsInRange, IsRead, ReadsAs, Says, parts_of}
+use Rattle.litmus_text.specs.Command.{parts_of_access, parts_of_op, parts_of_pick}
 use Rattle.litmus_text.specs.Form.{Part, Writes, HasForm, IsFaultOf, IsFormFaultOf, key, no_parts, one_part, two_parts}
 use Rattle.litmus_text.specs.Number.{IsNumber}
 use Rattle.litmus_text.specs.Verb.{name_of_verb}

@@ -1,9 +1,11 @@
 -- What is wrong with words is handed on: from some lines to those that they are a part of, and by a `?`.
-use Rattle.std.proofs.Common.{◌≡◌, ℕ, List, [], ◌∷◌, Result, IsErrAnd, IfErr, length, map, get_or, zero, suc, ◌<◌, refl, sym, subst, arith}
+use Rattle.std.proofs.Common.{◌≡◌, ℕ, List, [], ◌∷◌, Result, IsErrAnd, IfErr, length, map, get_or, zero, suc, ◌<◌, refl}
+use Rattle.std.proofs.Common.{sym, subst, arith}
 use Rattle.std.proofs.lemmas.Result.{err_from_is_err_and}
 use Rattle.litmus_text.specs.declared.fault.LineFault.{LineFault}
 use Rattle.litmus_text.specs.declared.fault.LineFault.TheVariants as faults
-use Rattle.litmus_text.specs.Form.{Part, key, num, Writes, HasForm, IsFaultOf, IsFormFaultOf, one_part, two_parts, three_parts}
+use Rattle.litmus_text.specs.Form.{Part, key, num, Writes, HasForm, IsFaultOf, IsFormFaultOf, one_part, two_parts}
+use Rattle.litmus_text.specs.Form.{three_parts}
 use Rattle.litmus_text.specs.Number.{IsNumber}
 use Rattle.litmus_text.proofs.FormLemmas.{HasForm-Writes}
 

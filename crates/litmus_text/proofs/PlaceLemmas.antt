@@ -1,5 +1,6 @@
 -- What `position` answers, and that a search of bytes answers the same.
-use Rattle.std.proofs.Common.{◌≡◌, ℕ, ◌<◌, ◌≤◌, Bool, true, false, cond, ltb, List, length, get_or, Option, Some, None, inl, inr, arith}
+use Rattle.std.proofs.Common.{◌≡◌, ℕ, ◌<◌, ◌≤◌, Bool, true, false, cond, ltb, List, length, get_or, Option, Some, None}
+use Rattle.std.proofs.Common.{inl, inr, arith}
 use Rattle.std.proofs.lemmas.Bool.Decides.{nat_tests}
 use Rattle.std.proofs.lemmas.Bool.{cases_Bool}
 use Rattle.std.proofs.lemmas.List.Sums.{position_or_len_is}
@@ -23,7 +24,8 @@ at_no_place : (n place : ℕ) → place ≡ n → None ≡ cond (ltb place n) (S
 at_no_place n place e = grind (arith, nat_tests)
 
 -- a byte that passes behind those that don't stands at the position
-pub found_here : (test : ℕ → Bool) (bs : List ℕ) (i : ℕ) → i < length bs → ((k : ℕ) → k < i → test (get_or bs k 0) ≡ false)
+pub found_here : (test : ℕ → Bool) (bs : List ℕ) (i : ℕ) → i < length bs
+    → ((k : ℕ) → k < i → test (get_or bs k 0) ≡ false)
     → test (get_or bs i 0) ≡ true → Some i ≡ position test bs
 found_here test bs i below before here =
     at_place (length bs) i below (position_or_len test bs)

@@ -1,5 +1,7 @@
 -- A line's words, one after the other.
-use Rattle.std.proofs.Common.{◌≡◌, ℕ, zero, suc, ◌+◌, ◌<◌, ◌≤◌, Bool, true, false, not, ltb, List, [], ◌∷◌, length, get_or, take, drop, Some, None, refl, arith, inl, inr, ◌∙◌, ap, sym, length-take, length-drop, get_or-drop, add-zero}
+use Rattle.std.proofs.Common.{◌≡◌, ℕ, zero, suc, ◌+◌, ◌<◌, ◌≤◌, Bool, true, false, not, ltb, List, [], ◌∷◌, length}
+use Rattle.std.proofs.Common.{get_or, take, drop, Some, None, refl, arith, inl, inr, ◌∙◌, ap, sym, length-take}
+use Rattle.std.proofs.Common.{length-drop, get_or-drop, add-zero}
 use Rattle.std.specs.List.{position, position_or_len, slice_split, filter, All}
 use Rattle.std.proofs.lemmas.List.{drop_all}
 use Rattle.std.proofs.lemmas.List.Splits.{slice_split_first, slice_split_none}

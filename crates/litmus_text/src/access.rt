@@ -29,7 +29,8 @@ static ACCESSES: [(&[u8], Access); 4] = [
 #[tactic(auto, unfolding(crate::specs::Command::parts_of_op))]
 pub fn parse_access(words: &[&[u8]]) -> Result<(Op, WordAddr), LineFault>
     ensures written { IfOk result (λ p. Writes (map (λ w. w.now) words.now) (parts_of_op p.0 p.1.0)) }
-    ensures refused { IfErr result (λ fault. (op : Op) (word : ℕ) → Writes (map (λ w. w.now) words.now) (parts_of_op op word) → ⊥) }
+    ensures refused { IfErr result (λ fault. (op : Op) (word : ℕ)
+        → Writes (map (λ w. w.now) words.now) (parts_of_op op word) → ⊥) }
     ensures fault { IfErr result (IsFormFaultOf parts_of_access (map (λ w. w.now) words.now)) }
 {
     let Some((name, rest)) = words.split_first() else {

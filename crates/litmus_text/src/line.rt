@@ -30,7 +30,8 @@ impl<'a> Lines<'a> {
     /// The next line, and the text that begins with it.
     #[inline(always)]
     pub(super) fn read(&mut self) -> Option<(&'a [u8], &'a [u8])>
-        ensures lines { MatchOption result ((self.old ≡ []) × (self.new ≡ [])) (λ read. self.old ≡ read.0.now ∷ self.new) }
+        ensures lines { MatchOption result ((self.old ≡ []) × (self.new ≡ []))
+            (λ read. self.old ≡ read.0.now ∷ self.new) }
         ensures text { IfSome result (λ read. take (length read.0.now) read.1.now ≡ read.0.now) }
     {
         if self.rest.is_empty() {

@@ -105,7 +105,8 @@ pub fn three_numbers(words: &[&[u8]]) -> Result<(u64, u64, u64), LineFault>
     ensures written { IfOk result (λ p. Writes (map (λ w. w.now) words.now) (num p.0 ∷ num p.1 ∷ num p.2 ∷ [])) }
     ensures only { IfOk result (λ p. (n m k : ℕ) → Writes (map (λ w. w.now) words.now) (num n ∷ num m ∷ num k ∷ [])
         → (n ≡ p.0) × (m ≡ p.1) × (k ≡ p.2)) }
-    ensures refused { IfErr result (λ fault. (n m k : ℕ) → Writes (map (λ w. w.now) words.now) (num n ∷ num m ∷ num k ∷ []) → ⊥) }
+    ensures refused { IfErr result (λ fault. (n m k : ℕ)
+        → Writes (map (λ w. w.now) words.now) (num n ∷ num m ∷ num k ∷ []) → ⊥) }
     ensures fault { IfErr result (IsFormFaultOf three_parts (map (λ w. w.now) words.now)) }
 {
     let [first, second, third] = words else {

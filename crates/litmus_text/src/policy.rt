@@ -29,7 +29,8 @@ pub(super) fn parse_policy(words: &[&[u8]]) -> Result<PolicyKind, LineFault>
     ensures written { IfOk result (λ kind. Writes (map (λ w. w.now) words.now) (parts_of_policy kind)) }
     ensures only { IfOk result (λ kind. (other : PolicyKind)
         → Writes (map (λ w. w.now) words.now) (parts_of_policy other) → other ≡ kind) }
-    ensures refused { IfErr result (λ fault. (kind : PolicyKind) → Writes (map (λ w. w.now) words.now) (parts_of_policy kind) → ⊥) }
+    ensures refused { IfErr result (λ fault. (kind : PolicyKind)
+        → Writes (map (λ w. w.now) words.now) (parts_of_policy kind) → ⊥) }
     ensures fault { IfErr result (IsFormFaultOf parts_of_policy (map (λ w. w.now) words.now)) }
 {
     let Some((name, rest)) = words.split_first() else {

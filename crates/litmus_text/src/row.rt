@@ -1,6 +1,7 @@
-//! The first words of a line. Where a short line's blanks are is known as bits, of 64 bytes of a text that are looked at
-//! at once.
-ghost use Rattle.std.specs.Prelude.{◌≡◌, ℕ, ◌+◌, ◌<◌, ◌≤◌, ◌==◌, List, [], ◌∷◌, ◌++◌, drop, length, map, slice_index, take};
+//! The first words of a line. Where a short line's blanks are is known as bits, of 64 bytes of a text that are looked
+//! at at once.
+ghost use Rattle.std.specs.Prelude.{◌≡◌, ℕ, ◌+◌, ◌<◌, ◌≤◌, ◌==◌, List, [], ◌∷◌, ◌++◌, drop, length, map, slice_index};
+ghost use Rattle.std.specs.Prelude.{take};
 ghost use Rattle.std.specs.Prelude.{if◌then◌else◌};
 ghost use Rattle.std.specs.Int.{bit_at};
 ghost use Rattle.std.specs.List.{position_or_len};
@@ -76,7 +77,8 @@ fn fill_by_blanks<'a>(row: &mut Row<'a>, line: &'a [u8], blanks: u64)
 #[inline(always)]
 fn push_part<'a>(row: &mut Row<'a>, part: &'a [u8])
     requires { length row.old.items < MOST_WORDS }
-    ensures items { map (λ w. w.now) row.new.items ≡ map (λ w. w.now) row.old.items ++ parts_with_bytes (part.now ∷ []) }
+    ensures items { map (λ w. w.now) row.new.items ≡ map (λ w. w.now) row.old.items
+        ++ parts_with_bytes (part.now ∷ []) }
     ensures few { length row.new.items ≤ MOST_WORDS }
 {
     if part.is_empty() {

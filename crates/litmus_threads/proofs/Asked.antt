@@ -1,5 +1,6 @@
 -- What steps ask of a slice, step by step, and what was asked of it.
-use Rattle.std.proofs.Common.{◌≡◌, ℕ, zero, suc, ◌+◌, ◌<◌, ◌≤◌, ◌∙◌, List, [], ◌∷◌, ◌++◌, ap, append-nil, append_assoc, arith, below_more, get_or, length, refl, subst, sym, take}
+use Rattle.std.proofs.Common.{◌≡◌, ℕ, zero, suc, ◌+◌, ◌<◌, ◌≤◌, ◌∙◌, List, [], ◌∷◌, ◌++◌, ap, append-nil, append_assoc}
+use Rattle.std.proofs.Common.{arith, below_more, get_or, length, refl, subst, sym, take}
 use Rattle.std.specs.Prelude.{◌==◌, if◌then◌else◌, IsSomeAnd, slice_get}
 use Rattle.std.specs.List.{AllByRecursion}
 use Rattle.std.proofs.lemmas.List.{map-append, take_more}
@@ -29,7 +30,8 @@ found-at (x ∷ xs) (suc i) found =
 -- What was asked for at a place stands there.
 pub asked-inside : (asked : List Ask) (next : ℕ) (word : WordAddr) (op : Op)
     → IsSomeAnd (slice_get asked next) (λ ask. (ask.request.word ≡ word) × (ask.request.op ≡ op)) → next < length asked
-asked-inside asked next word op at_next = let (ask, there, is, same_word, same_op) = found-at asked next at_next in there
+asked-inside asked next word op at_next =
+    let (ask, there, is, same_word, same_op) = found-at asked next at_next in there
 
 -- steps in a row ask for what each part asks for
 requests-append : (c : Config) (slice : ℕ) (first later : List Action)

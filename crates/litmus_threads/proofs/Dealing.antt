@@ -1,5 +1,6 @@
 -- Cores that are dealt out to threads one after the other.
-use Rattle.std.proofs.Common.{◌≡◌, Bool, true, false, List, [], ◌∷◌, ◌++◌, ◌∙◌, Option, None, Some, ap, append-nil, subst, sym}
+use Rattle.std.proofs.Common.{◌≡◌, Bool, true, false, List, [], ◌∷◌, ◌++◌, ◌∙◌, Option, None, Some, ap, append-nil}
+use Rattle.std.proofs.Common.{subst, sym}
 use Rattle.std.specs.Prelude.{Err, IfOk, IsOkAnd, Ok, Result, cond, filter, is_some, map, not}
 use Rattle.std.specs.Option.{option_map_or}
 use Rattle.std.proofs.lemmas.List.{map-append}
@@ -30,7 +31,8 @@ fails test cores v so =
 
 -- one core more that has a thread
 pub thread-dealt : (threads : List Thread) (cores working : List CoreView) (programs : List (List Step))
-    (idle : List CoreView) (v : CoreView) (thread : Thread) (program : List Step) → Some thread ≡ thread_at threads v.core
+    (idle : List CoreView) (v : CoreView) (thread : Thread) (program : List Step)
+    → Some thread ≡ thread_at threads v.core
     → IsProgramOf thread.steps.items program → AreDealt threads cores working programs idle
     → AreDealt threads (cores ++ v ∷ []) (working ++ v ∷ []) (programs ++ program ∷ []) idle
 thread-dealt threads cores working programs idle v thread program found its dealt =
@@ -40,16 +42,19 @@ thread-dealt threads cores working programs idle v thread program found its deal
           ap (λ (ws : List CoreView). ws ++ v ∷ []) dealt.working_are
           ∙ sym (passes (has_thread threads) cores v has);
       programs_are =
-          zip-push (λ (w : CoreView) (p : List Step). IsProgramOf (steps_at threads w.core) p) working programs v program
+          zip-push (λ (w : CoreView) (p : List Step). IsProgramOf (steps_at threads w.core) p)
+          working programs v program
           dealt.programs_are
-          (subst (λ (t : Option Thread). IsProgramOf (option_map_or (λ thread. thread.steps.items) t []) program) found its);
+          (subst (λ (t : Option Thread). IsProgramOf (option_map_or (λ thread. thread.steps.items) t []) program) found
+          its);
       idle_are = dealt.idle_are ∙ sym (fails (λ w. not (has_thread threads w)) cores v (ap not has));
     }
 
 -- one core more that has none
 pub idle-dealt : (threads : List Thread) (cores working : List CoreView) (programs : List (List Step))
     (idle : List CoreView) (v : CoreView) → None ≡ thread_at threads v.core
-    → AreDealt threads cores working programs idle → AreDealt threads (cores ++ v ∷ []) working programs (idle ++ v ∷ [])
+    → AreDealt threads cores working programs idle → AreDealt threads (cores ++ v ∷ []) working
+    programs (idle ++ v ∷ [])
 idle-dealt threads cores working programs idle v found dealt =
     let has : has_thread threads v ≡ false = ap is_some (sym found) in
     record {

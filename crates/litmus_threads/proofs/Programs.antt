@@ -1,5 +1,6 @@
 -- Programs of threads, step by step.
-use Rattle.std.proofs.Common.{◌≡◌, ℕ, ◌+◌, ◌<◌, List, [], ◌∷◌, ◌++◌, ◌∙◌, ap, append_assoc, get_or, length, refl, subst, sym, take}
+use Rattle.std.proofs.Common.{◌≡◌, ℕ, ◌+◌, ◌<◌, List, [], ◌∷◌, ◌++◌, ◌∙◌, ap, append_assoc, get_or, length, refl, subst}
+use Rattle.std.proofs.Common.{sym, take}
 use Rattle.std.proofs.lemmas.List.{take_more}
 use Rattle.litmus_threads.specs.Program.{IsProgramOf, step_of}
 use Rattle.litmus_test.specs.declared.test.Action.{Action}

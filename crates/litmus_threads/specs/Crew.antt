@@ -11,7 +11,8 @@ use Rattle.litmus_threads.specs.Threads.{steps_at, thread_at}
 abbrev pub has_thread : List Thread → CoreView → Bool
 has_thread threads v = is_some (thread_at threads v.core)
 
--- The cores that have a thread are those that work, in order, each with a program of its thread, and the others are idle.
+-- The cores that have a thread are those that work, in order, each with a program of its thread, and the others are
+-- idle.
 pub record AreDealt (threads : List Thread) (cores working : List CoreView) (programs : List (List Step))
     (idle : List CoreView) : Type 0 where
   pub working_are : working ≡ filter (has_thread threads) cores

@@ -20,8 +20,8 @@ use Rattle.receipt_ledger.specs.declared.receipt.Receipt.{Receipt}
 abbrev pub soughts_of : LitmusTest → List (Option Sought)
 soughts_of test = map (sought_of test) (range_with_len 0 (length test.names.items))
 
--- The cores of a machine made what the threads say and nothing else, the machine was audited with them, and this is what
--- the audit found: the outcome is told by a legal log of each slice.
+-- The cores of a machine made what the threads say and nothing else, the machine was audited with them, and this is
+-- what the audit found: the outcome is told by a legal log of each slice.
 pub record IsFoundOn (c : Config) (threads : List Thread) (soughts : List (Option Sought)) (values : List ℕ) : Type 0
   where
     pub cores : List CoreView

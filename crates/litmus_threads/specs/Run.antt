@@ -1,5 +1,6 @@
 -- What is written of a run of a litmus test, and how it ends.
-use Rattle.std.specs.Prelude.{◌≡◌, ◌⊎◌, ℕ, ◌<◌, ◌==◌, if◌then◌else◌, All, List, ◌++◌, None, codes, count_by, decimal, length}
+use Rattle.std.specs.Prelude.{◌≡◌, ◌⊎◌, ℕ, ◌<◌, ◌==◌, if◌then◌else◌, All, List, ◌++◌, None, codes, count_by, decimal}
+use Rattle.std.specs.Prelude.{length}
 use Rattle.litmus_outcomes.specs.Forbid.{is_forbidden}
 use Rattle.litmus_outcomes.specs.Table.{AreRowsOf, IsTableOf, RowView}
 use Rattle.litmus_outcomes.specs.Text.{text_of}

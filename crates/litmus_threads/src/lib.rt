@@ -3,12 +3,13 @@
 //! - [`run_test`] runs all rounds of a test. Each builds a machine (src/machine.rt); a core that has a thread runs the
 //!   thread's program in a thread of its own, beside those that move messages; then the cores are drained and audited.
 //!   The outcome is read off the audit (src/found.rt).
-//! - [`play_test`] does so, and writes the table of the outcomes. What was written, and what the exit status says, stands
-//!   in specs/Run.antt.
+//! - [`play_test`] does so, and writes the table of the outcomes. What was written, and what the exit status says,
+//!   stands in specs/Run.antt.
 //!
-//! No clause says what threads do. So each round sees for itself that every core has asked for just what its thread says,
-//! in each slice in the thread's order (src/made.rt), and doesn't count as played otherwise. An outcome that is counted
-//! is told by a legal log of each slice, in which just the test's requests stand (`IsFoundOn` of specs/Round.antt).
+//! No clause says what threads do. So each round sees for itself that every core has asked for just what its thread
+//! says, in each slice in the thread's order (src/made.rt), and doesn't count as played otherwise. An outcome that is
+//! counted is told by a legal log of each slice, in which just the test's requests stand (`IsFoundOn` of
+//! specs/Round.antt).
 //!
 //! A round takes memory for its machine and for its cores' programs.
 #![tactic(auto)]

@@ -37,7 +37,8 @@ pub fn play_test<R: Threads + Wait + Sync, W: Write, P: Progress>(
 
 // Writes what the run came to. Answers the exit status.
 fn tell<W: Write>(test: &LitmusTest<'_>, run: &Run, out: &mut W) -> Result<u8, TextFault>
-    ensures told { OnOk result (IsTold test.now (λ text. Appends (W.contents out.old) (W.contents out.new) text) run.now) }
+    ensures told { OnOk result (IsTold test.now (λ text. Appends (W.contents out.old) (W.contents out.new) text)
+        run.now) }
     ensures status { IfOk result (HasStatus test.now run.now) }
     ensures fault { IfErr result IsOfRun }
 {

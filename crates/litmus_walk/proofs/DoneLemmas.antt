@@ -1,5 +1,6 @@
 -- What the threads of a walk have done, call by call.
-use Rattle.std.proofs.Common.{◌≡◌, ℕ, zero, suc, ◌+◌, ◌<◌, ◌∙◌, true, false, inl, inr, List, [], ◌∷◌, ◌++◌, Some, None, ap, append-nil, append_assoc, arith, eq-eqb, get_or, length, refl, subst, sym, take}
+use Rattle.std.proofs.Common.{◌≡◌, ℕ, zero, suc, ◌+◌, ◌<◌, ◌∙◌, true, false, inl, inr, List, [], ◌∷◌, ◌++◌, Some, None}
+use Rattle.std.proofs.Common.{ap, append-nil, append_assoc, arith, eq-eqb, get_or, length, refl, subst, sym, take}
 use Rattle.std.specs.Prelude.{IsSomeAnd, slice_get, slice_set}
 use Rattle.std.specs.List.{AllByRecursion}
 use Rattle.std.proofs.Math.Seq.{take-length}
@@ -52,7 +53,8 @@ pub steps-kept : (places : List Place) (i : ℕ) (old new : Place) → old ≡ g
 steps-kept [] i old new is same = refl
 steps-kept (first ∷ places) zero old new is same =
     ap (λ s. s ∷ steps_of places) (same ∙ ap (λ (place : Place). place.step) is)
-steps-kept (first ∷ places) (suc i) old new is same = ap (λ rest. first.step ∷ rest) (steps-kept places i old new is same)
+steps-kept (first ∷ places) (suc i) old new is same =
+    ap (λ rest. first.step ∷ rest) (steps-kept places i old new is same)
 
 -- the step at which a thread stands
 pub steps-at : (places : List Place) (i : ℕ) (place : Place) → slice_get places i ≡ Some place
@@ -119,7 +121,8 @@ at-end-more threads steps i d before one = λ number thread below is. elim (case
   | inl same ↦
       let here : slice_get threads i ≡ Some thread = subst (λ n. slice_get threads n ≡ Some thread) (sym same) is in
       let (there, _) = found threads i thread here in
-      let its : get_or threads i d ≡ thread = some-is (get_or threads i d) thread (sym (slice_get-get_or threads i d there) ∙ here) in
+      let its : get_or threads i d ≡ thread = some-is (get_or threads i d) thread
+      (sym (slice_get-get_or threads i d there) ∙ here) in
       subst (λ n. slice_get steps n ≡ Some (length thread.steps.items)) same
       (subst (λ (t : Thread). slice_get steps i ≡ Some (length t.steps.items)) its one)
   | inr differ ↦ before number thread (omega (arith, below, differ)) is
@@ -129,7 +132,8 @@ at-end-more threads steps i d before one = λ number thread below is. elim (case
 pub done-all : (threads : List Thread) (steps : List ℕ) (calls : List Made) → HaveDone threads steps calls
     → AreAtEnd threads steps → AreDone threads calls
 done-all threads steps calls have ends = λ number thread is.
-    have number thread (length thread.steps.items) is (ends number thread is) ∙ ap asking (take-length thread.steps.items)
+    have number thread (length thread.steps.items) is (ends number thread is)
+    ∙ ap asking (take-length thread.steps.items)
 
 -- A call that does no step.
 pub done-still : (threads : List Thread) (steps : List ℕ) (calls : List Made) (made : Made)
@@ -142,7 +146,8 @@ done-still threads steps calls made none = λ have number thread step is_thread 
     ∙ have number thread step is_thread is_step
 
 -- A thread goes on behind the step at which it stands, by calls that do just this.
-done-by : (threads : List Thread) (steps : List ℕ) (calls more : List Made) (at : StepPlace) (thread : Thread) (action : Action)
+done-by : (threads : List Thread) (steps : List ℕ) (calls more : List Made) (at : StepPlace)
+    (thread : Thread) (action : Action)
     → slice_get threads at.thread ≡ Some thread → slice_get thread.steps.items at.step ≡ Some action
     → slice_get steps at.thread ≡ Some at.step
     → deeds_by at.thread more ≡ deeds_by at.thread calls ++ asking (action ∷ [])
@@ -156,7 +161,8 @@ done-by threads steps calls more at thread action is_thread is_step stands own o
           subst (λ n. slice_get (slice_set steps at.thread next) n ≡ Some step) (sym same) step_is in
           let its : slice_get threads at.thread ≡ Some other =
           subst (λ n. slice_get threads n ≡ Some other) (sym same) other_is in
-          let step_same : next ≡ step = some-is next step (sym (set-here steps at.thread at.step next stands) ∙ stood) in
+          let step_same : next ≡ step = some-is next step
+          (sym (set-here steps at.thread at.step next stands) ∙ stood) in
           let thread_same : thread ≡ other = some-is thread other (sym is_thread ∙ its) in
           let all : deeds_by at.thread more ≡ asking (take next thread.steps.items) =
           own
@@ -172,7 +178,8 @@ done-by threads steps calls more at thread action is_thread is_step stands own o
     ]
 
 -- .. by one call
-pub done-made : (threads : List Thread) (steps : List ℕ) (calls : List Made) (made : Made) (at : StepPlace) (thread : Thread)
+pub done-made : (threads : List Thread) (steps : List ℕ) (calls : List Made) (made : Made)
+    (at : StepPlace) (thread : Thread)
     (action : Action) → made.step ≡ Some at → made.done ≡ true → deeds_of made.command ≡ asking (action ∷ [])
     → slice_get threads at.thread ≡ Some thread → slice_get thread.steps.items at.step ≡ Some action
     → slice_get steps at.thread ≡ Some at.step

@@ -9,7 +9,8 @@ use Rattle.slice_core_plan.specs.Parts.{PartsView}
 use Rattle.litmus_walk.specs.Walk.{AreCallsOf, IsCallOf, IsFresh, IsWalkOf, Makes, Plays, WalkView, Walks}
 use Rattle.litmus_walk.specs.declared.recorded.Made.{Made}
 
-pub plays-append : (config : Config) (xs ys : List Made) (a b c : List PartsView) → Plays config xs a b → Plays config ys b c
+pub plays-append : (config : Config) (xs ys : List Made) (a b c : List PartsView)
+    → Plays config xs a b → Plays config ys b c
     → Plays config (xs ++ ys) a c
 plays-append config [] ys a b c first then = subst (λ s. Plays config ys s c) first then
 plays-append config (x ∷ xs) ys a b c first then =
@@ -22,7 +23,8 @@ calls-append threads (x ∷ xs) ys first then = (first.0, calls-append threads x
 
 -- a walk goes on by no calls
 pub walks_none : (threads : List Thread) (walk : WalkView) → Walks threads walk walk
-walks_none threads walk = record { more = []; theirs = tt; config = refl; calls = sym (append-nil walk.calls); plays = refl }
+walks_none threads walk =
+    record { more = []; theirs = tt; config = refl; calls = sym (append-nil walk.calls); plays = refl }
 
 -- .. by one that is the threads' own
 pub walks_by : (threads : List Thread) (a b : WalkView) (made : Made) → IsCallOf threads made.command made.step

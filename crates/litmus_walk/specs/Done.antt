@@ -1,5 +1,6 @@
 -- How far a walk has come with the steps of its threads.
-use Rattle.std.specs.Prelude.{◌≡◌, ℕ, ◌==◌, ◌&&◌, Bool, true, false, if◌then◌else◌, List, [], ◌∷◌, ◌++◌, Option, Some, None, length, map, slice_get, take}
+use Rattle.std.specs.Prelude.{◌≡◌, ℕ, ◌==◌, ◌&&◌, Bool, true, false, if◌then◌else◌, List, [], ◌∷◌, ◌++◌, Option, Some}
+use Rattle.std.specs.Prelude.{None, length, map, slice_get, take}
 use Rattle.litmus_script.specs.declared.answers.Issued.{Issued}
 use Rattle.litmus_script.specs.declared.answers.Issued.TheVariants as issues
 use Rattle.litmus_test.specs.declared.test.Action.{Action}
@@ -46,7 +47,8 @@ steps_of places = map (λ place. place.step) places
 -- Each thread has done the steps before the one at which it stands, in order and each once.
 abbrev pub HaveDone : List Thread → List ℕ → List Made → Type 0
 HaveDone threads steps calls =
-    (number : ℕ) (thread : Thread) (step : ℕ) → slice_get threads number ≡ Some thread → slice_get steps number ≡ Some step
+    (number : ℕ) (thread : Thread) (step : ℕ) → slice_get threads number ≡ Some thread
+    → slice_get steps number ≡ Some step
     → deeds_by number calls ≡ asking (take step thread.steps.items)
 
 -- Each thread has done all its steps that ask for something, in order and each once.

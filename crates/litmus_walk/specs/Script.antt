@@ -18,7 +18,8 @@ use Rattle.script_text.specs.Settings.{lines_of_settings, text_of_lines}
 -- a comment that names the step which makes the call, if one does
 abbrev pub text_of_step : Option StepPlace → List ℕ
 text_of_step None = []
-text_of_step (Some at) = codes "# thread " ++ (decimal at.thread ++ (codes ", step " ++ (decimal at.step ++ codes "\n")))
+text_of_step (Some at) =
+    codes "# thread " ++ (decimal at.thread ++ (codes ", step " ++ (decimal at.step ++ codes "\n")))
 
 -- the line of a call, behind such a comment
 abbrev pub text_of_call : Made → List ℕ

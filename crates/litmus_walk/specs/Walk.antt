@@ -47,7 +47,8 @@ IsAskedBy thread step command = ⊥
 
 -- A call that a step makes is what this step of its thread asks for; any other moves a message, or hands out a reply.
 abbrev pub IsCallOf : List Thread → Command → Option StepPlace → Type 0
-IsCallOf threads command (Some at) = IsSomeAnd (slice_get threads at.thread) (λ thread. IsAskedBy thread at.step command)
+IsCallOf threads command (Some at) =
+    IsSomeAnd (slice_get threads at.thread) (λ thread. IsAskedBy thread at.step command)
 IsCallOf threads (commands.Deliver pick) None = Unit {0}
 IsCallOf threads (commands.Hand core slice) None = Unit {0}
 IsCallOf threads command None = ⊥

@@ -17,8 +17,8 @@ pub(crate) enum Move {
 }
 
 impl<F: MissFile> Walker<F> {
-    /// Lists the steps that may be made next, in the order of the threads, and then the deliveries, line by line. Behind
-    /// them come the hand-outs, one for each reply that waits, which aren't listed.
+    /// Lists the steps that may be made next, in the order of the threads, and then the deliveries, line by line.
+    /// Behind them come the hand-outs, one for each reply that waits, which aren't listed.
     pub fn list_moves(
         &self,
         test: &LitmusTest<'_>,
@@ -49,7 +49,8 @@ impl<F: MissFile> Walker<F> {
     }
 }
 
-/// Whether the thread's next step may be made: there is one, an access has a free tag, and who settles waits for nothing.
+/// Whether the thread's next step may be made: there is one, an access has a free tag, and who settles waits for
+/// nothing.
 fn can_step(thread: &Thread, place: &Place) -> bool {
     match thread.steps.get(place.step) {
         Some(Action::Access(_, _)) => place.free_tag().is_some(),

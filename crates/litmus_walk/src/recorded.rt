@@ -98,7 +98,8 @@ impl<F: MissFile> Recorded<F> {
         requires { HasCore self.old.config core }
         ensures made { IfOk result (λ issued. Makes self.old
             (record { command = commands.Issue core request; step = Some step; done = is_done issued }) self.new) }
-        ensures issued { IfOk result (λ issued. IsIssued ((line_of_word request.word).0 % self.old.config.slices) core request
+        ensures issued { IfOk result (λ issued. IsIssued
+            ((line_of_word request.word).0 % self.old.config.slices) core request
             issued self.old.slices self.new.slices) }
     {
         let Ok(issued) = self.machine.issue(core, request) else {

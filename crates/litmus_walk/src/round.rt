@@ -33,7 +33,8 @@ pub fn walk<F: MissFile>(
     seed: u64,
 ) -> Result<Walked<F>, AllocError>
     ensures walk { IfOk result (λ walked. IsWalkOf test.now (F.bound_by test.now.config) walked.recorded) }
-    ensures over { IfOk result (λ walked. IsTrue walked.over → All (λ state. IsQuiet state.view) walked.recorded.slices) }
+    ensures over { IfOk result (λ walked. IsTrue walked.over
+        → All (λ state. IsQuiet state.view) walked.recorded.slices) }
     ensures done { IfOk result (λ walked. IsTrue walked.over → AreDone test.now.threads.items walked.recorded.calls) }
 {
     let Ok(config) = copy_of(alloc, &test.config) else {
@@ -57,7 +58,8 @@ fn walk_on<F: MissFile>(
 ) -> Result<(), AllocError>
     requires { walker.old.recorded.config ≡ test.now.config }
     ensures walks { OnOk result (Walks test.now.threads.items walker.old.recorded walker.new.recorded) }
-    ensures done { OnOk result (GoesOn test.now.threads.items (steps_of walker.old.places.items) walker.old.recorded.calls
+    ensures done { OnOk result (GoesOn test.now.threads.items (steps_of walker.old.places.items)
+        walker.old.recorded.calls
         (steps_of walker.new.places.items) walker.new.recorded.calls) }
 {
     let mut generator = Xoshiro256PlusPlus::seed_from_u64(seed);

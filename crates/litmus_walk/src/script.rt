@@ -62,7 +62,8 @@ fn print_script<W: io::Write>(
     calls: &[Made],
     out: &mut W,
 ) -> Result<(), TextFault>
-    ensures printed { OnOk result (Appends (W.contents out.old) (W.contents out.new) (text_of_script config.now misses calls.now)) }
+    ensures printed { OnOk result (Appends (W.contents out.old) (W.contents out.new)
+        (text_of_script config.now misses calls.now)) }
     ensures fault { IfErr result IsOfRun }
 {
     let mut answers = Answers { out };
@@ -80,7 +81,8 @@ pub(crate) fn write_script<W: Write>(
     calls: &[Made],
     out: &mut W,
 ) -> fmt::Result
-    ensures { OnOk result (WritesInCalls W.write_str_gives out.old (text_of_script config.now misses calls.now) out.new) }
+    ensures { OnOk result (WritesInCalls W.write_str_gives out.old
+        (text_of_script config.now misses calls.now) out.new) }
 {
     write_settings(config, misses, out)?;
     write_calls(calls, out)

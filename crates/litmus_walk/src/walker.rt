@@ -1,4 +1,5 @@
-ghost use Rattle.std.specs.Prelude.{◌≡◌, ◌+◌, ◌<◌, ◌^◌, ◌↔◌, All, IfOk, IfSome, IsTrue, List, OnOk, Some, length, slice_get, slice_set};
+ghost use Rattle.std.specs.Prelude.{◌≡◌, ◌+◌, ◌<◌, ◌^◌, ◌↔◌, All, IfOk, IfSome, IsTrue, List, OnOk, Some, length};
+ghost use Rattle.std.specs.Prelude.{slice_get, slice_set};
 ghost use Rattle.std.specs.List.{AllByRecursion};
 ghost use Rattle.litmus_test.specs.declared.test.Action.TheVariants as actions;
 ghost use Rattle.litmus_test.specs.declared.test.Thread.{Thread};
@@ -57,7 +58,8 @@ impl<F: MissFile> Walker<F> {
     pub fn go(&mut self, test: &LitmusTest<'_>, to: Move) -> Result<(), AllocError>
         requires { self.old.recorded.config ≡ test.now.config }
         ensures walks { OnOk result (Walks test.now.threads.items self.old.recorded self.new.recorded) }
-        ensures done { OnOk result (GoesOn test.now.threads.items (steps_of self.old.places.items) self.old.recorded.calls
+        ensures done { OnOk result (GoesOn test.now.threads.items
+            (steps_of self.old.places.items) self.old.recorded.calls
             (steps_of self.new.places.items) self.new.recorded.calls) }
     {
         match to {
@@ -70,7 +72,8 @@ impl<F: MissFile> Walker<F> {
     fn step(&mut self, test: &LitmusTest<'_>, thread: usize) -> Result<(), AllocError>
         requires { self.old.recorded.config ≡ test.now.config }
         ensures walks { OnOk result (Walks test.now.threads.items self.old.recorded self.new.recorded) }
-        ensures done { OnOk result (GoesOn test.now.threads.items (steps_of self.old.places.items) self.old.recorded.calls
+        ensures done { OnOk result (GoesOn test.now.threads.items
+            (steps_of self.old.places.items) self.old.recorded.calls
             (steps_of self.new.places.items) self.new.recorded.calls) }
     {
         let (Some(program), Some(place)) = (test.threads.get(thread), self.places.get(thread))
@@ -141,7 +144,8 @@ impl<F: MissFile> Walker<F> {
     fn done(&mut self, at: StepPlace)
         requires { at.step + 1 < 2 ^ 64 }
         ensures recorded { self.new.recorded ≡ self.old.recorded }
-        ensures steps { steps_of self.new.places.items ≡ slice_set (steps_of self.old.places.items) at.thread (at.step + 1) }
+        ensures steps { steps_of self.new.places.items ≡ slice_set (steps_of self.old.places.items)
+            at.thread (at.step + 1) }
     {
         if let Some(place) = self.places.get_mut(at.thread) {
             place.go_behind(at.step);
@@ -161,7 +165,8 @@ impl<F: MissFile> Walker<F> {
     /// Delivers a message. What it lets be performed has replies that wait.
     fn deliver(&mut self, test: &LitmusTest<'_>, pick: Pick) -> Result<(), AllocError>
         ensures walks { OnOk result (Walks test.now.threads.items self.old.recorded self.new.recorded) }
-        ensures done { OnOk result (GoesOn test.now.threads.items (steps_of self.old.places.items) self.old.recorded.calls
+        ensures done { OnOk result (GoesOn test.now.threads.items
+            (steps_of self.old.places.items) self.old.recorded.calls
             (steps_of self.new.places.items) self.new.recorded.calls) }
     {
         let slice = self.recorded.slice_of(pick.line());
@@ -184,7 +189,8 @@ impl<F: MissFile> Walker<F> {
     fn hand(&mut self, test: &LitmusTest<'_>, reply: usize) -> Result<(), AllocError>
         requires { self.old.recorded.config ≡ test.now.config }
         ensures walks { OnOk result (Walks test.now.threads.items self.old.recorded self.new.recorded) }
-        ensures done { OnOk result (GoesOn test.now.threads.items (steps_of self.old.places.items) self.old.recorded.calls
+        ensures done { OnOk result (GoesOn test.now.threads.items
+            (steps_of self.old.places.items) self.old.recorded.calls
             (steps_of self.new.places.items) self.new.recorded.calls) }
     {
         if reply >= self.replies.len() {
@@ -222,7 +228,8 @@ impl<F: MissFile> Walker<F> {
     }
 
     fn is_at_end(&self, number: usize, thread: &Thread) -> bool
-        ensures { IsTrue result ↔ (slice_get (steps_of self.now.places.items) number ≡ Some (length thread.now.steps.items)) }
+        ensures { IsTrue result ↔ (slice_get (steps_of self.now.places.items) number ≡ Some
+            (length thread.now.steps.items)) }
     {
         match self.places.get(number) {
             Some(place) => place.step == thread.steps.len(),

@@ -4,16 +4,16 @@
 //! out by hand, behind the lock and on a slice's book alone.
 //!
 //! Then two cores share a machine of two slices, in one thread: both add to a counter of each slice and take turns
-//! until all replies are handed out, and then each slice is settled with both cores. On another such machine one adds, and
-//! the other is told of the receipt. At last random calls through a slice's lock, and through the cores of a system, are
-//! compared with the same calls on states beside them (`twins`).
+//! until all replies are handed out, and then each slice is settled with both cores. On another such machine one adds,
+//! and the other is told of the receipt. At last random calls through a slice's lock, and through the cores of a
+//! system, are compared with the same calls on states beside them (`twins`).
 //!
 //! It prints a line for each of these, or the first difference, and then it ends with status 1.
 //!
 //! `lock_tester twins SEEDS` makes random calls alone, of so many seeds (tests/runs).
 //!
-//! `lock_tester memory` makes requests of one core instead, each again where memory was refused for it, and prints how many
-//! were. Nothing refuses memory to it of itself: whoever runs it so does (tests/memory).
+//! `lock_tester memory` makes requests of one core instead, each again where memory was refused for it, and prints how
+//! many were. Nothing refuses memory to it of itself: whoever runs it so does (tests/memory).
 #![tactic(auto)]
 
 use core_thread_system::BuildError;

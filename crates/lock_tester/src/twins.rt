@@ -1,6 +1,6 @@
-//! Random calls on what cores share behind locks, each made on a twin too: states that stand beside it, which nobody else
-//! asks. What the twin answers is proved of a slice's state, and what a lock answers isn't, so every answer is compared,
-//! and now and then all that can be seen of both.
+//! Random calls on what cores share behind locks, each made on a twin too: states that stand beside it, which nobody
+//! else asks. What the twin answers is proved of a slice's state, and what a lock answers isn't, so every answer is
+//! compared, and now and then all that can be seen of both.
 
 use mshr_file::{ExplicitFile, InvertedFile};
 use std::io;
@@ -25,7 +25,8 @@ use kinds::Kinds;
 use setting::{Run, Through};
 use slice::run_slice;
 
-/// Runs of each seed: with either miss file and either setting of the exclusive state, through a lock and through cores.
+/// Runs of each seed: with either miss file and either setting of the exclusive state, through a lock and through
+/// cores.
 const RUNS: u64 = 8;
 
 /// Makes the runs of so many seeds, and prints how many calls they were or what is wrong. Answers whether nothing is.

@@ -81,8 +81,8 @@ fn named_test<N: SliceNames, R: AllocGlobal + Wait>(
     }
 }
 
-/// Two adds to the counter, one that misses and one that hits. Their receipts add up to 2^64 + 1, and the counter is 1. While
-/// the first is under way or its reply isn't handed out, the slice isn't settled.
+/// Two adds to the counter, one that misses and one that hits. Their receipts add up to 2^64 + 1, and the counter is 1.
+/// While the first is under way or its reply isn't handed out, the slice isn't settled.
 fn sums_past_the_word<N: SliceNames, R: Wait>(
     rt: &R,
     slice: &Slice<ExplicitFile, N>,

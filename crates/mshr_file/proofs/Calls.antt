@@ -1,5 +1,6 @@
 -- What one call on a table of registers leaves. The register that it changes was read there.
-use Rattle.std.proofs.Common.{◌≡◌, ℕ, ◌+◌, ◌<◌, true, false, if◌then◌else◌, List, [], ◌∷◌, ◌++◌, length, get_or, set, refl, sym, ap, arith, ◌∙◌}
+use Rattle.std.proofs.Common.{◌≡◌, ℕ, ◌+◌, ◌<◌, true, false, if◌then◌else◌, List, [], ◌∷◌, ◌++◌, length, get_or, set}
+use Rattle.std.proofs.Common.{refl, sym, ap, arith, ◌∙◌}
 use Rattle.target_list.specs.declared.target.Target.{Target}
 use Rattle.address_map.specs.declared.address.Local.{Local}
 use Rattle.mshr_file.specs.declared.registers.Register.{Register}
@@ -7,7 +8,8 @@ use Rattle.mshr_file.specs.Miss.{targets_of, is_waited, has_miss, AddsTarget, Ta
 use Rattle.mshr_file.specs.Register.{misses_of, serves, no_register, HasEachLineOnce}
 use Rattle.mshr_file.proofs.Lists.{one-if, either-one}
 use Rattle.mshr_file.proofs.Table.{IsRegisterOf, served_waits, targets_of-misses}
-use Rattle.mshr_file.proofs.Steps.{adds, takes, left, single_after, open_after, register_serving, register_free, waits_for, line_of}
+use Rattle.mshr_file.proofs.Steps.{adds, takes, left, single_after, open_after, register_serving, register_free}
+use Rattle.mshr_file.proofs.Steps.{waits_for, line_of}
 
 pub record IsAdded (old new : List Register) (line : ℕ) (target : Target) (more : ℕ) : Type 0 where
   pub single : HasEachLineOnce new

@@ -1,5 +1,6 @@
 -- What adding and taking targets does to the misses, for callers of a file: lemmas over any lists of registers.
-use Rattle.std.proofs.Common.{◌≡◌, ℕ, ◌≤◌, Bool, true, false, not, if◌then◌else◌, List, [], ◌∷◌, ◌++◌, refl, sym, ap, ⊎_elim, arith, ◌∙◌}
+use Rattle.std.proofs.Common.{◌≡◌, ℕ, ◌≤◌, Bool, true, false, not, if◌then◌else◌, List, [], ◌∷◌, ◌++◌, refl, sym, ap}
+use Rattle.std.proofs.Common.{⊎_elim, arith, ◌∙◌}
 use Rattle.std.specs.Prelude.{All, IsTrue}
 use Rattle.std.specs.List.{count_by}
 use Rattle.std.proofs.lemmas.Bool.{cases_Bool}
@@ -8,7 +9,8 @@ use Rattle.std.proofs.lemmas.List.Elements.{All-cons, All-nil}
 use Rattle.std.proofs.lemmas.List.Sums.{sum_by-append, sum_by-cons}
 use Rattle.target_list.specs.declared.target.Target.{Target}
 use Rattle.mshr_file.specs.declared.registers.Register.{Register}
-use Rattle.mshr_file.specs.Miss.{is_for, targets_in, targets_of, is_waited, has_miss, count_of, AddsTarget, TakesTargets}
+use Rattle.mshr_file.specs.Miss.{is_for, targets_in, targets_of, is_waited, has_miss, count_of, AddsTarget}
+use Rattle.mshr_file.specs.Miss.{TakesTargets}
 use Rattle.mshr_file.proofs.Lists.{count_by-yes, count_by-no}
 
 -- Where no target was taken, the misses may be as they were.

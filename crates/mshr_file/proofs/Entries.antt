@@ -1,5 +1,6 @@
 -- How the registers change with the entries: one more behind the others, and the first of a line taken out.
-use Rattle.std.proofs.Common.{◌≡◌, ◌≢◌, ℕ, suc, ◌+◌, ◌<◌, ◌≤◌, ◌==◌, Bool, true, false, nat_lt, if◌then◌else◌, List, [], ◌∷◌, ◌++◌, length, filter, map, take, refl, sym, ap, ⊎_elim, arith, ◌∙◌, get_or, Some}
+use Rattle.std.proofs.Common.{◌≡◌, ◌≢◌, ℕ, suc, ◌+◌, ◌<◌, ◌≤◌, ◌==◌, Bool, true, false, nat_lt, if◌then◌else◌, List, []}
+use Rattle.std.proofs.Common.{◌∷◌, ◌++◌, length, filter, map, take, refl, sym, ap, ⊎_elim, arith, ◌∙◌, get_or, Some}
 use Rattle.std.specs.Prelude.{◌||◌}
 use Rattle.std.specs.List.{count_by, list_any, position, position_or_len, prefix_len, remove}
 use Rattle.std.specs.Set.{remove_key}
@@ -13,8 +14,10 @@ use Rattle.target_list.specs.declared.target.Target.{Target}
 use Rattle.target_list.specs.Target.{is_load, front_loads}
 use Rattle.mshr_file.specs.declared.registers.Register.{Register}
 use Rattle.mshr_file.specs.declared.waiting.Waiting.{Waiting}
-use Rattle.mshr_file.specs.Miss.{is_for, targets_of, is_waited, has_miss, has_tag, count_of, AddsTarget, TakesTargets, HasEachTagOnce}
-use Rattle.mshr_file.specs.Waiting.{waits_for, at_line, put_first, by_line, count_at, is_past, HasEntryByTag, TakesEntries}
+use Rattle.mshr_file.specs.Miss.{is_for, targets_of, is_waited, has_miss, has_tag, count_of, AddsTarget, TakesTargets}
+use Rattle.mshr_file.specs.Miss.{HasEachTagOnce}
+use Rattle.mshr_file.specs.Waiting.{waits_for, at_line, put_first, by_line, count_at, is_past, HasEntryByTag}
+use Rattle.mshr_file.specs.Waiting.{TakesEntries}
 use Rattle.mshr_file.proofs.Laws.{order_added, order_taken, once_added, once_taken}
 use Rattle.mshr_file.proofs.Lists.{one-if, zero-if, either-one, count_by-yes, count_by-no, place_is}
 use Rattle.mshr_file.proofs.ByLine.{waits_at, counts_at}

@@ -1,5 +1,6 @@
 -- Lists: what a filter drops and a count passes over, and the first place that passes a test.
-use Rattle.std.proofs.Common.{◌≡◌, ℕ, zero, suc, ◌+◌, ◌<◌, ◌≤◌, Bool, true, false, length, if◌then◌else◌, List, [], ◌∷◌, ◌++◌, filter, Some, None, refl, sym, ap, ⊎_elim, arith, ◌∙◌, map, get_or}
+use Rattle.std.proofs.Common.{◌≡◌, ℕ, zero, suc, ◌+◌, ◌<◌, ◌≤◌, Bool, true, false, length, if◌then◌else◌, List, [], ◌∷◌}
+use Rattle.std.proofs.Common.{◌++◌, filter, Some, None, refl, sym, ap, ⊎_elim, arith, ◌∙◌, map, get_or}
 use Rattle.std.specs.Prelude.{sum_by, ◌&&◌, All, IsTrue, IsSome, is_some, nat_lt}
 use Rattle.std.specs.List.{flat_map, count_by, find, list_any, position, position_or_len, prefix_len, remove}
 use Rattle.std.proofs.lemmas.List.{length-map}

@@ -1,6 +1,8 @@
 -- What a search of the rows says of their registers, and how rows and registers change together.
 use mir.Val.{bool_byte}
-use Rattle.std.proofs.Common.{◌≡◌, ℕ, zero, suc, ◌<◌, ◌≤◌, ◌==◌, Bool, true, false, not, nat_lt, if◌then◌else◌, List, [], ◌∷◌, length, filter, map, replicate, get_or, set, Some, None, refl, sym, ap, ⊎_elim, arith, ◌∙◌}
+use Rattle.std.proofs.Common.{◌≡◌, ℕ, zero, suc, ◌<◌, ◌≤◌, ◌==◌, Bool, true, false, not, nat_lt, if◌then◌else◌, List}
+use Rattle.std.proofs.Common.{[], ◌∷◌, length, filter, map, replicate, get_or, set, Some, None, refl, sym, ap, ⊎_elim}
+use Rattle.std.proofs.Common.{arith, ◌∙◌}
 use Rattle.std.specs.Prelude.{◌&&◌, All, IsSome}
 use Rattle.std.specs.List.{list_any, position, position_or_len}
 use Rattle.std.proofs.lemmas.Bool.{cases_Bool, lt-ltb, ne_eqb}
@@ -14,7 +16,8 @@ use Rattle.mshr_file.specs.declared.registers.Register.{Register}
 use Rattle.mshr_file.specs.declared.registers.RegisterTable.{RegisterTable}
 use Rattle.mshr_file.specs.declared.registers.Row.{Row}
 use Rattle.mshr_file.specs.Miss.{is_for, is_waited, targets_of, has_miss}
-use Rattle.mshr_file.specs.Register.{misses_of, serves, no_register, row_of, no_row, row_serves, is_free_row, IsKept, HasEachLineOnce}
+use Rattle.mshr_file.specs.Register.{misses_of, serves, no_register, row_of, no_row, row_serves, is_free_row, IsKept}
+use Rattle.mshr_file.specs.Register.{HasEachLineOnce}
 use Rattle.mshr_file.proofs.Lists.{any-map, kept-map, position_found, position_none, first-inside}
 use Rattle.mshr_file.proofs.Steps.{has_miss_is, register_serving, waits_for, none_open}
 use Rattle.mshr_file.proofs.Table.{nothing_waits}
@@ -47,20 +50,23 @@ row_for table line kept =
 
 -- As many rows are in use as registers are open.
 pub open_rows : (table : RegisterTable) → IsKept table →
-    length (filter (λ row. not (is_free_row row)) table.rows.items.items) ≡ length (misses_of table.registers.items.items)
+    length (filter (λ row. not (is_free_row row)) table.rows.items.items) ≡ length
+    (misses_of table.registers.items.items)
 open_rows table kept =
     ap (λ rows. length (filter (λ row. not (is_free_row row)) rows)) kept.rows
     ∙ kept-map row_of (λ row. not (is_free_row row))
     (λ register. is_waited register.targets) used_row table.registers.items.items
 
-pub as_many : (table : RegisterTable) → IsKept table → length table.rows.items.items ≡ length table.registers.items.items
+pub as_many : (table : RegisterTable) → IsKept table
+    → length table.rows.items.items ≡ length table.registers.items.items
 as_many table kept = ap length kept.rows ∙ length-map table.registers.items.items row_of
 
 -- the row at a place is that of the register there
 pub row_at : (table : RegisterTable) (place : ℕ) (d : Row) → IsKept table → place < length table.registers.items.items →
     get_or table.rows.items.items place d ≡ row_of (get_or table.registers.items.items place no_register)
 row_at table place d kept inside =
-    ap (λ rows. get_or rows place d) kept.rows ∙ get_or-map row_of table.registers.items.items place no_register d inside
+    ap (λ rows. get_or rows place d) kept.rows ∙ get_or-map row_of table.registers.items.items
+    place no_register d inside
 
 pub record IsServedAt (table : RegisterTable) (line place : ℕ) : Type 0 where
   pub row : place < length table.rows.items.items
@@ -94,7 +100,8 @@ served_at table line place kept found = record {
         ∙ (position-Some (row_serves line) table.rows.items.items place no_row found).1
 
 -- Where a search finds none, nothing waits for the line.
-pub unserved : (table : RegisterTable) (line : ℕ) → IsKept table → position (row_serves line) table.rows.items.items ≡ None →
+pub unserved : (table : RegisterTable) (line : ℕ) → IsKept table
+    → position (row_serves line) table.rows.items.items ≡ None →
     targets_of (misses_of table.registers.items.items) line ≡ []
 unserved table line kept missing =
     ⊎_elim
@@ -133,7 +140,8 @@ none_serves table line kept closed =
 pub row_found : (table : RegisterTable) (line : ℕ) → IsKept table →
     has_miss (misses_of table.registers.items.items) line ≡ true →
     IsSome (position (row_serves line) table.rows.items.items)
-row_found table line kept there = position_found (row_serves line) table.rows.items.items (row_for table line kept ∙ there)
+row_found table line kept there =
+    position_found (row_serves line) table.rows.items.items (row_for table line kept ∙ there)
 
 -- Where not all registers are open, a free row is found.
 pub free_found : (table : RegisterTable) → IsKept table →
@@ -159,7 +167,8 @@ pub record IsFreeAt (table : RegisterTable) (place : ℕ) : Type 0 where
   pub inside : place < length table.registers.items.items
   pub free : is_waited (get_or table.registers.items.items place no_register).targets ≡ false
 
-pub free_at : (table : RegisterTable) (place : ℕ) → IsKept table → position is_free_row table.rows.items.items ≡ Some place →
+pub free_at : (table : RegisterTable) (place : ℕ) → IsKept table
+    → position is_free_row table.rows.items.items ≡ Some place →
     IsFreeAt table place
 free_at table place kept found = record {
   row = row;

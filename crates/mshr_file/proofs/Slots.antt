@@ -1,5 +1,7 @@
 -- A table of entries by their tags: what its slots say of the entries, and both after an entry was put in or taken out.
-use Rattle.std.proofs.Common.{◌≡◌, ℕ, zero, suc, nat_lt, ◌<◌, ◌≤◌, ◌==◌, Bool, true, false, not, if◌then◌else◌, List, [], ◌∷◌, ◌++◌, length, filter, map, get_or, set, replicate, Option, Some, None, refl, sym, ap, ⊎_elim, arith, ◌∙◌}
+use Rattle.std.proofs.Common.{◌≡◌, ℕ, zero, suc, nat_lt, ◌<◌, ◌≤◌, ◌==◌, Bool, true, false, not, if◌then◌else◌, List}
+use Rattle.std.proofs.Common.{[], ◌∷◌, ◌++◌, length, filter, map, get_or, set, replicate, Option, Some, None, refl, sym}
+use Rattle.std.proofs.Common.{ap, ⊎_elim, arith, ◌∙◌}
 use Rattle.std.specs.Prelude.{IsSome, is_some, unwrap_or}
 use Rattle.std.specs.Option.{option_or}
 use Rattle.std.specs.List.{find, list_any, position, prefix_len, remove}
@@ -13,9 +15,11 @@ use Rattle.mshr_file.specs.declared.entry_table.EntryTable.{EntryTable}
 use Rattle.mshr_file.specs.declared.entry_table.Slot.{Slot}
 use Rattle.mshr_file.specs.declared.waiting.Waiting.{Waiting}
 use Rattle.mshr_file.specs.Miss.{has_tag, is_free}
-use Rattle.mshr_file.specs.Waiting.{by_line, count_at, waits_for, is_past, slot_of, slot_for, entry_at, no_waiting, waiting_in, IsEntryTable, TakesEntries}
+use Rattle.mshr_file.specs.Waiting.{by_line, count_at, waits_for, is_past, slot_of, slot_for, entry_at, no_waiting}
+use Rattle.mshr_file.specs.Waiting.{waiting_in, IsEntryTable, TakesEntries}
 use Rattle.mshr_file.proofs.Entries.{length_by_line, no_lines, tags_pushed, tags_after, taken_at}
-use Rattle.mshr_file.proofs.Lists.{position_found, count_by-fewer, found_or_not, any-map, filter-map, kept-map, position-map, prefix-map, find_none, find-remove, map-remove, none_counted, one-if}
+use Rattle.mshr_file.proofs.Lists.{position_found, count_by-fewer, found_or_not, any-map, filter-map, kept-map}
+use Rattle.mshr_file.proofs.Lists.{position-map, prefix-map, find_none, find-remove, map-remove, none_counted, one-if}
 use Rattle.mshr_file.proofs.Tags.{fits, free_is, room_for}
 
 -- the entry has the tag

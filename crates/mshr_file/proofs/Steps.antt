@@ -1,16 +1,20 @@
 -- What the misses of a table are after one register has changed.
-use Rattle.std.proofs.Common.{◌≡◌, ◌≢◌, ℕ, ◌+◌, ◌<◌, ◌≤◌, zero, suc, replicate, Bool, true, false, if◌then◌else◌, List, [], ◌∷◌, ◌++◌, length, get_or, set, refl, sym, ap, ⊎_elim, arith, ◌∙◌}
+use Rattle.std.proofs.Common.{◌≡◌, ◌≢◌, ℕ, ◌+◌, ◌<◌, ◌≤◌, zero, suc, replicate, Bool, true, false, if◌then◌else◌, List}
+use Rattle.std.proofs.Common.{[], ◌∷◌, ◌++◌, length, get_or, set, refl, sym, ap, ⊎_elim, arith, ◌∙◌}
 use Rattle.std.specs.List.{count_by, list_any}
 use Rattle.std.proofs.lemmas.Bool.{cases_eq, eqb-true}
 use Rattle.std.proofs.lemmas.List.{get_or-set_same}
 use Rattle.std.proofs.lemmas.List.Sums.{sum_by-set, sum_by-append, length-filter}
 use Rattle.target_list.specs.declared.target.Target.{Target}
-use Rattle.mshr_file.specs.Miss.{is_for, targets_of, is_waited, has_miss, count_of, IsMissFile, AddsTarget, TakesTargets}
+use Rattle.mshr_file.specs.Miss.{is_for, targets_of, is_waited, has_miss, count_of, IsMissFile, AddsTarget}
+use Rattle.mshr_file.specs.Miss.{TakesTargets}
 use Rattle.mshr_file.specs.declared.registers.Register.{Register}
 use Rattle.mshr_file.specs.Register.{misses_of, serves, no_register, HasEachLineOnce}
 use Rattle.mshr_file.proofs.Laws.{order_added, order_taken, once_added, once_taken}
 use Rattle.mshr_file.proofs.Lists.{count_by-filter, filter_passes, one-if}
-use Rattle.mshr_file.proofs.Table.{IsRegisterOf, waits_in, changed, waits_elsewhere, targets_of-misses, count_of-misses, found, nothing_waits, in_free, served_in, served_for, for_another, counts_one, counts_none, free_serves}
+use Rattle.mshr_file.proofs.Table.{IsRegisterOf, waits_in, changed, waits_elsewhere, targets_of-misses, count_of-misses}
+use Rattle.mshr_file.proofs.Table.{found, nothing_waits, in_free, served_in, served_for, for_another, counts_one}
+use Rattle.mshr_file.proofs.Table.{counts_none, free_serves}
 
 count_by-append : (test : Target → Bool) (front back : List Target) →
     count_by test (front ++ back) ≡ count_by test front + count_by test back

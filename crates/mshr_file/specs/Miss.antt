@@ -1,6 +1,7 @@
 -- Misses, as the miss registers of one cache hold them: each register is a line that is waited for, with the accesses
 -- that wait for it, the oldest first (Kroft 1981). Lines are numbered within their slice.
-use Rattle.std.specs.Prelude.{◌≡◌, ◌≢◌, ◌≤◌, ◌<◌, ◌==◌, ℕ, ◌+◌, Bool, true, false, if◌then◌else◌, nat_lt, List, [], ◌∷◌, ◌++◌, length, sum_by, All, IsTrue}
+use Rattle.std.specs.Prelude.{◌≡◌, ◌≢◌, ◌≤◌, ◌<◌, ◌==◌, ℕ, ◌+◌, Bool, true, false, if◌then◌else◌, nat_lt, List, [], ◌∷◌}
+use Rattle.std.specs.Prelude.{◌++◌, length, sum_by, All, IsTrue}
 use Rattle.std.specs.List.{flat_map, count_by}
 use Rattle.address_map.specs.declared.config.Config.{Config}
 use Rattle.address_map.specs.Words.{IsAscendingBy}

@@ -1,5 +1,6 @@
 -- Accesses that wait, each with its line, in the order in which they came, and the registers that they would stand in.
-use Rattle.std.specs.Prelude.{◌≡◌, ◌≢◌, ◌≤◌, ◌<◌, ◌==◌, ℕ, ◌+◌, Bool, not, nat_lt, if◌then◌else◌, List, [], ◌∷◌, ◌++◌, length, filter, find, map, Option, None, unwrap_or, slice_index_or}
+use Rattle.std.specs.Prelude.{◌≡◌, ◌≢◌, ◌≤◌, ◌<◌, ◌==◌, ℕ, ◌+◌, Bool, not, nat_lt, if◌then◌else◌, List, [], ◌∷◌, ◌++◌}
+use Rattle.std.specs.Prelude.{length, filter, find, map, Option, None, unwrap_or, slice_index_or}
 use Rattle.std.specs.List.{count_by, list_any}
 use Rattle.target_list.specs.declared.target.Target.{Target}
 use Rattle.target_list.specs.Target.{is_load, no_target}

@@ -3,7 +3,8 @@ ghost use Rattle.std.specs.List.{list_any, prefix_len, position};
 ghost use Rattle.std.specs.Option.{option_copied};
 ghost use Rattle.target_list.specs.Target.{front_loads};
 ghost use Rattle.mshr_file.specs.Miss.{targets_of, has_miss, has_tag, is_free, AddsTarget, TakesTargets, IsMissFile};
-ghost use Rattle.mshr_file.specs.Waiting.{at_line, by_line, entry_at, waiting_in, waits_for, slot_for, IsEntryTable, TakesEntries};
+ghost use Rattle.mshr_file.specs.Waiting.{at_line, by_line, entry_at, waiting_in, waits_for, slot_for, IsEntryTable};
+ghost use Rattle.mshr_file.specs.Waiting.{TakesEntries};
 
 use super::waiting::Waiting;
 use address_map::Local;
@@ -130,7 +131,8 @@ impl EntryTable {
         requires kept { IsEntryTable self.old }
         requires some { has_miss (by_line (waiting_in self.old)) line.0 ≡ true }
         ensures kept { IsEntryTable self.new }
-        ensures taken { TakesTargets (by_line (waiting_in self.old)) (by_line (waiting_in self.new)) line.0 (result ∷ []) }
+        ensures taken { TakesTargets (by_line (waiting_in self.old))
+            (by_line (waiting_in self.new)) line.0 (result ∷ []) }
         ensures sound { IsMissFile (by_line (waiting_in self.new)) }
         ensures lines { length (by_line (waiting_in self.old))
             ≡ length (by_line (waiting_in self.new))
@@ -146,7 +148,8 @@ impl EntryTable {
         requires enough { count ≤ length (targets_of (by_line (waiting_in self.old)) line.0) }
         ensures kept { IsEntryTable self.new }
         ensures first { result.items ≡ take count (targets_of (by_line (waiting_in self.old)) line.0) }
-        ensures taken { TakesTargets (by_line (waiting_in self.old)) (by_line (waiting_in self.new)) line.0 result.items }
+        ensures taken { TakesTargets (by_line (waiting_in self.old))
+            (by_line (waiting_in self.new)) line.0 result.items }
         ensures sound { IsMissFile (by_line (waiting_in self.new)) }
         ensures lines { length (by_line (waiting_in self.old))
             ≡ length (by_line (waiting_in self.new))

@@ -19,8 +19,8 @@
 //!   the tag is free.
 //!
 //! Only [`MissFile::make`] takes memory: registers and their rows stand in boxed slices, which have no call that lets
-//! them grow, and entries lie in the value. A call searches a row of 16 bytes for each register of its file, at most 32,
-//! or for each entry that is in use, at most 64. A target is taken where it stands, and no other target moves; only
+//! them grow, and entries lie in the value. A call searches a row of 16 bytes for each register of its file, at most
+//! 32, or for each entry that is in use, at most 64. A target is taken where it stands, and no other target moves; only
 //! [`MissFile::targets`], [`MissFile::take_loads`] and [`MissFile::close`] hand out a list, 3 KB by value.
 //!
 //! What follows for callers from `AddsTarget` and `TakesTargets` stands in proofs/Changes.antt.

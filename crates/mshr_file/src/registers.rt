@@ -1,9 +1,11 @@
-ghost use Rattle.std.specs.Prelude.{◌≡◌, ◌<◌, ◌≤◌, ◌+◌, ◌==◌, [], ◌∷◌, true, false, nat_lt, not, if◌then◌else◌, length, filter, IfOk, replicate, slice_index_or};
+ghost use Rattle.std.specs.Prelude.{◌≡◌, ◌<◌, ◌≤◌, ◌+◌, ◌==◌, [], ◌∷◌, true, false, nat_lt, not, if◌then◌else◌, length};
+ghost use Rattle.std.specs.Prelude.{filter, IfOk, replicate, slice_index_or};
 ghost use Rattle.std.specs.Box.{boxed_slice_items};
 ghost use Rattle.std.specs.List.{list_any, position};
 ghost use Rattle.target_list.specs.Target.{front_loads};
 ghost use Rattle.mshr_file.specs.Miss.{is_waited, targets_of, has_miss, AddsTarget, TakesTargets, IsMissFile};
-ghost use Rattle.mshr_file.specs.Register.{IsKept, registers_in, open_in, serves, no_register, row_of, no_row, row_serves, is_free_row};
+ghost use Rattle.mshr_file.specs.Register.{IsKept, registers_in, open_in, serves, no_register, row_of, no_row};
+ghost use Rattle.mshr_file.specs.Register.{row_serves, is_free_row};
 
 use address_map::Local;
 use arrayvec::ArrayVec;

@@ -1,5 +1,6 @@
 -- The parts of a text, and what is read from them.
-use Rattle.std.proofs.Common.{◌≡◌, ℕ, ◌+◌, ◌-◌, true, false, List, [], ◌∷◌, Option, None, Some, Bor, length, take, drop, refl, sym, ap, subst, ◌∙◌}
+use Rattle.std.proofs.Common.{◌≡◌, ℕ, ◌+◌, ◌-◌, true, false, List, [], ◌∷◌, Option, None, Some, Bor, length, take, drop}
+use Rattle.std.proofs.Common.{refl, sym, ap, subst, ◌∙◌}
 use Rattle.std.specs.Prelude.{MatchOption, option_and_then, option_map, slice_get, if◌then◌else◌}
 use Rattle.std.specs.Char.{is_ascii_digit}
 use Rattle.std.specs.Str.{bytes_eq}
@@ -32,7 +33,8 @@ is_behind mark text (Some x) is = rw (is.0, is.1)
 
 pub is_before : (mark text : List ℕ) (r : Option (Bor (List ℕ)))
     → MatchOption r (bytes_eq (drop (length text - length mark) text) mark ≡ false)
-    (λ x. (bytes_eq (drop (length text - length mark) text) mark ≡ true) × (x.now ≡ take (length text - length mark) text)
+    (λ x. (bytes_eq (drop (length text - length mark) text) mark ≡ true)
+    × (x.now ≡ take (length text - length mark) text)
     × (length x.now + length mark ≡ length text)) → option_map (λ front. front.now) r ≡ before mark text
 unfolding before
 is_before mark text None fails = rw fails

@@ -1,5 +1,6 @@
 -- What a writer of a script knows on its way.
-use Rattle.std.specs.Prelude.{◌≡◌, ℕ, zero, suc, Bool, false, ◌<◌, ◌%◌, ◌==◌, List, [], ◌∷◌, ◌++◌, Option, None, Some, get_or}
+use Rattle.std.specs.Prelude.{◌≡◌, ℕ, zero, suc, Bool, false, ◌<◌, ◌%◌, ◌==◌, List, [], ◌∷◌, ◌++◌, Option, None, Some}
+use Rattle.std.specs.Prelude.{get_or}
 use Rattle.murphi_trace.specs.declared.rule.Rule.{Rule}
 use Rattle.murphi_trace.specs.Rule.{last_core}
 use Rattle.murphi_trace.specs.Script.{Step, accesses_of, is_access_of, names_data_e, text_of_step}

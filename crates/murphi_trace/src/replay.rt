@@ -6,9 +6,12 @@ ghost use Rattle.std.specs.Str.Lines.{lines};
 ghost use Rattle.address_map.specs.declared.request.Op.{Op};
 ghost use Rattle.murphi_trace.specs.declared.rule.Rule.{Rule};
 ghost use Rattle.murphi_trace.specs.Fired.{fired_by, fired_in, name_and_cores};
-ghost use Rattle.murphi_trace.specs.Replay.{AreTags, IsAccess, core_told, data_e_told, last_tag, rules_with, text_of_told};
+ghost use Rattle.murphi_trace.specs.Replay.{AreTags, IsAccess, core_told, data_e_told, last_tag, rules_with};
+ghost use Rattle.murphi_trace.specs.Replay.{text_of_told};
 ghost use Rattle.murphi_trace.specs.Rule.{last_core};
-ghost use Rattle.murphi_trace.specs.Script.{access_of, accesses_of, commands_of, greatest_core, hand_before, names_data_e, script_of, step_by, steps_in, text_of_commands, text_of_steps};
+ghost use Rattle.murphi_trace.specs.Script.{access_of, accesses_of, commands_of, greatest_core, hand_before};
+ghost use Rattle.murphi_trace.specs.Script.{names_data_e, script_of, step_by, steps_in, text_of_commands};
+ghost use Rattle.murphi_trace.specs.Script.{text_of_steps};
 
 use super::fired::{Fired, parted};
 use super::output::{put_command, put_comment, put_machine};

@@ -3,7 +3,8 @@ ghost use Rattle.std.specs.Prelude.{◌≡◌, ◌<◌, IfSome};
 ghost use Rattle.murphi_trace.specs.declared.event.Event.{Event};
 ghost use Rattle.murphi_trace.specs.declared.rule.Rule.{Rule};
 ghost use Rattle.murphi_trace.specs.Fired.{name_and_cores};
-ghost use Rattle.murphi_trace.specs.Rule.{copy_rule, core_behind, core_of, directory_event, directory_rule, last_core, rule_at, rule_of};
+ghost use Rattle.murphi_trace.specs.Rule.{copy_rule, core_behind, core_of, directory_event, directory_rule, last_core};
+ghost use Rattle.murphi_trace.specs.Rule.{rule_at, rule_of};
 
 use super::event::Event;
 use super::fired::{Fired, behind, parted};

@@ -1,5 +1,6 @@
 -- What becomes of a delivery.
-use Rattle.std.proofs.Common.{◌≡◌, ℕ, ◌%◌, ◌<◌, ◌≤◌, true, false, List, length, slice_get, Option, Some, refl, sym, subst, ◌∙◌}
+use Rattle.std.proofs.Common.{◌≡◌, ℕ, ◌%◌, ◌<◌, ◌≤◌, true, false, List, length, slice_get, Option, Some, refl, sym}
+use Rattle.std.proofs.Common.{subst, ◌∙◌}
 use Rattle.std.proofs.lemmas.Bool.{le-ltb, lt-ltb}
 use Rattle.address_map.specs.Locator.{local_at}
 use Rattle.litmus_script.specs.Machine.{HasAt, IsAnswered, IsMade, log_at}
@@ -14,7 +15,8 @@ use Rattle.slice_queues_message.specs.Pick.{channel_of, line_of as line_of_pick}
 use Rattle.slice_queues_message.specs.declared.channel.Pick.{Pick}
 use Rattle.slice_queues_message.specs.declared.message.Message.{Message}
 use Rattle.program_run.specs.History.{History, HasSeen, after_message, after_performing}
-use Rattle.program_run.specs.Run.{AfterDelivery, HandsOut, Leads, Makes, Performs, RunnerView, program_of, run_of, woken}
+use Rattle.program_run.specs.Run.{AfterDelivery, HandsOut, Leads, Makes, Performs, RunnerView, program_of, run_of}
+use Rattle.program_run.specs.Run.{woken}
 use Rattle.program_run.specs.declared.moves.Move.TheVariants as moves
 
 -- the slice of a pick's line

@@ -1,12 +1,14 @@
 -- How a run goes on, move by move.
-use Rattle.std.proofs.Common.{◌≡◌, ℕ, ◌+◌, ◌-◌, ◌^◌, List, [], ◌∷◌, ◌++◌, length, Option, refl, sym, ap, subst, ◌∙◌, inl, inr, length-append}
+use Rattle.std.proofs.Common.{◌≡◌, ℕ, ◌+◌, ◌-◌, ◌^◌, List, [], ◌∷◌, ◌++◌, length, Option, refl, sym, ap, subst, ◌∙◌}
+use Rattle.std.proofs.Common.{inl, inr, length-append}
 use Rattle.std.specs.Prelude.{Contains}
 use Rattle.std.specs.Io.KnownBytes.{Appends}
 use Rattle.address_map.specs.declared.config.Config.{Config}
 use Rattle.mshr_file.specs.Miss.{Bound}
 use Rattle.program_text.specs.declared.programs.CoreProgram.{CoreProgram}
 use Rattle.program_run.specs.History.{History, HasSeen, no_history}
-use Rattle.program_run.specs.Run.{IsNewRunner, IsOver, IsProgramsRun, Leads, Makes, MakesAll, PrintsEnd, RunnerView, RunState, Runs, asks_of, deliveries_of, moves_of, run_of, text_of, text_of_stuck}
+use Rattle.program_run.specs.Run.{IsNewRunner, IsOver, IsProgramsRun, Leads, Makes, MakesAll, PrintsEnd, RunnerView}
+use Rattle.program_run.specs.Run.{RunState, Runs, asks_of, deliveries_of, moves_of, run_of, text_of, text_of_stuck}
 use Rattle.program_run.specs.Tally.{TallyView}
 use Rattle.program_run.specs.declared.moves.Move.{Move}
 use Rattle.program_run.specs.declared.run.Form.{Form}

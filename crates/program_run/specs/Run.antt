@@ -1,6 +1,8 @@
 -- A run of programs: what may come next, and what each move does to the machine, to where programs stand, and to what
 -- is seen.
-use Rattle.std.specs.Prelude.{◌≡◌, ◌⊎◌, ℕ, ◌*◌, ◌-◌, ◌^◌, ◌+◌, ◌%◌, ◌==◌, ◌||◌, nat_lt, not, Bool, true, false, if◌then◌else◌, List, [], ◌∷◌, ◌++◌, length, map, filter, min, position, replicate, slice_get, slice_set, codes, decimal, All, Contains, Option, None, Some}
+use Rattle.std.specs.Prelude.{◌≡◌, ◌⊎◌, ℕ, ◌*◌, ◌-◌, ◌^◌, ◌+◌, ◌%◌, ◌==◌, ◌||◌, nat_lt, not, Bool, true, false}
+use Rattle.std.specs.Prelude.{if◌then◌else◌, List, [], ◌∷◌, ◌++◌, length, map, filter, min, position, replicate}
+use Rattle.std.specs.Prelude.{slice_get, slice_set, codes, decimal, All, Contains, Option, None, Some}
 use Rattle.std.specs.Io.KnownBytes.{Appends}
 use Rattle.std.specs.List.{flat_map, range_with_len}
 use Rattle.std.specs.Str.Lines.{lines}
@@ -42,7 +44,8 @@ use Rattle.slice_queues_message.specs.Pick.{channel_of, line_of as line_of_pick}
 use Rattle.slice_queues_message.specs.declared.channel.Class.TheVariants as classes
 use Rattle.slice_queues_message.specs.declared.channel.Pick.{Pick}
 use Rattle.slice_queues_message.specs.declared.message.Message.{Message}
-use Rattle.program_run.specs.History.{History, HasSeen, after_eviction, after_hit, after_message, after_performing, has_line, no_history}
+use Rattle.program_run.specs.History.{History, HasSeen, after_eviction, after_hit, after_message, after_performing}
+use Rattle.program_run.specs.History.{has_line, no_history}
 use Rattle.program_run.specs.Json.{json_of}
 use Rattle.program_run.specs.Report.{report_of}
 use Rattle.program_run.specs.Tally.{TallyView, new_tally, tally_after}

@@ -3,7 +3,8 @@ ghost use Rattle.std.specs.List.{flat_map, range_with_len};
 ghost use Rattle.litmus_text.specs.Command.{HasCore};
 ghost use Rattle.slice_core_plan.specs.Parts.{next_pick};
 ghost use Rattle.slice_queues_message.specs.declared.channel.Class.TheVariants as classes;
-ghost use Rattle.program_run.specs.Run.{asks_of, decided, deliveries_of, is_taken, may_be_asked, next_by, next_of, request_of};
+ghost use Rattle.program_run.specs.Run.{asks_of, decided, deliveries_of, is_taken, may_be_asked, next_by, next_of};
+ghost use Rattle.program_run.specs.Run.{request_of};
 
 use address_map::{CoreId, Request};
 use litmus_script::Machine;

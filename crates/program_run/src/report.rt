@@ -2,7 +2,8 @@ ghost use Rattle.std.specs.Prelude.{◌≡◌, OnOk, decimal};
 ghost use Rattle.std.specs.Fmt.{WritesInCalls};
 ghost use Rattle.stats_report.specs.Report.{right_in_10};
 ghost use Rattle.program_run.specs.Column.{name_of};
-ghost use Rattle.program_run.specs.Report.{core_rows, counts_of, heading_of, line_row, line_rows, names_of, report_of, row_of};
+ghost use Rattle.program_run.specs.Report.{core_rows, counts_of, heading_of, line_row, line_rows, names_of, report_of};
+ghost use Rattle.program_run.specs.Report.{row_of};
 
 use super::column::{Column, core_columns, line_columns};
 use super::tally::{Counts, Tally};

@@ -29,8 +29,8 @@ pub enum Form {
     Json,
 }
 
-/// Runs the programs that a text says in the order that the seed draws, and prints the report. Answers the exit status, which
-/// is 1 where nothing can move before the end; then nothing else is printed.
+/// Runs the programs that a text says in the order that the seed draws, and prints the report. Answers the exit status,
+/// which is 1 where nothing can move before the end; then nothing else is printed.
 pub fn run_programs<W: Write>(
     alloc: Global,
     input: &[u8],
@@ -56,7 +56,8 @@ fn run_read<W: Write>(
     form: Form,
     out: &mut W,
 ) -> Result<u8, TextFault>
-    ensures done { IfOk result (λ status. IsProgramsRun programs.now.config (bound_of programs.now.misses programs.now.config)
+    ensures done { IfOk result (λ status. IsProgramsRun programs.now.config
+        (bound_of programs.now.misses programs.now.config)
         programs.now.cores.items form seed status (W.contents out.old) (W.contents out.new)) }
     ensures fault { IfErr result IsOfRun }
 {

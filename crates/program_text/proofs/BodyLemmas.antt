@@ -1,10 +1,13 @@
 -- Accesses that are spread, and written out, and how many there are.
-use Rattle.std.proofs.Common.{◌≡◌, ◌≢◌, ℕ, zero, suc, Bool, true, false, ◌+◌, ◌-◌, ◌*◌, ◌<◌, ◌≤◌, List, [], ◌∷◌, ◌++◌, length, get_or, map, take, drop, refl, sym, ap, ap₂, subst, ◌∙◌, arith, add-one, append_assoc, append-nil, length-append, length-drop, suc-mul}
+use Rattle.std.proofs.Common.{◌≡◌, ◌≢◌, ℕ, zero, suc, Bool, true, false, ◌+◌, ◌-◌, ◌*◌, ◌<◌, ◌≤◌, List, [], ◌∷◌, ◌++◌}
+use Rattle.std.proofs.Common.{length, get_or, map, take, drop, refl, sym, ap, ap₂, subst, ◌∙◌, arith, add-one}
+use Rattle.std.proofs.Common.{append_assoc, append-nil, length-append, length-drop, suc-mul}
 use Rattle.std.proofs.Math.Seq.{take-append_seam}
 use Rattle.std.specs.Prelude.{reverse, slice_range}
 use Rattle.std.specs.List.{range_with_len}
 use Rattle.std.proofs.Math.ListN.{set}
-use Rattle.std.proofs.lemmas.List.{drop-append-le, drop_all, get_or-drop, get_or_append_left, length-map, length-reverse, map-append, reverse-append, take_all, take_more, take-append-drop}
+use Rattle.std.proofs.lemmas.List.{drop-append-le, drop_all, get_or-drop, get_or_append_left, length-map}
+use Rattle.std.proofs.lemmas.List.{length-reverse, map-append, reverse-append, take_all, take_more, take-append-drop}
 use Rattle.std.proofs.lemmas.List.FromFn.{length-map-range_with_len, map-range_with_len_more}
 use Rattle.address_map.specs.declared.request.Op.{Op}
 use Rattle.program_text.specs.declared.programs.Access.{Access}

@@ -1,5 +1,7 @@
 -- What is wrong with a line in its place.
-use Rattle.std.proofs.Common.{◌≡◌, ℕ, zero, suc, Bool, true, false, ◌+◌, ◌-◌, ◌*◌, ◌/◌, ◌<◌, ◌≤◌, not, List, [], ◌∷◌, ◌++◌, map, length, None, Option, Some, refl, sym, ap, subst, ◌∙◌, inl, inr, arith, le-ltb, lt-ltb, ltb-true, ltb-false, leb-false, ne_eqb, mul-zero, zero-mul, suc-mul, mul_comm}
+use Rattle.std.proofs.Common.{◌≡◌, ℕ, zero, suc, Bool, true, false, ◌+◌, ◌-◌, ◌*◌, ◌/◌, ◌<◌, ◌≤◌, not, List, [], ◌∷◌}
+use Rattle.std.proofs.Common.{◌++◌, map, length, None, Option, Some, refl, sym, ap, subst, ◌∙◌, inl, inr, arith, le-ltb}
+use Rattle.std.proofs.Common.{lt-ltb, ltb-true, ltb-false, leb-false, ne_eqb, mul-zero, zero-mul, suc-mul, mul_comm}
 use Rattle.std.specs.Prelude.{◌^◌, ◌==◌, ◌||◌, min, nat_lt, reverse, slice_get}
 use Rattle.std.specs.List.{list_any}
 use Rattle.std.proofs.lemmas.List.Folds.{list_any-append}
@@ -17,9 +19,11 @@ use Rattle.program_text.specs.declared.range.Range.{Range}
 use Rattle.program_text.specs.declared.reader.Block.{Block}
 use Rattle.program_text.specs.declared.programs.CoreProgram.{CoreProgram}
 use Rattle.program_text.specs.Fault.{program_of}
-use Rattle.program_text.specs.Judged.{access_faults, count_of, fault_of, first_so, has_program, has_too_many, is_early, lacks_core, lacks_range, lacks_word}
+use Rattle.program_text.specs.Judged.{access_faults, count_of, fault_of, first_so, has_program, has_too_many, is_early}
+use Rattle.program_text.specs.Judged.{lacks_core, lacks_range, lacks_word}
 use Rattle.program_text.specs.Line.{begin, end, line_of, repeat}
-use Rattle.program_text.specs.Text.{Program, Said, ended, last_accesses, said_access, said_line, spread, with_accesses, written_out}
+use Rattle.program_text.specs.Text.{Program, Said, ended, last_accesses, said_access, said_line, spread, with_accesses}
+use Rattle.program_text.specs.Text.{written_out}
 use Rattle.program_text.proofs.BodyLemmas.{count_ended, count_spread}
 
 -- the first test that is so

@@ -11,7 +11,8 @@ use Rattle.program_text.specs.declared.keyword.Keyword.{Keyword}
 use Rattle.program_text.specs.declared.keyword.Keyword.TheVariants as keywords
 use Rattle.program_text.specs.Keyword.{name_of_keyword}
 use Rattle.program_text.specs.Range.{IsRange}
-use Rattle.program_text.specs.Line.{Line, setting, begin, load, store, add, cas, repeat, end, WritesLine, WritesRange, WritesSetting}
+use Rattle.program_text.specs.Line.{Line, setting, begin, load, store, add, cas, repeat, end, WritesLine, WritesRange}
+use Rattle.program_text.specs.Line.{WritesSetting}
 
 -- words of another number than a range and the parts don't write them
 pub wrong_range : {X : Type 0} (text : X → List ℕ) (words : List X) (first last : ℕ) (parts : List Part)

@@ -1,5 +1,6 @@
 -- What the statements that are left say, all of them say.
-use Rattle.std.proofs.Common.{◌≡◌, ℕ, List, [], ◌∷◌, ◌++◌, map, refl, sym, ap, subst, ◌∙◌, inl, inr, append-nil, append_assoc}
+use Rattle.std.proofs.Common.{◌≡◌, ℕ, List, [], ◌∷◌, ◌++◌, map, refl, sym, ap, subst, ◌∙◌, inl, inr, append-nil}
+use Rattle.std.proofs.Common.{append_assoc}
 use Rattle.std.specs.Prelude.{◌⊎◌, Bool, false, None, Option, Some, Result, Ok, Err, OnOk, reverse}
 use Rattle.std.specs.Option.{option_map_or}
 use Rattle.std.specs.Str.Lines.{lines}
@@ -16,7 +17,8 @@ use Rattle.litmus_text.specs.declared.fault.TextFault.TheVariants as faults
 use Rattle.litmus_text.specs.declared.settings.Settings.{Settings}
 use Rattle.program_text.specs.declared.programs.Programs.{Programs}
 use Rattle.litmus_text.proofs.FaultLemmas.{form_refuses}
-use Rattle.program_text.specs.Fault.{BeginOtherwise, HasFault, IsConfigFault, IsFault, IsFaultyLine, IsProgramText, Says, Statement, programs_of, settings_of}
+use Rattle.program_text.specs.Fault.{BeginOtherwise, HasFault, IsConfigFault, IsFault, IsFaultyLine, IsProgramText}
+use Rattle.program_text.specs.Fault.{Says, Statement, programs_of, settings_of}
 use Rattle.program_text.specs.Judged.{fault_of, first_so, is_early}
 use Rattle.program_text.specs.Keyword.{IsFormFault}
 use Rattle.program_text.specs.Line.{Line, setting, BeginsAsSetting, WritesLine, WritesSetting}

@@ -1,8 +1,11 @@
-ghost use Rattle.std.specs.Prelude.{◌≡◌, ◌==◌, ◌+◌, ◌&&◌, ◌||◌, false, IfErr, None, OnOk, Some, length, nat_le, nat_lt, reverse};
+ghost use Rattle.std.specs.Prelude.{◌≡◌, ◌==◌, ◌+◌, ◌&&◌, ◌||◌, false, IfErr, None, OnOk, Some, length, nat_le, nat_lt};
+ghost use Rattle.std.specs.Prelude.{reverse};
 ghost use Rattle.std.specs.List.{list_any};
 ghost use Rattle.program_text.specs.declared.programs.CoreProgram.{CoreProgram};
 ghost use Rattle.program_text.specs.Fault.{programs_of};
-ghost use Rattle.program_text.specs.Judged.{access_faults, count_of, fault_of, first_so, has_counter, has_program, has_too_many, is_closed, is_early, lacks_core, lacks_range, lacks_word, overwrites as overwrites_word};
+ghost use Rattle.program_text.specs.Judged.{access_faults, count_of, fault_of, first_so, has_counter, has_program};
+ghost use Rattle.program_text.specs.Judged.{has_too_many, is_closed, is_early, lacks_core, lacks_range, lacks_word};
+ghost use Rattle.program_text.specs.Judged.{overwrites as overwrites_word};
 ghost use Rattle.program_text.specs.Line.{begin, end, line_of, repeat};
 ghost use Rattle.program_text.specs.Reading.{IsSoundReader, said_by};
 ghost use Rattle.address_map.specs.declared.request.Op.{Op};

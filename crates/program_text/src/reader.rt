@@ -3,10 +3,12 @@ ghost use Rattle.std.specs.Str.Lines.{lines};
 ghost use Rattle.litmus_text.specs.ConfigLine.{configured};
 ghost use Rattle.litmus_text.specs.Statement.{statements_from};
 ghost use Rattle.litmus_text.specs.declared.settings.Settings.{Settings};
-ghost use Rattle.program_text.specs.Fault.{BeginOtherwise, IsFault, IsProgramText, Statement as ReadStatement, programs_of, settings_of};
+ghost use Rattle.program_text.specs.Fault.{BeginOtherwise, IsFault, IsProgramText, Statement as ReadStatement};
+ghost use Rattle.program_text.specs.Fault.{programs_of, settings_of};
 ghost use Rattle.program_text.specs.Judged.{fault_of, is_early};
 ghost use Rattle.program_text.specs.Line.{BeginsAsSetting, line_of};
-ghost use Rattle.program_text.specs.Reading.{IsSoundReader, IsPlaceFault, IsRead, IsReading, said_by, said_first, said_in};
+ghost use Rattle.program_text.specs.Reading.{IsSoundReader, IsPlaceFault, IsRead, IsReading, said_by, said_first};
+ghost use Rattle.program_text.specs.Reading.{said_in};
 ghost use Rattle.program_text.specs.Text.{Program, said_line};
 
 use super::line::Line;

@@ -1,6 +1,7 @@
 -- The table of a private cache as text: a part for what a core does and is asked for, and one for what answers it. Each
 -- has a heading, and a line for each state with a cell for each event.
-use Rattle.std.specs.Prelude.{◌&&◌, ◌||◌, Bool, true, false, not, ℕ, List, [], ◌∷◌, ◌++◌, codes, map, Option, Some, None, unwrap_or, if◌then◌else◌}
+use Rattle.std.specs.Prelude.{◌&&◌, ◌||◌, Bool, true, false, not, ℕ, List, [], ◌∷◌, ◌++◌, codes, map, Option, Some}
+use Rattle.std.specs.Prelude.{None, unwrap_or, if◌then◌else◌}
 use Rattle.std.specs.Borrow.{Bor}
 use Rattle.std.specs.List.{flat_map}
 use Rattle.cache_table.specs.CopyState.{is_leaving, is_waiting}
@@ -93,7 +94,8 @@ only_copy =
 -- what answers a core
 abbrev pub answered : Bool → List Column
 answered exclusive =
-    (codes "Data, k = n", events.Data 1 1) ∷ (codes "Data, k < n", events.Data 1 0) ∷ (codes "Data, k > n", events.Data 0 1)
+    (codes "Data, k = n", events.Data 1 1) ∷ (codes "Data, k < n", events.Data 1 0)
+    ∷ (codes "Data, k > n", events.Data 0 1)
     ∷ (codes "Inv-Ack, k + 1 = n", events.InvAck 1 0) ∷ (codes "Inv-Ack, k + 1 < n", events.InvAck 2 0)
     ∷ (codes "Inv-Ack, k + 1 > n", events.InvAck 0 0) ∷ (if exclusive then only_copy else [])
 

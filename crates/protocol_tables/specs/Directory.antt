@@ -1,5 +1,7 @@
--- The table of a directory as text, at sample entries: core r asks, o owns the line or owned it last, x is another core.
-use Rattle.std.specs.Prelude.{◌==◌, Bool, true, false, ℕ, List, [], ◌∷◌, ◌++◌, codes, decimal, Option, Some, None, if◌then◌else◌}
+-- The table of a directory as text, at sample entries: core r asks, o owns the line or owned it last, x is another
+-- core.
+use Rattle.std.specs.Prelude.{◌==◌, Bool, true, false, ℕ, List, [], ◌∷◌, ◌++◌, codes, decimal, Option, Some, None}
+use Rattle.std.specs.Prelude.{if◌then◌else◌}
 use Rattle.std.specs.List.{flat_map}
 use Rattle.address_map.specs.CoreSet.{members, only, with}
 use Rattle.address_map.specs.declared.address.CoreId.{CoreId}
@@ -78,7 +80,8 @@ all_events = events.GetS r ∷ events.GetM r ∷ events.PutS r ∷ events.PutM r
 -- the heading, and the line below it
 abbrev pub heading : List ℕ
 heading =
-    codes "| Directory | GetS of r | GetM of r | PutS of r | PutM of r | Data home |\n" ++ codes "|---|---|---|---|---|---|\n"
+    codes "| Directory | GetS of r | GetM of r | PutS of r | PutM of r | Data home |\n"
+    ++ codes "|---|---|---|---|---|---|\n"
 
 -- what the table says of an entry, whatever its block is
 abbrev pub row_at : Bool → Holders → DirEvent → DirRow

@@ -2,8 +2,10 @@
 
 ghost use Rattle.std.specs.Prelude.{◌≡◌, OnOk, option_map};
 ghost use Rattle.std.specs.Fmt.{WritesInCalls};
-ghost use Rattle.protocol_tables.specs.Cache.{all_states, answered, before_the_table, cells_of, columns_of, heading_of, line_of, lines_of};
-ghost use Rattle.protocol_tables.specs.Cache.{needs_exclusive, part_of, rules_of, setting_of, shown_line, table_of, text_of_deed, text_of_none, text_of_sends, titles_of};
+ghost use Rattle.protocol_tables.specs.Cache.{all_states, answered, before_the_table, cells_of, columns_of, heading_of};
+ghost use Rattle.protocol_tables.specs.Cache.{line_of, lines_of};
+ghost use Rattle.protocol_tables.specs.Cache.{needs_exclusive, part_of, rules_of, setting_of, shown_line, table_of};
+ghost use Rattle.protocol_tables.specs.Cache.{text_of_deed, text_of_none, text_of_sends, titles_of};
 
 use cache_table::{CacheEvent, CacheSends, CopyState, Row, cache_row};
 use std::fmt;

@@ -1,5 +1,6 @@
 -- A book counts as accepted what waits and what was performed, and so what each core had accepted.
-use Rattle.std.proofs.Common.{◌≡◌, ℕ, zero, suc, ◌+◌, ◌<◌, ◌≤◌, Bool, true, false, List, [], ◌∷◌, ◌++◌, length, get_or, take, refl, sym, ap, ◌∙◌, subst, inl, inr, arith, eq-eqb, eqb-true}
+use Rattle.std.proofs.Common.{◌≡◌, ℕ, zero, suc, ◌+◌, ◌<◌, ◌≤◌, Bool, true, false, List, [], ◌∷◌, ◌++◌, length, get_or}
+use Rattle.std.proofs.Common.{take, refl, sym, ap, ◌∙◌, subst, inl, inr, arith, eq-eqb, eqb-true}
 use Rattle.std.specs.Prelude.{◌==◌, nat_lt, count_by, All, Contains}
 use Rattle.std.proofs.Math.Seq.{take-length, take-suc}
 use Rattle.std.proofs.lemmas.Bool.{and_from, and_parts, cases_Bool, cases_lt}
@@ -9,7 +10,8 @@ use Rattle.address_map.specs.declared.address.CoreId.{CoreId}
 use Rattle.address_map.specs.declared.address.Local.{Local}
 use Rattle.mshr_file.specs.Miss.{count_of, targets_of}
 use Rattle.receipt_ledger.proofs.Numbered.{as-many, below, below-all, below-more, below-none, numbered}
-use Rattle.receipt_ledger.proofs.Picked.{at_most_one, count-all, count-at, count-contained, count-none, one-picked, one_if}
+use Rattle.receipt_ledger.proofs.Picked.{at_most_one, count-all, count-at, count-contained, count-none, one-picked}
+use Rattle.receipt_ledger.proofs.Picked.{one_if}
 use Rattle.receipt_ledger.proofs.Targets.{one-target, target-counted, target-found}
 use Rattle.receipt_ledger.specs.Accepted.{AcceptedAreTheCores, accepted_by}
 use Rattle.receipt_ledger.specs.Counted.{AreMarked}

@@ -1,5 +1,6 @@
 -- What each step of the small machine makes of a book.
-use Rattle.std.proofs.Common.{◌≡◌, ℕ, ◌+◌, false, List, [], ◌∷◌, ◌++◌, length, map, sym, ap, ◌∙◌, subst, ⊎_elim, Some, set, true, zero-add, arith}
+use Rattle.std.proofs.Common.{◌≡◌, ℕ, ◌+◌, false, List, [], ◌∷◌, ◌++◌, length, map, sym, ap, ◌∙◌, subst, ⊎_elim, Some}
+use Rattle.std.proofs.Common.{set, true, zero-add, arith}
 use Rattle.std.specs.Prelude.{slice_get}
 use Rattle.std.proofs.lemmas.List.{length-append}
 use Rattle.address_map.specs.declared.address.WordAddr.{WordAddr}
@@ -13,7 +14,8 @@ use Rattle.address_map.specs.Place.{counters_of}
 use Rattle.receipt_shares.specs.Totals.{Totals, nothing, only_accepted, only_handed, together, totals}
 use Rattle.slice_core_log.proofs.Pushes.{slice_get-push}
 use Rattle.slice_core_log.specs.declared.entry.Entry.{Entry}
-use Rattle.slice_core_machine.specs.Machine.{Asked, Can, IsSame, Machine, Run, accept, after, entry_for, hand, new_machine, perform}
+use Rattle.slice_core_machine.specs.Machine.{Asked, Can, IsSame, Machine, Run, accept, after, entry_for, hand}
+use Rattle.slice_core_machine.specs.Machine.{new_machine, perform}
 
 -- one more that is handed out is counted as such, wherever it stands
 pub totals-one_more : (words : List WordAddr) (n : ℕ) (e : Entry) (old new : List Entry) → OneMore e old new

@@ -1,10 +1,12 @@
 -- What is gathered from a port is given back to it: its requests, and its receipts' entries one by one.
-use Rattle.std.proofs.Common.{◌≡◌, ℕ, ◌+◌, ◌<◌, ◌≤◌, List, [], ◌∷◌, ◌++◌, length, take, drop, get_or, sym, ap, ◌∙◌, zero-add}
+use Rattle.std.proofs.Common.{◌≡◌, ℕ, ◌+◌, ◌<◌, ◌≤◌, List, [], ◌∷◌, ◌++◌, length, take, drop, get_or, sym, ap, ◌∙◌}
+use Rattle.std.proofs.Common.{zero-add}
 use Rattle.std.proofs.lemmas.List.{drop_more, map-append, take_all, take_more}
 use Rattle.address_map.specs.declared.address.WordAddr.{WordAddr}
 use Rattle.receipt_ledger.specs.Port.{entries_of}
 use Rattle.receipt_ledger.specs.declared.receipt.Receipt.{Receipt}
-use Rattle.receipt_shares.proofs.Totals.{together_assoc, together_cancel, together_comm, together_nothing, totals_accepted, totals_cons, totals_nil, totals_push, within_together}
+use Rattle.receipt_shares.proofs.Totals.{together_assoc, together_cancel, together_comm, together_nothing}
+use Rattle.receipt_shares.proofs.Totals.{totals_accepted, totals_cons, totals_nil, totals_push, within_together}
 use Rattle.receipt_shares.specs.Totals.{IsWithin, Totals, nothing, only_accepted, only_handed, together, totals}
 
 -- the second and the third change places

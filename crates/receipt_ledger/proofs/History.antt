@@ -1,13 +1,15 @@
--- Where each entry of the log is held, and the ports have no more receipts than it has entries, the receipts are exactly
--- the log.
-use Rattle.std.proofs.Common.{◌≡◌, ℕ, zero, suc, ◌+◌, ◌<◌, ◌≤◌, ◌⊎◌, Bool, true, false, cond, List, [], ◌∷◌, ◌++◌, length, map, Option, Some, None, refl, sym, ap, ◌∙◌, subst, inl, inr, arith}
+-- Where each entry of the log is held, and the ports have no more receipts than it has entries, the receipts are
+-- exactly the log.
+use Rattle.std.proofs.Common.{◌≡◌, ℕ, zero, suc, ◌+◌, ◌<◌, ◌≤◌, ◌⊎◌, Bool, true, false, cond, List, [], ◌∷◌, ◌++◌}
+use Rattle.std.proofs.Common.{length, map, Option, Some, None, refl, sym, ap, ◌∙◌, subst, inl, inr, arith}
 use Rattle.std.specs.Prelude.{◌==◌, find, slice_get, MatchOption}
 use Rattle.std.proofs.lemmas.Bool.{eqb-true}
 use Rattle.std.proofs.lemmas.List.{length-map}
 use Rattle.std.proofs.lemmas.Option.{same_Some, slice_get_within}
 use Rattle.receipt_ledger.proofs.Near.{contained-at}
 use Rattle.receipt_ledger.proofs.Times.{are-once, counted-at, one-place}
-use Rattle.receipt_ledger.specs.History.{AreHeld, AreHistory, HasAsked, HasReceipt, IsAccounted, IsHeld, receipts_in, times}
+use Rattle.receipt_ledger.specs.History.{AreHeld, AreHistory, HasAsked, HasReceipt, IsAccounted, IsHeld, receipts_in}
+use Rattle.receipt_ledger.specs.History.{times}
 use Rattle.receipt_ledger.specs.Port.{PortView}
 use Rattle.receipt_ledger.specs.declared.receipt.Receipt.{Receipt}
 use Rattle.slice_core_log.specs.declared.entry.Entry.{Entry}

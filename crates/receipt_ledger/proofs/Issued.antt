@@ -1,5 +1,6 @@
 -- A request that isn't refused stores to no counter, and what is done at once is the last of the log.
-use Rattle.std.proofs.Common.{◌≡◌, ℕ, ◌⊎◌, Bool, true, false, not, if◌then◌else◌, length, Ok, Err, Option, Some, None, refl, ⊎_elim}
+use Rattle.std.proofs.Common.{◌≡◌, ℕ, ◌⊎◌, Bool, true, false, not, if◌then◌else◌, length, Ok, Err, Option, Some, None}
+use Rattle.std.proofs.Common.{refl, ⊎_elim}
 use Rattle.std.specs.Prelude.{◌&&◌, nat_lt}
 use Rattle.address_map.specs.Locator.{is_past, local_at}
 use Rattle.address_map.specs.Place.{line_of}

@@ -38,7 +38,8 @@ new-tied c bound slice p known is same = record {
     init = is.init;
     counters = is.counters;
     cores = is.sides.count_is;
-    parts = λ core known. subst (λ side. IsBuiltAs c (shape_of side)) (sym (is.sides.each core.0 known)) (new-part c bound slice.0 core.0);
+    parts = λ core known. subst (λ side. IsBuiltAs c (shape_of side)) (sym (is.sides.each core.0 known))
+        (new-part c bound slice.0 core.0);
     exclusive = is.exclusive;
   };
   reported = ap (λ (s : StatsView). s.exclusive) is.stats;

@@ -1,5 +1,7 @@
--- What a slice answers says where the request's word lies, and of its tag and its access what configuration and request say.
-use Rattle.std.proofs.Common.{◌≡◌, ℕ, ◌*◌, ◌/◌, ◌%◌, ◌<◌, ◌≤◌, Bool, true, false, not, if◌then◌else◌, List, Ok, Err, Result, Option, Some, None, inl, inr, refl, sym, subst, arith}
+-- What a slice answers says where the request's word lies, and of its tag and its access what configuration and request
+-- say.
+use Rattle.std.proofs.Common.{◌≡◌, ℕ, ◌*◌, ◌/◌, ◌%◌, ◌<◌, ◌≤◌, Bool, true, false, not, if◌then◌else◌, List, Ok, Err}
+use Rattle.std.proofs.Common.{Result, Option, Some, None, inl, inr, refl, sym, subst, arith}
 use Rattle.std.specs.Prelude.{◌==◌, ◌&&◌, nat_lt, IsSome}
 use Rattle.std.proofs.lemmas.Bool.{false_from_ne_true, leb-false, leb-true, ltb-false, ltb-true}
 use Rattle.std.proofs.lemmas.Nat.{div-add-mod'}

@@ -1,5 +1,6 @@
 -- A port stays one: what it holds moves with its requests and receipts.
-use Rattle.std.proofs.Common.{◌≡◌, ℕ, zero, suc, ◌+◌, ◌<◌, ◌≤◌, List, [], ◌∷◌, ◌++◌, length, length-append, max, inl, inr, Some, refl, sym, ap, subst, ◌∙◌, arith}
+use Rattle.std.proofs.Common.{◌≡◌, ℕ, zero, suc, ◌+◌, ◌<◌, ◌≤◌, List, [], ◌∷◌, ◌++◌, length, length-append, max, inl}
+use Rattle.std.proofs.Common.{inr, Some, refl, sym, ap, subst, ◌∙◌, arith}
 use Rattle.std.specs.Prelude.{slice_get}
 use Rattle.std.proofs.lemmas.Bool.{cases_lt}
 use Rattle.std.proofs.lemmas.List.{map-append}
@@ -7,7 +8,8 @@ use Rattle.address_map.specs.declared.address.CoreId.{CoreId}
 use Rattle.address_map.specs.declared.address.SliceId.{SliceId}
 use Rattle.address_map.specs.declared.config.Config.{Config}
 use Rattle.address_map.specs.declared.request.Request.{Request}
-use Rattle.receipt_ledger.specs.Port.{AreFreshPorts, HasRoom, IsOwn, IsPort, IsWithRoom, PortView, Room, entries_of, fresh_port, held_by, seen_of, with_receipt, with_request, with_seen}
+use Rattle.receipt_ledger.specs.Port.{AreFreshPorts, HasRoom, IsOwn, IsPort, IsWithRoom, PortView, Room, entries_of}
+use Rattle.receipt_ledger.specs.Port.{fresh_port, held_by, seen_of, with_receipt, with_request, with_seen}
 use Rattle.receipt_ledger.specs.declared.receipt.Receipt.{Receipt}
 use Rattle.receipt_shares.proofs.Totals.{totals_accepted, totals_nil, totals_push}
 use Rattle.address_map.specs.Place.{counters_of}
@@ -44,7 +46,8 @@ last (x ∷ xs) y = last xs y
 
 -- The ports of the cores below this one, and this one's.
 pub ports-more : (slice : SliceId) (owner : CoreId) (ports : List PortView) (p : PortView)
-    → AreFreshPorts slice owner.0 ports → p ≡ fresh_port owner slice → AreFreshPorts slice (owner.0 + 1) (ports ++ p ∷ [])
+    → AreFreshPorts slice owner.0 ports → p ≡ fresh_port owner slice
+    → AreFreshPorts slice (owner.0 + 1) (ports ++ p ∷ [])
 ports-more slice owner ports p fresh is = record {
   long = length-append ports (p ∷ []) ∙ ap (λ n. n + 1) fresh.long;
   each = λ core within. elim (cases_lt core.0 owner.0) [

@@ -1,5 +1,6 @@
 -- Where a slice is quiet and its ports hold all that its book counts, they account for it.
-use Rattle.std.proofs.Common.{◌≡◌, ℕ, suc, ◌+◌, ◌<◌, ◌%◌, ◌^◌, true, get_or, List, [], ◌∷◌, length, map, Some, refl, sym, ap, ◌∙◌, subst, arith}
+use Rattle.std.proofs.Common.{◌≡◌, ℕ, suc, ◌+◌, ◌<◌, ◌%◌, ◌^◌, true, get_or, List, [], ◌∷◌, length, map, Some, refl}
+use Rattle.std.proofs.Common.{sym, ap, ◌∙◌, subst, arith}
 use Rattle.std.specs.Prelude.{Contains, slice_get, IsSome, Option, None}
 use Rattle.address_map.specs.Config.{word_count}
 use Rattle.address_map.specs.Locator.{local_at}

@@ -1,5 +1,7 @@
 -- What a port's streaks tell, and that they still tell it when more is kept.
-use Rattle.std.proofs.Common.{◌≡◌, ℕ, zero, suc, ◌+◌, ◌-◌, ◌<◌, ◌≤◌, ◌^◌, List, [], ◌∷◌, ◌++◌, get_or, length, length-append, map, if◌then◌else◌, inl, inr, Some, None, refl, sym, ap, subst, ◌∙◌, arith, nat_lt}
+use Rattle.std.proofs.Common.{◌≡◌, ℕ, zero, suc, ◌+◌, ◌-◌, ◌<◌, ◌≤◌, ◌^◌, List, [], ◌∷◌, ◌++◌, get_or, length}
+use Rattle.std.proofs.Common.{length-append, map, if◌then◌else◌, inl, inr, Some, None, refl, sym, ap, subst, ◌∙◌, arith}
+use Rattle.std.proofs.Common.{nat_lt}
 use Rattle.std.specs.Prelude.{slice_get}
 use Rattle.std.specs.List.{AllWithin, range_with_len}
 use Rattle.std.proofs.lemmas.Bool.{cases_lt, le-ltb, lt-ltb}
@@ -7,7 +9,8 @@ use Rattle.std.proofs.lemmas.List.{get_or_append_left, get_or_push}
 use Rattle.std.proofs.lemmas.List.FromFn.{get_or-map-range_with_len, length-map-range_with_len, map-range_with_len_more}
 use Rattle.std.proofs.lemmas.List.Sorted.{IsNonDecreasingBy-push}
 use Rattle.std.proofs.lemmas.Option.{slice_get-get_or, slice_get_past, slice_get_within, get_or_from_slice_get}
-use Rattle.receipt_ledger.specs.Account.{AccountView, AreStreaks, GoesOn, IsTelling, IsTold, account_of, asks_of, no_receipt, no_streak, place_in, receipt_at, streak_in, told_at, told_in}
+use Rattle.receipt_ledger.specs.Account.{AccountView, AreStreaks, GoesOn, IsTelling, IsTold, account_of, asks_of}
+use Rattle.receipt_ledger.specs.Account.{no_receipt, no_streak, place_in, receipt_at, streak_in, told_at, told_in}
 use Rattle.receipt_ledger.specs.History.{request_of}
 use Rattle.receipt_ledger.specs.declared.account.Streak.{Streak}
 use Rattle.receipt_ledger.specs.declared.receipt.Ask.{Ask}
@@ -30,7 +33,8 @@ asks-at streaks accepted receipts seq within =
     let long = asks_long streaks accepted receipts in
     let d : Ask = no_streak.ask in
     slice_get-get_or (asks_of streaks accepted receipts) seq d (omega (arith, long, within))
-    ∙ ap (λ (a : Ask). Some a) (get_or-map-range_with_len (told streaks receipts) 0 accepted seq seq d within (omega arith))
+    ∙ ap (λ (a : Ask). Some a) (get_or-map-range_with_len (told streaks receipts) 0 accepted seq
+    seq d within (omega arith))
 
 pub asks-past : (streaks : List Streak) (accepted : ℕ) (receipts : List Receipt) (seq : ℕ) → accepted ≤ seq
     → slice_get (asks_of streaks accepted receipts) seq ≡ None
@@ -224,7 +228,8 @@ module _ (streaks : List Streak) (accepted : ℕ) (receipts : List Receipt)
         streak-found no_streak streaks accepted (length streaks - 1) no_streak inside
         (λ k up.
         let first =
-        (are.within k (get_or streaks k no_streak) (slice_get-get_or streaks k no_streak (omega (arith, up, inside)))).0 in
+        (are.within k (get_or streaks k no_streak) (slice_get-get_or streaks k no_streak
+        (omega (arith, up, inside)))).0 in
         omega (arith, first))
         (λ k past within. absurd (omega (arith, past, within)))
         ∙ get_or_from_slice_get streaks (length streaks - 1) on.streak no_streak on.last
@@ -263,7 +268,8 @@ module _ (streaks : List Streak) (accepted : ℕ) (receipts : List Receipt)
 
     pub on-streaks : ask.seen < 2 ^ 64 → AreStreaks streaks (accepted + 1) (receipts ++ r ∷ [])
     on-streaks small = record {
-      some = λ more. let inside = slice_get_within streaks (length streaks - 1) on.streak on.last in omega (arith, inside);
+      some = λ more. let inside = slice_get_within streaks (length streaks - 1) on.streak
+          on.last in omega (arith, inside);
       begin = are.begin;
       ascend = are.ascend;
       within = λ k s there.

@@ -1,5 +1,6 @@
 -- State and book go on belonging together: what each call makes of the totals.
-use Rattle.std.proofs.Common.{◌≡◌, ℕ, ◌<◌, List, [], ◌∷◌, ◌++◌, get_or, length, map, Some, Ok, refl, sym, ap, ◌∙◌, subst, arith}
+use Rattle.std.proofs.Common.{◌≡◌, ℕ, ◌<◌, List, [], ◌∷◌, ◌++◌, get_or, length, map, Some, Ok, refl, sym, ap, ◌∙◌}
+use Rattle.std.proofs.Common.{subst, arith}
 use Rattle.std.specs.Prelude.{slice_get, slice_index_or}
 use Rattle.std.proofs.Math.ListN.{get_or-map}
 use Rattle.std.proofs.lemmas.List.{get_or_push, length-append}
@@ -137,7 +138,8 @@ module _ (c : Config) (number : ℕ) (t : Totals) (old new : PartsView) (tied : 
           booked =
               same-booked c number (together more (only_handed counters e)) (after initial performed (hand given))
               (hand-booked c number more performed
-              (perform-booked c number more accepted (accept-booked c number t m tied.booked initial asked leads.run.0 served)
+              (perform-booked c number more accepted
+              (accept-booked c number t m tied.booked initial asked leads.run.0 served)
               initial asked leads.run.1.0)
               initial given e leads.run.1.1.0 (ap (λ log. slice_get log given) leads.run.1.1.1.log ∙ there))
               (shown new.view) leads.run.1.1.1;
@@ -177,7 +179,8 @@ no-steps v = record {
 }
 
 -- What is handed out is an entry for the core that asked, on a word of the slice.
-module _ (c : Config) (number : ℕ) (t : Totals) (old new : PartsView) (tied : IsTied c number t old) (core : CoreId) where
+module _ (c : Config) (number : ℕ) (t : Totals) (old new : PartsView)
+    (tied : IsTied c number t old) (core : CoreId) where
   pub done-own : (request : Request) (given : ℕ) → AfterIssue old core request (Ok (issues.Done given)) new
       → Leads (issue_steps (next_of old.view core request) (Ok (issues.Done given))) old.view new.view
       → (e : Entry) → slice_get new.view.log given ≡ Some e → IsEntryOf c number core e

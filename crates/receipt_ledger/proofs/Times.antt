@@ -1,6 +1,7 @@
--- How often numbers stand in a list: where each of so many stands at least once in a list that is no longer, each stands
--- just once, and no other does.
-use Rattle.std.proofs.Common.{◌≡◌, ℕ, zero, suc, ◌+◌, ◌<◌, ◌≤◌, Bool, true, false, if◌then◌else◌, List, [], ◌∷◌, length, Some, refl, sym, ap, subst, inl, inr, arith, eq-eqb, lt-ltb}
+-- How often numbers stand in a list: where each of so many stands at least once in a list that is no longer, each
+-- stands just once, and no other does.
+use Rattle.std.proofs.Common.{◌≡◌, ℕ, zero, suc, ◌+◌, ◌<◌, ◌≤◌, Bool, true, false, if◌then◌else◌, List, [], ◌∷◌, length}
+use Rattle.std.proofs.Common.{Some, refl, sym, ap, subst, inl, inr, arith, eq-eqb, lt-ltb}
 use Rattle.std.specs.Prelude.{◌==◌, nat_lt, slice_get}
 use Rattle.std.proofs.lemmas.Bool.{cases_eq, cases_lt, le-ltb, ltb-true, ne_eqb}
 use Rattle.std.proofs.lemmas.Option.{same_Some}

@@ -1,5 +1,6 @@
 -- How a port keeps what was asked through it and what was handed out.
-use Rattle.std.specs.Prelude.{◌≡◌, ◌<◌, ◌≤◌, ℕ, ◌+◌, ◌-◌, ◌^◌, if◌then◌else◌, nat_lt, List, [], ◌∷◌, get_or, length, map, slice_get, Some}
+use Rattle.std.specs.Prelude.{◌≡◌, ◌<◌, ◌≤◌, ℕ, ◌+◌, ◌-◌, ◌^◌, if◌then◌else◌, nat_lt, List, [], ◌∷◌, get_or, length}
+use Rattle.std.specs.Prelude.{map, slice_get, Some}
 use Rattle.std.specs.List.{range_with_len}
 use Rattle.std.specs.List.Sorted.{IsNonDecreasingBy}
 use Rattle.address_map.specs.declared.request.Op.TheVariants as ops
@@ -24,7 +25,8 @@ no_account = record { asked = []; receipts = []; room = record { asked = 0; rece
 -- stands where there is no receipt
 abbrev pub no_receipt : Receipt
 no_receipt = record {
-  entry = record { op = ops.Load; word = record { 0 = 0 }; seq = 0; reply = 0; since = 0; core = record { 0 = 0 }; tag = 0 };
+  entry = record { op = ops.Load; word = record { 0 = 0 }; seq = 0; reply = 0; since = 0;
+      core = record { 0 = 0 }; tag = 0 };
   number = 0;
   slice = record { 0 = 0 };
 }

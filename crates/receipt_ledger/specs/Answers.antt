@@ -1,5 +1,6 @@
 -- What a port's calls answer, and what they leave.
-use Rattle.std.specs.Prelude.{◌≡◌, ◌⊎◌, ◌<◌, ◌≤◌, ◌-◌, ℕ, true, false, List, [], ◌∷◌, length, slice_get, Option, Some, None, Result, Ok, Err}
+use Rattle.std.specs.Prelude.{◌≡◌, ◌⊎◌, ◌<◌, ◌≤◌, ◌-◌, ℕ, true, false, List, [], ◌∷◌, length, slice_get, Option, Some}
+use Rattle.std.specs.Prelude.{None, Result, Ok, Err}
 use Rattle.std.specs.Option.{option_map}
 use Rattle.address_map.specs.Config.{word_count}
 use Rattle.address_map.specs.declared.address.SliceId.{SliceId}
@@ -127,7 +128,8 @@ receipt_of slice given = record { slice = slice; number = given.number; entry = 
 -- has none, nothing is asked.
 pub record AsksReply (old : PartsView) (port : PortView) (answer : Option Receipt) (new : PartsView) : Type 0 where
   pub flying : length port.receipts < length port.asked
-      → (given : Option Numbered) × AfterHand old port.core given new × (answer ≡ option_map (receipt_of port.slice) given)
+      → (given : Option Numbered) × AfterHand old port.core given new
+      × (answer ≡ option_map (receipt_of port.slice) given)
   pub landed : length port.asked ≤ length port.receipts → (answer ≡ None) × (new ≡ old)
 
 -- What a port has after that: one more receipt, of a request of its core, or what it had.
@@ -145,7 +147,8 @@ IsGenuineLast log (Ok (issues.Done number)) p = (r : Receipt) → IsLastOf p.rec
 IsGenuineLast log issue p = Unit {0}
 
 -- The port got one more receipt, that of the log's entry of this number, and the totals count it.
-pub record IsGiven (counters : List WordAddr) (log : List Entry) (number : ℕ) (old new : PortView) (before after : Totals)
+pub record IsGiven (counters : List WordAddr) (log : List Entry) (number : ℕ)
+    (old new : PortView) (before after : Totals)
     : Type 0 where
   pub entry : Entry
   pub there : slice_get log number ≡ Some entry

@@ -1,5 +1,6 @@
 -- The history of a slice as its ports hold it: what each of them asked for, and a receipt of each entry of the log.
-use Rattle.std.specs.Prelude.{◌≡◌, ◌≤◌, ◌<◌, ◌==◌, ℕ, ◌+◌, if◌then◌else◌, List, [], ◌∷◌, ◌++◌, length, map, find, slice_get, Contains, IsSomeAnd, MatchOption, Some}
+use Rattle.std.specs.Prelude.{◌≡◌, ◌≤◌, ◌<◌, ◌==◌, ℕ, ◌+◌, if◌then◌else◌, List, [], ◌∷◌, ◌++◌, length, map, find}
+use Rattle.std.specs.Prelude.{slice_get, Contains, IsSomeAnd, MatchOption, Some}
 use Rattle.address_map.specs.declared.request.Request.{Request}
 use Rattle.receipt_ledger.specs.Port.{PortView}
 use Rattle.receipt_ledger.specs.declared.receipt.Receipt.{Receipt}

@@ -1,4 +1,5 @@
-ghost use Rattle.std.specs.Prelude.{◌≡◌, ◌+◌, ◌<◌, ◌≤◌, [], ◌∷◌, ◌++◌, length, slice_get, vec_capacity, vec_len, IsTrue, OnOk};
+ghost use Rattle.std.specs.Prelude.{◌≡◌, ◌+◌, ◌<◌, ◌≤◌, [], ◌∷◌, ◌++◌, length, slice_get, vec_capacity, vec_len};
+ghost use Rattle.std.specs.Prelude.{IsTrue, OnOk};
 ghost use Rattle.std.specs.List.{AllWithin};
 ghost use Rattle.std.specs.List.Sorted.{IsNonDecreasingBy};
 ghost use Rattle.receipt_ledger.specs.Account.{AreStreaks, GoesOn, IsTold, no_account, told_in};
@@ -21,8 +22,8 @@ pub(crate) struct Streak {
 }
 
 /// What was asked through a port and what was handed out. A request that is done at once is named by its receipt, and
-/// the receipt before tells what had been seen, so it isn't kept a second time. Most requests are done so, and each byte
-/// that is written to a list that grows costs more than the search in a short one. Contracts see an `AccountView`.
+/// the receipt before tells what had been seen, so it isn't kept a second time. Most requests are done so, and each
+/// byte that is written to a list that grows costs more than the search in a short one. Contracts see an `AccountView`.
 #[derive(Drop)]
 pub(crate) struct Account {
     /// The accepted requests, in this order, which numbers them.
@@ -38,7 +39,8 @@ impl Model for Account {
 
     ghost Value = { AccountView };
 
-    ghost view = { λ a. account_of a.streaks.items a.accepted a.receipts.items (vec_capacity a.streaks) (vec_capacity a.receipts) };
+    ghost view = { λ a. account_of a.streaks.items a.accepted a.receipts.items (vec_capacity a.streaks)
+        (vec_capacity a.receipts) };
 
     ghost invariant = { λ a. AreStreaks a.streaks.items a.accepted a.receipts.items };
 }

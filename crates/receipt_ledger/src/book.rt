@@ -1,6 +1,7 @@
 ghost use Rattle.std.specs.Prelude.{◌≡◌, ◌<◌, ◌↔◌, length, slice_get, IfErr, IfSome, IsOk, IsTrue, OnErr, OnOk, Some};
 ghost use Rattle.receipt_ledger.specs.Answers.{AfterAsking, AfterReply, AfterRequest, AsksFor, AsksReply, AsksSlice};
-ghost use Rattle.receipt_ledger.specs.Answers.{IsDone, IsGenuine, IsGenuineAnswer, IsGenuineLast, IsGiven, IsJudged, IsKnown, IsShortOf};
+ghost use Rattle.receipt_ledger.specs.Answers.{IsDone, IsGenuine, IsGenuineAnswer, IsGenuineLast, IsGiven, IsJudged};
+ghost use Rattle.receipt_ledger.specs.Answers.{IsKnown, IsShortOf};
 ghost use Rattle.receipt_ledger.specs.Answers.{answer_steps, reply_steps};
 ghost use Rattle.receipt_ledger.specs.Booked.{IsTied};
 ghost use Rattle.receipt_ledger.specs.History.{request_of};
@@ -46,8 +47,8 @@ impl<N: SliceNames> Model for Book<N> {
 
 impl<N: SliceNames> Book<N> {
     /// Asks the slice for a word, as the port's core. The port's lists first get room for this request and for the
-    /// receipts of all requests in flight and of this one. A log that is shorter than what the port has seen of it isn't
-    /// the one that it saw, and is `Ahead`.
+    /// receipts of all requests in flight and of this one. A log that is shorter than what the port has seen of it
+    /// isn't the one that it saw, and is `Ahead`.
     pub fn accept<F: MissFile>(
         &mut self,
         state: &mut SliceState<F>,
@@ -60,7 +61,8 @@ impl<N: SliceNames> Book<N> {
         ensures ahead { IfErr result (IsShortOf port.old.seen) }
         ensures judged { IsJudged N.setup N.number request result }
         ensures genuine { IsGenuineAnswer state.new.view.log result }
-        ensures machine { Leads (answer_steps (next_of state.old.view port.old.core request) result) state.old.view state.new.view }
+        ensures machine { Leads (answer_steps (next_of state.old.view port.old.core request) result)
+            state.old.view state.new.view }
         ensures same { IsSameSlice state.old state.new }
         ensures tied { IsTied N.setup N.number self.new state.new }
     {
@@ -70,8 +72,8 @@ impl<N: SliceNames> Book<N> {
         }
     }
 
-    /// The same, with the slice's own answer. The receipt of what was done at once is the port's last: whoever has state
-    /// and book behind a lock may give it back before that is copied.
+    /// The same, with the slice's own answer. The receipt of what was done at once is the port's last: whoever has
+    /// state and book behind a lock may give it back before that is copied.
     pub fn ask<F: MissFile>(
         &mut self,
         state: &mut SliceState<F>,
@@ -84,7 +86,8 @@ impl<N: SliceNames> Book<N> {
         ensures ahead { IfErr result (IsShortOf port.old.seen) }
         ensures judged { IsJudged N.setup N.number request result }
         ensures genuine { IsGenuineLast state.new.view.log result port.new }
-        ensures machine { Leads (issue_steps (next_of state.old.view port.old.core request) result) state.old.view state.new.view }
+        ensures machine { Leads (issue_steps (next_of state.old.view port.old.core request) result)
+            state.old.view state.new.view }
         ensures same { IsSameSlice state.old state.new }
         ensures tied { IsTied N.setup N.number self.new state.new }
     {
@@ -173,9 +176,11 @@ impl<N: SliceNames> Book<N> {
     )
         requires room { HasRoom port.old }
         requires within { number < length state.now.view.log }
-        requires own { (e : Entry) → slice_get state.now.view.log number ≡ Some e → IsEntryOf N.setup N.number port.old.core e }
+        requires own { (e : Entry) → slice_get state.now.view.log number ≡ Some e
+            → IsEntryOf N.setup N.number port.old.core e }
         requires named { (e : Entry) → slice_get state.now.view.log number ≡ Some e → request_of e ≡ request }
-        ensures { IsDone (counters_of N.setup N.number) state.now.view.log number request port.old port.new self.old self.new }
+        ensures { IsDone (counters_of N.setup N.number) state.now.view.log number request port.old
+            port.new self.old self.new }
     {
         port.perform(
             &mut self.books,
@@ -190,7 +195,8 @@ impl<N: SliceNames> Book<N> {
     fn give<F: MissFile>(&mut self, state: &SliceState<F>, port: &mut Port<N>, number: u64)
         requires waiting { length port.old.receipts < length port.old.asked }
         requires within { number < length state.now.view.log }
-        requires own { (e : Entry) → slice_get state.now.view.log number ≡ Some e → IsEntryOf N.setup N.number port.old.core e }
+        requires own { (e : Entry) → slice_get state.now.view.log number ≡ Some e
+            → IsEntryOf N.setup N.number port.old.core e }
         ensures { IsGiven (counters_of N.setup N.number) state.now.view.log number port.old port.new self.old self.new }
     {
         port.receive(&mut self.books, &self.counters, state.log(), number);

@@ -49,7 +49,8 @@ fn gather_first<N: SliceNames, T: Lends<Port<N>, K>, const K: usize>(
     ensures share { share.new ≡ share.old }
     ensures first { first.new ≡ first.old }
     ensures rest { rest.new ≡ rest.old }
-    ensures whole { together share.old.held (held_in N.setup N.number (T.part first.old ∷ map T.part rest.old)) ≡ books.old }
+    ensures whole { together share.old.held (held_in N.setup N.number (T.part first.old ∷ map T.part rest.old)) ≡
+        books.old }
 {
     gather_port(books, words, share, first.part_mut(), rest);
 }
@@ -95,7 +96,8 @@ fn give_back<N: SliceNames>(
     requires words { AreCounters N.setup N.number words.now }
     requires parts { 1 < from.old.parts }
     requires none { (to.old.parts ≡ 0) × (to.old.held ≡ nothing) }
-    requires held { (rest : Totals) × (from.old.held ≡ together rest (totals words.now accepted (entries_of receipts.now))) }
+    requires held { (rest : Totals) × (from.old.held ≡ together rest
+        (totals words.now accepted (entries_of receipts.now))) }
     ensures parts_left { from.new.parts + 1 ≡ from.old.parts }
     ensures held_left { together from.new.held (totals words.now accepted (entries_of receipts.now)) ≡ from.old.held }
     ensures parts_given { to.new.parts ≡ 1 }

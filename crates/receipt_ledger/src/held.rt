@@ -1,4 +1,5 @@
-ghost use Rattle.std.specs.Prelude.{◌≡◌, ◌⊎◌, ◌+◌, ◌-◌, ◌<◌, ◌≤◌, ◌↔◌, length, map, slice_get, Contains, IsSomeAnd, IsTrue, Some};
+ghost use Rattle.std.specs.Prelude.{◌≡◌, ◌⊎◌, ◌+◌, ◌-◌, ◌<◌, ◌≤◌, ◌↔◌, length, map, slice_get, Contains, IsSomeAnd};
+ghost use Rattle.std.specs.Prelude.{IsTrue, Some};
 ghost use Rattle.receipt_ledger.specs.History.{AreHeld, HasAsked, HasReceipt, IsHeld, request_of};
 
 use super::account::request_of;
@@ -49,9 +50,10 @@ impl<N: SliceNames> Port<N> {
         was_asked(self.asked(entry.seq), number, entry)
     }
 
-    // Whether it has the receipt of the entry of this number. That is looked for from the request's own place outwards: it
-    // stands as far from there as requests overtook it and it overtook. Each overtakes fewer than the 64 that a core can
-    // have in flight, so the looks for all receipts of a port grow with their number, though those for one may be many.
+    // Whether it has the receipt of the entry of this number. That is looked for from the request's own place outwards:
+    // it stands as far from there as requests overtook it and it overtook. Each overtakes fewer than the 64 that a core
+    // can have in flight, so the looks for all receipts of a port grow with their number, though those for one may be
+    // many.
     fn has_receipt(&self, number: u64, entry: &Entry) -> bool
         ensures { IsTrue result ↔ HasReceipt self.now number entry.now }
     {
@@ -90,7 +92,8 @@ fn is_among(receipts: &[Receipt], place: u64, wanted: &Receipt) -> bool
 fn is_so_far(receipts: &[Receipt], place: usize, distance: usize, wanted: &Receipt) -> bool
     requires place { place ≤ length receipts.now }
     requires distance { distance < length receipts.now }
-    ensures { IsTrue result ↔ (slice_get receipts.now (place + distance) ≡ Some wanted.now) ⊎ ((distance < place) × (slice_get receipts.now (place - distance - 1) ≡ Some wanted.now)) }
+    ensures { IsTrue result ↔ (slice_get receipts.now (place + distance) ≡ Some wanted.now)
+        ⊎ ((distance < place) × (slice_get receipts.now (place - distance - 1) ≡ Some wanted.now)) }
 {
     let _long = receipts.len();
     is_at(receipts, place + distance, wanted)

@@ -9,7 +9,8 @@
 //! - [`Book::open`] makes a slice, its book and a port for each core; [`Port::idle_ports`] makes ports for a slice that
 //!   isn't there.
 //! - [`Book::accept`] asks the slice for a port. Its contract says that state and answer are those of the slice's own
-//!   call, and what the port has then. [`Book::ask`] leaves the receipt to be copied later, from the port ([`Port::last`]).
+//!   call, and what the port has then. [`Book::ask`] leaves the receipt to be copied later, from the port
+//!   ([`Port::last`]).
 //! - [`Book::hand_out`] hands out a reply, as the slice does.
 //! - [`Book::learn`] tells a port of a receipt that another port got.
 //! - [`Book::settle`] looks at a quiet slice with all its ports, each lent by whoever holds it ([`Lends`]): the ports

@@ -1,7 +1,9 @@
-ghost use Rattle.std.specs.Prelude.{◌≡◌, ◌+◌, ◌<◌, ◌≤◌, true, false, length, slice_get, vec_capacity, vec_len, OnOk, Some};
+ghost use Rattle.std.specs.Prelude.{◌≡◌, ◌+◌, ◌<◌, ◌≤◌, true, false, length, slice_get, vec_capacity, vec_len, OnOk};
+ghost use Rattle.std.specs.Prelude.{Some};
 ghost use Rattle.receipt_ledger.specs.Answers.{IsDone, IsGiven, IsLastOf};
 ghost use Rattle.receipt_ledger.specs.History.{request_of};
-ghost use Rattle.receipt_ledger.specs.Port.{AreOwn, HasRoom, IsEntryOf, IsWithRoom, fresh_port, with_request, with_seen};
+ghost use Rattle.receipt_ledger.specs.Port.{AreOwn, HasRoom, IsEntryOf, IsWithRoom, fresh_port, with_request};
+ghost use Rattle.receipt_ledger.specs.Port.{with_seen};
 ghost use Rattle.receipt_shares.specs.Names.{AreCounters};
 ghost use Rattle.receipt_shares.specs.Totals.{nothing, only_accepted, together};
 
@@ -31,7 +33,8 @@ impl<N: SliceNames> Model for Port<N> {
 
     ghost view = { λ p. port_with p.core p.slice p.account.asked p.account.receipts p.seen p.account.room };
 
-    ghost invariant = { λ p. IsPort N.setup N.number (port_with p.core p.slice p.account.asked p.account.receipts p.seen p.account.room) p.shares };
+    ghost invariant = { λ p. IsPort N.setup N.number
+        (port_with p.core p.slice p.account.asked p.account.receipts p.seen p.account.room) p.shares };
 }
 
 impl<N: SliceNames> Port<N> {

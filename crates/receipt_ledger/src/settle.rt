@@ -31,7 +31,8 @@ impl<N: SliceNames> Book<N> {
         requires tied { IsTied N.setup N.number self.old state.now }
         requires whole { length ports.old ≡ N.setup.cores }
         ensures history { IsSome result ↔ IsQuiet state.now.view × AreHeld (map T.part ports.old) state.now.view.log }
-        ensures settled { IfSome result (λ values. IsSettled N.setup N.number state.now.view (map T.part ports.old) values.items) }
+        ensures settled { IfSome result (λ values. IsSettled N.setup N.number state.now.view
+            (map T.part ports.old) values.items) }
         ensures book { self.new ≡ self.old }
         ensures ports { ports.new ≡ ports.old }
     {
@@ -88,7 +89,8 @@ impl<N: SliceNames> Book<N> {
     fn values<F: MissFile>(&self, state: &SliceState<F>) -> ArrayVec<u64, 8>
         requires tied { IsTied N.setup N.number self.now state.now }
         requires quiet { IsQuiet state.now.view }
-        ensures { result.items ≡ map (λ word. value (initially state.now.view.init word.0) state.now.view.log word.0) (counters_of N.setup N.number) }
+        ensures { result.items ≡ map (λ word. value (initially state.now.view.init word.0) state.now.view.log word.0)
+            (counters_of N.setup N.number) }
     {
         let counters: &[WordAddr] = &self.counters;
         let mut values = ArrayVec::new();

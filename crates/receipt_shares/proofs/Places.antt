@@ -1,5 +1,6 @@
 -- What one entry adds stands at the place of its word, and nowhere else.
-use Rattle.std.proofs.Common.{◌≡◌, ℕ, ◌<◌, ◌≤◌, ◌==◌, Bool, true, false, cond, List, [], ◌∷◌, length, get_or, ⊎_elim, Some, None, refl, sym, ap, ◌∙◌, arith, zero-add, eqb, eq-eqb, position}
+use Rattle.std.proofs.Common.{◌≡◌, ℕ, ◌<◌, ◌≤◌, ◌==◌, Bool, true, false, cond, List, [], ◌∷◌, length, get_or, ⊎_elim}
+use Rattle.std.proofs.Common.{Some, None, refl, sym, ap, ◌∙◌, arith, zero-add, eqb, eq-eqb, position}
 use Rattle.std.specs.Prelude.{if◌then◌else◌}
 use Rattle.std.specs.List.{position_or_len}
 use Rattle.std.proofs.lemmas.Bool.{cases_eq, cases_order, ne_eqb, eqb-true, ltb-false, false≢true}

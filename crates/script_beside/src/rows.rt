@@ -14,7 +14,8 @@ const BLANKS: &[u8; 38] = b"                                      ";
 
 /// Writes a command's line, and the lines of its answer beside it.
 pub(crate) fn write_beside<W: Write>(command: &[u8], answer: &[u8], out: &mut W) -> Result<(), Cut>
-    ensures { OnOk result (Appends (W.contents out.old) (W.contents out.new) (text_beside command.now (lines answer.now))) }
+    ensures { OnOk result (Appends (W.contents out.old) (W.contents out.new)
+        (text_beside command.now (lines answer.now))) }
 {
     let mut lines = Lines::of(answer);
     match lines.next() {

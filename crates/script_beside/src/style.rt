@@ -82,9 +82,11 @@ fn play_plain<F: MissFile, W: Write>(
     commands: Commands<'_>,
     out: &mut W,
 ) -> Result<(), TextFault>
-    ensures played { OnOk result (HasPlayed (IsBeside Plainly) machine.config (commands_of commands.entry) machine.slices.items
+    ensures played { OnOk result (HasPlayed (IsBeside Plainly) machine.config
+        (commands_of commands.entry) machine.slices.items
         (W.contents out.old) (W.contents out.new)) }
-    ensures fault { IfErr result (PlaysUpTo (IsBeside Plainly machine.config) machine.config (commands_of commands.entry)
+    ensures fault { IfErr result (PlaysUpTo (IsBeside Plainly machine.config) machine.config
+        (commands_of commands.entry)
         machine.slices.items (W.contents out.old) (W.contents out.new)) }
 {
     let answer = Vec::new(alloc);

@@ -1,5 +1,6 @@
 -- The copies of all lines, one line after another.
-use Rattle.std.proofs.Common.{◌≡◌, ◌≢◌, ℕ, ◌+◌, ◌-◌, ◌<◌, ◌≤◌, Bool, true, false, cond, List, [], ◌∷◌, ◌++◌, suc, zero, refl, sym, append_assoc, arith}
+use Rattle.std.proofs.Common.{◌≡◌, ◌≢◌, ℕ, ◌+◌, ◌-◌, ◌<◌, ◌≤◌, Bool, true, false, cond, List, [], ◌∷◌, ◌++◌, suc, zero}
+use Rattle.std.proofs.Common.{refl, sym, append_assoc, arith}
 use Rattle.std.proofs.Output.{writes_in_calls_append, writes_in_calls_nil}
 use Rattle.std.proofs.lemmas.List.{append-nil}
 use Rattle.std.specs.Fmt.{WritesInCalls}
@@ -12,11 +13,13 @@ use Rattle.script_explained.specs.declared.named.Named.{Named}
 use Rattle.script_explained.specs.declared.named.Named.TheVariants as named
 use Rattle.slice_core_plan.specs.View.{View}
 
-module _ {W : Type 0} (took : W → List ℕ → W → Type 0) (config : Config) (which : Named) (left : List ℕ) (v : View) (core : CoreId) where
+module _ {W : Type 0} (took : W → List ℕ → W → Type 0) (config : Config) (which : Named) (left : List ℕ)
+    (v : View) (core : CoreId) where
   -- the copy of the next line, and then those behind it
   pub next_copy : (line lines : ℕ) → line < lines → (old mid new : W)
       → WritesInCalls took old (text_of_named config which left v core line) mid
-      → WritesInCalls took mid (text_of_all_named config which left v core (range_with_len (line + 1) (lines - (line + 1)))) new
+      → WritesInCalls took mid (text_of_all_named config which left v core
+      (range_with_len (line + 1) (lines - (line + 1)))) new
       → WritesInCalls took old (text_of_all_named config which left v core (range_with_len line (lines - line))) new
   next_copy line lines within old mid new one rest =
       let e : lines - line ≡ suc (lines - (line + 1)) = omega arith in
@@ -36,7 +39,8 @@ one_more false line old new rest is = rw is refl
 
 pub one_leaves : (leaves : ℕ → Bool) (line lines : ℕ) → line < lines → (old new : List ℕ)
     → new ≡ (if leaves line then old ++ line ∷ [] else old)
-    → new ++ filter leaves (range_with_len (line + 1) (lines - (line + 1))) ≡ old ++ filter leaves (range_with_len line (lines - line))
+    → new ++ filter leaves (range_with_len (line + 1) (lines - (line + 1))) ≡ old
+    ++ filter leaves (range_with_len line (lines - line))
 one_leaves leaves line lines within old new is =
     let e : lines - line ≡ suc (lines - (line + 1)) = omega arith in
     rw e (one_more (leaves line) line old new (filter leaves (range_with_len (line + 1) (lines - (line + 1)))) is)
@@ -47,8 +51,10 @@ none_leaves leaves line lines behind all =
     let e : lines - line ≡ zero = omega arith in rw e (sym (append-nil all))
 
 -- where something is named, all lines are looked at
-pub copies_of_some : (config : Config) (which : Named) (left : List ℕ) (v : View) (core : CoreId) → which ≢ named.Nothing
-    → text_of_copies config which left v core ≡ text_of_all_named config which left v core (range_with_len 0 config.lines)
+pub copies_of_some : (config : Config) (which : Named) (left : List ℕ) (v : View) (core : CoreId)
+    → which ≢ named.Nothing
+    → text_of_copies config which left v core ≡ text_of_all_named config which left v core
+    (range_with_len 0 config.lines)
 copies_of_some config named.Nothing left v core some = absurd (some refl)
 copies_of_some config named.Waiting left v core some = refl
 copies_of_some config named.Leaving left v core some = refl

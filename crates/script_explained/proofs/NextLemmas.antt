@@ -18,11 +18,14 @@ nothing_next slice deliveries.Blocked next old new is none = refl
 nothing_next slice (deliveries.Broken cell) next old new is none = refl
 
 -- where one was, the command that makes it and what happened
-pub made_next : (slice : ℕ) (answer : DeliveredNext) (next : NextPick) (pick : Pick) (old new : View) → told answer ≡ next
-    → next ≡ next_picks.Move pick → text_of_next slice answer old new ≡ text_of_made pick (delivery_of slice pick old new)
+pub made_next : (slice : ℕ) (answer : DeliveredNext) (next : NextPick) (pick : Pick) (old new : View)
+    → told answer ≡ next
+    → next ≡ next_picks.Move pick → text_of_next slice answer old new ≡ text_of_made pick
+    (delivery_of slice pick old new)
 made_next slice (deliveries.Moved other) next pick old new is move =
     let same : other ≡ pick = cc (is, move) in
-    subst (λ (p : Pick). text_of_made other (delivery_of slice other old new) ≡ text_of_made p (delivery_of slice p old new)) same refl
+    subst (λ (p : Pick). text_of_made other (delivery_of slice other old new) ≡ text_of_made p
+    (delivery_of slice p old new)) same refl
 made_next slice deliveries.Nothing next pick old new is move = absurd (cc (is, move))
 made_next slice deliveries.Blocked next pick old new is move = absurd (cc (is, move))
 made_next slice (deliveries.Broken cell) next pick old new is move = absurd (cc (is, move))

@@ -13,7 +13,8 @@ use Rattle.slice_core_plan.specs.Parts.{PartsView}
 use Rattle.slice_queues_message.specs.Pick.{line_of}
 use Rattle.slice_queues_message.specs.declared.channel.Pick.{Pick}
 
-pub delivery_explained : (config : Config) (pick : Pick) (slice : ℕ) (old new : List PartsView) (before after : Option (List ℕ))
+pub delivery_explained : (config : Config) (pick : Pick) (slice : ℕ) (old new : List PartsView)
+    (before after : Option (List ℕ))
     → slice ≡ (line_of pick).0 % config.slices → OneSlice slice (ExplainsDelivery slice pick before after) old new
     → IsExplained config (commands.Deliver pick) old new before after
 delivery_explained config pick slice old new before after at told =
@@ -24,4 +25,5 @@ pub issue_explained : (config : Config) (core : CoreId) (request : Request) (sli
     → OneSlice slice (ExplainsIssue config slice core request before after) old new
     → IsExplained config (commands.Issue core request) old new before after
 issue_explained config core request slice old new before after at told =
-    record { explained = subst (λ (s : ℕ). OneSlice s (ExplainsIssue config s core request before after) old new) at told }
+    record { explained = subst (λ (s : ℕ). OneSlice s (ExplainsIssue config s core request before after) old new)
+    at told }

@@ -11,7 +11,8 @@ use Rattle.slice_core.specs.Facts.{IsSameSlice}
 use Rattle.slice_core_plan.specs.Parts.{PartsView}
 
 -- the slice is the one that it was
-same_slice : (config : Config) (i : ℕ) (old new : PartsView) → IsSameSlice old new → IsSliceOf config i old → IsSliceOf config i new
+same_slice : (config : Config) (i : ℕ) (old new : PartsView) → IsSameSlice old new → IsSliceOf config i old
+    → IsSliceOf config i new
 same_slice config i old new same is = record {
   cores = same.cores ∙ is.cores;
   lines = same.lines ∙ is.lines;
@@ -27,14 +28,17 @@ machine_kept config slices i old new below here same machine = record {
     | inl at ↦
         subst (λ (k : ℕ). IsSliceOf config k (get_or (set slices i new) k d)) (sym at)
         (rw (get_or-set_same slices i new d below)
-        (same_slice config i old new same (subst (λ (p : PartsView). IsSliceOf config i p) (sym here) (machine.each i old below))))
+        (same_slice config i old new same (subst (λ (p : PartsView). IsSliceOf config i p) (sym here)
+        (machine.each i old below))))
     | inr other ↦
-        rw (get_or-set_other slices i j new d other) (machine.each j d (subst (λ (n : ℕ). j < n) (length-set slices i new) within))
+        rw (get_or-set_other slices i j new d other)
+        (machine.each j d (subst (λ (n : ℕ). j < n) (length-set slices i new) within))
   ];
 }
 
 -- and what the slice made one of its slices made
-pub one_slice : (slices : List PartsView) (i : ℕ) (old new : PartsView) (Goes : PartsView → PartsView → Type 0) → i < length slices
+pub one_slice : (slices : List PartsView) (i : ℕ) (old new : PartsView) (Goes : PartsView → PartsView → Type 0)
+    → i < length slices
     → old ≡ get_or slices i old → Goes old new → OneSlice i Goes slices (set slices i new)
 one_slice slices i old new Goes below here goes = record {
   before = old;

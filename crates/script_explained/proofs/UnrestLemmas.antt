@@ -1,12 +1,14 @@
 -- The first of what is found on a walk over numbers.
-use Rattle.std.proofs.Common.{◌≡◌, ℕ, ◌+◌, ◌-◌, ◌<◌, ◌≤◌, Bool, true, false, List, [], ◌∷◌, ◌++◌, suc, zero, refl, arith, Some, None}
+use Rattle.std.proofs.Common.{◌≡◌, ℕ, ◌+◌, ◌-◌, ◌<◌, ◌≤◌, Bool, true, false, List, [], ◌∷◌, ◌++◌, suc, zero, refl}
+use Rattle.std.proofs.Common.{arith, Some, None}
 use Rattle.std.specs.List.{filter, flat_map, range_with_len}
 use Rattle.std.specs.Prelude.{IsSome, map, slice_get}
 
 module _ {X : Type 0} (from : ℕ → X) (holds : ℕ → Bool) where
   -- what doesn't hold here is found further on
   pub not_here : (i end : ℕ) → i < end → holds i ≡ false
-      → map from (filter holds (range_with_len i (end - i))) ≡ map from (filter holds (range_with_len (i + 1) (end - (i + 1))))
+      → map from (filter holds (range_with_len i (end - i))) ≡ map from
+      (filter holds (range_with_len (i + 1) (end - (i + 1))))
   not_here i end within fails = let e : end - i ≡ suc (end - (i + 1)) = omega arith in rw e (rw fails refl)
 
   -- what holds here is the first

@@ -1,5 +1,5 @@
--- What is said of a delivery: the case that the message in front of the channel met, what was planned for it, and what was
--- done of that.
+-- What is said of a delivery: the case that the message in front of the channel met, what was planned for it, and what
+-- was done of that.
 use Rattle.std.specs.Prelude.{ℕ, List, [], ◌++◌, codes, length, Option, Some, None}
 use Rattle.std.specs.Io.KnownBytes.{Appends}
 use Rattle.std.specs.Option.{option_map}
@@ -59,7 +59,8 @@ done_at first v pick =
 -- the delivery of the message that met a case; none where no message waits
 abbrev pub delivery_at : ℕ → Pick → Plan → Done → Option Case → Option Delivery
 delivery_at slice pick plan done case =
-    option_map (λ met. record { slice = slice; core = core_of (channel_of pick); case = met; plan = plan; done = done }) case
+    option_map (λ met. record { slice = slice; core = core_of (channel_of pick); case = met; plan = plan; done = done })
+    case
 
 -- .. from the one state to the other
 abbrev pub delivery_of : ℕ → Pick → View → View → Option Delivery
@@ -72,10 +73,12 @@ told_of_delivery None = codes "no message waits"
 told_of_delivery (Some delivery) = text_of_delivery delivery
 
 -- a state of a slice delivered the message, and its answer was written with what is said of that
-pub record ExplainsDelivery (slice : ℕ) (pick : Pick) (before after : Option (List ℕ)) (old new : PartsView) : Type 0 where
+pub record ExplainsDelivery (slice : ℕ) (pick : Pick) (before after : Option (List ℕ))
+    (old new : PartsView) : Type 0 where
   pub answer : Delivered
   pub answered : Answers (calls.Deliver pick) (answers.Deliver answer) old new
-  pub written : Adds before after (text_of_delivered answer ++ codes "   " ++ told_of_delivery (delivery_of slice pick old.view new.view))
+  pub written : Adds before after (text_of_delivered answer ++ codes "   "
+      ++ told_of_delivery (delivery_of slice pick old.view new.view))
 
 -- ---- a delivery that a pump makes
 
@@ -90,6 +93,7 @@ text_of_next slice (deliveries.Moved pick) old new = text_of_made pick (delivery
 text_of_next slice answer old new = []
 
 -- a state of a slice made its next delivery, where one could be made, and what there is to say of it was written
-pub record ExplainsNext (slice : ℕ) (answer : DeliveredNext) (before after : Option (List ℕ)) (old new : PartsView) : Type 0 where
+pub record ExplainsNext (slice : ℕ) (answer : DeliveredNext) (before after : Option (List ℕ))
+    (old new : PartsView) : Type 0 where
   pub answered : Answers (calls.DeliverNext classes.Any) (answers.DeliverNext answer) old new
   pub written : Appends before after (text_of_next slice answer old.view new.view)

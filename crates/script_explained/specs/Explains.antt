@@ -32,10 +32,12 @@ Explains config (commands.Hand core slice) old new before after =
     OneSlice slice.0 (ExplainsHand core before after) old new
 Explains config (commands.Word word) old new before after =
     (new ≡ old) × HasAt old (word.0 / 8 % config.slices) (λ state. ExplainsWord word before after state.view)
-Explains config (commands.Pump calls) old new before after = PrintsPump TellsNext config.slices calls old new before after
+Explains config (commands.Pump calls) old new before after =
+    PrintsPump TellsNext config.slices calls old new before after
 Explains config command old new before after = IsPrinted config command old new before after
 
-pub record IsExplained (config : Config) (command : Command) (old new : List PartsView) (before after : Option (List ℕ)) : Type 0 where
+pub record IsExplained (config : Config) (command : Command) (old new : List PartsView)
+    (before after : Option (List ℕ)) : Type 0 where
   pub explained : Explains config command old new before after
 
 -- answers are printed with what is said of them

@@ -46,8 +46,8 @@ is_named config named.Leaving left line state = is_leaving state
 is_named config named.Victims left line state = is_leaving state && not (list_any (λ other. other == line) left)
 is_named config (named.InSetOf of) left line state = is_held state && (set_of config line == set_of config of.0)
 
--- Which copies stand in the way of an access, by what is decided of it: for want of a register those that wait, for want
--- of a way those of its set, for want of room in the write-back buffer those that leave; and the victim of a miss.
+-- Which copies stand in the way of an access, by what is decided of it: for want of a register those that wait, for
+-- want of a way those of its set, for want of room in the write-back buffer those that leave; and the victim of a miss.
 abbrev pub named_by_stall : LineAddr → Stall → Named
 named_by_stall line stalls.NoRegister = named.Waiting
 named_by_stall line stalls.NoWay = named.InSetOf line

@@ -34,7 +34,8 @@ abbrev pub first_unrest : View → Option Unrest
 first_unrest v = slice_get (map unrests.Message (picks_of v) ++ replies_in v (range_with_len 0 (length v.sides))) 0
 
 abbrev pub text_of_unrest : Unrest → List ℕ
-text_of_unrest (unrests.Message pick) = text_of_parts (parts_of (commands.Deliver pick)) ++ codes " waits to be delivered"
+text_of_unrest (unrests.Message pick) =
+    text_of_parts (parts_of (commands.Deliver pick)) ++ codes " waits to be delivered"
 text_of_unrest (unrests.Reply core tag) =
     codes "core " ++ (decimal core.0 ++ (codes "'s reply of tag " ++ (decimal tag ++ codes " isn't handed out")))
 

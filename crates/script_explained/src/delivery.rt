@@ -4,7 +4,8 @@ ghost use Rattle.std.specs.Fmt.{WritesInCalls};
 ghost use Rattle.std.specs.Io.KnownBytes.{Appends};
 ghost use Rattle.litmus_script.specs.Answer.{WritesLine, text_of_delivered};
 ghost use Rattle.litmus_script.specs.Play.{IsOfRun};
-ghost use Rattle.script_explained.specs.Delivery.{ExplainsDelivery, ExplainsNext, case_at, delivery_at, done_at, text_of_made, told_of_delivery, who_takes};
+ghost use Rattle.script_explained.specs.Delivery.{ExplainsDelivery, ExplainsNext, case_at, delivery_at, done_at};
+ghost use Rattle.script_explained.specs.Delivery.{text_of_made, told_of_delivery, who_takes};
 ghost use Rattle.slice_core.specs.Facts.{IsSameSlice};
 ghost use Rattle.slice_core_plan.specs.Parts.{core_of, next_pick};
 ghost use Rattle.slice_core_plan.specs.declared.decide.NextPick.TheVariants as next_picks;
@@ -30,7 +31,8 @@ pub(crate) fn deliver<F: MissFile, W: Write>(
     out: &mut W,
 ) -> Result<(), TextFault>
     ensures same { IsSameSlice state.old state.new }
-    ensures told { OnOk result (ExplainsDelivery slice pick (W.contents out.old) (W.contents out.new) state.old state.new) }
+    ensures told { OnOk result (ExplainsDelivery slice pick (W.contents out.old)
+        (W.contents out.new) state.old state.new) }
     ensures fault { IfErr result IsOfRun }
 {
     let case = case(state, slice, pick);
@@ -43,15 +45,16 @@ pub(crate) fn deliver<F: MissFile, W: Write>(
     written(write(delivered, told, &mut answers))
 }
 
-/// Makes the next delivery of the slice with this number, where one can be made, and writes the command that makes it and
-/// what became of it.
+/// Makes the next delivery of the slice with this number, where one can be made, and writes the command that makes it
+/// and what became of it.
 pub(crate) fn deliver_next<F: MissFile, W: Write>(
     state: &mut SliceState<F>,
     slice: usize,
     out: &mut W,
 ) -> Result<DeliveredNext, TextFault>
     ensures same { IsSameSlice state.old state.new }
-    ensures told { IfOk result (λ answer. ExplainsNext slice answer (W.contents out.old) (W.contents out.new) state.old state.new) }
+    ensures told { IfOk result (λ answer. ExplainsNext slice answer (W.contents out.old)
+        (W.contents out.new) state.old state.new) }
     ensures fault { IfErr result IsOfRun }
 {
     match state.next(Class::Any) {
@@ -69,7 +72,8 @@ fn deliver_picked<F: MissFile, W: Write>(
 ) -> Result<DeliveredNext, TextFault>
     requires { next_pick state.old classes.Any ≡ next_picks.Move pick }
     ensures same { IsSameSlice state.old state.new }
-    ensures told { IfOk result (λ answer. ExplainsNext slice answer (W.contents out.old) (W.contents out.new) state.old state.new) }
+    ensures told { IfOk result (λ answer. ExplainsNext slice answer (W.contents out.old)
+        (W.contents out.new) state.old state.new) }
     ensures fault { IfErr result IsOfRun }
 {
     let case = case(state, slice, pick);

@@ -166,7 +166,8 @@ fn write_eviction<F: MissFile, W: fmt::Write>(
 ) -> fmt::Result
     ensures { OnOk result (WritesLine W.write_str_gives out.old
         (text_of_evicted evicted.answer ++ codes "   "
-        ++ (text_of_eviction evicted ++ text_of_copies config.now (named_by_answer evicted.answer) [] state.now.view core))
+        ++ (text_of_eviction evicted ++ text_of_copies config.now (named_by_answer evicted.answer)
+        [] state.now.view core))
         out.new) }
 {
     let answer = evicted.answer;

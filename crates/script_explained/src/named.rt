@@ -2,7 +2,8 @@
 ghost use Rattle.std.specs.Prelude.{◌≡◌, ◌++◌, ◌∷◌, [], if◌then◌else◌, IfOk, OnOk};
 ghost use Rattle.std.specs.Fmt.{WritesInCalls};
 ghost use Rattle.cache_table.specs.CopyState.{is_leaving};
-ghost use Rattle.script_explained.specs.Named.{is_held, is_named, leaving_in, left_before, named_by, set_of, text_of_copies, text_of_named, text_of_state};
+ghost use Rattle.script_explained.specs.Named.{is_held, is_named, leaving_in, left_before, named_by, set_of};
+ghost use Rattle.script_explained.specs.Named.{text_of_copies, text_of_named, text_of_state};
 
 use super::look;
 use address_map::{Checked, CoreId, LineAddr};

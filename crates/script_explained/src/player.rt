@@ -160,7 +160,8 @@ impl<F: MissFile> Explained<F> {
         requires { slice < length self.old.machine.slices.items }
         ensures config { self.new.machine.config ≡ self.old.machine.config }
         ensures fault { IfErr result IsOfRun }
-        ensures told { OnOk result (OneSlice slice (ExplainsDelivery slice pick (W.contents out.old) (W.contents out.new))
+        ensures told { OnOk result (OneSlice slice (ExplainsDelivery slice pick
+            (W.contents out.old) (W.contents out.new))
             self.old.machine.slices.items self.new.machine.slices.items) }
     {
         delivery::deliver(&mut self.machine.slices[slice], slice, pick, out)

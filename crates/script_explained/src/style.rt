@@ -63,7 +63,8 @@ fn play_echoed<F: MissFile, W: Write>(
     commands: Commands<'_>,
     out: &mut W,
 ) -> Result<(), TextFault>
-    ensures played { OnOk result (HasPlayed (Echoed true Explainingly) player.machine.config (commands_of commands.entry)
+    ensures played { OnOk result (HasPlayed (Echoed true Explainingly) player.machine.config
+        (commands_of commands.entry)
         player.machine.slices.items (W.contents out.old) (W.contents out.new)) }
     ensures fault { IfErr result (PlaysUpTo (Echoed true Explainingly player.machine.config) player.machine.config
         (commands_of commands.entry) player.machine.slices.items (W.contents out.old) (W.contents out.new)) }
@@ -78,7 +79,8 @@ fn play_alone<F: MissFile, W: Write>(
     commands: Commands<'_>,
     out: &mut W,
 ) -> Result<(), TextFault>
-    ensures played { OnOk result (HasPlayed (Echoed false Explainingly) player.machine.config (commands_of commands.entry)
+    ensures played { OnOk result (HasPlayed (Echoed false Explainingly) player.machine.config
+        (commands_of commands.entry)
         player.machine.slices.items (W.contents out.old) (W.contents out.new)) }
     ensures fault { IfErr result (PlaysUpTo (Echoed false Explainingly player.machine.config) player.machine.config
         (commands_of commands.entry) player.machine.slices.items (W.contents out.old) (W.contents out.new)) }

@@ -1,12 +1,14 @@
 -- Texts as strings of JSON (RFC 8259).
-use Rattle.std.specs.Prelude.{ℕ, ◌/◌, ◌%◌, ◌==◌, ◌&&◌, ◌||◌, nat_lt, nat_le, not, Bool, true, false, List, [], ◌∷◌, ◌++◌, codes, get_or}
+use Rattle.std.specs.Prelude.{ℕ, ◌/◌, ◌%◌, ◌==◌, ◌&&◌, ◌||◌, nat_lt, nat_le, not, Bool, true, false, List, [], ◌∷◌}
+use Rattle.std.specs.Prelude.{◌++◌, codes, get_or}
 use Rattle.std.specs.List.{flat_map}
 
 -- a number below 16 as one digit
 abbrev pub hex_digit : ℕ → ℕ
 hex_digit number = get_or (codes "0123456789abcdef") number 0
 
--- the bytes that stand for themselves: those that are printed, but what ends a string, begins an escape, or begins a tag of HTML
+-- the bytes that stand for themselves: those that are printed, but what ends a string, begins an escape, or begins a
+-- tag of HTML
 abbrev pub is_plain : ℕ → Bool
 is_plain byte = nat_le 32 byte && nat_lt byte 127 && not (byte == 34 || byte == 92 || byte == 60)
 

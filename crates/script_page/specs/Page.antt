@@ -49,12 +49,14 @@ pub record IsPageOf (script : List ℕ) (config : Config) (bound : Bound) (comma
 -- A script's page. That of a script that says nothing has no steps.
 abbrev pub IsPage : List ℕ → List (ℕ × List (List ℕ)) → Option (List ℕ) → Option (List ℕ) → Type 0
 IsPage script all before after =
-    ((all ≡ []) × (first : Option (List ℕ)) × Appends before first (text_of_begin script) × Appends first after text_of_end)
+    ((all ≡ []) × (first : Option (List ℕ)) × Appends before first (text_of_begin script)
+    × Appends first after text_of_end)
     ⊎ ((config : Config) × (bound : Bound) × (commands : List (ℕ × List (List ℕ)))
     × IsSetUp all config bound commands × IsPageOf script config bound commands before after)
 
 -- the commands are played up to one that can't be, from these slices on
-pub record StopsAt (config : Config) (commands : List (ℕ × List (List ℕ))) (start : List PartsView) (fault : TextFault) : Type 0 where
+pub record StopsAt (config : Config) (commands : List (ℕ × List (List ℕ))) (start : List PartsView)
+    (fault : TextFault) : Type 0 where
   pub first : Option (List ℕ)
   pub last : Option (List ℕ)
   pub stopped : PlaysUpTo (Steps config) config commands (record { slices = start; named = [] }) first last fault

@@ -56,9 +56,10 @@ pub record Shown : Type 0 where
   pub slices : List PartsView
   pub named : List LineAddr
 
--- The command is played and its answer told with what happened; of the machine behind it stand there what `state` prints
--- of each line named so far, and what `waiting` and `show` print.
-pub record IsStep (config : Config) (line : List ℕ) (command : Command) (old new : Shown) (before after : Option (List ℕ)) : Type 0 where
+-- The command is played and its answer told with what happened; of the machine behind it stand there what `state`
+-- prints of each line named so far, and what `waiting` and `show` print.
+pub record IsStep (config : Config) (line : List ℕ) (command : Command) (old new : Shown)
+    (before after : Option (List ℕ)) : Type 0 where
   pub texts : Texts
   pub command_of : texts.command ≡ line
   pub played : IsExplained config command old.slices new.slices (Some []) (Some texts.answer)

@@ -7,8 +7,8 @@ ghost use Rattle.script_page.specs.Json.{hex_digit, is_plain, json_of, text_as, 
 use std::fmt;
 use std::fmt::Write;
 
-/// Writes bytes as a string of JSON, in which no tag of HTML begins. A byte that isn't ASCII stands for the character of
-/// its number.
+/// Writes bytes as a string of JSON, in which no tag of HTML begins. A byte that isn't ASCII stands for the character
+/// of its number.
 pub(crate) fn write_json<W: Write>(bytes: &[u8], out: &mut W) -> fmt::Result
     ensures { OnOk result (WritesInCalls W.write_str_gives out.old (json_of bytes.now) out.new) }
 {

@@ -24,11 +24,12 @@ use std::alloc::Global;
 use std::fmt;
 use std::io::Write;
 
-/// Writes a script's run as a page for a browser: a step for each command. Answers the exit status. A line that can't be
-/// taken ends the steps, and the page tells it too.
+/// Writes a script's run as a page for a browser: a step for each command. Answers the exit status. A line that can't
+/// be taken ends the steps, and the page tells it too.
 pub fn run_page<W: Write>(alloc: Global, input: &[u8], out: &mut W) -> Result<u8, TextFault>
     ensures status { IfOk result (λ status. status ≡ 0) }
-    ensures printed { OnOk result (IsPage input.now (statements_from 0 (lines input.now)) (W.contents out.old) (W.contents out.new)) }
+    ensures printed { OnOk result (IsPage input.now (statements_from 0 (lines input.now))
+        (W.contents out.old) (W.contents out.new)) }
     ensures fault { IfErr result (IsPageFault (statements_from 0 (lines input.now))) }
 {
     match Script::read(alloc, input)? {
@@ -52,7 +53,8 @@ fn page_of<W: Write>(
     script: Script<'_>,
     out: &mut W,
 ) -> Result<(), TextFault>
-    ensures page { OnOk result (IsPageOf input.now script.entry.config (bound_of script.entry.misses script.entry.config)
+    ensures page { OnOk result (IsPageOf input.now script.entry.config
+        (bound_of script.entry.misses script.entry.config)
         (commands_of script.entry.commands) (W.contents out.old) (W.contents out.new)) }
     ensures fault { IfErr result (λ fault. IsOfRun fault ⊎ ((start : List PartsView)
         × IsNewMachine script.entry.config (bound_of script.entry.misses script.entry.config) start
@@ -96,7 +98,8 @@ fn steps<F: MissFile, W: Write>(
 ) -> Result<(), TextFault>
     ensures steps { OnOk result (HasSteps machine.config (commands_of commands.entry) machine.slices.items
         (W.contents out.old) (W.contents out.new)) }
-    ensures fault { IfErr result (λ fault. IsOfRun fault ⊎ StopsAt machine.config (commands_of commands.entry) machine.slices.items fault) }
+    ensures fault { IfErr result (λ fault. IsOfRun fault
+        ⊎ StopsAt machine.config (commands_of commands.entry) machine.slices.items fault) }
 {
     let mut player = Paged::new(alloc, machine);
     match commands.play(&mut player, out) {

@@ -81,7 +81,8 @@ impl<F: MissFile> Paged<F> {
         ensures config { self.new.explained.machine.config ≡ self.old.explained.machine.config }
         ensures named { self.new.named ≡ self.old.named }
         ensures played { IfOk result (λ answer. IsExplained self.old.explained.machine.config command
-            self.old.explained.machine.slices.items self.new.explained.machine.slices.items (Some []) (Some answer.items)) }
+            self.old.explained.machine.slices.items self.new.explained.machine.slices.items
+            (Some []) (Some answer.items)) }
         ensures fault { IfErr result IsOfRun }
     {
         let mut answer = Vec::new(self.explained.alloc);
@@ -95,7 +96,8 @@ impl<F: MissFile> Paged<F> {
     /// Puts the command's line behind those that were named, where it is a line of the memory and new.
     fn name(&mut self, command: Command) -> Result<(), TextFault>
         ensures machine { self.new.explained ≡ self.old.explained }
-        ensures names { OnOk result (Names self.old.explained.machine.config (line_named command) self.old.named.items self.new.named.items) }
+        ensures names { OnOk result (Names self.old.explained.machine.config (line_named command)
+            self.old.named.items self.new.named.items) }
         ensures fault { IfErr result IsOfRun }
     {
         let Paged { explained, named } = self;
@@ -104,7 +106,8 @@ impl<F: MissFile> Paged<F> {
 
     /// What `state` prints of each line that was named.
     fn states(&self) -> Result<Vec<u8>, TextFault>
-        ensures states { IfOk result (λ states. ShowsStates self.now.explained.machine.config self.now.explained.machine.slices.items
+        ensures states { IfOk result (λ states. ShowsStates self.now.explained.machine.config
+            self.now.explained.machine.slices.items
             self.now.named.items (Some []) (Some states.items)) }
         ensures fault { IfErr result IsOfRun }
     {
@@ -118,7 +121,8 @@ impl<F: MissFile> Paged<F> {
     /// What `waiting` prints.
     fn waiting(&self) -> Result<Vec<u8>, TextFault>
         ensures waiting { IfOk result (λ waiting. IsPrinted self.now.explained.machine.config commands.Waiting
-            self.now.explained.machine.slices.items self.now.explained.machine.slices.items (Some []) (Some waiting.items)) }
+            self.now.explained.machine.slices.items self.now.explained.machine.slices.items
+            (Some []) (Some waiting.items)) }
         ensures fault { IfErr result IsOfRun }
     {
         let mut waiting = Vec::new(self.explained.alloc);
@@ -131,7 +135,8 @@ impl<F: MissFile> Paged<F> {
     /// What `show` prints.
     fn shown(&self) -> Result<Vec<u8>, TextFault>
         ensures shown { IfOk result (λ shown. IsPrinted self.now.explained.machine.config commands.Show
-            self.now.explained.machine.slices.items self.now.explained.machine.slices.items (Some []) (Some shown.items)) }
+            self.now.explained.machine.slices.items self.now.explained.machine.slices.items
+            (Some []) (Some shown.items)) }
         ensures fault { IfErr result IsOfRun }
     {
         let mut shown = Vec::new(self.explained.alloc);
@@ -149,7 +154,8 @@ fn show_states<F: MissFile, W: Write>(
     out: &mut W,
 ) -> Result<(), TextFault>
     requires { All (HasLine machine.now.config) named.now }
-    ensures states { OnOk result (ShowsStates machine.now.config machine.now.slices.items named.now (W.contents out.old) (W.contents out.new)) }
+    ensures states { OnOk result (ShowsStates machine.now.config machine.now.slices.items named.now
+        (W.contents out.old) (W.contents out.new)) }
 {
     for line in named {
         machine.run_state(*line, out)?;

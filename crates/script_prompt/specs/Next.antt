@@ -7,8 +7,8 @@ use Rattle.slice_core_plan.specs.declared.decide.NextPick.{NextPick}
 use Rattle.slice_core_plan.specs.declared.decide.NextPick.TheVariants as next_picks
 use Rattle.slice_queues_message.specs.declared.channel.Class.TheVariants as classes
 
--- What is said of slices of which the first comes to this, and the others to that: the first delivery that can be made, or
--- else what is said of the first slice in which a message waits.
+-- What is said of slices of which the first comes to this, and the others to that: the first delivery that can be made,
+-- or else what is said of the first slice in which a message waits.
 abbrev pub or_next : NextPick → NextPick → NextPick
 or_next next_picks.Nothing other = other
 or_next (next_picks.Move pick) other = next_picks.Move pick

@@ -14,8 +14,10 @@ use Rattle.slice_core_plan.specs.Parts.{PartsView}
 use Rattle.script_prompt.specs.declared.kinds.AnySession.{AnySession}
 use Rattle.script_prompt.specs.declared.kinds.AnySession.TheVariants as sessions
 
--- The words write this command. It is done, its answer is printed with what happened, and the script goes on with the line.
-pub record PlaysLine (config : Config) (words : List (List ℕ)) (line : List ℕ) (command : Command) (old new : List PartsView)
+-- The words write this command. It is done, its answer is printed with what happened, and the script goes on with the
+-- line.
+pub record PlaysLine (config : Config) (words : List (List ℕ)) (line : List ℕ) (command : Command)
+    (old new : List PartsView)
     (before after : Option (List ℕ)) (old_script new_script : List ℕ) : Type 0 where
   pub read : IsRead config words command
   pub told : IsExplained config command old new before after
@@ -47,7 +49,8 @@ pub record IsPlayedTo (config : Config) (bound : Bound) (commands : List (ℕ ×
   pub played : PlaysAll (Echoed true Explainingly config) config commands start slices before after
 
 -- the slices are what the script leaves
-pub record IsAfter (script : List ℕ) (config : Config) (slices : List PartsView) (before after : Option (List ℕ)) : Type 0 where
+pub record IsAfter (script : List ℕ) (config : Config) (slices : List PartsView)
+    (before after : Option (List ℕ)) : Type 0 where
   pub bound : Bound
   pub commands : List (ℕ × List (List ℕ))
   pub set_up : IsSetUp (statements_from 0 (lines script)) config bound commands

@@ -91,7 +91,8 @@ fn own_word(name: &[u8]) -> Option<Word>
 #[tactic(auto, unfolding(crate::specs::Asked::parts_of_access))]
 fn read_own<'a>(config: &Checked, word: Word, rest: &[&'a [u8]]) -> Result<Asked<'a>, LineFault>
     ensures asks { IfOk result (AsksOwn config.now (name_of word ∷ map (λ w. w.now) rest.now)) }
-    ensures refused { IfErr result (λ fault. (asked : Asked) → AsksOwn config.now (name_of word ∷ map (λ w. w.now) rest.now) asked → ⊥) }
+    ensures refused { IfErr result (λ fault. (asked : Asked)
+        → AsksOwn config.now (name_of word ∷ map (λ w. w.now) rest.now) asked → ⊥) }
 {
     match word {
         Word::Load => read_load(config, rest),
@@ -122,7 +123,8 @@ fn read_own<'a>(config: &Checked, word: Word, rest: &[&'a [u8]]) -> Result<Asked
 #[tactic(auto, unfolding(crate::specs::Asked::parts_of_access))]
 fn read_load<'a>(config: &Checked, rest: &[&'a [u8]]) -> Result<Asked<'a>, LineFault>
     ensures asks { IfOk result (AsksOwn config.now (codes "load" ∷ map (λ w. w.now) rest.now)) }
-    ensures refused { IfErr result (λ fault. (asked : Asked) → AsksOwn config.now (codes "load" ∷ map (λ w. w.now) rest.now) asked → ⊥) }
+    ensures refused { IfErr result (λ fault. (asked : Asked)
+        → AsksOwn config.now (codes "load" ∷ map (λ w. w.now) rest.now) asked → ⊥) }
 {
     let (core, word) = two_numbers(rest)?;
     Ok(Asked::Access {
@@ -135,7 +137,8 @@ fn read_load<'a>(config: &Checked, rest: &[&'a [u8]]) -> Result<Asked<'a>, LineF
 #[tactic(auto, unfolding(crate::specs::Asked::parts_of_access))]
 fn read_store<'a>(config: &Checked, rest: &[&'a [u8]]) -> Result<Asked<'a>, LineFault>
     ensures asks { IfOk result (AsksOwn config.now (codes "store" ∷ map (λ w. w.now) rest.now)) }
-    ensures refused { IfErr result (λ fault. (asked : Asked) → AsksOwn config.now (codes "store" ∷ map (λ w. w.now) rest.now) asked → ⊥) }
+    ensures refused { IfErr result (λ fault. (asked : Asked)
+        → AsksOwn config.now (codes "store" ∷ map (λ w. w.now) rest.now) asked → ⊥) }
 {
     let (core, word, value) = three_numbers(rest)?;
     Ok(Asked::Access {
@@ -148,7 +151,8 @@ fn read_store<'a>(config: &Checked, rest: &[&'a [u8]]) -> Result<Asked<'a>, Line
 #[tactic(auto, unfolding(crate::specs::Asked::parts_of_access))]
 fn read_add<'a>(config: &Checked, rest: &[&'a [u8]]) -> Result<Asked<'a>, LineFault>
     ensures asks { IfOk result (AsksOwn config.now (codes "add" ∷ map (λ w. w.now) rest.now)) }
-    ensures refused { IfErr result (λ fault. (asked : Asked) → AsksOwn config.now (codes "add" ∷ map (λ w. w.now) rest.now) asked → ⊥) }
+    ensures refused { IfErr result (λ fault. (asked : Asked)
+        → AsksOwn config.now (codes "add" ∷ map (λ w. w.now) rest.now) asked → ⊥) }
 {
     let (core, word, delta) = three_numbers(rest)?;
     Ok(Asked::Access {
@@ -161,7 +165,8 @@ fn read_add<'a>(config: &Checked, rest: &[&'a [u8]]) -> Result<Asked<'a>, LineFa
 #[tactic(auto, unfolding(crate::specs::Asked::parts_of_access))]
 fn read_cas<'a>(config: &Checked, rest: &[&'a [u8]]) -> Result<Asked<'a>, LineFault>
     ensures asks { IfOk result (AsksOwn config.now (codes "cas" ∷ map (λ w. w.now) rest.now)) }
-    ensures refused { IfErr result (λ fault. (asked : Asked) → AsksOwn config.now (codes "cas" ∷ map (λ w. w.now) rest.now) asked → ⊥) }
+    ensures refused { IfErr result (λ fault. (asked : Asked)
+        → AsksOwn config.now (codes "cas" ∷ map (λ w. w.now) rest.now) asked → ⊥) }
 {
     let [core, others @ ..] = rest else {
         return Err(LineFault::NotACommand);
@@ -178,7 +183,8 @@ fn read_cas<'a>(config: &Checked, rest: &[&'a [u8]]) -> Result<Asked<'a>, LineFa
 #[tactic(auto, unfolding(crate::specs::Asked::parts_of_access))]
 fn read_next<'a>(config: &Checked, rest: &[&'a [u8]]) -> Result<Asked<'a>, LineFault>
     ensures asks { IfOk result (AsksOwn config.now (codes "next" ∷ map (λ w. w.now) rest.now)) }
-    ensures refused { IfErr result (λ fault. (asked : Asked) → AsksOwn config.now (codes "next" ∷ map (λ w. w.now) rest.now) asked → ⊥) }
+    ensures refused { IfErr result (λ fault. (asked : Asked)
+        → AsksOwn config.now (codes "next" ∷ map (λ w. w.now) rest.now) asked → ⊥) }
 {
     let Some((slice, more)) = rest.split_first() else {
         return Ok(Asked::Next(None));

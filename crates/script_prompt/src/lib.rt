@@ -2,8 +2,8 @@
 //!
 //! - [`run_prompt`] reads lines, and answers each at once. It plays lines of a script, with what happened behind each
 //!   answer, and has words of its own ([`Asked`]): those play lines of a script too, which they show first.
-//! - [`Session`] is a machine with the script so far: each line that is played is kept, so that the script can be saved,
-//!   and be played anew without its last lines.
+//! - [`Session`] is a machine with the script so far: each line that is played is kept, so that the script can be
+//!   saved, and be played anew without its last lines.
 //! - A [`Saver`] is who puts a text into a file.
 #![tactic(auto)]
 

@@ -35,8 +35,8 @@ impl<F: MissFile> Session<F> {
         self.player.config()
     }
 
-    /// Answers a line that asks something of the machine: plays the lines of a script that it stands for. What any other
-    /// asks for is left to do.
+    /// Answers a line that asks something of the machine: plays the lines of a script that it stands for. What any
+    /// other asks for is left to do.
     pub fn answer<'a, W: Write>(
         &mut self,
         statement: &Statement<'a>,
@@ -44,7 +44,8 @@ impl<F: MissFile> Session<F> {
     ) -> Result<Asked<'a>, TextFault>
         ensures config { self.new.player.machine.config ≡ self.old.player.machine.config }
         ensures asks { IfOk result (Asks self.old.player.machine.config (said_by statement.now).1) }
-        ensures plays { IfOk result (λ asked. IsContinued self.old.player.machine.config self.old.player.machine.slices.items
+        ensures plays { IfOk result (λ asked. IsContinued self.old.player.machine.config
+            self.old.player.machine.slices.items
             self.new.player.machine.slices.items self.old.script.items self.new.script.items) }
     {
         let asked = match read_asked(self.config(), statement.words.as_slice()) {

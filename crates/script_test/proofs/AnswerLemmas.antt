@@ -1,5 +1,6 @@
 -- What commands answer, from what a player keeps of them.
-use Rattle.std.proofs.Common.{◌≡◌, ℕ, List, [], ◌∷◌, ◌++◌, Option, Some, refl, ap, sym, subst, ◌∙◌, inr, append_assoc, append-nil}
+use Rattle.std.proofs.Common.{◌≡◌, ℕ, List, [], ◌∷◌, ◌++◌, Option, Some, refl, ap, sym, subst, ◌∙◌, inr, append_assoc}
+use Rattle.std.proofs.Common.{append-nil}
 use Rattle.address_map.specs.declared.config.Config.{Config}
 use Rattle.litmus_text.specs.declared.command.Command.{Command}
 use Rattle.litmus_text.specs.declared.fault.TextFault.{TextFault}
@@ -14,12 +15,15 @@ use Rattle.script_test.specs.Answers.{Answer, Answering, AreAnswered, AreAnswers
 
 module _ {P : Type 0} (slices : P → List PartsView) (config_in : P → Config) (texts : P → List (List ℕ))
     (plays : P → List ℕ → Command → Option (List ℕ) → Option (List ℕ) → P → Type 0)
-    (keeps : (old new : P) (line : List ℕ) (command : Command) (before after : Option (List ℕ)) → plays old line command before after new
-    → (config_in new ≡ config_in old) × (text : List ℕ) × IsPrinted (config_in old) command (slices old) (slices new) (Some []) (Some text)
+    (keeps : (old new : P) (line : List ℕ) (command : Command) (before after : Option (List ℕ))
+    → plays old line command before after new
+    → (config_in new ≡ config_in old) × (text : List ℕ)
+    × IsPrinted (config_in old) command (slices old) (slices new) (Some []) (Some text)
     × (texts new ≡ texts old ++ text ∷ []))
     (config : Config) where
   -- behind the texts that were kept before stands one for each command
-  pub all_answer : (commands : List (ℕ × List (List ℕ))) (old new : P) (before after : Option (List ℕ)) → config_in old ≡ config
+  pub all_answer : (commands : List (ℕ × List (List ℕ))) (old new : P) (before after : Option (List ℕ))
+      → config_in old ≡ config
       → PlaysAll plays config commands old new before after
       → (more : List (List ℕ)) × (texts new ≡ texts old ++ more) × Answer config commands (slices old) (slices new) more
   all_answer [] old new before after same none = ([], ap texts none.0 ∙ sym (append-nil (texts old)), ap slices none.0)
@@ -53,12 +57,15 @@ set_up all script read = record {
 
 -- .. and its commands answer
 pub are_answers : (all : List (ℕ × List (List ℕ))) (script : Script) (texts : List (List ℕ)) → IsScript all script
-    → AreAnswered script.config (bound_of script.misses script.config) (commands_of script.commands) texts → AreAnswers all texts
+    → AreAnswered script.config (bound_of script.misses script.config) (commands_of script.commands) texts
+    → AreAnswers all texts
 are_answers all script texts read answered = inr (script.config, _, _, set_up all script read, answered)
 
 -- commands that are played on a new machine up to a fault
-pub stopped_on : (config0 config : Config) (bound : Bound) (commands : List (ℕ × List (List ℕ))) (start : List PartsView)
-    (none : List ℕ) (after : Option (List ℕ)) (fault : TextFault) → config0 ≡ config → none ≡ [] → IsNewMachine config bound start
+pub stopped_on : (config0 config : Config) (bound : Bound) (commands : List (ℕ × List (List ℕ)))
+    (start : List PartsView)
+    (none : List ℕ) (after : Option (List ℕ)) (fault : TextFault) → config0 ≡ config → none ≡ []
+    → IsNewMachine config bound start
     → PlaysUpTo (Answering config0) config0 commands start (Some none) after fault
     → IsStoppedOn Answering config bound commands (Some []) after fault
 stopped_on config0 config bound commands start none after fault same empty fresh stopped = record {
@@ -70,8 +77,10 @@ stopped_on config0 config bound commands start none after fault same empty fresh
 }
 
 -- .. up to the last
-pub answered_on : (config0 config : Config) (bound : Bound) (commands : List (ℕ × List (List ℕ))) (start end : List PartsView)
-    (none texts more : List (List ℕ)) → config0 ≡ config → none ≡ [] → IsNewMachine config bound start → texts ≡ none ++ more
+pub answered_on : (config0 config : Config) (bound : Bound) (commands : List (ℕ × List (List ℕ)))
+    (start end : List PartsView)
+    (none texts more : List (List ℕ)) → config0 ≡ config → none ≡ []
+    → IsNewMachine config bound start → texts ≡ none ++ more
     → Answer config0 commands start end more → AreAnswered config bound commands texts
 answered_on config0 config bound commands start end none texts more same empty fresh kept answered = record {
   start = start;

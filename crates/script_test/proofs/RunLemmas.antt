@@ -14,7 +14,8 @@ module _ (input script again : List ℕ) (texts : List (List ℕ)) (numbers : Li
     (answers_are : answers ≡ answers_of numbers texts)
     (wants_are : wants ≡ wants_from 0 (lines input)) where
   pub prints_test : (before after : Option (List ℕ)) (status n : ℕ) → n ≡ length wants
-      → ((unlike : Option Unlike) × IsJudged wants answers unlike × (status ≡ status_of unlike) × Appends before after (text_of n unlike))
+      → ((unlike : Option Unlike) × IsJudged wants answers unlike × (status ≡ status_of unlike)
+      × Appends before after (text_of n unlike))
       → PrintsTest input before after status
   prints_test before after status n count (unlike, judged, is, printed) =
       let all = statements_from 0 (lines (script_in false input)) in
@@ -27,7 +28,8 @@ module _ (input script again : List ℕ) (texts : List (List ℕ)) (numbers : Li
           answered = subst (λ text. AreAnswers (statements_from 0 (lines text)) texts) script_is answered;
           judged =
               subst (λ ws. IsJudged ws (answers_of (map (λ s. s.0) all) texts) unlike) wants_are
-              (subst (λ given. IsJudged wants given unlike) (answers_are ∙ ap (λ ns. answers_of ns texts) numbers_of) judged);
+              (subst (λ given. IsJudged wants given unlike)
+              (answers_are ∙ ap (λ ns. answers_of ns texts) numbers_of) judged);
         };
         is = is;
         printed = subst (λ k. Appends before after (text_of k unlike)) (count ∙ ap length wants_are) printed;

@@ -1,5 +1,6 @@
 -- What the statements of a script answer.
-use Rattle.std.specs.Prelude.{◌≡◌, ◌⊎◌, ℕ, ◌+◌, ◌-◌, ◌<◌, nat_lt, List, [], ◌∷◌, length, slice_index_or, if◌then◌else◌, Option, Some}
+use Rattle.std.specs.Prelude.{◌≡◌, ◌⊎◌, ℕ, ◌+◌, ◌-◌, ◌<◌, nat_lt, List, [], ◌∷◌, length, slice_index_or, if◌then◌else◌}
+use Rattle.std.specs.Prelude.{Option, Some}
 use Rattle.address_map.specs.declared.config.Config.{Config}
 use Rattle.litmus_script.specs.Machine.{IsNewMachine}
 use Rattle.litmus_script.specs.Play.{PlaysOne}
@@ -18,13 +19,15 @@ Answer config (command ∷ more) old new (text ∷ texts) =
     × Answer config more mid new texts
 
 -- .. on those of a new machine
-pub record AreAnswered (config : Config) (bound : Bound) (commands : List (ℕ × List (List ℕ))) (texts : List (List ℕ)) : Type 0 where
+pub record AreAnswered (config : Config) (bound : Bound) (commands : List (ℕ × List (List ℕ)))
+    (texts : List (List ℕ)) : Type 0 where
   pub start : List PartsView
   pub fresh : IsNewMachine config bound start
   pub end : List PartsView
   pub answered : Answer config commands start end texts
 
--- The statements are a script that runs to its end, and its commands answer these texts. One that says nothing has none.
+-- The statements are a script that runs to its end, and its commands answer these texts. One that says nothing has
+-- none.
 abbrev pub AreAnswers : List (ℕ × List (List ℕ)) → List (List ℕ) → Type 0
 AreAnswers all texts =
     ((all ≡ []) × (texts ≡ []))
@@ -41,11 +44,12 @@ numbered_from skipped texts k [] = []
 numbered_from skipped texts k (number ∷ more) =
     (number, text_at skipped texts k) ∷ numbered_from skipped texts (k + 1) more
 
--- What answers each statement, by its number, and first what is printed in front of all: nothing, as for a statement that
--- configures. The texts are those of the last statements.
+-- What answers each statement, by its number, and first what is printed in front of all: nothing, as for a statement
+-- that configures. The texts are those of the last statements.
 abbrev pub answers_of : List ℕ → List (List ℕ) → List (ℕ × List ℕ)
 answers_of numbers texts = (0, []) ∷ numbered_from (length numbers - length texts) texts 0 numbers
 
 -- a style of playing in which each command prints something, whatever was written before
 abbrev pub Answering : Playing
-Answering config old line command before after new = (text : List ℕ) × IsPrinted config command old new (Some []) (Some text)
+Answering config old line command before after new =
+    (text : List ℕ) × IsPrinted config command old new (Some []) (Some text)

@@ -1,5 +1,6 @@
 -- Where answers aren't those that are wanted.
-use Rattle.std.specs.Prelude.{◌≡◌, ◌⊎◌, ℕ, ◌<◌, false, List, [], ◌∷◌, ◌++◌, All, codes, decimal, length, map, Option, None, Some, IsSome}
+use Rattle.std.specs.Prelude.{◌≡◌, ◌⊎◌, ℕ, ◌<◌, false, List, [], ◌∷◌, ◌++◌, All, codes, decimal, length, map, Option}
+use Rattle.std.specs.Prelude.{None, Some, IsSome}
 use Rattle.std.specs.Option.{option_map}
 use Rattle.std.specs.Io.KnownBytes.{Appends}
 use Rattle.std.specs.Str.Lines.{lines}
@@ -44,8 +45,8 @@ abbrev pub BeginBehind : List (ℕ × List ℕ) → List (ℕ × List ℕ) → T
 BeginBehind answers [] = Unit {0}
 BeginBehind answers (want ∷ wants) = ¬ IsBefore answers want
 
--- The first difference of all answers, if there is one. What stands in a statement's line and in the lines behind it, up
--- to the next statement, is wanted of it.
+-- The first difference of all answers, if there is one. What stands in a statement's line and in the lines behind it,
+-- up to the next statement, is wanted of it.
 abbrev pub IsJudged : List (ℕ × List ℕ) → List (ℕ × List ℕ) → Option Unlike → Type 0
 IsJudged wants [] unlike = unlike ≡ None
 IsJudged wants (answer ∷ more) unlike =
@@ -57,7 +58,8 @@ IsJudged wants (answer ∷ more) unlike =
 pub record IsTested (text : List ℕ) (unlike : Option Unlike) : Type 0 where
   pub texts : List (List ℕ)
   pub answered : AreAnswers (statements_from 0 (lines (script_in false text))) texts
-  pub judged : IsJudged (wants_from 0 (lines text)) (answers_of (map (λ s. s.0) (statements_from 0 (lines (script_in false text)))) texts) unlike
+  pub judged : IsJudged (wants_from 0 (lines text))
+      (answers_of (map (λ s. s.0) (statements_from 0 (lines (script_in false text)))) texts) unlike
 
 -- ---- what is printed of it
 
@@ -69,7 +71,8 @@ text_of_line (Some line) = line
 -- a difference
 abbrev pub text_of_difference : Unlike → List ℕ
 text_of_difference d =
-    codes "line " ++ decimal d.0 ++ codes ": wanted " ++ text_of_line d.1 ++ codes ", got " ++ text_of_line d.2 ++ codes "\n"
+    codes "line " ++ decimal d.0 ++ codes ": wanted " ++ text_of_line d.1 ++ codes ", got "
+    ++ text_of_line d.2 ++ codes "\n"
 
 -- how many lines are as wanted
 abbrev pub text_of_count : ℕ → List ℕ
@@ -95,5 +98,6 @@ pub record PrintsTest (text : List ℕ) (before after : Option (List ℕ)) (stat
 -- .. or why nothing is: the run of the text's script ends at a fault, or there was no memory, or nothing can be written
 abbrev pub IsStopped : List ℕ → TextFault → Type 0
 IsStopped text fault =
-    ((after : Option (List ℕ)) × IsRunUpTo Answering (statements_from 0 (lines (script_in false text))) (Some []) after fault)
+    ((after : Option (List ℕ)) × IsRunUpTo Answering
+    (statements_from 0 (lines (script_in false text))) (Some []) after fault)
     ⊎ IsOfRun fault

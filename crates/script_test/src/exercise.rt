@@ -2,7 +2,8 @@ ghost use Rattle.std.specs.Prelude.{◌≡◌, ◌==◌, ◌++◌, IfOk, OnOk, f
 ghost use Rattle.std.specs.List.{position};
 ghost use Rattle.std.specs.Option.{option_map};
 ghost use Rattle.std.specs.Str.Lines.{lines};
-ghost use Rattle.script_test.specs.Exercise.{behind_equals, from_words, hides, one_wanted, script_in, wanted_in, wants_from};
+ghost use Rattle.script_test.specs.Exercise.{behind_equals, from_words, hides, one_wanted, script_in, wanted_in};
+ghost use Rattle.script_test.specs.Exercise.{wants_from};
 
 use litmus_text::Lines;
 use std::alloc::{AllocError, Global};

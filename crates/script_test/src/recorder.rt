@@ -26,7 +26,8 @@ pub fn texts_of(alloc: Global, script: &[u8]) -> Result<Vec<Vec<u8>>, TextFault>
 }
 
 fn texts_of_read(alloc: Global, script: Script<'_>) -> Result<Vec<Vec<u8>>, TextFault>
-    ensures answers { IfOk result (λ texts. AreAnswered script.entry.config (bound_of script.entry.misses script.entry.config)
+    ensures answers { IfOk result (λ texts. AreAnswered script.entry.config
+        (bound_of script.entry.misses script.entry.config)
         (commands_of script.entry.commands) (map (λ t. t.items) texts.items)) }
     ensures fault { IfErr result (λ fault. (after : Option (List ℕ)) × IsPlayedUpTo Answering script.entry.config
         (bound_of script.entry.misses script.entry.config) (commands_of script.entry.commands) (Some []) after fault) }
@@ -80,7 +81,8 @@ impl<F: MissFile> Player for Recorder<F> {
     ghost config_of = { λ recorder. recorder.machine.config };
 
     ghost plays = { λ old line command before after new. (new.machine.config ≡ old.machine.config)
-        × (text : List ℕ) × IsPrinted old.machine.config command old.machine.slices.items new.machine.slices.items (Some []) (Some text)
+        × (text : List ℕ) × IsPrinted old.machine.config command old.machine.slices.items
+        new.machine.slices.items (Some []) (Some text)
         × (map (λ t. t.items) new.texts.items ≡ map (λ t. t.items) old.texts.items ++ text ∷ []) };
 
     fn config(&self) -> &Checked {

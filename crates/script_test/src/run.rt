@@ -44,7 +44,8 @@ fn print_judgement<W: Write>(
 ) -> Result<u8, TextFault>
     ensures printed { IfOk result (λ status. (unlike : Option Unlike)
         × IsJudged (map (λ w. (w.line, w.text.now)) wants.now) (map (λ a. (a.line, a.text.now)) answers.now) unlike
-        × (status ≡ status_of unlike) × Appends (W.contents out.old) (W.contents out.new) (text_of (length wants.now) unlike)) }
+        × (status ≡ status_of unlike) × Appends (W.contents out.old) (W.contents out.new)
+        (text_of (length wants.now) unlike)) }
     ensures fault { IfErr result (λ fault. fault ≡ TextFault.CannotWrite) }
 {
     match judge(wants, answers) {

@@ -6,7 +6,8 @@ use Rattle.std.specs.Fmt.{WritesInCalls}
 
 module _ {W X : Type 0} (took : W → List ℕ → W → Type 0) (all : List X → List ℕ) (xs : List X) (i : ℕ) where
   -- the piece of the next item, and then those of the items behind it
-  pub next_piece : (piece : List ℕ) (d : X) → i < length xs → all (get_or xs i d ∷ drop (i + 1) xs) ≡ piece ++ all (drop (i + 1) xs)
+  pub next_piece : (piece : List ℕ) (d : X) → i < length xs
+      → all (get_or xs i d ∷ drop (i + 1) xs) ≡ piece ++ all (drop (i + 1) xs)
       → (old mid new : W) → WritesInCalls took old piece mid → WritesInCalls took mid (all (drop (i + 1) xs)) new
       → WritesInCalls took old (all (drop i xs)) new
   next_piece piece d below step old mid new one rest =
@@ -16,4 +17,5 @@ module _ {W X : Type 0} (took : W → List ℕ → W → Type 0) (all : List X �
   -- behind the last item there is none
   pub last_piece : length xs ≤ i → all [] ≡ [] → (now : W) → WritesInCalls took now (all (drop i xs)) now
   last_piece end none now =
-      subst (λ text. WritesInCalls took now text now) (sym (at_drop_all all xs i end ∙ none)) (writes_in_calls_nil took now)
+      subst (λ text. WritesInCalls took now text now) (sym (at_drop_all all xs i end ∙ none))
+      (writes_in_calls_nil took now)

@@ -27,7 +27,8 @@ settings_text c misses =
     let last : text_of_lines (init ++ counters) ≡ text_of_lines init ++ text_of_lines counters =
     flat_map-append line_of init counters in
     first
-    ∙ ap (λ (rest : List ℕ). text_of_lines (counts_of c) ++ (line_of (lines.Policy c.policy) ++ (line_of (lines.Misses misses)
+    ∙ ap (λ (rest : List ℕ). text_of_lines (counts_of c)
+    ++ (line_of (lines.Policy c.policy) ++ (line_of (lines.Misses misses)
     ++ (line_of (lines.Exclusive c.exclusive) ++ rest)))) last
 
 -- the line of an initial value, in the pieces in which it is written

@@ -48,7 +48,8 @@ pub fn write_command<W: Write>(command: Command, out: &mut W) -> fmt::Result
 #[tactic(auto, unfolding(litmus_text::specs::Command::parts_of_op))]
 fn write_issue<W: Write>(core: CoreId, request: Request, out: &mut W) -> fmt::Result
     ensures { OnOk result (WritesInCalls W.write_str_gives out.old
-        (line_of_parts (key (codes "issue") ∷ num core.0 ∷ num request.tag ∷ parts_of_op request.op request.word.0)) out.new) }
+        (line_of_parts (key (codes "issue") ∷ num core.0 ∷ num request.tag ∷ parts_of_op request.op request.word.0))
+        out.new) }
 {
     let core = core.0;
     let tag = request.tag;
@@ -62,7 +63,8 @@ fn write_issue<W: Write>(core: CoreId, request: Request, out: &mut W) -> fmt::Re
 }
 
 fn write_evict<W: Write>(core: CoreId, line: LineAddr, out: &mut W) -> fmt::Result
-    ensures { OnOk result (WritesInCalls W.write_str_gives out.old (line_of_parts (parts_of (Command.Evict core line))) out.new) }
+    ensures { OnOk result (WritesInCalls W.write_str_gives out.old
+        (line_of_parts (parts_of (Command.Evict core line))) out.new) }
 {
     let core = core.0;
     let line = line.0;

@@ -87,7 +87,8 @@ fn write_init<W: Write>(init: &[(WordAddr, u64)], out: &mut W) -> fmt::Result
 }
 
 fn write_counters<W: Write>(counters: &[WordAddr], out: &mut W) -> fmt::Result
-    ensures { OnOk result (WritesInCalls W.write_str_gives out.old (text_of_lines (map lines.Counter counters.now)) out.new) }
+    ensures { OnOk result (WritesInCalls W.write_str_gives out.old
+        (text_of_lines (map lines.Counter counters.now)) out.new) }
 {
     for counter in counters {
         let counter = counter.0;

@@ -1,5 +1,6 @@
 -- The names of channels and the values of lines, in the pieces in which they are written, and runs from the beginning.
-use Rattle.std.proofs.Common.{◌≡◌, ℕ, List, [], ◌∷◌, ◌++◌, Option, Some, None, Result, Ok, Err, IsOk, OnOk, codes, drop, map, refl, sym, subst, ap, ◌∙◌}
+use Rattle.std.proofs.Common.{◌≡◌, ℕ, List, [], ◌∷◌, ◌++◌, Option, Some, None, Result, Ok, Err, IsOk, OnOk, codes, drop}
+use Rattle.std.proofs.Common.{map, refl, sym, subst, ap, ◌∙◌}
 use Rattle.std.proofs.Output.{writes_in_calls_append, writes_in_calls_single}
 use Rattle.std.specs.Fmt.{WritesInCalls}
 use Rattle.std.specs.List.{flat_map, slice_get}
@@ -10,7 +11,8 @@ use Rattle.directory_table.specs.declared.state.DirEntry.{DirEntry}
 use Rattle.cache_table.specs.declared.state.CopyState.{CopyState}
 use Rattle.litmus_script.specs.Play.{PlaysAll, PlaysUpTo}
 use Rattle.litmus_text.specs.declared.fault.TextFault.{TextFault}
-use Rattle.script_waves.specs.Values.{name_of_channel, names_of, text_behind, text_of_entry, text_of_mail, text_of_place, text_of_states, text_of_waiting}
+use Rattle.script_waves.specs.Values.{name_of_channel, names_of, text_behind, text_of_entry, text_of_mail}
+use Rattle.script_waves.specs.Values.{text_of_place, text_of_states, text_of_waiting}
 use Rattle.script_waves.specs.Waves.{Shown, Ticks, begun}
 use Rattle.slice_core.specs.Facts.{AreWaitingAt, ShowsLine}
 use Rattle.slice_core_plan.specs.Parts.{PartsView}
@@ -29,7 +31,8 @@ on_ok_from (Err e) holds = tt
 module _ {W : Type 0} (took : W → List ℕ → W → Type 0) where
   -- the next name behind another, and then those behind it
   pub next_channel : (left : List Channel) (channel : Channel) → Some channel ≡ slice_get left 0 → (old mid new : W)
-      → WritesInCalls took old (text_behind channel) mid → WritesInCalls took mid (flat_map text_behind (drop 1 left)) new
+      → WritesInCalls took old (text_behind channel) mid
+      → WritesInCalls took mid (flat_map text_behind (drop 1 left)) new
       → WritesInCalls took old (flat_map text_behind left) new
   next_channel [] channel first old mid new one rest = absurd (cc)
   next_channel (c ∷ more) channel first old mid new one rest =
@@ -38,7 +41,8 @@ module _ {W : Type 0} (took : W → List ℕ → W → Type 0) where
       (subst (λ (d : Channel). WritesInCalls took old (text_behind d) mid) is one) rest
 
   -- the first name, and then those behind it
-  pub names_from : (all rest : List Channel) (channel : Channel) → Some channel ≡ slice_get all 0 → rest ≡ drop 1 all → (old mid new : W)
+  pub names_from : (all rest : List Channel) (channel : Channel) → Some channel ≡ slice_get all 0
+      → rest ≡ drop 1 all → (old mid new : W)
       → WritesInCalls took old (name_of_channel channel) mid → WritesInCalls took mid (flat_map text_behind rest) new
       → WritesInCalls took old (names_of all) new
   names_from [] rest channel first left old mid new one more = absurd (cc)
@@ -58,16 +62,19 @@ module _ {W : Type 0} (took : W → List ℕ → W → Type 0) where
 
 -- what is shown of a line is what the slice has of it
 pub shown_text : (v : View) (line : LineAddr) (local : Option Local) (view : LineView) → ShowsLine v local (Some view)
-    → text_of_entry line view.dir ++ (text_of_states line 0 view.copies.items ++ text_of_mail v line local) ≡ text_of_place v line local
+    → text_of_entry line view.dir ++ (text_of_states line 0 view.copies.items ++ text_of_mail v line local) ≡
+    text_of_place v line local
 shown_text v line None view shows = absurd (cc)
 shown_text v line (Some local) view (given, is, dir, owner, sharers, home, copies) =
     let same : given ≡ view = cc in
-    subst (λ (x : LineView). text_of_entry line x.dir ++ (text_of_states line 0 x.copies.items ++ text_of_mail v line (Some local))
+    subst (λ (x : LineView). text_of_entry line x.dir
+    ++ (text_of_states line 0 x.copies.items ++ text_of_mail v line (Some local))
     ≡ text_of_place v line (Some local)) same
     (rw (dir, copies) refl)
 
 -- .. and so is what waits for it
-pub mail_text : (v : View) (line : LineAddr) (local : Option Local) (waiting : List Channel) → AreWaitingAt v local waiting
+pub mail_text : (v : View) (line : LineAddr) (local : Option Local) (waiting : List Channel)
+    → AreWaitingAt v local waiting
     → text_of_waiting line waiting ≡ text_of_mail v line local
 mail_text v line None waiting waits = absurd waits
 mail_text v line (Some local) waiting waits = ap (text_of_waiting line) waits.0

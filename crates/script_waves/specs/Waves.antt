@@ -31,7 +31,8 @@ text_of_tick config line shown =
     text_of_time shown.played ++ (text_of_command line ++ text_of_lines config shown.slices shown.named)
 
 -- The command is played, as it is where its answer is printed, and takes one unit of time.
-pub record IsTick (config : Config) (line : List ℕ) (command : Command) (old new : Shown) (before after : Option (List ℕ)) : Type 0 where
+pub record IsTick (config : Config) (line : List ℕ) (command : Command) (old new : Shown)
+    (before after : Option (List ℕ)) : Type 0 where
   pub answer : List ℕ
   pub made : IsPrinted config command old.slices new.slices (Some []) (Some answer)
   pub names : Names config (line_named command) old.named new.named
@@ -47,7 +48,8 @@ abbrev pub begun : List PartsView → Shown
 begun slices = record { slices = slices; named = []; played = 0 }
 
 -- the signals of these lines are written, then these values of them, and the time at which the last ones end
-pub record IsWritten (cores : ℕ) (named : List LineAddr) (ticks : List ℕ) (time : ℕ) (before after : Option (List ℕ)) : Type 0 where
+pub record IsWritten (cores : ℕ) (named : List LineAddr) (ticks : List ℕ) (time : ℕ)
+    (before after : Option (List ℕ)) : Type 0 where
   pub first : Option (List ℕ)
   pub header : Appends before first (text_of_header cores named)
   pub last : Option (List ℕ)
@@ -64,7 +66,8 @@ pub record HasWaves (config : Config) (commands : List (ℕ × List (List ℕ)))
   pub written : IsWritten config.cores end.named ticks (next end.played) before after
 
 -- .. on a new machine
-pub record IsWavesOf (config : Config) (bound : Bound) (commands : List (ℕ × List (List ℕ))) (before after : Option (List ℕ)) : Type 0 where
+pub record IsWavesOf (config : Config) (bound : Bound) (commands : List (ℕ × List (List ℕ)))
+    (before after : Option (List ℕ)) : Type 0 where
   pub start : List PartsView
   pub fresh : IsNewMachine config bound start
   pub waves : HasWaves config commands start before after
@@ -77,7 +80,8 @@ IsWaves all before after =
     × IsSetUp all config bound commands × IsWavesOf config bound commands before after)
 
 -- the commands are played up to one that can't be, from these slices on
-pub record StopsAt (config : Config) (commands : List (ℕ × List (List ℕ))) (start : List PartsView) (fault : TextFault) : Type 0 where
+pub record StopsAt (config : Config) (commands : List (ℕ × List (List ℕ))) (start : List PartsView)
+    (fault : TextFault) : Type 0 where
   pub ticks : Option (List ℕ)
   pub stopped : PlaysUpTo (Ticks config) config commands (begun start) (Some []) ticks fault
 

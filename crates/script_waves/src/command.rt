@@ -25,7 +25,8 @@ pub(crate) fn write_command<W: Write>(line: &[u8], out: &mut W) -> fmt::Result
 }
 
 fn write_bytes<W: Write>(line: &[u8], out: &mut W) -> fmt::Result
-    ensures { OnOk result (WritesInCalls W.write_str_gives out.old (flat_map (λ byte. byte_shown byte ∷ []) line.now) out.new) }
+    ensures { OnOk result (WritesInCalls W.write_str_gives out.old
+        (flat_map (λ byte. byte_shown byte ∷ []) line.now) out.new) }
 {
     for byte in line {
         write_ascii(shown(*byte), out)?;

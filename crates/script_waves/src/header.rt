@@ -2,7 +2,8 @@
 ghost use Rattle.std.specs.Prelude.{OnOk, codes};
 ghost use Rattle.std.specs.Fmt.{WritesInCalls};
 ghost use Rattle.std.specs.List.{flat_map};
-ghost use Rattle.script_waves.specs.Signals.{text_of_copies, text_of_header, text_of_opening, text_of_scope, text_of_signal};
+ghost use Rattle.script_waves.specs.Signals.{text_of_copies, text_of_header, text_of_opening, text_of_scope};
+ghost use Rattle.script_waves.specs.Signals.{text_of_signal};
 
 use super::signal::{Code, Signal};
 use address_map::LineAddr;
@@ -29,7 +30,8 @@ fn write_beginning<W: Write>(out: &mut W) -> fmt::Result
 }
 
 fn write_end<W: Write>(out: &mut W) -> fmt::Result
-    ensures { OnOk result (WritesInCalls W.write_str_gives out.old (codes "$upscope $end\n$enddefinitions $end\n#0\ns- c\n") out.new) }
+    ensures { OnOk result (WritesInCalls W.write_str_gives out.old
+        (codes "$upscope $end\n$enddefinitions $end\n#0\ns- c\n") out.new) }
 {
     write!(out, "$upscope $end\n$enddefinitions $end\n#0\ns- c\n")
 }

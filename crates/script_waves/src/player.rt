@@ -95,7 +95,8 @@ impl<F: MissFile> Waved<F> {
     fn name(&mut self, command: Command) -> Result<(), TextFault>
         ensures machine { self.new.machine ≡ self.old.machine }
         ensures count { self.new.played ≡ self.old.played }
-        ensures names { OnOk result (Names self.old.machine.config (line_named command) self.old.named.items self.new.named.items) }
+        ensures names { OnOk result (Names self.old.machine.config (line_named command)
+            self.old.named.items self.new.named.items) }
         ensures fault { IfErr result IsOfRun }
     {
         let Waved { machine, named, .. } = self;
@@ -104,7 +105,8 @@ impl<F: MissFile> Waved<F> {
 
     fn write_tick<W: fmt::Write>(&self, line: &[u8], out: &mut W) -> fmt::Result
         ensures { OnOk result (WritesInCalls W.write_str_gives out.old (text_of_tick self.now.machine.config line.now
-            (record { slices = self.now.machine.slices.items; named = self.now.named.items; played = self.now.played })) out.new) }
+            (record { slices = self.now.machine.slices.items; named = self.now.named.items; played = self.now.played }))
+            out.new) }
     {
         write_time(self.played, out)?;
         write_command(line, out)?;

@@ -3,7 +3,8 @@ ghost use Rattle.std.specs.Prelude.{◌++◌, ◌%◌, OnOk, codes, slice_get};
 ghost use Rattle.std.specs.Fmt.{WritesInCalls};
 ghost use Rattle.address_map.specs.Locator.{local_at};
 ghost use Rattle.script_waves.specs.Signals.{code_of};
-ghost use Rattle.script_waves.specs.Values.{text_at, text_of_copy, text_of_entry, text_of_lines, text_of_mail, text_of_states, text_of_waiting, text_in};
+ghost use Rattle.script_waves.specs.Values.{text_at, text_of_copy, text_of_entry, text_of_lines, text_of_mail};
+ghost use Rattle.script_waves.specs.Values.{text_of_states, text_of_waiting, text_in};
 
 use super::channel::write_names;
 use super::signal::{Code, Signal};
@@ -103,7 +104,8 @@ fn write_waiting<W: Write>(line: LineAddr, waiting: LineWaiting<'_>, out: &mut W
 }
 
 fn write_code<W: Write>(line: LineAddr, signal: Signal, out: &mut W) -> fmt::Result
-    ensures { OnOk result (WritesInCalls W.write_str_gives out.old (codes " " ++ code_of line signal ++ codes "\n") out.new) }
+    ensures { OnOk result (WritesInCalls W.write_str_gives out.old
+        (codes " " ++ code_of line signal ++ codes "\n") out.new) }
 {
     let code = Code { line, signal };
     writeln!(out, " {code}")

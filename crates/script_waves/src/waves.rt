@@ -22,11 +22,12 @@ use stats_report::write_text;
 use std::alloc::Global;
 use std::io::Write;
 
-/// Writes a script's run as waves. Answers the exit status. A script at fault has none: its lines are known only once it
-/// has run, and they stand first.
+/// Writes a script's run as waves. Answers the exit status. A script at fault has none: its lines are known only once
+/// it has run, and they stand first.
 pub fn run_waves<W: Write>(alloc: Global, input: &[u8], out: &mut W) -> Result<u8, TextFault>
     ensures status { IfOk result (λ status. status ≡ 0) }
-    ensures printed { OnOk result (IsWaves (statements_from 0 (lines input.now)) (W.contents out.old) (W.contents out.new)) }
+    ensures printed { OnOk result (IsWaves (statements_from 0 (lines input.now))
+        (W.contents out.old) (W.contents out.new)) }
     ensures fault { IfErr result (IsWavesFault (statements_from 0 (lines input.now))) }
 {
     let Some(script) = Script::read(alloc, input)? else {
@@ -78,7 +79,8 @@ fn waves<F: MissFile, W: Write>(
 ) -> Result<(), TextFault>
     ensures waves { OnOk result (HasWaves machine.config (commands_of commands.entry) machine.slices.items
         (W.contents out.old) (W.contents out.new)) }
-    ensures fault { IfErr result (λ fault. IsOfRun fault ⊎ StopsAt machine.config (commands_of commands.entry) machine.slices.items fault) }
+    ensures fault { IfErr result (λ fault. IsOfRun fault
+        ⊎ StopsAt machine.config (commands_of commands.entry) machine.slices.items fault) }
 {
     let mut player = Waved::new(alloc, machine);
     let mut ticks = Vec::new(alloc);

@@ -1,6 +1,6 @@
-//! How many requests the cores of a machine get through, each core in a thread of its own. One core asks one slice; four
-//! cores ask a slice each, at once; and 64 cores add to two words that they share. Beside them, one slice and four slices
-//! are asked for lines that aren't there.
+//! How many requests the cores of a machine get through, each core in a thread of its own. One core asks one slice;
+//! four cores ask a slice each, at once; and 64 cores add to two words that they share. Beside them, one slice and four
+//! slices are asked for lines that aren't there.
 //!
 //! What the cores do is proved in `core_thread_system`.
 

@@ -1,9 +1,9 @@
-//! How much a slice's lock costs: requests that hit, on a slice's state and on a slice behind its lock. They are loads of
-//! one word, which are the cheapest, and loads and adds on all lines that the cache holds. Then two threads load one word,
-//! of one slice, and of a slice each.
+//! How much a slice's lock costs: requests that hit, on a slice's state and on a slice behind its lock. They are loads
+//! of one word, which are the cheapest, and loads and adds on all lines that the cache holds. Then two threads load one
+//! word, of one slice, and of a slice each.
 //!
-//! Each is done in rounds, on a new slice each time, and the least time of a round is told: the first rounds also ask the
-//! system for memory, which later ones use again.
+//! Each is done in rounds, on a new slice each time, and the least time of a round is told: the first rounds also ask
+//! the system for memory, which later ones use again.
 
 use asked::{Fault, hit_shared, hit_state};
 pub use asked::{ask_apart, ask_four_apart, ask_locked};

@@ -1,5 +1,5 @@
-//! The program `slice_bench`: makes calls on a slice, and prints how many they were and how long they took. With `lock` it
-//! measures what a slice's lock costs, and with `cores` what the cores of machines get done in threads.
+//! The program `slice_bench`: makes calls on a slice, and prints how many they were and how long they took. With `lock`
+//! it measures what a slice's lock costs, and with `cores` what the cores of machines get done in threads.
 //!
 //! Nothing is promised here but that no call is faulty; what the calls do is proved in `slice_core`. Times are those of
 //! the clock, so they are right only where nothing else runs beside.

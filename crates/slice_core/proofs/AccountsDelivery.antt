@@ -1,5 +1,6 @@
 -- Counts and accounts after a delivery.
-use Rattle.std.proofs.Common.{◌≡◌, ℕ, ◌+◌, ◌-◌, ◌*◌, ◌<◌, Bool, true, false, if◌then◌else◌, ◌++◌, length, Option, Some, None, IsSome, refl, sym, ap, subst, ◌∙◌, arith}
+use Rattle.std.proofs.Common.{◌≡◌, ℕ, ◌+◌, ◌-◌, ◌*◌, ◌<◌, Bool, true, false, if◌then◌else◌, ◌++◌, length, Option, Some}
+use Rattle.std.proofs.Common.{None, IsSome, refl, sym, ap, subst, ◌∙◌, arith}
 use Rattle.std.specs.Prelude.{is_some, unwrap_or}
 use Rattle.address_map.specs.Locator.{line_at, local_at}
 use Rattle.address_map.specs.declared.address.CoreId.{CoreId}
@@ -14,11 +15,13 @@ use Rattle.slice_core_answer.specs.declared.answer.Delivered.{Delivered}
 use Rattle.slice_core_answer.specs.declared.answer.DeliveredNext.{DeliveredNext}
 use Rattle.slice_core_answer.specs.declared.answer.DeliveredNext.TheVariants as delivered_next
 use Rattle.slice_core_answer.specs.declared.answer.Delivered.TheVariants as delivered
-use Rattle.slice_core_plan.specs.Parts.{PartsView, core_of, filled_by, AfterDeliverNext, AfterDelivery, AfterPlan, Settles, local_in, IsDone, Moves}
+use Rattle.slice_core_plan.specs.Parts.{PartsView, core_of, filled_by, AfterDeliverNext, AfterDelivery, AfterPlan}
+use Rattle.slice_core_plan.specs.Parts.{Settles, local_in, IsDone, Moves}
 use Rattle.slice_core_plan.specs.Plan.{plan_of, planned_in}
 use Rattle.slice_core_plan.specs.Sends.{cache_sent, directory_sent}
 use Rattle.slice_core_plan.specs.Steps.{asked_by, after_directory, after_forwarded, after_home, after_settling}
-use Rattle.slice_core_plan.specs.View.{View, channels_at, entry_at, first_word, side_at, with_entry, with_side, IsShaped}
+use Rattle.slice_core_plan.specs.View.{View, channels_at, entry_at, first_word, side_at, with_entry, with_side}
+use Rattle.slice_core_plan.specs.View.{IsShaped}
 use Rattle.slice_core_plan.specs.declared.decide.Plan.{Plan}
 use Rattle.slice_core_plan.specs.declared.decide.Plan.TheVariants as plans
 use Rattle.slice_core_side.specs.Copy.{is_gone, no_copy}
@@ -27,7 +30,8 @@ use Rattle.slice_core_side.specs.Side.{SideView, array_copy, copy_of}
 use Rattle.slice_core_side.specs.Steps as sides
 use Rattle.slice_core_side.specs.Steps.{acknowledged}
 use Rattle.slice_core_side.specs.declared.copy.CacheCopy.{CacheCopy}
-use Rattle.slice_core.proofs.AccountsKept.{HasSame, Keeps, counts-before, keeps-from_sound, keeps-posted, keeps-settled, keeps-side, keeps-ring}
+use Rattle.slice_core.proofs.AccountsKept.{HasSame, Keeps, counts-before, keeps-from_sound, keeps-posted, keeps-settled}
+use Rattle.slice_core.proofs.AccountsKept.{keeps-side, keeps-ring}
 use Rattle.slice_core_machine.proofs.Planned.{held-at_place, is_for_copy, place_in, planned-core, planned-place}
 use Rattle.slice_core.proofs.CountedLines.{cores-asked, cores-cache, cores-directory, cores-taken}
 use Rattle.slice_core.proofs.CountedStats.{counts-same, same-message}

@@ -13,8 +13,10 @@ use Rattle.slice_core_answer.specs.Stats.{after_eviction, after_hit as hit_count
 use Rattle.slice_core_answer.specs.declared.answer.Issue.{Issue}
 use Rattle.slice_core_answer.specs.declared.answer.Refused.{Refused}
 use Rattle.slice_core_plan.specs.Decision.{decision_of}
-use Rattle.slice_core_plan.specs.Parts.{PartsView, opened_stats, target_for, AfterAccepting, AfterAccess, AfterIssue, IsAccepted, LacksMemory}
-use Rattle.slice_core_plan.specs.Steps.{after_hit, after_join, after_open, after_opening, after_request, is_held, request_of, with_way}
+use Rattle.slice_core_plan.specs.Parts.{PartsView, opened_stats, target_for, AfterAccepting, AfterAccess, AfterIssue}
+use Rattle.slice_core_plan.specs.Parts.{IsAccepted, LacksMemory}
+use Rattle.slice_core_plan.specs.Steps.{after_hit, after_join, after_open, after_opening, after_request, is_held}
+use Rattle.slice_core_plan.specs.Steps.{request_of, with_way}
 use Rattle.slice_core_plan.specs.View.{channels_at, side_at, with_side}
 use Rattle.slice_core_plan.specs.declared.decide.Decision.{Decision}
 use Rattle.slice_core_plan.specs.declared.decide.Decision.TheVariants as decisions
@@ -27,9 +29,11 @@ use Rattle.slice_core_side.specs.declared.access.Way.{Way}
 use Rattle.slice_core_side.specs.declared.access.Way.TheVariants as ways
 use Rattle.slice_core_side.specs.declared.tags.TagState.TheVariants as tags
 use Rattle.slice_core_machine.proofs.Judged.{hit-alone, judged, IsJudged}
-use Rattle.slice_core.proofs.AccountsKept.{HasSame, Keeps, counts-before, keeps-added, keeps-hit, keeps-posted, keeps-side, keeps-ring}
+use Rattle.slice_core.proofs.AccountsKept.{HasSame, Keeps, counts-before, keeps-added, keeps-hit, keeps-posted}
+use Rattle.slice_core.proofs.AccountsKept.{keeps-side, keeps-ring}
 use Rattle.slice_core.proofs.CountedLines.{cores-sent}
-use Rattle.slice_core.proofs.CountedStats.{accepted-within, counts-eviction, counts-hit, counts-primary, counts-secondary, same-none, same-stall}
+use Rattle.slice_core.proofs.CountedStats.{accepted-within, counts-eviction, counts-hit, counts-primary}
+use Rattle.slice_core.proofs.CountedStats.{counts-secondary, same-none, same-stall}
 use Rattle.slice_core.proofs.CountedSteps.{after_step, shaped-channels, side-here}
 use Rattle.slice_queues_message.specs.declared.channel.Channel.TheVariants as channels
 use Rattle.slice_queues_message.specs.declared.message.Message.TheVariants as messages

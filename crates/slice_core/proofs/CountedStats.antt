@@ -4,7 +4,8 @@ use Rattle.std.proofs.lemmas.Bool.{cases_eq}
 use Rattle.std.proofs.lemmas.List.{get_or-set_other, get_or-set_same, length-set}
 use Rattle.std.proofs.lemmas.List.Sums.{count_by-le-length, get_or-le-sum_by}
 use Rattle.address_map.specs.declared.address.CoreId.{CoreId}
-use Rattle.slice_core_answer.specs.Stats.{accepted_of, after_eviction, after_hit, after_message, after_primary, after_secondary, after_stall, counted, counts_of, no_counts, with_counts}
+use Rattle.slice_core_answer.specs.Stats.{accepted_of, after_eviction, after_hit, after_message, after_primary}
+use Rattle.slice_core_answer.specs.Stats.{after_secondary, after_stall, counted, counts_of, no_counts, with_counts}
 use Rattle.slice_core_answer.specs.declared.answer.Stall.{Stall}
 use Rattle.slice_core_answer.specs.declared.stats.CoreStats.{CoreStats}
 use Rattle.slice_core_plan.specs.Parts.{PartsView}

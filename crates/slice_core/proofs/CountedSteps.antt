@@ -10,7 +10,8 @@ use Rattle.directory_table.specs.declared.state.DirEntry.{DirEntry}
 use Rattle.slice_core_answer.specs.Stats.{StatsView, accepted_of, counts_of}
 use Rattle.slice_core_log.specs.declared.entry.Entry.{Entry}
 use Rattle.slice_core_plan.specs.Parts.{PartsView}
-use Rattle.slice_core_plan.specs.View.{View, channels_at, no_side, side_at, with_channels, with_entry, with_side, IsShaped}
+use Rattle.slice_core_plan.specs.View.{View, channels_at, no_side, side_at, with_channels, with_entry, with_side}
+use Rattle.slice_core_plan.specs.View.{IsShaped}
 use Rattle.slice_core_side.specs.Side.{SideView}
 use Rattle.slice_core_standing.specs.Standing.{waiting}
 use Rattle.slice_core.specs.Sound.{HasFittingCounts}
@@ -130,7 +131,8 @@ pub record CountsSame (p : PartsView) (stats : StatsView) : Type 0 where
 -- A view with the same sides, log and lines has the same counts then.
 pub counted-posted : (p : PartsView) (view : View) (stats : StatsView)
     → view.lines ≡ p.view.lines → view.sides ≡ p.view.sides → view.log ≡ p.view.log
-    → CountsSame p stats → IsShaped view → HasFittingCounts p → HasFittingCounts (record p { view = view; stats = stats })
+    → CountsSame p stats → IsShaped view → HasFittingCounts p
+    → HasFittingCounts (record p { view = view; stats = stats })
 counted-posted p view stats lines sides log same shaped c = record {
   shaped = shaped;
   machine = rw lines c.machine;

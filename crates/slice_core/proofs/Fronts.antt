@@ -1,5 +1,7 @@
 -- A message waits at a pick exactly where one is in front of it.
-use Rattle.std.proofs.Common.{◌≡◌, ℕ, ◌<◌, ◌/◌, ◌%◌, ◌==◌, ◌&&◌, Bool, true, false, if◌then◌else◌, nat_lt, is_some, slice_get, slice_index_or, List, [], ◌∷◌, length, Some, None, suc, arith, refl, ap, lt-ltb, ◌∙◌}
+use Rattle.std.proofs.Common.{◌≡◌, ℕ, ◌<◌, ◌/◌, ◌%◌, ◌==◌, ◌&&◌, Bool, true, false, if◌then◌else◌, nat_lt, is_some}
+use Rattle.std.proofs.Common.{slice_get, slice_index_or, List, [], ◌∷◌, length, Some, None, suc, arith, refl, ap}
+use Rattle.std.proofs.Common.{lt-ltb, ◌∙◌}
 use Rattle.std.proofs.lemmas.Bool.{ltb-false}
 use Rattle.std.proofs.lemmas.List.{get_or_past}
 use Rattle.address_map.specs.Locator.{local_at}

@@ -1,5 +1,6 @@
 -- Accesses and evictions keep what copies, registers and requests owe each other.
-use Rattle.std.proofs.Common.{◌≡◌, ◌≢◌, ℕ, ◌<◌, ◌≤◌, Bool, true, false, List, length, set, Option, Some, None, IsSome, IfSome, IsSomeAnd, unwrap_or, refl, sym, ap, ◌∙◌, subst}
+use Rattle.std.proofs.Common.{◌≡◌, ◌≢◌, ℕ, ◌<◌, ◌≤◌, Bool, true, false, List, length, set, Option, Some, None, IsSome}
+use Rattle.std.proofs.Common.{IfSome, IsSomeAnd, unwrap_or, refl, sym, ap, ◌∙◌, subst}
 use Rattle.std.proofs.lemmas.List.{length-set}
 use Rattle.address_map.specs.Place.{offset_of}
 use Rattle.address_map.specs.declared.address.CoreId.{CoreId}
@@ -14,10 +15,13 @@ use Rattle.cache_table.specs.declared.state.CopyState.{CopyState}
 use Rattle.mshr_file.proofs.Changes.{has_miss-added}
 use Rattle.mshr_file.specs.Miss.{AddsTarget, has_miss, targets_of}
 use Rattle.mshr_file.specs.declared.registers.Register.{Register}
-use Rattle.slice_core_coherence.proofs.Accesses.{can_leave, has_way, sends_for, side_replaced, HasPlace, HasPlaceFor, HasVictim, HasVictimFor}
-use Rattle.slice_core_plan.specs.Steps.{after_evict, after_hand, after_hit, after_join, after_open, after_opening, after_request, request_of, with_way}
+use Rattle.slice_core_coherence.proofs.Accesses.{can_leave, has_way, sends_for, side_replaced, HasPlace, HasPlaceFor}
+use Rattle.slice_core_coherence.proofs.Accesses.{HasVictim, HasVictimFor}
+use Rattle.slice_core_plan.specs.Steps.{after_evict, after_hand, after_hit, after_join, after_open, after_opening}
+use Rattle.slice_core_plan.specs.Steps.{after_request, request_of, with_way}
 use Rattle.slice_core_plan.specs.View.{View, channels_at, entry_at, no_side, side_at, with_side, IsShaped}
-use Rattle.slice_core_side.proofs.Found.{changes-evict, changes-hit, changes-open_free, changes-open_held, kept-after_draw, kept-after_hand}
+use Rattle.slice_core_side.proofs.Found.{changes-evict, changes-hit, changes-open_free, changes-open_held}
+use Rattle.slice_core_side.proofs.Found.{kept-after_draw, kept-after_hand}
 use Rattle.slice_core_side.proofs.Lines.{ChangesLine, FitsIn}
 use Rattle.slice_core_side.specs.Access.{event_of, CanLeave, CanReplace}
 use Rattle.slice_core_side.specs.Copy.{found_in, may_leave, missing_copy, no_copy, performed_on}

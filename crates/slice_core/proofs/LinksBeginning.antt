@@ -1,5 +1,6 @@
 -- In a new slice copies, registers and requests fit together: there are none.
-use Rattle.std.proofs.Common.{◌≡◌, ℕ, ◌<◌, ◌≤◌, true, false, length, replicate, get_or, Option, Some, None, IsSome, IfSome, inl, inr, sym, ap, ◌∙◌, subst}
+use Rattle.std.proofs.Common.{◌≡◌, ℕ, ◌<◌, ◌≤◌, true, false, length, replicate, get_or, Option, Some, None, IsSome}
+use Rattle.std.proofs.Common.{IfSome, inl, inr, sym, ap, ◌∙◌, subst}
 use Rattle.std.proofs.lemmas.Bool.{cases_lt}
 use Rattle.std.proofs.lemmas.List.{get_or-replicate, get_or_past, length-replicate}
 use Rattle.std.specs.Int.{IsPowerOfTwo}

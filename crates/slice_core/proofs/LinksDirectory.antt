@@ -1,5 +1,6 @@
 -- What the directory takes keeps what copies, registers and requests owe each other, and each owner is a core.
-use Rattle.std.proofs.Common.{◌≡◌, ℕ, ◌<◌, ◌==◌, Bool, true, false, if◌then◌else◌, length, Option, Some, None, IfSome, is_some, unwrap_or, inl, inr, refl, sym, ap, ◌∙◌, subst}
+use Rattle.std.proofs.Common.{◌≡◌, ℕ, ◌<◌, ◌==◌, Bool, true, false, if◌then◌else◌, length, Option, Some, None, IfSome}
+use Rattle.std.proofs.Common.{is_some, unwrap_or, inl, inr, refl, sym, ap, ◌∙◌, subst}
 use Rattle.std.proofs.lemmas.Bool.{cases_eq}
 use Rattle.address_map.specs.declared.address.CoreId.{CoreId}
 use Rattle.address_map.specs.declared.address.Local.{Local}
@@ -16,7 +17,8 @@ use Rattle.directory_table.specs.declared.state.DirState.TheVariants as states
 use Rattle.slice_core_plan.specs.Plan.{by_home_row, event_of_request, home_plan, plan_of}
 use Rattle.slice_core_plan.specs.Sends.{directory_room, directory_sent}
 use Rattle.slice_core_plan.specs.Steps.{after_directory, after_home, block_in}
-use Rattle.slice_core_plan.specs.View.{View, channels_at, entry_at, no_entry, side_at, with_channels, with_entry, IsShaped}
+use Rattle.slice_core_plan.specs.View.{View, channels_at, entry_at, no_entry, side_at, with_channels, with_entry}
+use Rattle.slice_core_plan.specs.View.{IsShaped}
 use Rattle.slice_core_plan.specs.declared.decide.Plan.{Plan}
 use Rattle.slice_core_plan.specs.declared.decide.Plan.TheVariants as plans
 use Rattle.slice_core_side.specs.Side.{state_of}

@@ -1,5 +1,6 @@
 -- A forwarded message that a core takes keeps what copies, registers and requests owe each other.
-use Rattle.std.proofs.Common.{◌≡◌, ◌⊎◌, ℕ, ◌<◌, Bool, true, false, ◌&&◌, if◌then◌else◌, length, Option, Some, None, IsSome, is_some, option_map, slice_get, inl, inr, refl, sym, ap, ◌∙◌, subst}
+use Rattle.std.proofs.Common.{◌≡◌, ◌⊎◌, ℕ, ◌<◌, Bool, true, false, ◌&&◌, if◌then◌else◌, length, Option, Some, None}
+use Rattle.std.proofs.Common.{IsSome, is_some, option_map, slice_get, inl, inr, refl, sym, ap, ◌∙◌, subst}
 use Rattle.address_map.specs.declared.address.CoreId.{CoreId}
 use Rattle.address_map.specs.declared.address.Local.{Local}
 use Rattle.cache_array.specs.Array.{held_at as array_at}

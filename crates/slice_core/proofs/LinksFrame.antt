@@ -1,7 +1,8 @@
 -- A step that changes one line of one core keeps what copies, registers and requests owe each other, if it holds of
 -- that
 -- line and core again.
-use Rattle.std.proofs.Common.{◌≡◌, ◌≢◌, ℕ, ◌<◌, true, List, length, get_or, set, Option, IsSome, inl, inr, sym, ap, ◌∙◌, subst, IfSome}
+use Rattle.std.proofs.Common.{◌≡◌, ◌≢◌, ℕ, ◌<◌, true, List, length, get_or, set, Option, IsSome, inl, inr, sym, ap, ◌∙◌}
+use Rattle.std.proofs.Common.{subst, IfSome}
 use Rattle.std.proofs.lemmas.Bool.{cases_eq}
 use Rattle.std.proofs.lemmas.List.{get_or-set_same, get_or-set_other, length-set, set-get_or}
 use Rattle.address_map.specs.declared.address.CoreId.{CoreId}
@@ -15,7 +16,8 @@ use Rattle.slice_core_side.specs.Copy.{found_in}
 use Rattle.slice_core_side.specs.Kept.{IsKept}
 use Rattle.slice_core_side.specs.Side.{SideView, copy_of, state_of}
 use Rattle.slice_core_side.specs.declared.copy.CacheCopy.{CacheCopy}
-use Rattle.slice_core_plan.specs.View.{View, channels_at, entry_at, side_at, with_channels, with_side, no_side, IsShaped}
+use Rattle.slice_core_plan.specs.View.{View, channels_at, entry_at, side_at, with_channels, with_side, no_side}
+use Rattle.slice_core_plan.specs.View.{IsShaped}
 use Rattle.slice_core.specs.Sound.{HasLinks, has_sent}
 use Rattle.slice_queues.specs.Line.{LineChannels, core_at, empty_line}
 use Rattle.writeback_buffer.specs.declared.entry.Leaving.{Leaving}

@@ -1,5 +1,6 @@
 -- Where a core's miss file is bounded by its tags alone, no request waits for a register or for a field of one.
-use Rattle.std.proofs.Common.{◌≡◌, ℕ, ◌<◌, Bool, true, false, not, if◌then◌else◌, List, length, Option, Some, None, is_some, IfSome, refl, sym, ap, ◌∙◌, subst, ⊎_elim}
+use Rattle.std.proofs.Common.{◌≡◌, ℕ, ◌<◌, Bool, true, false, not, if◌then◌else◌, List, length, Option, Some, None}
+use Rattle.std.proofs.Common.{is_some, IfSome, refl, sym, ap, ◌∙◌, subst, ⊎_elim}
 use Rattle.std.specs.Prelude.{◌⊎◌, ◌==◌, Result, Ok, Err}
 use Rattle.address_map.specs.declared.address.CoreId.{CoreId}
 use Rattle.address_map.specs.declared.address.Local.{Local}
@@ -26,7 +27,8 @@ use Rattle.slice_core_plan.specs.Parts.{PartsView, AfterAccepting, AfterAccess, 
 use Rattle.slice_core_plan.specs.View.{side_at}
 use Rattle.slice_core_plan.specs.declared.decide.Decision.{Decision}
 use Rattle.slice_core_plan.specs.declared.decide.Decision.TheVariants as decisions
-use Rattle.slice_core_side.specs.Access.{absent_by, access_of, alone_of, by_admission, event_of, has_entry, has_victim, has_way, held_by, in_way}
+use Rattle.slice_core_side.specs.Access.{absent_by, access_of, alone_of, by_admission, event_of, has_entry, has_victim}
+use Rattle.slice_core_side.specs.Access.{has_way, held_by, in_way}
 use Rattle.slice_core_side.specs.Copy.{found_in}
 use Rattle.slice_core_side.specs.Kept.{IsKept, stands_in_array}
 use Rattle.slice_core_side.specs.Side.{SideView, state_of, tag_at}

@@ -1,5 +1,6 @@
 -- What a message that is sent or taken leaves of the requests of a line: each is as it was, but for the request itself.
-use Rattle.std.proofs.Common.{◌≡◌, ◌≢◌, ℕ, ◌<◌, Bool, true, false, if◌then◌else◌, length, set, Option, Some, None, inl, inr, refl, sym, ap, ◌∙◌}
+use Rattle.std.proofs.Common.{◌≡◌, ◌≢◌, ℕ, ◌<◌, Bool, true, false, if◌then◌else◌, length, set, Option, Some, None, inl}
+use Rattle.std.proofs.Common.{inr, refl, sym, ap, ◌∙◌}
 use Rattle.std.proofs.lemmas.Bool.{cases_Bool, cases_lt}
 use Rattle.std.proofs.lemmas.List.{get_or_past, get_or-set_same, get_or-set_other}
 use Rattle.std.proofs.lemmas.List.FromFn.{length-map-range_with_len}
@@ -15,7 +16,8 @@ use Rattle.slice_core_plan.specs.Steps.{asked_by}
 use Rattle.slice_core.proofs.LinksStates.{asked_then}
 use Rattle.slice_queues.proofs.InvalidateLaws.{core_at-after_invalidating, core_at-not_invalidated}
 use Rattle.slice_queues.proofs.LineLaws.{read-set_unchanged}
-use Rattle.slice_queues.specs.Line.{CoreChannels, LineChannels, no_messages, core_at, with_core, after_send, after_take, after_invalidating, with_invalidation}
+use Rattle.slice_queues.specs.Line.{CoreChannels, LineChannels, no_messages, core_at, with_core, after_send, after_take}
+use Rattle.slice_queues.specs.Line.{after_invalidating, with_invalidation}
 use Rattle.slice_queues_message.specs.declared.channel.Channel.TheVariants as channels
 use Rattle.slice_queues_message.specs.declared.message.DataMessage.{DataMessage}
 use Rattle.slice_queues_message.specs.declared.message.DataMessage.TheVariants as replies

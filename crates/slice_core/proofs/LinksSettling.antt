@@ -1,7 +1,8 @@
 -- Data and acknowledgements that a core takes keep what copies, registers and requests owe each other: the register
 -- stays
 -- exactly where targets are left, and the right to write is asked for where a write is left behind loads.
-use Rattle.std.proofs.Common.{◌≡◌, ℕ, ◌<◌, Bool, true, false, if◌then◌else◌, List, ◌++◌, length, Option, Some, None, IsSome, is_some, IfSome, unwrap_or, refl, sym, ap, ◌∙◌, subst, take-append-drop}
+use Rattle.std.proofs.Common.{◌≡◌, ℕ, ◌<◌, Bool, true, false, if◌then◌else◌, List, ◌++◌, length, Option, Some, None}
+use Rattle.std.proofs.Common.{IsSome, is_some, IfSome, unwrap_or, refl, sym, ap, ◌∙◌, subst, take-append-drop}
 use Rattle.std.proofs.lemmas.List.{append-nil, append_cancel_left, length-set}
 use Rattle.std.specs.List.{list_all, prefix_len}
 use Rattle.address_map.specs.CoreSet.{has}
@@ -34,9 +35,11 @@ use Rattle.slice_core_side.specs.Side.{SideView, array_copy, copy_of, state_of}
 use Rattle.slice_core_side.specs.Steps.{after_change, after_settle, settled_copy, settled}
 use Rattle.slice_core_side.specs.declared.copy.CacheCopy.{CacheCopy}
 use Rattle.slice_core.proofs.LinksFrame.{links_logged, links_step}
-use Rattle.slice_core.proofs.LinksRequests.{asked, asked-ack_taken, asked-asked_by, asked-asked_by_other, asked-data_taken}
+use Rattle.slice_core.proofs.LinksRequests.{asked, asked-ack_taken, asked-asked_by, asked-asked_by_other}
+use Rattle.slice_core.proofs.LinksRequests.{asked-data_taken}
 use Rattle.slice_core.proofs.LinksAsking.{sent-none}
-use Rattle.slice_core.proofs.LinksStates.{asked_then, comes_by_ack, comes_by_data, comes_by_exclusive, ComesTo, settled-sent, settled-stands, settled-waits, waits-or_leaves}
+use Rattle.slice_core.proofs.LinksStates.{asked_then, comes_by_ack, comes_by_data, comes_by_exclusive, ComesTo}
+use Rattle.slice_core.proofs.LinksStates.{settled-sent, settled-stands, settled-waits, waits-or_leaves}
 use Rattle.slice_core.specs.Sound.{HasLinks, has_sent}
 use Rattle.slice_queues.specs.Line.{after_take, core_at}
 use Rattle.slice_queues_message.specs.declared.channel.Channel.{Channel}

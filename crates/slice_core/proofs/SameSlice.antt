@@ -1,5 +1,6 @@
 -- Each call leaves a slice the one that it was.
-use Rattle.std.proofs.Common.{◌≡◌, ℕ, List, Option, Some, None, Result, Err, length, refl, sym, ◌∙◌, subst, ⊎_elim, length-set}
+use Rattle.std.proofs.Common.{◌≡◌, ℕ, List, Option, Some, None, Result, Err, length, refl, sym, ◌∙◌, subst, ⊎_elim}
+use Rattle.std.proofs.Common.{length-set}
 use Rattle.std.specs.Prelude.{◌⊎◌}
 use Rattle.address_map.specs.Locator.{local_at}
 use Rattle.address_map.specs.Place.{offset_of}
@@ -12,7 +13,8 @@ use Rattle.mshr_file.specs.declared.registers.Register.{Register}
 use Rattle.directory_table.specs.declared.state.DirEntry.{DirEntry}
 use Rattle.slice_core.specs.Facts.{IsSameSlice}
 use Rattle.slice_core.specs.Shape.{shape_of}
-use Rattle.slice_core.proofs.Shapes.{shape-advance, shape-evict, shape-hit, shape-open, shape-replace, shape-settle, shapes-kept}
+use Rattle.slice_core.proofs.Shapes.{shape-advance, shape-evict, shape-hit, shape-open, shape-replace, shape-settle}
+use Rattle.slice_core.proofs.Shapes.{shapes-kept}
 use Rattle.slice_core_answer.specs.Stats.{StatsView, after_eviction}
 use Rattle.slice_core_answer.specs.declared.answer.Delivered.{Delivered}
 use Rattle.slice_core_answer.specs.declared.answer.DeliveredNext.{DeliveredNext}
@@ -33,7 +35,9 @@ use Rattle.slice_core_side.specs.declared.access.Way.{Way}
 use Rattle.slice_core_side.specs.declared.access.Way.TheVariants as ways
 use Rattle.slice_core_side.specs.declared.copy.CacheCopy.{CacheCopy}
 use Rattle.slice_core_plan.specs.Decision.{decision_of}
-use Rattle.slice_core_plan.specs.Parts.{PartsView, AfterAccepting, AfterAccess, AfterDeliverNext, AfterDelivery, AfterEvict, AfterHand, AfterIssue, AfterPlan, IsAccepted, LacksMemory, Settles, core_of, opened_stats, local_in, IsDone}
+use Rattle.slice_core_plan.specs.Parts.{PartsView, AfterAccepting, AfterAccess, AfterDeliverNext, AfterDelivery}
+use Rattle.slice_core_plan.specs.Parts.{AfterEvict, AfterHand, AfterIssue, AfterPlan, IsAccepted, LacksMemory, Settles}
+use Rattle.slice_core_plan.specs.Parts.{core_of, opened_stats, local_in, IsDone}
 use Rattle.slice_core_plan.specs.Plan.{plan_of, planned_in}
 use Rattle.slice_core_plan.specs.Steps.{after_evict, after_open, is_held, with_way}
 use Rattle.slice_core_plan.specs.View.{side_at, with_side}
@@ -250,7 +254,8 @@ planned (plans.Home state owner sharers) old local channel answer new after =
     (lines-changed old _ _ _ _ _ refl)
 planned (plans.Forwarded next sent requester) old local channel answer new after =
     subst (IsSameSlice old) (sym after.1)
-    (part-changed old (core_of channel) _ _ _ _ _ _ (shape-advance (side_at old.view (core_of channel)) local next) refl)
+    (part-changed old (core_of channel) _ _ _ _ _ _
+    (shape-advance (side_at old.view (core_of channel)) local next) refl)
 planned (plans.Fill place next) old local channel answer new after = settled old local _ channel _ new after.1
 planned (plans.Acknowledge place next) old local channel answer new after = settled old local _ channel _ new after.1
 

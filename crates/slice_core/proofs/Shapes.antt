@@ -17,7 +17,9 @@ use Rattle.slice_core_plan.specs.View.{View, no_side, side_at, with_side}
 use Rattle.slice_core_side.specs.Copy.{is_gone, performed_on}
 use Rattle.slice_core_side.specs.Perform.{performed_in}
 use Rattle.slice_core_side.specs.Side.{SideView, array_copy}
-use Rattle.slice_core_side.specs.Steps.{advanced_in_array, advanced_in_buffer, after_advance, after_change, after_draw, after_evict, after_hit, after_open, after_replace, after_settle, settled, used, used_by, victim_for, with_copy, without_line_in}
+use Rattle.slice_core_side.specs.Steps.{advanced_in_array, advanced_in_buffer, after_advance, after_change, after_draw}
+use Rattle.slice_core_side.specs.Steps.{after_evict, after_hit, after_open, after_replace, after_settle, settled, used}
+use Rattle.slice_core_side.specs.Steps.{used_by, victim_for, with_copy, without_line_in}
 use Rattle.slice_core_side.specs.declared.copy.CacheCopy.{CacheCopy}
 use Rattle.target_list.specs.declared.target.Target.{Target}
 use Rattle.writeback_buffer.specs.Buffer.{with_state, without_line}

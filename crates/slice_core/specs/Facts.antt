@@ -1,5 +1,6 @@
 -- What callers of a slice may rely on after every call.
-use Rattle.std.specs.Prelude.{◌≡◌, ℕ, ◌<◌, ◌&&◌, true, if◌then◌else◌, [], count_by, is_some, nat_lt, length, map, slice_get, List, Option, Some, None, Result, Ok}
+use Rattle.std.specs.Prelude.{◌≡◌, ℕ, ◌<◌, ◌&&◌, true, if◌then◌else◌, [], count_by, is_some, nat_lt, length, map}
+use Rattle.std.specs.Prelude.{slice_get, List, Option, Some, None, Result, Ok}
 use Rattle.address_map.specs.declared.address.CoreId.{CoreId}
 use Rattle.address_map.specs.Locator.{local_at}
 use Rattle.address_map.specs.Place.{offset_of}
@@ -50,11 +51,12 @@ pub record IsStanding (v : View) : Type 0 where
 pub record TagsName (v : View) : Type 0 where
   pub opened : (core : CoreId) (tag : ℕ) → core.0 < length v.sides
       → count_of (has_tag tag) (side_at v core).misses ≡ (if is_open (tag_at (side_at v core) tag) then 1 else 0)
-  pub replies : (core : CoreId) (tag number : ℕ) → core.0 < length v.sides → tag_at (side_at v core) tag ≡ tags.Performed number
+  pub replies : (core : CoreId) (tag number : ℕ) → core.0 < length v.sides
+      → tag_at (side_at v core) tag ≡ tags.Performed number
       → (e : Entry) × (slice_get v.log number ≡ Some e) × (e.core.0 ≡ core.0) × (e.tag ≡ tag)
 
--- No core has two miss registers for a line, it has one exactly where its copy of the line waits, and each is for a line
--- of the slice. (Kroft's miss status holding registers.)
+-- No core has two miss registers for a line, it has one exactly where its copy of the line waits, and each is for a
+-- line of the slice. (Kroft's miss status holding registers.)
 pub record HasOneRegister (v : View) : Type 0 where
   pub single : (core : CoreId) → core.0 < length v.sides → IsMissFile (side_at v core).misses
   pub waits : (core : CoreId) (local : Local) → core.0 < length v.sides
@@ -64,12 +66,14 @@ pub record HasOneRegister (v : View) : Type 0 where
 
 -- Hits, misses that opened a register and misses that joined one add up to the accepted requests, for each core.
 abbrev pub CountsAccepted : PartsView → Type 0
-CountsAccepted p = (core : CoreId) → core.0 < length p.view.sides → accepted_of (counts_of p.stats core) ≡ (side_at p.view core).accepted
+CountsAccepted p =
+    (core : CoreId) → core.0 < length p.view.sides → accepted_of (counts_of p.stats core) ≡
+    (side_at p.view core).accepted
 
--- A slice of which the theorems of the crates below speak. It is of one size in all its parts, with one core at least and
--- 64 at most; a core's copies stand where they belong, none twice; its lines are some of a machine's, each target names a
--- word of its line, and each core's registers, tags and entries account for its requests; and each line stands, with its
--- blocks, as one that the protocol's machine can come to: so what is proved of such a line is true of it.
+-- A slice of which the theorems of the crates below speak. It is of one size in all its parts, with one core at least
+-- and 64 at most; a core's copies stand where they belong, none twice; its lines are some of a machine's, each target
+-- names a word of its line, and each core's registers, tags and entries account for its requests; and each line stands,
+-- with its blocks, as one that the protocol's machine can come to: so what is proved of such a line is true of it.
 pub record IsReachedSlice (v : View) : Type 0 where
   pub some_core : 0 < length v.sides
   pub whole : IsWhole v
@@ -88,7 +92,8 @@ pub record Holds (p : PartsView) : Type 0 where
   pub tags : TagsName p.view
   -- a core has one miss register for a line of the slice that it waits for, and none for any other
   pub registers : HasOneRegister p.view
-  -- a core's entries of a line are in the order in which it asked for them, and each reply is the value that its word had
+  -- a core's entries of a line are in the order in which it asked for them, and each reply is the value that its word
+  -- had
   pub ordered : IsOrdered p.view.log
   pub legal : IsLegal (initially p.view.init) p.view.log
   -- one core writes a line or many read it; who may read it reads what was last performed, and blocks under way carry
@@ -127,7 +132,8 @@ abbrev pub ShowsLast : View → WordAddr → Option Local → ℕ → Type 0
 ShowsLast v word None shown = Unit {0}
 ShowsLast v word (Some local) shown = shown ≡ value (initially v.init word.0) v.log word.0
 
--- What a slice shows of a line: nothing of one that isn't its own, and else the directory's entry and each core's state.
+-- What a slice shows of a line: nothing of one that isn't its own, and else the directory's entry and each core's
+-- state.
 abbrev pub ShowsLine : View → Option Local → Option LineView → Type 0
 ShowsLine v None shown = shown ≡ None
 ShowsLine v (Some local) shown =
@@ -158,8 +164,8 @@ AreWaitingAt v None shown = ⊥
 AreWaitingAt v (Some local) shown =
     (shown ≡ line_waiting (channels_at v local)) × HasEachOnce (channels_at v local) shown
 
--- Each pick in front of which a message waits stands in the list once, and no other does. (A channel of acknowledgements
--- names one of 64 cores as its sender.)
+-- Each pick in front of which a message waits stands in the list once, and no other does. (A channel of
+-- acknowledgements names one of 64 cores as its sender.)
 abbrev pub HasEachFrontOnce : View → List Pick → Type 0
 HasEachFrontOnce v picks =
     (pick : Pick) →

@@ -4,8 +4,8 @@ use Rattle.address_map.specs.declared.config.PolicyKind.{PolicyKind}
 use Rattle.mshr_file.specs.Miss.{Bound}
 use Rattle.slice_core_side.specs.Side.{SideView}
 
--- How many ways the core's array has in each of its sets, by which policy it replaces lines, how many lines may leave at
--- once, and what bounds the misses. The generator's state is no part of it, since each random victim moves that.
+-- How many ways the core's array has in each of its sets, by which policy it replaces lines, how many lines may leave
+-- at once, and what bounds the misses. The generator's state is no part of it, since each random victim moves that.
 pub record Shape : Type 0 where
   pub ways : List ℕ
   pub policy : PolicyKind

@@ -1,12 +1,16 @@
-ghost use Rattle.std.specs.Prelude.{◌≡◌, ℕ, ◌<◌, ◌↔◌, [], ◌∷◌, length, slice_get, All, IfNone, IfOk, IfSome, IsTrue, IsSome, None};
+ghost use Rattle.std.specs.Prelude.{◌≡◌, ℕ, ◌<◌, ◌↔◌, [], ◌∷◌, length, slice_get, All, IfNone, IfOk, IfSome, IsTrue};
+ghost use Rattle.std.specs.Prelude.{IsSome, None};
 ghost use Rattle.address_map.specs.Locator.{local_at};
 ghost use Rattle.address_map.specs.Place.{line_of};
-ghost use Rattle.slice_core.specs.Facts.{copy_at, targets_at, AreWaitingAt, HasEachFrontOnce, Holds, IsInverted, IsNotBroken, IsNotBrokenNext, IsSameSlice, NeedsNoRegister, ShowsLast, ShowsLine, ShowsWord, front_at};
+ghost use Rattle.slice_core.specs.Facts.{copy_at, targets_at, AreWaitingAt, HasEachFrontOnce, Holds, IsInverted};
+ghost use Rattle.slice_core.specs.Facts.{IsNotBroken, IsNotBrokenNext, IsSameSlice, NeedsNoRegister, ShowsLast};
+ghost use Rattle.slice_core.specs.Facts.{ShowsLine, ShowsWord, front_at};
 ghost use Rattle.slice_core.specs.Run.{AfterCall, HasCore, HasCores, IsOneRun, IsUnbroken, Runs};
 ghost use Rattle.slice_core_machine.specs.Machine.{IsSame, new_machine};
 ghost use Rattle.slice_core_machine.specs.Shows.{Leads, Performs, hand_steps, issue_steps, next_of, shown};
 ghost use Rattle.slice_core_plan.specs.Decision.{decision_of};
-ghost use Rattle.slice_core_plan.specs.Parts.{PartsView, AfterDeliverNext, AfterDelivery, AfterEvict, AfterHand, AfterIssue, IsNew, IsNextPick, next_pick};
+ghost use Rattle.slice_core_plan.specs.Parts.{PartsView, AfterDeliverNext, AfterDelivery, AfterEvict, AfterHand};
+ghost use Rattle.slice_core_plan.specs.Parts.{AfterIssue, IsNew, IsNextPick, next_pick};
 ghost use Rattle.slice_core_plan.specs.Plan.{planned_at};
 ghost use Rattle.slice_core_plan.specs.Turn.{ServesInTurn};
 ghost use Rattle.slice_core_plan.specs.Slice.{ring_lines};
@@ -96,9 +100,9 @@ impl<F: MissFile> SliceState<F> {
         self.parts.deliver(pick)
     }
 
-    /// Makes the delivery of the class that [`SliceState::next`] names, where one can be made. Lines are served in turn: one
-    /// with messages that can be moved is passed over by no more such calls than lines stand in front of it in the ring
-    /// (`lines_are_served_in_turn` of `slice_core_plan`).
+    /// Makes the delivery of the class that [`SliceState::next`] names, where one can be made. Lines are served in
+    /// turn: one with messages that can be moved is passed over by no more such calls than lines stand in front of it
+    /// in the ring (`lines_are_served_in_turn` of `slice_core_plan`).
     pub fn deliver_next(&mut self, class: Class) -> DeliveredNext
         ensures step { AfterDeliverNext self.old class result self.new }
         ensures turn { ServesInTurn self.old class result self.new }
@@ -214,8 +218,8 @@ impl<F: MissFile> SliceState<F> {
         Some(self.parts.line_view(local))
     }
 
-    /// A core's copy of a line, which stands in its array, or leaves by its write-back buffer, or is nowhere. None for a
-    /// line that isn't the slice's.
+    /// A core's copy of a line, which stands in its array, or leaves by its write-back buffer, or is nowhere. None for
+    /// a line that isn't the slice's.
     pub fn copy(&self, core: CoreId, line: LineAddr) -> Option<CacheCopy>
         requires { core.0 < length self.now.view.sides }
         ensures { result ≡ copy_at self.now.view core (local_at self.now.view.lines line.0) }
@@ -224,7 +228,8 @@ impl<F: MissFile> SliceState<F> {
         Some(self.parts.sides()[core.0 as usize].copy(local))
     }
 
-    /// The accesses of a core that wait for a line, the oldest first: the targets of its miss register, where it has one.
+    /// The accesses of a core that wait for a line, the oldest first: the targets of its miss register, where it has
+    /// one.
     pub fn targets(&self, core: CoreId, line: LineAddr) -> ArrayVec<Target, 64>
         requires { core.0 < length self.now.view.sides }
         ensures { result.items ≡ targets_at self.now.view core (local_at self.now.view.lines line.0) }
@@ -252,8 +257,8 @@ impl<F: MissFile> SliceState<F> {
         self.parts.ring_line(place)
     }
 
-    /// What [`SliceState::issue`] would decide of the request: to refuse it, or what its access would be. That is a hit, a
-    /// miss that joins the line's miss register, a miss that opens one, or a stall.
+    /// What [`SliceState::issue`] would decide of the request: to refuse it, or what its access would be. That is a
+    /// hit, a miss that joins the line's miss register, a miss that opens one, or a stall.
     pub fn decide(&self, core: CoreId, request: Request) -> Decision
         requires { core.0 < length self.now.view.sides }
         ensures { result ≡ decision_of self.now.view core request }
@@ -278,17 +283,18 @@ impl<F: MissFile> SliceState<F> {
     }
 
     /// The picks with a message, each once and no other: from the first line to the last, within a line the block that
-    /// comes home, the data, the acknowledgements, what is forwarded, and the requests. [`SliceState::front`] gives each
-    /// one's message.
+    /// comes home, the data, the acknowledgements, what is forwarded, and the requests. [`SliceState::front`] gives
+    /// each one's message.
     pub fn waiting(&self) -> Picks<'_>
-        ensures order { result ≡ lines_waiting self.now.view.lines.slice self.now.view.lines.slices 0 self.now.view.channels }
+        ensures order { result ≡ lines_waiting self.now.view.lines.slice self.now.view.lines.slices 0
+            self.now.view.channels }
         ensures once { HasEachFrontOnce self.now.view result }
     {
         self.parts.waiting()
     }
 
-    /// The channels of a line in which a message waits, each once and no other: the block that comes home, the data, the
-    /// acknowledgements, what is forwarded, and the requests. None for a line that isn't the slice's.
+    /// The channels of a line in which a message waits, each once and no other: the block that comes home, the data,
+    /// the acknowledgements, what is forwarded, and the requests. None for a line that isn't the slice's.
     pub fn waiting_at(&self, line: LineAddr) -> Option<LineWaiting<'_>>
         ensures there { IfNone result (local_at self.now.view.lines line.0 ≡ None) }
         ensures waiting { IfSome result (AreWaitingAt self.now.view (local_at self.now.view.lines line.0)) }
@@ -300,7 +306,8 @@ impl<F: MissFile> SliceState<F> {
     /// The message that a delivery at the pick would take: none for a line that isn't the slice's, nor for a core that
     /// isn't there.
     pub fn front(&self, pick: Pick) -> Option<Message>
-        ensures { result ≡ front_at self.now.view (local_at self.now.view.lines (line_of_pick pick).0) (channel_of pick) }
+        ensures { result ≡ front_at self.now.view (local_at self.now.view.lines (line_of_pick pick).0)
+            (channel_of pick) }
     {
         let local = self.parts.lines().local_of(pick.line())?;
         self.parts.front(local, pick.channel())

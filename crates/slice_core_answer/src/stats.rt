@@ -67,7 +67,8 @@ impl Model for Stats {
 
     ghost Value = { StatsView };
 
-    ghost view = { λ own. record { cores = boxed_slice_items own.cores; messages = own.messages; exclusive = own.exclusive } };
+    ghost view = { λ own. record { cores = boxed_slice_items own.cores; messages = own.messages;
+        exclusive = own.exclusive } };
 }
 
 impl Stats {

@@ -1,6 +1,7 @@
 -- An access that is performed, or that asks for its line, is a step of the line; one that joins or is handed out is
 -- none.
-use Rattle.std.proofs.Common.{◌≡◌, ◌≢◌, ℕ, ◌<◌, ◌≤◌, Bool, true, false, List, if◌then◌else◌, length, set, Some, None, IsSome, IsSomeAnd, is_some, refl, sym, ap, ◌∙◌, subst, true≢false}
+use Rattle.std.proofs.Common.{◌≡◌, ◌≢◌, ℕ, ◌<◌, ◌≤◌, Bool, true, false, List, if◌then◌else◌, length, set, Some, None}
+use Rattle.std.proofs.Common.{IsSome, IsSomeAnd, is_some, refl, sym, ap, ◌∙◌, subst, true≢false}
 use Rattle.std.proofs.lemmas.List.{get_or-set_same, length-set, set-get_or}
 use Rattle.address_map.specs.Place.{offset_of}
 use Rattle.address_map.specs.declared.address.CoreId.{CoreId}
@@ -18,14 +19,19 @@ use Rattle.cache_table.specs.declared.row.Row.TheVariants as rows
 use Rattle.cache_table.specs.declared.state.CopyState.{CopyState}
 use Rattle.mshr_file.specs.declared.registers.Register.{Register}
 use Rattle.slice_core_coherence.proofs.Evictions.{passing, reached_leave}
-use Rattle.slice_core_coherence.proofs.Frame.{by_copy, by_number, by_same_copies, by_side, read-set, same_local, with_copy_at}
+use Rattle.slice_core_coherence.proofs.Frame.{by_copy, by_number, by_same_copies, by_side, read-set, same_local}
+use Rattle.slice_core_coherence.proofs.Frame.{with_copy_at}
 use Rattle.slice_core_coherence.proofs.OwnTurns.{IsOwn, StepStands, own_row, own_step}
 use Rattle.slice_core_coherence.specs.Stands.{AreReached, Stands, copies_at, kind_of_request}
-use Rattle.slice_core_plan.specs.Steps.{after_hand, after_hit, after_join, after_open, after_opening, after_request, request_of, with_way}
+use Rattle.slice_core_plan.specs.Steps.{after_hand, after_hit, after_join, after_open, after_opening, after_request}
+use Rattle.slice_core_plan.specs.Steps.{request_of, with_way}
 use Rattle.slice_core_plan.specs.View.{View, IsShaped, channels_at, entry_at, no_side, side_at, with_side}
 use Rattle.slice_core_protocol.specs.Line.{Line, Request as Asked}
 use Rattle.slice_core_protocol.specs.Machine.{Reached, asks_for, further}
-use Rattle.slice_core_side.proofs.Found.{changes-evict, kept-after_draw, copy_of-after_hit, copy_of-after_hit_other, copy_of-after_open_free, copy_of-after_open_free_other, copy_of-after_open_held, copy_of-after_open_held_other, copy_of-after_replace, copy_of-after_replace_other, kept-after_replace}
+use Rattle.slice_core_side.proofs.Found.{changes-evict, kept-after_draw, copy_of-after_hit, copy_of-after_hit_other}
+use Rattle.slice_core_side.proofs.Found.{copy_of-after_open_free, copy_of-after_open_free_other}
+use Rattle.slice_core_side.proofs.Found.{copy_of-after_open_held, copy_of-after_open_held_other, copy_of-after_replace}
+use Rattle.slice_core_side.proofs.Found.{copy_of-after_replace_other, kept-after_replace}
 use Rattle.slice_core_side.specs.Access.{CanLeave, CanReplace, event_of}
 use Rattle.slice_core_side.specs.Copy.{may_leave}
 use Rattle.slice_core_side.specs.Kept.{IsKept}

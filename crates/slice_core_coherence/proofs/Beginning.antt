@@ -1,5 +1,6 @@
 -- The lines of a new slice are lines that nobody has: the machine's first.
-use Rattle.std.proofs.Common.{◌≡◌, ℕ, ◌<◌, false, length, replicate, get_or, inl, inr, sym, ap, ◌∙◌, subst, refl, true≢false}
+use Rattle.std.proofs.Common.{◌≡◌, ℕ, ◌<◌, false, length, replicate, get_or, inl, inr, sym, ap, ◌∙◌, subst, refl}
+use Rattle.std.proofs.Common.{true≢false}
 use Rattle.std.proofs.lemmas.Bool.{cases_lt}
 use Rattle.std.proofs.lemmas.List.{get_or-replicate, get_or_past, length-replicate}
 use Rattle.address_map.proofs.CoreSets.{has-zero}

@@ -1,6 +1,7 @@
 -- Each call of a slice leaves its lines reached, blocks and all, and the log legal: a request, an eviction, and a reply
 -- that is handed out.
-use Rattle.std.proofs.Common.{◌≡◌, ℕ, ◌*◌, ◌/◌, ◌%◌, ◌<◌, Bool, true, false, if◌then◌else◌, List, length, Option, Some, None, Result, arith, refl, ap, ◌∙◌}
+use Rattle.std.proofs.Common.{◌≡◌, ℕ, ◌*◌, ◌/◌, ◌%◌, ◌<◌, Bool, true, false, if◌then◌else◌, List, length, Option, Some}
+use Rattle.std.proofs.Common.{None, Result, arith, refl, ap, ◌∙◌}
 use Rattle.std.specs.Prelude.{◌==◌, ◌&&◌, nat_lt}
 use Rattle.std.proofs.Math.Nat.{mod-add-div}
 use Rattle.std.proofs.lemmas.Bool.{and_parts, eqb-true}

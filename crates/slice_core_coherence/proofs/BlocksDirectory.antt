@@ -1,5 +1,6 @@
 -- The blocks of a line once the directory has served a request: they are the machine's.
-use Rattle.std.proofs.Common.{◌≡◌, ℕ, ◌<◌, ◌≤◌, ◌&&◌, Bool, true, false, [], ◌∷◌, ◌++◌, if◌then◌else◌, length, Some, None, unwrap_or, refl, sym, ap, ◌∙◌, subst}
+use Rattle.std.proofs.Common.{◌≡◌, ℕ, ◌<◌, ◌≤◌, ◌&&◌, Bool, true, false, [], ◌∷◌, ◌++◌, if◌then◌else◌, length, Some}
+use Rattle.std.proofs.Common.{None, unwrap_or, refl, sym, ap, ◌∙◌, subst}
 use Rattle.address_map.specs.CoreSet.{has}
 use Rattle.address_map.specs.declared.address.CoreId.{CoreId}
 use Rattle.address_map.specs.declared.address.Local.{Local}
@@ -10,7 +11,8 @@ use Rattle.directory_table.specs.declared.row.DirSends.TheVariants as answers
 use Rattle.directory_table.specs.declared.row.DirStep.{DirStep}
 use Rattle.directory_table.specs.declared.state.DirEntry.{DirEntry}
 use Rattle.slice_core_coherence.proofs.BlocksFrame.{by_entry_with, reached_further}
-use Rattle.slice_core_coherence.proofs.BlocksPlaces.{CoresBlocksStand, blocks_given, blocks_passed, blocks_same, core_as, other_mail, with_block_at}
+use Rattle.slice_core_coherence.proofs.BlocksPlaces.{CoresBlocksStand, blocks_given, blocks_passed, blocks_same}
+use Rattle.slice_core_coherence.proofs.BlocksPlaces.{core_as, other_mail, with_block_at}
 use Rattle.slice_core_coherence.proofs.Directory.{directory_step}
 use Rattle.slice_core_coherence.proofs.Served.{home-sent, same_requester, served}
 use Rattle.slice_core_coherence.proofs.Places.{with_core-length}

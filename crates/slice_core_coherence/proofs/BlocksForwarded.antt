@@ -1,5 +1,6 @@
 -- The blocks of a line after a forwarded message: the core that had the newest gives it on.
-use Rattle.std.proofs.Common.{◌≡◌, ℕ, ◌<◌, ◌≤◌, Bool, true, false, not, drop, if◌then◌else◌, List, length, Some, slice_get, refl, sym, ap, ◌∙◌, subst}
+use Rattle.std.proofs.Common.{◌≡◌, ℕ, ◌<◌, ◌≤◌, Bool, true, false, not, drop, if◌then◌else◌, List, length, Some}
+use Rattle.std.proofs.Common.{slice_get, refl, sym, ap, ◌∙◌, subst}
 use Rattle.address_map.specs.CoreSet.{with}
 use Rattle.address_map.specs.declared.address.CoreId.{CoreId}
 use Rattle.address_map.specs.declared.address.Local.{Local}
@@ -11,7 +12,8 @@ use Rattle.cache_table.specs.declared.row.Row.TheVariants as rows
 use Rattle.cache_table.specs.declared.state.CopyState.{CopyState}
 use Rattle.directory_table.specs.declared.state.DirEntry.{DirEntry}
 use Rattle.slice_core_coherence.proofs.BlocksFrame.{by_side_with, reached_further}
-use Rattle.slice_core_coherence.proofs.BlocksPlaces.{CoresBlocksStand, blocks_given, blocks_same, blocks_turned, core_as, with_block_at}
+use Rattle.slice_core_coherence.proofs.BlocksPlaces.{CoresBlocksStand, blocks_given, blocks_same, blocks_turned}
+use Rattle.slice_core_coherence.proofs.BlocksPlaces.{core_as, with_block_at}
 use Rattle.slice_core_coherence.proofs.Forwarded.{below, channels_after, forwarded_as, message_stands, message_step}
 use Rattle.slice_core_coherence.proofs.ForwardedPart.{moved, moved-state}
 use Rattle.slice_core_coherence.proofs.Frame.{by_number, with_copy_at}

@@ -1,17 +1,21 @@
 -- A step on one line of a slice leaves the blocks of its other lines as they stand.
-use Rattle.std.proofs.Common.{◌≡◌, ◌≢◌, ℕ, ◌<◌, Bool, if◌then◌else◌, List, length, get_or, set, inl, inr, refl, sym, ap, ◌∙◌, subst}
+use Rattle.std.proofs.Common.{◌≡◌, ◌≢◌, ℕ, ◌<◌, Bool, if◌then◌else◌, List, length, get_or, set, inl, inr, refl, sym, ap}
+use Rattle.std.proofs.Common.{◌∙◌, subst}
 use Rattle.std.proofs.lemmas.Bool.{cases_eq}
 use Rattle.std.proofs.lemmas.List.{get_or-set_other, length-set, set-get_or}
 use Rattle.address_map.specs.declared.address.CoreId.{CoreId}
 use Rattle.address_map.specs.declared.address.Local.{Local}
 use Rattle.address_map.specs.declared.block.Block.{Block}
 use Rattle.directory_table.specs.declared.state.DirEntry.{DirEntry}
-use Rattle.slice_core_coherence.proofs.Frame.{by_number, channels_are, entry_is, line_as, read-set, same_local, stepped, with_copy_at}
-use Rattle.slice_core_coherence.specs.Blocks.{AreReachedWith, BlocksStand, CoreBlocksStand, HasValues, IsReachedWith, LineReachedWith}
+use Rattle.slice_core_coherence.proofs.Frame.{by_number, channels_are, entry_is, line_as, read-set, same_local, stepped}
+use Rattle.slice_core_coherence.proofs.Frame.{with_copy_at}
+use Rattle.slice_core_coherence.specs.Blocks.{AreReachedWith, BlocksStand, CoreBlocksStand, HasValues, IsReachedWith}
+use Rattle.slice_core_coherence.specs.Blocks.{LineReachedWith}
 use Rattle.slice_core_coherence.specs.Stands.{LineStands, copies_at}
 use Rattle.slice_core_log.specs.Log.{initially}
 use Rattle.slice_core_log.specs.declared.entry.Entry.{Entry}
-use Rattle.slice_core_plan.specs.View.{View, IsShaped, channels_at, entry_at, first_word, no_entry, no_side, side_at, with_channels, with_entry, with_side}
+use Rattle.slice_core_plan.specs.View.{View, IsShaped, channels_at, entry_at, first_word, no_entry, no_side, side_at}
+use Rattle.slice_core_plan.specs.View.{with_channels, with_entry, with_side}
 use Rattle.slice_core_protocol.specs.Line.{Line}
 use Rattle.slice_core_protocol.specs.Machine.{Step, after}
 use Rattle.slice_core_protocol.specs.Values.{Blocks, ReachedWith, blocks_after, further_with, newest_after}

@@ -1,5 +1,6 @@
 -- The blocks of the slice's lines after a line leaves, and after an access that asks for its line.
-use Rattle.std.proofs.Common.{◌≡◌, ◌≢◌, ℕ, ◌<◌, ◌≤◌, ◌&&◌, Bool, true, false, not, if◌then◌else◌, List, length, Some, None, refl, sym, ap, ◌∙◌, subst, true≢false}
+use Rattle.std.proofs.Common.{◌≡◌, ◌≢◌, ℕ, ◌<◌, ◌≤◌, ◌&&◌, Bool, true, false, not, if◌then◌else◌, List, length, Some}
+use Rattle.std.proofs.Common.{None, refl, sym, ap, ◌∙◌, subst, true≢false}
 use Rattle.std.proofs.lemmas.List.{length-set}
 use Rattle.address_map.specs.declared.address.CoreId.{CoreId}
 use Rattle.address_map.specs.declared.address.Local.{Local}
@@ -18,7 +19,9 @@ use Rattle.cache_table.specs.declared.row.Row.TheVariants as rows
 use Rattle.cache_table.specs.declared.state.CopyState.{CopyState}
 use Rattle.cache_table.specs.declared.state.CopyState.TheVariants as states
 use Rattle.mshr_file.specs.declared.registers.Register.{Register}
-use Rattle.slice_core_coherence.proofs.Accesses.{HasPlace, HasPlaceFor, HasVictim, HasVictimFor, can_leave, has_channels, has_way, is_another, opens, own_access, request_for_ask, sends_for, shaped_asking, side_replaced}
+use Rattle.slice_core_coherence.proofs.Accesses.{HasPlace, HasPlaceFor, HasVictim, HasVictimFor, can_leave}
+use Rattle.slice_core_coherence.proofs.Accesses.{has_channels, has_way, is_another, opens, own_access, request_for_ask}
+use Rattle.slice_core_coherence.proofs.Accesses.{sends_for, shaped_asking, side_replaced}
 use Rattle.slice_core_coherence.proofs.BlocksFrame.{by_same_copies_with, by_side_with}
 use Rattle.slice_core_coherence.proofs.BlocksPerforming.{brings_none}
 use Rattle.slice_core_coherence.proofs.BlocksOwn.{own_reached}
@@ -28,11 +31,15 @@ use Rattle.slice_core_coherence.proofs.Frame.{with_copy_at}
 use Rattle.slice_core_coherence.specs.Blocks.{AreReachedWith, HasValues, IsReachedWith, LineReachedWith, has_block}
 use Rattle.slice_core_coherence.specs.Stands.{copies_at}
 use Rattle.slice_core_log.specs.Log.{initially}
-use Rattle.slice_core_plan.specs.Steps.{after_evict, after_hand, after_join, after_open, after_opening, after_request, block_in, request_of, with_way}
+use Rattle.slice_core_plan.specs.Steps.{after_evict, after_hand, after_join, after_open, after_opening, after_request}
+use Rattle.slice_core_plan.specs.Steps.{block_in, request_of, with_way}
 use Rattle.slice_core_plan.specs.View.{View, IsShaped, channels_at, entry_at, first_word, side_at, with_side}
-use Rattle.slice_core_protocol.proofs.Each.{each_state, each_state-at, if_go, if_go-at, if_so, if_so-at, left, not-at, right}
+use Rattle.slice_core_protocol.proofs.Each.{each_state, each_state-at, if_go, if_go-at, if_so, if_so-at, left, not-at}
+use Rattle.slice_core_protocol.proofs.Each.{right}
 use Rattle.slice_core_protocol.specs.Values.{performs}
-use Rattle.slice_core_side.proofs.Found.{copy_of-after_evict, copy_of-after_evict_other, copy_of-after_open_held, copy_of-after_replace, copy_of-after_replace_other, copy_of-held, kept-after_replace}
+use Rattle.slice_core_side.proofs.Found.{copy_of-after_evict, copy_of-after_evict_other, copy_of-after_open_held}
+use Rattle.slice_core_side.proofs.Found.{copy_of-after_replace, copy_of-after_replace_other, copy_of-held}
+use Rattle.slice_core_side.proofs.Found.{kept-after_replace}
 use Rattle.slice_core_side.specs.Access.{CanLeave, CanReplace, event_of}
 use Rattle.slice_core_side.specs.Copy.{found_in, leaving_copy, may_leave}
 use Rattle.slice_core_side.specs.Kept.{IsKept}

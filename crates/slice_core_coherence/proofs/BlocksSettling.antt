@@ -1,5 +1,6 @@
 -- Data or an acknowledgement that a core takes leaves each line reached, blocks and all, and the log legal.
-use Rattle.std.proofs.Common.{◌≡◌, ℕ, ◌+◌, ◌<◌, ◌≤◌, Bool, true, false, not, if◌then◌else◌, List, ◌++◌, length, Some, None, IsSome, is_some, refl, sym, ap, ◌∙◌, subst, true≢false}
+use Rattle.std.proofs.Common.{◌≡◌, ℕ, ◌+◌, ◌<◌, ◌≤◌, Bool, true, false, not, if◌then◌else◌, List, ◌++◌, length, Some}
+use Rattle.std.proofs.Common.{None, IsSome, is_some, refl, sym, ap, ◌∙◌, subst, true≢false}
 use Rattle.std.specs.Prelude.{All}
 use Rattle.std.specs.List.{list_all}
 use Rattle.address_map.specs.CoreSet.{has, without}
@@ -29,8 +30,11 @@ use Rattle.slice_core_coherence.proofs.Frame.{with_copy_at}
 use Rattle.slice_core_coherence.proofs.LogElsewhere.{log_keeps, targets_of_line}
 use Rattle.slice_core_coherence.proofs.Places.{with_core-length}
 use Rattle.slice_core_coherence.proofs.Rows.{if_go-counted}
-use Rattle.slice_core_coherence.proofs.Settling.{ack_comes, ack_found, ack_has_row, acknowledged_copy, data_comes, data_found, data_has_row, filled-counted, filled-state, filled-wants, filled_copy, in_array, waits-held}
-use Rattle.slice_core_coherence.proofs.SettlingLine.{count_stands, count_turn, data_at_hand, data_event, data_row_here, fill_stands, fill_turn, settled-state}
+use Rattle.slice_core_coherence.proofs.Settling.{ack_comes, ack_found, ack_has_row, acknowledged_copy, data_comes}
+use Rattle.slice_core_coherence.proofs.Settling.{data_found, data_has_row, filled-counted, filled-state, filled-wants}
+use Rattle.slice_core_coherence.proofs.Settling.{filled_copy, in_array, waits-held}
+use Rattle.slice_core_coherence.proofs.SettlingLine.{count_stands, count_turn, data_at_hand, data_event, data_row_here}
+use Rattle.slice_core_coherence.proofs.SettlingLine.{fill_stands, fill_turn, settled-state}
 use Rattle.slice_core_coherence.specs.Blocks.{AreReachedWith, HasValues, LineReachedWith, block_of_data, has_block}
 use Rattle.slice_core_coherence.specs.Stands.{copies_at, named_by}
 use Rattle.slice_core_log.specs.Log.{IsLegal, initially}
@@ -45,7 +49,9 @@ use Rattle.slice_core_protocol.proofs.ValueSteps.{without_blocks}
 use Rattle.slice_core_protocol.specs.Fit.{◌implies◌}
 use Rattle.slice_core_protocol.specs.Machine.{Reached}
 use Rattle.slice_core_protocol.specs.Values.{Blocks, copied, performs}
-use Rattle.slice_core_side.proofs.Found.{changes-change, copy_of-after_change, copy_of-after_change_other, copy_of-after_settle, copy_of-after_settle_other, copy_of-held, kept-after_change}
+use Rattle.slice_core_side.proofs.Found.{changes-change, copy_of-after_change, copy_of-after_change_other}
+use Rattle.slice_core_side.proofs.Found.{copy_of-after_settle, copy_of-after_settle_other, copy_of-held}
+use Rattle.slice_core_side.proofs.Found.{kept-after_change}
 use Rattle.slice_core_side.specs.Kept.{IsKept, stands_in_array}
 use Rattle.slice_core_side.specs.Perform.{asks_to_write, entries_of, performed_in}
 use Rattle.slice_core_side.specs.Side.{array_copy, copy_of, state_of}

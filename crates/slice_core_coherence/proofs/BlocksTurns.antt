@@ -1,5 +1,6 @@
 -- The blocks of a line after a core's own turn: an access that hits or asks for the line, or an eviction.
-use Rattle.std.proofs.Common.{◌≡◌, ℕ, ◌<◌, ◌≤◌, ◌==◌, ◌&&◌, Bool, true, false, if◌then◌else◌, length, Option, unwrap_or, refl, sym, ap, ◌∙◌, subst}
+use Rattle.std.proofs.Common.{◌≡◌, ℕ, ◌<◌, ◌≤◌, ◌==◌, ◌&&◌, Bool, true, false, if◌then◌else◌, length, Option, unwrap_or}
+use Rattle.std.proofs.Common.{refl, sym, ap, ◌∙◌, subst}
 use Rattle.std.proofs.Math.Bool.{and-false, and-true}
 use Rattle.address_map.specs.declared.block.Block.{Block}
 use Rattle.cache_table.specs.Law.{sends_data, sends_home, sends_put_m}

@@ -1,6 +1,7 @@
 -- No channel of a line that the machine reaches has more messages than it takes, and what waits there is of cores that
 -- are there.
-use Rattle.std.proofs.Common.{◌≡◌, ◌≢◌, ℕ, ◌<◌, ◌≤◌, ◌||◌, ◌++◌, Bool, true, false, not, [], length, map, Option, Some, None, inl, inr, refl, sym, ap, ◌∙◌, subst, arith, true≢false}
+use Rattle.std.proofs.Common.{◌≡◌, ◌≢◌, ℕ, ◌<◌, ◌≤◌, ◌||◌, ◌++◌, Bool, true, false, not, [], length, map, Option, Some}
+use Rattle.std.proofs.Common.{None, inl, inr, refl, sym, ap, ◌∙◌, subst, arith, true≢false}
 use Rattle.std.proofs.lemmas.Bool.{cases_lt}
 use Rattle.std.proofs.lemmas.List.{get_or_past}
 use Rattle.address_map.proofs.CoreSets.{has-zero}
@@ -10,14 +11,16 @@ use Rattle.address_map.specs.declared.block.Block.{Block}
 use Rattle.directory_table.specs.declared.state.DirEntry.{DirEntry}
 use Rattle.slice_core_coherence.proofs.Facts.{inv_before_one}
 use Rattle.slice_core_coherence.specs.Coherent.{HasBoundedChannels}
-use Rattle.slice_core_coherence.specs.Stands.{AreReached, LineStands, copies_at, queued_forward, queued_inv, queued_put_ack}
+use Rattle.slice_core_coherence.specs.Stands.{AreReached, LineStands, copies_at, queued_forward, queued_inv}
+use Rattle.slice_core_coherence.specs.Stands.{queued_put_ack}
 use Rattle.slice_core_coherence.specs.Whole.{IsWhole}
 use Rattle.slice_core_plan.specs.View.{View, channels_at, entry_at}
 use Rattle.slice_core_protocol.specs.Fit.{is_no_forward}
 use Rattle.slice_core_protocol.specs.Line.{Forward, fwd_get_m, fwd_get_s, no_forward, Line}
 use Rattle.slice_core_protocol.specs.Machine.{Reached}
 use Rattle.slice_core_side.specs.declared.copy.CacheCopy.{CacheCopy}
-use Rattle.slice_queues.specs.Line.{CoreChannels, HasChannel, LineChannels, ack_messages, core_at, data_messages, home_messages, messages_at, no_messages, request_messages, room_of}
+use Rattle.slice_queues.specs.Line.{CoreChannels, HasChannel, LineChannels, ack_messages, core_at, data_messages}
+use Rattle.slice_queues.specs.Line.{home_messages, messages_at, no_messages, request_messages, room_of}
 use Rattle.slice_queues_message.specs.declared.channel.Channel.{Channel}
 use Rattle.slice_queues_message.specs.declared.channel.Channel.TheVariants as channels
 use Rattle.slice_queues_message.specs.declared.message.DataMessage.{DataMessage}

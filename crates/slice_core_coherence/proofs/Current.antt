@@ -1,6 +1,7 @@
 -- A slice whose lines are the machine's, blocks and all: its lines are the machine's without their blocks, and what may
 -- be read is the newest.
-use Rattle.std.proofs.Common.{◌≡◌, ℕ, ◌<◌, ◌≤◌, ◌||◌, ◌&&◌, Bool, true, false, not, List, length, Some, is_some, unwrap_or, refl, sym, ap, ◌∙◌, subst, true≢false}
+use Rattle.std.proofs.Common.{◌≡◌, ℕ, ◌<◌, ◌≤◌, ◌||◌, ◌&&◌, Bool, true, false, not, List, length, Some, is_some}
+use Rattle.std.proofs.Common.{unwrap_or, refl, sym, ap, ◌∙◌, subst, true≢false}
 use Rattle.address_map.specs.declared.block.Block.{Block}
 use Rattle.cache_table.specs.CopyState.{is_readable}
 use Rattle.cache_table.specs.declared.state.CopyState.{CopyState}

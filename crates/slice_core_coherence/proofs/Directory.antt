@@ -1,5 +1,6 @@
 -- A request that the directory serves is a step of the line.
-use Rattle.std.proofs.Common.{◌≡◌, ℕ, ◌<◌, ◌≤◌, ◌==◌, Bool, true, false, if◌then◌else◌, length, Some, IsTrue, is_some, refl, sym, ap, ◌∙◌, subst, arith, true≢false}
+use Rattle.std.proofs.Common.{◌≡◌, ℕ, ◌<◌, ◌≤◌, ◌==◌, Bool, true, false, if◌then◌else◌, length, Some, IsTrue, is_some}
+use Rattle.std.proofs.Common.{refl, sym, ap, ◌∙◌, subst, arith, true≢false}
 use Rattle.address_map.specs.CoreSet.{has}
 use Rattle.address_map.specs.declared.address.CoreId.{CoreId}
 use Rattle.address_map.specs.declared.address.Local.{Local}
@@ -15,7 +16,9 @@ use Rattle.directory_table.specs.declared.state.DirEntry.{DirEntry}
 use Rattle.slice_core_coherence.proofs.Facts.{data_before_counting, inv_without_ack}
 use Rattle.slice_core_coherence.proofs.Frame.{by_entry}
 use Rattle.slice_core_coherence.proofs.Places.{acks-with_core, acks_kept}
-use Rattle.slice_core_coherence.proofs.Served.{MayServe, acks-sent, after_row, asked_here, debt-answered, debt-forwarded, debt_if, debt_of, home-sent, owes-served, row_here, same_service, serve_stands, served, taken_line, within_here}
+use Rattle.slice_core_coherence.proofs.Served.{MayServe, acks-sent, after_row, asked_here, debt-answered}
+use Rattle.slice_core_coherence.proofs.Served.{debt-forwarded, debt_if, debt_of, home-sent, owes-served, row_here}
+use Rattle.slice_core_coherence.proofs.Served.{same_service, serve_stands, served, taken_line, within_here}
 use Rattle.slice_core_coherence.specs.Stands.{AreReached, LineStands, Stands, copies_at, kind_of_request}
 use Rattle.slice_core_plan.specs.Plan.{event_of_request, plan_of}
 use Rattle.slice_core_plan.specs.Sends.{directory_sent}
@@ -26,7 +29,8 @@ use Rattle.slice_core_protocol.proofs.Frame.{at_place}
 use Rattle.slice_core_protocol.proofs.Promises.{reached_has_room}
 use Rattle.slice_core_protocol.specs.Fit.{is_counting, is_no_data}
 use Rattle.slice_core_protocol.specs.Line.{Line, Part}
-use Rattle.slice_core_protocol.specs.Machine.{Reached, Step, after, answered, change_if, entry_of, forwarded, further, invalidated_by, is_asked_for, serve}
+use Rattle.slice_core_protocol.specs.Machine.{Reached, Step, after, answered, change_if, entry_of, forwarded, further}
+use Rattle.slice_core_protocol.specs.Machine.{invalidated_by, is_asked_for, serve}
 use Rattle.slice_core_protocol.specs.Promise.{HasRoomAtService}
 use Rattle.slice_core_side.specs.declared.copy.CacheCopy.{CacheCopy}
 use Rattle.slice_queues.specs.Line.{LineChannels, after_take, core_at}

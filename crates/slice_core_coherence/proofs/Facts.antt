@@ -1,5 +1,6 @@
 -- What is true of each core of a line that the machine reaches, and is needed to follow its numbers.
-use Rattle.std.proofs.Common.{◌≡◌, ℕ, ◌+◌, ◌<◌, ◌≤◌, ◌==◌, ◌&&◌, ◌||◌, Bool, true, false, not, refl, ap, sym, ◌∙◌, subst, arith, if◌then◌else◌}
+use Rattle.std.proofs.Common.{◌≡◌, ℕ, ◌+◌, ◌<◌, ◌≤◌, ◌==◌, ◌&&◌, ◌||◌, Bool, true, false, not, refl, ap, sym, ◌∙◌}
+use Rattle.std.proofs.Common.{subst, arith, if◌then◌else◌}
 use Rattle.std.proofs.Math.Bool.{or-true}
 use Rattle.std.proofs.lemmas.Bool.{and_parts, eqb-true}
 use Rattle.address_map.proofs.Members.{count_of-most}
@@ -25,7 +26,9 @@ use Rattle.slice_core_protocol.proofs.Steps.{reached_coherent}
 use Rattle.slice_core_protocol.specs.Coherent.{debts}
 use Rattle.slice_core_protocol.specs.Fit.{awaits, is_counting, is_no_data, is_no_forward, owes}
 use Rattle.slice_core_protocol.specs.Line.{Line, Look, Part, near_of}
-use Rattle.slice_core_protocol.specs.Machine.{Reached, acknowledged, acted, answered, beginning, change_if, count, entry_of, forwarded, further, given, invalidated_by, serve, stands_ack, turn, who}
+use Rattle.slice_core_protocol.specs.Machine.{Reached, acknowledged, acted, answered, beginning, change_if, count}
+use Rattle.slice_core_protocol.specs.Machine.{entry_of, forwarded, further, given, invalidated_by, serve, stands_ack}
+use Rattle.slice_core_protocol.specs.Machine.{turn, who}
 
 -- ---- each core
 

@@ -1,5 +1,6 @@
 -- A forwarded message that a core takes is a turn of its line.
-use Rattle.std.proofs.Common.{◌≡◌, ℕ, ◌<◌, ◌≤◌, ◌==◌, ◌&&◌, ◌||◌, Bool, true, false, drop, if◌then◌else◌, length, Some, slice_get, get_or, is_some, refl, sym, ap, ◌∙◌, subst, arith}
+use Rattle.std.proofs.Common.{◌≡◌, ℕ, ◌<◌, ◌≤◌, ◌==◌, ◌&&◌, ◌||◌, Bool, true, false, drop, if◌then◌else◌, length, Some}
+use Rattle.std.proofs.Common.{slice_get, get_or, is_some, refl, sym, ap, ◌∙◌, subst, arith}
 use Rattle.std.proofs.Math.Bool.{and-false, or-true}
 use Rattle.std.proofs.lemmas.Bool.{eq-eqb, ne_eqb}
 use Rattle.address_map.proofs.CoreSets.{has-with_other, has-with_same}
@@ -16,14 +17,17 @@ use Rattle.cache_table.specs.declared.row.Row.TheVariants as rows
 use Rattle.cache_table.specs.declared.state.CopyState.{CopyState}
 use Rattle.directory_table.specs.declared.state.DirEntry.{DirEntry}
 use Rattle.slice_core_coherence.proofs.Facts.{data_before_counting}
-use Rattle.slice_core_coherence.proofs.ForwardedPart.{acks_apart, message_by, moved, owes-given, owes-turned, part_after}
+use Rattle.slice_core_coherence.proofs.ForwardedPart.{acks_apart, message_by, moved, owes-given, owes-turned}
+use Rattle.slice_core_coherence.proofs.ForwardedPart.{part_after}
 use Rattle.slice_core_coherence.proofs.Frame.{by_number, by_side, read-set, with_copy_at}
 use Rattle.slice_core_coherence.proofs.OwnTurns.{StepStands}
 use Rattle.slice_core_coherence.proofs.Parts.{IsFirst, data_stand, first_at_hand, first_stands}
-use Rattle.slice_core_coherence.proofs.Places.{PartsStand, acks-with_core, acks_kept, acks_turned, parts_as, parts_sent, parts_turned, with_core-length, with_part_at}
+use Rattle.slice_core_coherence.proofs.Places.{PartsStand, acks-with_core, acks_kept, acks_turned, parts_as, parts_sent}
+use Rattle.slice_core_coherence.proofs.Places.{parts_turned, with_core-length, with_part_at}
 use Rattle.slice_core_coherence.proofs.Rows.{answers, sends_for}
 use Rattle.slice_core_coherence.proofs.Turns.{IsQuiet, turn_stands}
-use Rattle.slice_core_coherence.specs.Stands.{AcksStand, AreReached, EntryStands, LineStands, PartStands, Stands, copies_at}
+use Rattle.slice_core_coherence.specs.Stands.{AcksStand, AreReached, EntryStands, LineStands, PartStands, Stands}
+use Rattle.slice_core_coherence.specs.Stands.{copies_at}
 use Rattle.slice_core_plan.specs.Plan.{event_of_forwarded, plan_of, requester_of}
 use Rattle.slice_core_plan.specs.Sends.{cache_sent}
 use Rattle.slice_core_plan.specs.Steps.{after_forwarded}
@@ -34,7 +38,8 @@ use Rattle.slice_core_protocol.proofs.Frame.{at_place}
 use Rattle.slice_core_protocol.proofs.Promises.{reached_has_room, reached_has_rows}
 use Rattle.slice_core_protocol.specs.Fit.{is_counting, is_no_data}
 use Rattle.slice_core_protocol.specs.Line.{Line, Part}
-use Rattle.slice_core_protocol.specs.Machine.{Reached, Step, acted, after, after_turn, change_if, further, given, stands as is_at_hand, stands_ack, turn}
+use Rattle.slice_core_protocol.specs.Machine.{Reached, Step, acted, after, after_turn, change_if, further, given}
+use Rattle.slice_core_protocol.specs.Machine.{stands as is_at_hand, stands_ack, turn}
 use Rattle.slice_core_side.proofs.Found.{copy_of-after_advance, copy_of-after_advance_other}
 use Rattle.slice_core_side.specs.Kept.{IsKept}
 use Rattle.slice_core_side.specs.Side.{copy_of, state_of}

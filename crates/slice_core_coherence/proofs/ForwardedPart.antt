@@ -1,5 +1,6 @@
 -- A forwarded message that a core takes: the row that was planned, and the core's own part.
-use Rattle.std.proofs.Common.{◌≡◌, ℕ, ◌+◌, ◌==◌, ◌&&◌, ◌||◌, Bool, true, false, not, drop, if◌then◌else◌, Option, Some, None, slice_get, refl, sym, ap, ◌∙◌, arith, true≢false}
+use Rattle.std.proofs.Common.{◌≡◌, ℕ, ◌+◌, ◌==◌, ◌&&◌, ◌||◌, Bool, true, false, not, drop, if◌then◌else◌, Option, Some}
+use Rattle.std.proofs.Common.{None, slice_get, refl, sym, ap, ◌∙◌, arith, true≢false}
 use Rattle.std.proofs.Math.Bool.{or-false}
 use Rattle.address_map.specs.declared.address.CoreId.{CoreId}
 use Rattle.address_map.specs.declared.address.Local.{Local}
@@ -14,7 +15,8 @@ use Rattle.cache_table.specs.declared.state.CopyState.TheVariants as states
 use Rattle.slice_core_coherence.proofs.Parts.{IsFirst, first_taken}
 use Rattle.slice_core_coherence.proofs.Rows.{IsAnswer, sends_for}
 use Rattle.slice_core_coherence.specs.Stands.{PartStands}
-use Rattle.slice_core_plan.specs.Plan.{asks, by_forwarded_row, event_of_forwarded, forwarded_by, is_put_ack, requester_of}
+use Rattle.slice_core_plan.specs.Plan.{asks, by_forwarded_row, event_of_forwarded, forwarded_by, is_put_ack}
+use Rattle.slice_core_plan.specs.Plan.{requester_of}
 use Rattle.slice_core_plan.specs.Sends.{cache_room}
 use Rattle.slice_core_plan.specs.View.{View, channels_at, side_at}
 use Rattle.slice_core_plan.specs.declared.decide.Plan.{Plan}

@@ -1,5 +1,6 @@
 -- A step on one line of a slice leaves its other lines as they stand.
-use Rattle.std.proofs.Common.{◌≡◌, ◌≢◌, ℕ, ◌<◌, ◌==◌, Bool, true, false, if◌then◌else◌, List, length, get_or, set, inl, inr, refl, sym, ap, ◌∙◌, subst}
+use Rattle.std.proofs.Common.{◌≡◌, ◌≢◌, ℕ, ◌<◌, ◌==◌, Bool, true, false, if◌then◌else◌, List, length, get_or, set, inl}
+use Rattle.std.proofs.Common.{inr, refl, sym, ap, ◌∙◌, subst}
 use Rattle.std.proofs.lemmas.Bool.{cases_eq, eqb-false, eqb-true}
 use Rattle.std.proofs.lemmas.List.{get_or-set_same, get_or-set_other, length-set, set-get_or}
 use Rattle.address_map.specs.declared.address.CoreId.{CoreId}
@@ -7,7 +8,8 @@ use Rattle.address_map.specs.declared.address.Local.{Local}
 use Rattle.directory_table.specs.declared.state.DirEntry.{DirEntry}
 use Rattle.slice_core_coherence.specs.Stands.{AreReached, IsReached, LineStands, Stands, copies_at}
 use Rattle.slice_core_log.specs.declared.entry.Entry.{Entry}
-use Rattle.slice_core_plan.specs.View.{View, IsShaped, channels_at, entry_at, no_entry, no_side, side_at, with_channels, with_entry, with_side}
+use Rattle.slice_core_plan.specs.View.{View, IsShaped, channels_at, entry_at, no_entry, no_side, side_at, with_channels}
+use Rattle.slice_core_plan.specs.View.{with_entry, with_side}
 use Rattle.slice_core_protocol.specs.Line.{Line}
 use Rattle.slice_core_protocol.specs.Machine.{Reached}
 use Rattle.slice_core_side.specs.Side.{SideView, copy_of}

@@ -1,5 +1,6 @@
 -- An access that was judged is by the row of the core's copy.
-use Rattle.std.proofs.Common.{◌≡◌, ℕ, Bool, true, false, not, if◌then◌else◌, length, Option, Some, None, IsSome, is_some, refl, ap, subst}
+use Rattle.std.proofs.Common.{◌≡◌, ℕ, Bool, true, false, not, if◌then◌else◌, length, Option, Some, None, IsSome}
+use Rattle.std.proofs.Common.{is_some, refl, ap, subst}
 use Rattle.std.proofs.lemmas.Bool.{ltb-true}
 use Rattle.address_map.specs.declared.address.Local.{Local}
 use Rattle.address_map.specs.declared.request.Op.{Op}
@@ -14,7 +15,8 @@ use Rattle.mshr_file.specs.Miss.{can_join, can_open, has_miss}
 use Rattle.mshr_file.specs.declared.admission.Admission.TheVariants as admissions
 use Rattle.slice_core_answer.specs.declared.answer.Stall.TheVariants as stalls
 use Rattle.slice_core_coherence.proofs.Accesses.{HasPlaceFor, sends_for}
-use Rattle.slice_core_side.specs.Access.{absent_by, access_of, alone_of, by_admission, event_of, has_entry, has_victim, has_way, held_by, in_way, with_register}
+use Rattle.slice_core_side.specs.Access.{absent_by, access_of, alone_of, by_admission, event_of, has_entry, has_victim}
+use Rattle.slice_core_side.specs.Access.{has_way, held_by, in_way, with_register}
 use Rattle.slice_core_side.specs.Copy.{found_in}
 use Rattle.slice_core_side.specs.Side.{SideView, state_of}
 use Rattle.slice_core_side.specs.declared.access.Access.{Access}

@@ -1,5 +1,6 @@
 -- What each access keeps is kept by each call: a request, an eviction, and a reply that is handed out.
-use Rattle.std.proofs.Common.{◌≡◌, ℕ, ◌<◌, ◌⊎◌, ◌/◌, ◌%◌, Bool, true, false, if◌then◌else◌, length, Option, Some, None, Result, Err, ⊎_elim, refl, sym, ap, ◌∙◌, subst}
+use Rattle.std.proofs.Common.{◌≡◌, ℕ, ◌<◌, ◌⊎◌, ◌/◌, ◌%◌, Bool, true, false, if◌then◌else◌, length, Option, Some, None}
+use Rattle.std.proofs.Common.{Result, Err, ⊎_elim, refl, sym, ap, ◌∙◌, subst}
 use Rattle.std.specs.Prelude.{◌==◌, ◌&&◌, nat_lt, not}
 use Rattle.std.proofs.lemmas.Bool.{and_parts, ltb-true}
 use Rattle.address_map.specs.Locator.{Lines, is_past, local_at}
@@ -22,7 +23,8 @@ use Rattle.slice_core_coherence.proofs.Victims.{has_victim_for}
 use Rattle.slice_core_coherence.specs.Whole.{IsWhole}
 use Rattle.slice_core_log.specs.declared.entry.Numbered.{Numbered}
 use Rattle.slice_core_plan.specs.Decision.{decision_at, decision_of, is_counter, overwrites}
-use Rattle.slice_core_plan.specs.Parts.{PartsView, target_for, AfterAccepting, AfterAccess, AfterEvict, AfterHand, AfterIssue, IsAccepted, LacksMemory}
+use Rattle.slice_core_plan.specs.Parts.{PartsView, target_for, AfterAccepting, AfterAccess, AfterEvict, AfterHand}
+use Rattle.slice_core_plan.specs.Parts.{AfterIssue, IsAccepted, LacksMemory}
 use Rattle.slice_core_plan.specs.Steps.{after_evict}
 use Rattle.slice_core_plan.specs.View.{View, side_at}
 use Rattle.slice_core_plan.specs.declared.decide.Decision.{Decision}

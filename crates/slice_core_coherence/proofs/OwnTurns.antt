@@ -1,5 +1,6 @@
 -- A core's own turn, without a message: an access that hits or asks for the line, or an eviction.
-use Rattle.std.proofs.Common.{◌≡◌, ℕ, ◌<◌, ◌≤◌, ◌&&◌, Bool, true, false, not, length, Option, arith, refl, sym, ap, ◌∙◌, true≢false}
+use Rattle.std.proofs.Common.{◌≡◌, ℕ, ◌<◌, ◌≤◌, ◌&&◌, Bool, true, false, not, length, Option, arith, refl, sym, ap, ◌∙◌}
+use Rattle.std.proofs.Common.{true≢false}
 use Rattle.cache_table.specs.CopyState.{is_waiting}
 use Rattle.cache_table.specs.Law.{sends_data, sends_get, sends_home, sends_inv_ack}
 use Rattle.cache_table.specs.Row.{row_of}
@@ -13,7 +14,8 @@ use Rattle.slice_core_coherence.proofs.Facts.{counts_while_waiting}
 use Rattle.slice_core_coherence.proofs.Frame.{with_copy_at}
 use Rattle.slice_core_coherence.proofs.Turns.{IsQuiet, turn_stands}
 use Rattle.slice_core_coherence.specs.Stands.{LineStands, PartStands, kind_of_request}
-use Rattle.slice_core_protocol.proofs.Each.{each_state, each_state-at, if_go, if_go-at, if_so, if_so-at, left, not-at, right}
+use Rattle.slice_core_protocol.proofs.Each.{each_state, each_state-at, if_go, if_go-at, if_so, if_so-at, left, not-at}
+use Rattle.slice_core_protocol.proofs.Each.{right}
 use Rattle.slice_core_protocol.specs.Fit.{is_counting}
 use Rattle.slice_core_protocol.specs.Line.{Line, Part}
 use Rattle.slice_core_protocol.specs.Machine.{Reached, Step, acted, after, asks_for, stands, turn}

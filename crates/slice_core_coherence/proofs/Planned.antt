@@ -1,5 +1,6 @@
 -- A plan that is carried out is for its own kind of channel, whose core is there; a forwarded message finds a copy.
-use Rattle.std.proofs.Common.{◌≡◌, ℕ, ◌<◌, ◌≤◌, ◌⊎◌, ◌&&◌, Bool, true, false, not, if◌then◌else◌, length, Option, Some, None, IsSome, is_some, slice_get, inl, inr, refl, sym, subst}
+use Rattle.std.proofs.Common.{◌≡◌, ℕ, ◌<◌, ◌≤◌, ◌⊎◌, ◌&&◌, Bool, true, false, not, if◌then◌else◌, length, Option, Some}
+use Rattle.std.proofs.Common.{None, IsSome, is_some, slice_get, inl, inr, refl, sym, subst}
 use Rattle.std.proofs.lemmas.Bool.{cases_lt}
 use Rattle.std.proofs.lemmas.List.{get_or_past}
 use Rattle.address_map.proofs.CoreSets.{has-zero}
@@ -19,7 +20,11 @@ use Rattle.directory_table.specs.declared.row.DirRow.{DirRow}
 use Rattle.directory_table.specs.declared.row.DirRow.TheVariants as dir_rows
 use Rattle.directory_table.specs.declared.row.DirStep.{DirStep}
 use Rattle.slice_core_answer.specs.declared.answer.Cell.TheVariants as cells
-use Rattle.slice_core_plan.specs.Plan.{ack_plan, acknowledge_at, asks, by_ack_row, by_data_row, by_directory_row, by_forwarded_row, by_home_row, data_by, data_plan, event_of_data, event_of_forwarded, event_of_request, fill_at, forwarded_by, forwarded_plan, home_plan, is_put_ack, plan_of, request_by, request_plan, requester_of, stands_at}
+use Rattle.slice_core_plan.specs.Plan.{ack_plan, acknowledge_at, asks, by_ack_row, by_data_row, by_directory_row}
+use Rattle.slice_core_plan.specs.Plan.{by_forwarded_row, by_home_row, data_by, data_plan, event_of_data}
+use Rattle.slice_core_plan.specs.Plan.{event_of_forwarded, event_of_request, fill_at, forwarded_by, forwarded_plan}
+use Rattle.slice_core_plan.specs.Plan.{home_plan, is_put_ack, plan_of, request_by, request_plan, requester_of}
+use Rattle.slice_core_plan.specs.Plan.{stands_at}
 use Rattle.slice_core_plan.specs.Sends.{cache_room, directory_room}
 use Rattle.slice_core_plan.specs.View.{View, IsShaped, channels_at, entry_at, side_at}
 use Rattle.slice_core_plan.specs.Within.{HasCopy}

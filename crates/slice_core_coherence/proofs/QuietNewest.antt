@@ -1,5 +1,6 @@
 -- In a quiet slice the block with a line's newest data is the owner's copy, or the home copy where it has no owner.
-use Rattle.std.proofs.Common.{◌≡◌, ℕ, ◌<◌, ◌==◌, Bool, true, false, [], ◌++◌, length, Option, Some, None, IfSome, is_some, IsTrue, refl, sym, ap, ◌∙◌, subst, true≢false}
+use Rattle.std.proofs.Common.{◌≡◌, ℕ, ◌<◌, ◌==◌, Bool, true, false, [], ◌++◌, length, Option, Some, None, IfSome}
+use Rattle.std.proofs.Common.{is_some, IsTrue, refl, sym, ap, ◌∙◌, subst, true≢false}
 use Rattle.std.proofs.lemmas.Bool.{and_from, eq-eqb}
 use Rattle.std.proofs.lemmas.List.Elements.{All-get_or}
 use Rattle.address_map.proofs.CoreSets.{has-zero}

@@ -1,5 +1,7 @@
 -- Room for what is sent: one more message finds it, in a line that the machine reaches.
-use Rattle.std.proofs.Common.{◌≡◌, ◌≢◌, ℕ, zero, suc, ◌+◌, ◌<◌, ◌≤◌, ◌&&◌, Bool, true, false, not, ◌∷◌, ◌++◌, length, filter, if◌then◌else◌, Option, Some, None, is_some, refl, sym, ap, ◌∙◌, subst, arith, true≢false}
+use Rattle.std.proofs.Common.{◌≡◌, ◌≢◌, ℕ, zero, suc, ◌+◌, ◌<◌, ◌≤◌, ◌&&◌, Bool, true, false, not, ◌∷◌, ◌++◌, length}
+use Rattle.std.proofs.Common.{filter, if◌then◌else◌, Option, Some, None, is_some, refl, sym, ap, ◌∙◌, subst, arith}
+use Rattle.std.proofs.Common.{true≢false}
 use Rattle.std.proofs.lemmas.Bool.{and_parts}
 use Rattle.std.proofs.lemmas.List.{length-map}
 use Rattle.std.specs.List.{list_all, range_with_len}
@@ -20,7 +22,8 @@ use Rattle.slice_core_answer.specs.declared.answer.Cell.{Cell}
 use Rattle.slice_core_answer.specs.declared.answer.Cell.TheVariants as cells
 use Rattle.slice_core_coherence.proofs.Directory.{room_here}
 use Rattle.slice_core_coherence.proofs.Served.{asked_here, row_here, within_here}
-use Rattle.slice_core_coherence.specs.Stands.{LineStands, kind_of_data, kind_of_request, queued_forward, queued_inv, queued_put_ack}
+use Rattle.slice_core_coherence.specs.Stands.{LineStands, kind_of_data, kind_of_request, queued_forward, queued_inv}
+use Rattle.slice_core_coherence.specs.Stands.{queued_put_ack}
 use Rattle.slice_core_plan.proofs.RoomLaws.{takes-from}
 use Rattle.slice_core_plan.specs.Plan.{by_directory_row, event_of_request}
 use Rattle.slice_core_plan.specs.Sends.{directory_room, takes, takes_invalidations}
@@ -47,7 +50,8 @@ no_data_waits None none = refl
 no_data_waits (Some (replies.Data block acks)) none = absurd (true≢false (sym none))
 no_data_waits (Some (replies.DataE block)) none = absurd (true≢false (sym none))
 
-pub no_request_waits : (waiting : Option RequestMessage) → is_no_request (kind_of_request waiting) ≡ true → waiting ≡ None
+pub no_request_waits : (waiting : Option RequestMessage)
+    → is_no_request (kind_of_request waiting) ≡ true → waiting ≡ None
 no_request_waits None none = refl
 no_request_waits (Some requests.GetS) none = absurd (true≢false (sym none))
 no_request_waits (Some requests.GetM) none = absurd (true≢false (sym none))

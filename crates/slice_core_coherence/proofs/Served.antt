@@ -1,5 +1,6 @@
 -- What the directory sends for a request: the row that was planned, the line after it, and what each answer needs.
-use Rattle.std.proofs.Common.{◌≡◌, ℕ, ◌<◌, ◌==◌, ◌&&◌, Bool, true, false, not, [], ◌∷◌, ◌++◌, if◌then◌else◌, length, Option, Some, None, IfSome, IsTrue, inl, inr, refl, sym, ap, ◌∙◌, subst}
+use Rattle.std.proofs.Common.{◌≡◌, ℕ, ◌<◌, ◌==◌, ◌&&◌, Bool, true, false, not, [], ◌∷◌, ◌++◌, if◌then◌else◌, length}
+use Rattle.std.proofs.Common.{Option, Some, None, IfSome, IsTrue, inl, inr, refl, sym, ap, ◌∙◌, subst}
 use Rattle.std.proofs.lemmas.Bool.{and_parts, cases_lt}
 use Rattle.std.proofs.lemmas.List.{get_or_past}
 use Rattle.std.proofs.lemmas.List.FromFn.{length-map-range_with_len}
@@ -20,8 +21,10 @@ use Rattle.directory_table.specs.declared.row.DirStep.{DirStep}
 use Rattle.directory_table.specs.declared.state.DirEntry.{DirEntry}
 use Rattle.slice_core_answer.specs.declared.answer.Cell.TheVariants as cells
 use Rattle.slice_core_coherence.proofs.Frame.{by_number}
-use Rattle.slice_core_coherence.proofs.Parts.{data_stand, forward_stands, inv_stands, put_ack_stands, request_for, request_stands, with_data, with_forward, with_request}
-use Rattle.slice_core_coherence.proofs.Places.{PartsStand, acks-with_core, change-twice, parts_as, parts_sent, with_core-length, with_part_at}
+use Rattle.slice_core_coherence.proofs.Parts.{data_stand, forward_stands, inv_stands, put_ack_stands, request_for}
+use Rattle.slice_core_coherence.proofs.Parts.{request_stands, with_data, with_forward, with_request}
+use Rattle.slice_core_coherence.proofs.Places.{PartsStand, acks-with_core, change-twice, parts_as, parts_sent}
+use Rattle.slice_core_coherence.proofs.Places.{with_core-length, with_part_at}
 use Rattle.slice_core_coherence.specs.Stands.{EntryStands, PartStands, kind_of_request}
 use Rattle.slice_core_plan.specs.Plan.{by_directory_row, event_of_request, request_by}
 use Rattle.slice_core_plan.specs.Sends.{directory_room, directory_sent}
@@ -31,11 +34,13 @@ use Rattle.slice_core_plan.specs.declared.decide.Plan.TheVariants as plans
 use Rattle.slice_core_protocol.proofs.Frame.{at_place}
 use Rattle.slice_core_protocol.specs.Fit.{is_counting, is_get_m, is_get_s, is_no_forward, is_put_m, is_put_s}
 use Rattle.slice_core_protocol.specs.Line.{Forward, Line, Part, fwd_get_m, fwd_get_s}
-use Rattle.slice_core_protocol.specs.Machine.{IsWithin, after_service, answered, change_if, entry_of, forwarded, invalidated_by, is_asked_for, stands_ack}
+use Rattle.slice_core_protocol.specs.Machine.{IsWithin, after_service, answered, change_if, entry_of, forwarded}
+use Rattle.slice_core_protocol.specs.Machine.{invalidated_by, is_asked_for, stands_ack}
 use Rattle.slice_core_protocol.specs.Promise.{has_room_for_forward, has_room_for_inv, has_room_for_put_ack}
 use Rattle.slice_core_side.specs.declared.copy.CacheCopy.{CacheCopy}
 use Rattle.slice_queues.proofs.InvalidateLaws.{core_at-after_invalidating}
-use Rattle.slice_queues.specs.Line.{CoreChannels, LineChannels, after_invalidating, after_send, after_take, core_at, no_messages, with_invalidation}
+use Rattle.slice_queues.specs.Line.{CoreChannels, LineChannels, after_invalidating, after_send, after_take, core_at}
+use Rattle.slice_queues.specs.Line.{no_messages, with_invalidation}
 use Rattle.slice_queues_message.specs.declared.channel.Channel.TheVariants as channels
 use Rattle.slice_queues_message.specs.declared.message.DataMessage.{DataMessage}
 use Rattle.slice_queues_message.specs.declared.message.DataMessage.TheVariants as replies

@@ -1,6 +1,7 @@
 -- Data or an acknowledgement that a core takes are a step of its line. Where a write is left behind the loads that the
 -- data allow, the right to write is asked for by another.
-use Rattle.std.proofs.Common.{◌≡◌, ℕ, ◌<◌, ◌≤◌, ◌&&◌, Bool, true, false, not, if◌then◌else◌, List, ◌++◌, length, Option, Some, None, IfSome, IsSome, is_some, refl, sym, ap, ◌∙◌, subst, true≢false}
+use Rattle.std.proofs.Common.{◌≡◌, ℕ, ◌<◌, ◌≤◌, ◌&&◌, Bool, true, false, not, if◌then◌else◌, List, ◌++◌, length, Option}
+use Rattle.std.proofs.Common.{Some, None, IfSome, IsSome, is_some, refl, sym, ap, ◌∙◌, subst, true≢false}
 use Rattle.std.specs.List.{list_all}
 use Rattle.std.proofs.lemmas.Bool.{and_from}
 use Rattle.address_map.specs.CoreSet.{has, without}
@@ -24,10 +25,12 @@ use Rattle.slice_core_coherence.proofs.Frame.{by_side, with_copy_at}
 use Rattle.slice_core_coherence.proofs.OwnTurns.{StepStands}
 use Rattle.slice_core_coherence.proofs.Places.{with_core-length}
 use Rattle.slice_core_coherence.proofs.Rows.{IsTaken, ack-taken}
-use Rattle.slice_core_coherence.proofs.SettlingLine.{count_stands, count_turn, data_event, data_row-taken, fill_stands, fill_turn, settles}
+use Rattle.slice_core_coherence.proofs.SettlingLine.{count_stands, count_turn, data_event, data_row-taken, fill_stands}
+use Rattle.slice_core_coherence.proofs.SettlingLine.{fill_turn, settles}
 use Rattle.slice_core_coherence.specs.Stands.{AreReached, LineStands, Stands, copies_at, named_by}
 use Rattle.slice_core_plan.specs.Parts.{filled_by}
-use Rattle.slice_core_plan.specs.Plan.{acknowledge_at, asks, by_ack_row, by_data_row, data_by, event_of_data, fill_at, plan_of, stands_at}
+use Rattle.slice_core_plan.specs.Plan.{acknowledge_at, asks, by_ack_row, by_data_row, data_by, event_of_data, fill_at}
+use Rattle.slice_core_plan.specs.Plan.{plan_of, stands_at}
 use Rattle.slice_core_plan.specs.Steps.{after_settling, asked_by}
 use Rattle.slice_core_plan.specs.View.{View, IsShaped, channels_at, entry_at, first_word, side_at}
 use Rattle.slice_core_plan.specs.declared.decide.Plan.TheVariants as plans
@@ -35,7 +38,9 @@ use Rattle.slice_core_plan.specs.declared.decide.Plan.{Plan}
 use Rattle.slice_core_protocol.proofs.Each.{each_state, each_state-at, not-at}
 use Rattle.slice_core_protocol.specs.Line.{Line}
 use Rattle.slice_core_protocol.specs.Machine.{Reached, after, after_ack, further}
-use Rattle.slice_core_side.proofs.Found.{changes-change, copy_of-after_change, copy_of-after_change_other, copy_of-after_settle, copy_of-after_settle_other, copy_of-held, kept-after_change}
+use Rattle.slice_core_side.proofs.Found.{changes-change, copy_of-after_change, copy_of-after_change_other}
+use Rattle.slice_core_side.proofs.Found.{copy_of-after_settle, copy_of-after_settle_other, copy_of-held}
+use Rattle.slice_core_side.proofs.Found.{kept-after_change}
 use Rattle.slice_core_side.specs.Copy.{found_in}
 use Rattle.slice_core_side.specs.Kept.{IsKept, stands_in_array}
 use Rattle.slice_core_side.specs.Perform.{asks_to_write, block_after, entries_of, performed_in}

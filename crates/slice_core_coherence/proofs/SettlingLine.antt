@@ -1,5 +1,6 @@
 -- A line on the way to where it settles: the core's own part, and the line once the copy has come to its state.
-use Rattle.std.proofs.Common.{◌≡◌, ℕ, ◌+◌, ◌<◌, ◌≤◌, ◌==◌, ◌&&◌, min, Bool, true, false, if◌then◌else◌, List, [], ◌∷◌, length, Some, None, IfSome, refl, sym, ap, ◌∙◌, subst, arith, true≢false}
+use Rattle.std.proofs.Common.{◌≡◌, ℕ, ◌+◌, ◌<◌, ◌≤◌, ◌==◌, ◌&&◌, min, Bool, true, false, if◌then◌else◌, List, [], ◌∷◌}
+use Rattle.std.proofs.Common.{length, Some, None, IfSome, refl, sym, ap, ◌∙◌, subst, arith, true≢false}
 use Rattle.std.proofs.Math.Bool.{and-false, or-false}
 use Rattle.std.proofs.lemmas.Bool.{and_from, and_parts, eq-eqb, eqb-true, ne_eqb}
 use Rattle.address_map.proofs.CoreSets.{has-without_other, has-without_same}
@@ -27,7 +28,8 @@ use Rattle.slice_core_plan.specs.Plan.{asks}
 use Rattle.slice_core_plan.specs.Steps.{asked_by}
 use Rattle.slice_core_protocol.specs.Fit.{is_counting, is_only_data, is_shared_data}
 use Rattle.slice_core_protocol.specs.Line.{Line, Look, Part, no_data}
-use Rattle.slice_core_protocol.specs.Machine.{Reached, Step, acknowledged as taken_from, acted, after, after_ack, change_if, count, further, stands as is_at_hand, stands_ack, taken, turn}
+use Rattle.slice_core_protocol.specs.Machine.{Reached, Step, acknowledged as taken_from, acted, after, after_ack}
+use Rattle.slice_core_protocol.specs.Machine.{change_if, count, further, stands as is_at_hand, stands_ack, taken, turn}
 use Rattle.slice_core_side.specs.Perform.{asks_to_write, left_in, settled_state}
 use Rattle.slice_core_side.specs.Steps.{acknowledged, settled_copy}
 use Rattle.slice_core_side.specs.declared.copy.CacheCopy.{CacheCopy}

@@ -19,7 +19,8 @@ use Rattle.slice_core_coherence.proofs.Accesses.{HasPlaceFor, HasVictimFor, send
 use Rattle.slice_core_plan.specs.Within.{HasCopy}
 use Rattle.slice_core_plan.specs.Parts.{filled_by}
 use Rattle.slice_core_plan.specs.Plan.{plan_of}
-use Rattle.slice_core_plan.specs.Steps.{after_directory, after_evict, after_forwarded, after_hand, after_hit, after_home, after_join, after_open, after_settling}
+use Rattle.slice_core_plan.specs.Steps.{after_directory, after_evict, after_forwarded, after_hand, after_hit}
+use Rattle.slice_core_plan.specs.Steps.{after_home, after_join, after_open, after_settling}
 use Rattle.slice_core_plan.specs.View.{View, channels_at, side_at}
 use Rattle.slice_core_plan.specs.declared.decide.Plan.TheVariants as plans
 use Rattle.slice_core_side.specs.Access.{CanLeave, event_of}

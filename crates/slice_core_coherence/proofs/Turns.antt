@@ -8,7 +8,8 @@ use Rattle.cache_table.specs.declared.row.CacheSends.{CacheSends}
 use Rattle.cache_table.specs.declared.state.CopyState.{CopyState}
 use Rattle.directory_table.specs.declared.state.DirEntry.{DirEntry}
 use Rattle.slice_core_coherence.proofs.Frame.{with_copy_at}
-use Rattle.slice_core_coherence.proofs.Places.{acks-with_core, acks_kept, acks_turned, parts_as, parts_turned, with_part_at}
+use Rattle.slice_core_coherence.proofs.Places.{acks-with_core, acks_kept, acks_turned, parts_as, parts_turned}
+use Rattle.slice_core_coherence.proofs.Places.{with_part_at}
 use Rattle.slice_core_coherence.specs.Stands.{LineStands, PartStands}
 use Rattle.slice_core_protocol.specs.Line.{Line, Part}
 use Rattle.slice_core_protocol.specs.Machine.{acted, after_turn, change_if, given, stands_ack, taken}

@@ -1,5 +1,7 @@
 -- No message of a slice whose lines the machine reaches is broken.
-use Rattle.std.proofs.Common.{◌≡◌, ◌≢◌, ℕ, ◌<◌, ◌≤◌, ◌==◌, ◌&&◌, Bool, true, false, not, List, length, if◌then◌else◌, Option, Some, None, option_map, IfSome, IsSome, IsTrue, is_some, position, find, slice_get, nat_lt, inl, inr, refl, sym, ap, ◌∙◌, subst, arith, true≢false}
+use Rattle.std.proofs.Common.{◌≡◌, ◌≢◌, ℕ, ◌<◌, ◌≤◌, ◌==◌, ◌&&◌, Bool, true, false, not, List, length, if◌then◌else◌}
+use Rattle.std.proofs.Common.{Option, Some, None, option_map, IfSome, IsSome, IsTrue, is_some, position, find}
+use Rattle.std.proofs.Common.{slice_get, nat_lt, inl, inr, refl, sym, ap, ◌∙◌, subst, arith, true≢false}
 use Rattle.std.proofs.lemmas.Bool.{cases_lt, eq-eqb, ltb-false}
 use Rattle.std.proofs.lemmas.List.{get_or_past}
 use Rattle.std.proofs.lemmas.List.Folds.{find_at}
@@ -38,7 +40,9 @@ use Rattle.slice_core_coherence.specs.Coherent.{NothingIsBroken, WaitsInArray}
 use Rattle.slice_core_coherence.specs.Stands.{AreReached, PartStands, Stands, copies_at, kind_of_data, named_by}
 use Rattle.slice_core_coherence.specs.Whole.{IsWhole}
 use Rattle.slice_core_plan.proofs.RoomLaws.{takes-from}
-use Rattle.slice_core_plan.specs.Plan.{acknowledge_at, asks, by_ack_row, by_data_row, by_forwarded_row, by_home_row, data_by, event_of_data, event_of_forwarded, fill_at, forwarded_by, is_put_ack, plan_of, stands_at, request_by, requester_of}
+use Rattle.slice_core_plan.specs.Plan.{acknowledge_at, asks, by_ack_row, by_data_row, by_forwarded_row, by_home_row}
+use Rattle.slice_core_plan.specs.Plan.{data_by, event_of_data, event_of_forwarded, fill_at, forwarded_by, is_put_ack}
+use Rattle.slice_core_plan.specs.Plan.{plan_of, stands_at, request_by, requester_of}
 use Rattle.slice_core_plan.specs.Sends.{cache_room, takes}
 use Rattle.slice_core_plan.specs.View.{View, IsShaped, channels_at, entry_at, side_at}
 use Rattle.slice_core_plan.specs.declared.decide.Plan.TheVariants as plans

@@ -1,5 +1,6 @@
 -- A line that leaves for another may leave, shares its set, and is one of the slice.
-use Rattle.std.proofs.Common.{◌≡◌, ℕ, ◌<◌, Bool, true, false, List, Option, Some, None, MatchOption, IsSome, IsSomeAnd, IfSome, unwrap_or, refl, sym, ap, subst}
+use Rattle.std.proofs.Common.{◌≡◌, ℕ, ◌<◌, Bool, true, false, List, Option, Some, None, MatchOption, IsSome, IsSomeAnd}
+use Rattle.std.proofs.Common.{IfSome, unwrap_or, refl, sym, ap, subst}
 use Rattle.address_map.specs.declared.address.CoreId.{CoreId}
 use Rattle.address_map.specs.declared.address.Local.{Local}
 use Rattle.cache_array.proofs.Choices.{choice_is_allowed}

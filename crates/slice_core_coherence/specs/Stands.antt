@@ -1,12 +1,14 @@
 -- When a line of a slice is a line of the protocol's machine: what stands in the one stands in the other, part by part.
-use Rattle.std.specs.Prelude.{◌≡◌, ℕ, ◌<◌, Bool, true, false, List, [], ◌∷◌, ◌++◌, length, Option, Some, None, is_some, IfSome}
+use Rattle.std.specs.Prelude.{◌≡◌, ℕ, ◌<◌, Bool, true, false, List, [], ◌∷◌, ◌++◌, length, Option, Some, None, is_some}
+use Rattle.std.specs.Prelude.{IfSome}
 use Rattle.address_map.specs.CoreSet.{has}
 use Rattle.address_map.specs.declared.address.Local.{Local}
 use Rattle.cache_table.specs.CopyState.{is_waiting}
 use Rattle.directory_table.specs.declared.state.DirEntry.{DirEntry}
 use Rattle.slice_core_plan.specs.View.{View, channels_at, entry_at, side_at}
 use Rattle.slice_core_protocol.specs.Fit.{is_counting}
-use Rattle.slice_core_protocol.specs.Line.{Forward, fwd_get_m, fwd_get_s, no_forward, Incoming, no_data, only_data, shared_data, Line, Part, Request, get_m, get_s, no_request, put_m, put_s}
+use Rattle.slice_core_protocol.specs.Line.{Forward, fwd_get_m, fwd_get_s, no_forward, Incoming, no_data, only_data}
+use Rattle.slice_core_protocol.specs.Line.{shared_data, Line, Part, Request, get_m, get_s, no_request, put_m, put_s}
 use Rattle.slice_core_protocol.specs.Machine.{Reached, stands_ack}
 use Rattle.slice_core_side.specs.Side.{copy_of}
 use Rattle.slice_core_side.specs.declared.copy.CacheCopy.{CacheCopy}

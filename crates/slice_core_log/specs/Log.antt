@@ -1,5 +1,7 @@
 -- The value of a word after a list of performed accesses, and what makes a log of them legal and ordered.
-use Rattle.std.specs.Prelude.{◌≡◌, ℕ, ◌+◌, ◌/◌, ◌%◌, ◌^◌, ◌<◌, ◌≤◌, ◌==◌, Bool, not, if◌then◌else◌, List, reverse, take, sum_by, find, take_while, slice_get, Option, Some, None, is_some, unwrap_or, option_and_then}
+use Rattle.std.specs.Prelude.{◌≡◌, ℕ, ◌+◌, ◌/◌, ◌%◌, ◌^◌, ◌<◌, ◌≤◌, ◌==◌, Bool, not, if◌then◌else◌, List, reverse, take}
+use Rattle.std.specs.Prelude.{sum_by, find, take_while, slice_get, Option, Some, None, is_some, unwrap_or}
+use Rattle.std.specs.Prelude.{option_and_then}
 use Rattle.address_map.specs.Words.{initial_value}
 use Rattle.address_map.specs.declared.address.WordAddr.{WordAddr}
 use Rattle.address_map.specs.declared.request.Op.{Op}

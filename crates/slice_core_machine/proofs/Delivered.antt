@@ -1,5 +1,6 @@
 -- A delivery performs as many requests as the log grows by: those that a settled copy allows, and else none.
-use Rattle.std.proofs.Common.{◌≡◌, ℕ, ◌<◌, Bool, true, false, if◌then◌else◌, [], length, Option, Some, None, IsSome, refl, sym, ap, ◌∙◌, subst, arith}
+use Rattle.std.proofs.Common.{◌≡◌, ℕ, ◌<◌, Bool, true, false, if◌then◌else◌, [], length, Option, Some, None, IsSome}
+use Rattle.std.proofs.Common.{refl, sym, ap, ◌∙◌, subst, arith}
 use Rattle.std.specs.Prelude.{is_some, unwrap_or}
 use Rattle.address_map.specs.Locator.{local_at}
 use Rattle.address_map.specs.declared.address.CoreId.{CoreId}
@@ -17,7 +18,8 @@ use Rattle.slice_core_machine.proofs.Kept.{ShowsSame, kept-of, leads-same, same-
 use Rattle.slice_core_machine.proofs.Planned.{held-at_place, is_for_copy, place_in, planned-core, planned-place}
 use Rattle.slice_core_machine.proofs.Settled.{settled_performs}
 use Rattle.slice_core_machine.specs.Shows.{IsAccounted, Performs}
-use Rattle.slice_core_plan.specs.Parts.{AfterDeliverNext, AfterDelivery, AfterPlan, IsDone, PartsView, Settles, core_of, local_in}
+use Rattle.slice_core_plan.specs.Parts.{AfterDeliverNext, AfterDelivery, AfterPlan, IsDone, PartsView, Settles, core_of}
+use Rattle.slice_core_plan.specs.Parts.{local_in}
 use Rattle.slice_core_plan.specs.Plan.{plan_of, planned_in}
 use Rattle.slice_core_plan.specs.Steps.{after_forwarded, after_settling}
 use Rattle.slice_core_plan.specs.View.{View, side_at}

@@ -1,5 +1,6 @@
 -- A reply that is handed out.
-use Rattle.std.proofs.Common.{◌≡◌, ◌≢◌, ℕ, ◌<◌, List, [], ◌∷◌, length, Option, Some, None, refl, sym, ap, ◌∙◌, subst, ⊎_elim}
+use Rattle.std.proofs.Common.{◌≡◌, ◌≢◌, ℕ, ◌<◌, List, [], ◌∷◌, length, Option, Some, None, refl, sym, ap, ◌∙◌, subst}
+use Rattle.std.proofs.Common.{⊎_elim}
 use Rattle.std.specs.Prelude.{slice_set}
 use Rattle.std.proofs.lemmas.Bool.{cases_eq, cases_lt}
 use Rattle.std.proofs.lemmas.List.{get_or-set_other, get_or-set_same, get_or_past}
@@ -7,7 +8,8 @@ use Rattle.std.proofs.lemmas.Option.{same_Some}
 use Rattle.address_map.specs.declared.address.CoreId.{CoreId}
 use Rattle.slice_core_log.specs.declared.entry.Entry.{Entry}
 use Rattle.slice_core_log.specs.declared.entry.Numbered.{Numbered}
-use Rattle.slice_core_machine.proofs.Kept.{Free_apart, kept-of, named-known, leads-same, same-view, same_core, side-here, side-there, waits-in}
+use Rattle.slice_core_machine.proofs.Kept.{Free_apart, kept-of, named-known, leads-same, same-view, same_core}
+use Rattle.slice_core_machine.proofs.Kept.{side-here, side-there, waits-in}
 use Rattle.slice_core_machine.proofs.Named.{number_is}
 use Rattle.slice_core_machine.specs.Machine.{Asked, IsSame, after, hand}
 use Rattle.slice_core_machine.specs.Shows.{IsAccounted, Leads, hand_steps, shown}

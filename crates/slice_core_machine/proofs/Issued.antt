@@ -1,5 +1,6 @@
 -- What is asked of a slice: a request that is done at once, one that waits, or none.
-use Rattle.std.proofs.Common.{◌≡◌, ℕ, ◌/◌, ◌<◌, ◌⊎◌, Bool, List, [], ◌∷◌, length, Result, Ok, Err, refl, sym, ap, ◌∙◌, subst, ⊎_elim, arith}
+use Rattle.std.proofs.Common.{◌≡◌, ℕ, ◌/◌, ◌<◌, ◌⊎◌, Bool, List, [], ◌∷◌, length, Result, Ok, Err, refl, sym, ap, ◌∙◌}
+use Rattle.std.proofs.Common.{subst, ⊎_elim, arith}
 use Rattle.std.specs.Prelude.{slice_set}
 use Rattle.std.proofs.lemmas.List.{length-set}
 use Rattle.address_map.specs.Locator.{line_at}
@@ -22,7 +23,8 @@ use Rattle.slice_core_machine.proofs.Requests.{word_at_offset}
 use Rattle.slice_core_machine.specs.Machine.{Asked, accept, hand, perform}
 use Rattle.slice_core_machine.specs.Shows.{IsAccounted, Leads, asked, issue_steps, next_of}
 use Rattle.slice_core_plan.specs.Decision.{decision_of}
-use Rattle.slice_core_plan.specs.Parts.{PartsView, target_for, AfterAccepting, AfterAccess, AfterIssue, IsAccepted, LacksMemory}
+use Rattle.slice_core_plan.specs.Parts.{PartsView, target_for, AfterAccepting, AfterAccess, AfterIssue, IsAccepted}
+use Rattle.slice_core_plan.specs.Parts.{LacksMemory}
 use Rattle.slice_core_plan.specs.Steps.{after_hit, after_join, after_open, is_held, with_way}
 use Rattle.slice_core_plan.specs.View.{View, first_word, side_at}
 use Rattle.slice_core_plan.specs.declared.decide.Decision.{Decision}

@@ -1,6 +1,7 @@
 -- A plan that changes a core's copy is for a core that is there, and data and acknowledgements are for a line that its
 -- array holds.
-use Rattle.std.proofs.Common.{◌≡◌, ◌≢◌, ℕ, ◌<◌, ◌≤◌, Bool, true, false, if◌then◌else◌, cond, List, length, get_or, Option, Some, None, IsSome, find, position, refl, sym, ap, ◌∙◌, ⊎_elim, arith}
+use Rattle.std.proofs.Common.{◌≡◌, ◌≢◌, ℕ, ◌<◌, ◌≤◌, Bool, true, false, if◌then◌else◌, cond, List, length, get_or}
+use Rattle.std.proofs.Common.{Option, Some, None, IsSome, find, position, refl, sym, ap, ◌∙◌, ⊎_elim, arith}
 use Rattle.std.specs.Prelude.{◌&&◌, is_some, nat_lt, not, slice_get}
 use Rattle.std.specs.List.{position_or_len}
 use Rattle.std.proofs.lemmas.Bool.{cases_lt, false≢true, ltb-true}
@@ -26,7 +27,11 @@ use Rattle.directory_table.specs.declared.row.DirRow.{DirRow}
 use Rattle.directory_table.specs.declared.row.DirRow.TheVariants as dir_rows
 use Rattle.slice_core_answer.specs.declared.answer.Cell.TheVariants as cells
 use Rattle.slice_core_plan.specs.Parts.{core_of}
-use Rattle.slice_core_plan.specs.Plan.{ack_plan, asks, by_ack_row, by_data_row, by_directory_row, by_forwarded_row, by_home_row, data_by, data_plan, event_of_data, event_of_forwarded, event_of_request, fill_at, acknowledge_at, forwarded_by, forwarded_plan, home_plan, is_put_ack, plan_of, request_by, request_plan, requester_of, stands_at}
+use Rattle.slice_core_plan.specs.Plan.{ack_plan, asks, by_ack_row, by_data_row, by_directory_row, by_forwarded_row}
+use Rattle.slice_core_plan.specs.Plan.{by_home_row, data_by, data_plan, event_of_data, event_of_forwarded}
+use Rattle.slice_core_plan.specs.Plan.{event_of_request, fill_at, acknowledge_at, forwarded_by, forwarded_plan}
+use Rattle.slice_core_plan.specs.Plan.{home_plan, is_put_ack, plan_of, request_by, request_plan, requester_of}
+use Rattle.slice_core_plan.specs.Plan.{stands_at}
 use Rattle.slice_core_plan.specs.Sends.{cache_room, directory_room}
 use Rattle.slice_core_plan.specs.View.{View, channels_at, entry_at, side_at, IsShaped}
 use Rattle.slice_core_plan.specs.declared.decide.Plan.{Plan}

@@ -1,5 +1,6 @@
 -- The tests for room, as what they say of a line's channels.
-use Rattle.std.proofs.Common.{◌≡◌, ◌≢◌, ◌∙◌, None, ℕ, ◌^◌, ◌<◌, ◌&&◌, Bool, true, false, List, [], ◌∷◌, length, map, refl, ap, subst, sym, nat_lt, inl, inr}
+use Rattle.std.proofs.Common.{◌≡◌, ◌≢◌, ◌∙◌, None, ℕ, ◌^◌, ◌<◌, ◌&&◌, Bool, true, false, List, [], ◌∷◌, length, map}
+use Rattle.std.proofs.Common.{refl, ap, subst, sym, nat_lt, inl, inr}
 use Rattle.std.specs.List.{AllByRecursion, list_all}
 use Rattle.std.proofs.Math.ListN.{length-set}
 use Rattle.std.proofs.lemmas.Bool.{lt-ltb, ltb-true, cases_eq}
@@ -13,7 +14,8 @@ use Rattle.slice_queues_message.specs.declared.message.ForwardedMessage.{Forward
 use Rattle.slice_queues_message.specs.declared.message.Message.TheVariants as messages
 use Rattle.slice_queues.proofs.InvalidateLaws.{TakesForwarded, TakesInvalidations-from_members}
 use Rattle.slice_queues.proofs.WaitingLaws.{AllByRecursion-members}
-use Rattle.slice_queues.specs.Line.{LineChannels, no_messages, core_at, after_take, HasChannel, HasRoom, TakesInvalidations, after_send, messages_at, room_of}
+use Rattle.slice_queues.specs.Line.{LineChannels, no_messages, core_at, after_take, HasChannel, HasRoom}
+use Rattle.slice_queues.specs.Line.{TakesInvalidations, after_send, messages_at, room_of}
 use Rattle.slice_queues.proofs.LineLaws.{request_alone, forwarded_alone}
 use Rattle.cache_table.specs.declared.row.CacheSends.{CacheSends}
 use Rattle.cache_table.specs.declared.row.CacheSends.TheVariants as cache_sends

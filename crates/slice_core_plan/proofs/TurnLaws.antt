@@ -1,5 +1,6 @@
 -- A line with a message that can be moved is taken from by a next delivery, or comes nearer to the front of the ring.
-use Rattle.std.proofs.Common.{◌≡◌, ℕ, zero, suc, ◌+◌, ◌-◌, ◌<◌, ◌≤◌, ◌⊎◌, ◌++◌, Bool, true, false, if◌then◌else◌, List, [], ◌∷◌, length, drop, get_or, refl, sym, ◌∙◌, ap, append-nil, subst, inl, inr, arith}
+use Rattle.std.proofs.Common.{◌≡◌, ℕ, zero, suc, ◌+◌, ◌-◌, ◌<◌, ◌≤◌, ◌⊎◌, ◌++◌, Bool, true, false, if◌then◌else◌, List}
+use Rattle.std.proofs.Common.{[], ◌∷◌, length, drop, get_or, refl, sym, ◌∙◌, ap, append-nil, subst, inl, inr, arith}
 use Rattle.std.specs.Prelude.{Some, slice_get}
 use Rattle.std.proofs.lemmas.List.{get_or-drop, get_or_append_left, length-append, length-drop}
 use Rattle.std.proofs.lemmas.Option.{get_or_from_slice_get, slice_get-get_or, slice_get_within}
@@ -140,7 +141,8 @@ reached : (v : View) (class : Class) (ring : List ℕ) (local : Local) (place : 
 reached v class [] local place stands moves = cc
 reached v class (first ∷ rest) local zero stands moves =
     let same : first ≡ local.0 = cc in
-    let P : ℕ → Type 0 = λ n. next_or (next_at v class (record { 0 = n })) (next_in v class rest) ≡ next_at v class local in
+    let P : ℕ → Type 0 = λ n. next_or (next_at v class (record { 0 = n })) (next_in v class rest) ≡
+    next_at v class local in
     inl (subst P (sym same) (or-front (next_at v class local) (next_in v class rest) moves))
 reached v class (first ∷ rest) local (suc place) stands moves =
     by_first (is_move (next_at v class (record { 0 = first }))) refl (reached v class rest local place stands moves)
@@ -255,7 +257,8 @@ module _ (old : PartsView) (class : Class) (answer : DeliveredNext) (new : Parts
       let same : pick ≡ pick_at (line_at old.view.lines local) channel = cc in
       ap line_of same ∙ of_line channel
     where
-      of_line : (channel : Channel) → line_of (pick_at (line_at old.view.lines local) channel) ≡ line_at old.view.lines local
+      of_line : (channel : Channel) → line_of (pick_at (line_at old.view.lines local) channel) ≡
+          line_at old.view.lines local
       of_line (channels.Req core) = refl
       of_line (channels.Fwd core) = refl
       of_line (channels.Data core) = refl

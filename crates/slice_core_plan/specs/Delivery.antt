@@ -1,7 +1,8 @@
--- A delivery: the message in front of a channel is taken, and the row of its table is done, the directory's or a cache's.
--- The core's own parts in it are `after_advance`, `filled`, `acknowledged` and `after_settle` of `slice_core_side`
--- (specs/Steps.antt).
-use Rattle.std.specs.Prelude.{◌≡◌, ℕ, ◌-◌, true, List, length, Option, Some, None, Bool, false, ◌++◌, unwrap_or, if◌then◌else◌}
+-- A delivery: the message in front of a channel is taken, and the row of its table is done, the directory's or a
+-- cache's. The core's own parts in it are `after_advance`, `filled`, `acknowledged` and `after_settle` of
+-- `slice_core_side` (specs/Steps.antt).
+use Rattle.std.specs.Prelude.{◌≡◌, ℕ, ◌-◌, true, List, length, Option, Some, None, Bool, false, ◌++◌, unwrap_or}
+use Rattle.std.specs.Prelude.{if◌then◌else◌}
 use Rattle.address_map.specs.Locator.{local_at}
 use Rattle.address_map.specs.declared.address.CoreId.{CoreId}
 use Rattle.address_map.specs.declared.address.Local.{Local}
@@ -18,7 +19,8 @@ use Rattle.slice_core_answer.specs.declared.answer.Delivered.{Delivered}
 use Rattle.slice_core_plan.specs.Plan.{planned_at}
 use Rattle.slice_core_plan.specs.Sends.{cache_sent, directory_sent}
 use Rattle.slice_core_plan.specs.Slice.{PartsView}
-use Rattle.slice_core_plan.specs.View.{View, channels_at, side_at, entry_at, first_word, with_channels, with_entry, with_side}
+use Rattle.slice_core_plan.specs.View.{View, channels_at, side_at, entry_at, first_word, with_channels, with_entry}
+use Rattle.slice_core_plan.specs.View.{with_side}
 use Rattle.slice_core_plan.specs.declared.decide.Plan.TheVariants as plans
 use Rattle.slice_core_plan.specs.declared.decide.Plan.{Plan}
 use Rattle.slice_core_side.specs.Perform.{performed_in, asks_to_write, entries_of}
@@ -166,5 +168,6 @@ local_in (Some local) = local
 -- What a delivery answers and leaves: what is planned for the message in front of the pick is done.
 abbrev pub AfterDelivery : PartsView → Pick → Delivered → PartsView → Type 0
 AfterDelivery old pick answer new =
-    AfterPlan (planned_at old.view pick) old (local_in (local_at old.view.lines (line_of pick).0)) (channel_of pick) answer
+    AfterPlan (planned_at old.view pick) old (local_in (local_at old.view.lines (line_of pick).0))
+    (channel_of pick) answer
     new

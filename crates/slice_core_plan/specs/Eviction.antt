@@ -1,5 +1,5 @@
--- An eviction: the core's copy of a line leaves for the write-back buffer, and the directory is told by a Put. The core's
--- own part in it is `after_evict` of `slice_core_side` (specs/Steps.antt).
+-- An eviction: the core's copy of a line leaves for the write-back buffer, and the directory is told by a Put. The
+-- core's own part in it is `after_evict` of `slice_core_side` (specs/Steps.antt).
 use Rattle.std.specs.Prelude.{◌≡◌, Option, Some, None}
 use Rattle.address_map.specs.Locator.{local_at}
 use Rattle.address_map.specs.declared.address.CoreId.{CoreId}

@@ -1,5 +1,6 @@
 -- What is to be done at the front of a channel, as a function of the state.
-use Rattle.std.specs.Prelude.{ℕ, ◌&&◌, position, Bool, true, false, not, if◌then◌else◌, is_some, slice_get, Option, Some, None}
+use Rattle.std.specs.Prelude.{ℕ, ◌&&◌, position, Bool, true, false, not, if◌then◌else◌, is_some, slice_get, Option}
+use Rattle.std.specs.Prelude.{Some, None}
 use Rattle.std.specs.List.{list_all}
 use Rattle.address_map.specs.CoreSet.{has}
 use Rattle.address_map.specs.Locator.{local_at}

@@ -1,6 +1,6 @@
--- A primary miss: the line gets a way, from which a victim leaves where none is free, and a miss register with the access
--- as its first target; and the directory is asked for the line. The core's own parts in it are `after_replace` and
--- `after_open` of `slice_core_side` (specs/Steps.antt).
+-- A primary miss: the line gets a way, from which a victim leaves where none is free, and a miss register with the
+-- access as its first target; and the directory is asked for the line. The core's own parts in it are `after_replace`
+-- and `after_open` of `slice_core_side` (specs/Steps.antt).
 use Rattle.std.specs.Prelude.{ℕ, ◌+◌, true, List, Bool, false}
 use Rattle.address_map.specs.declared.address.CoreId.{CoreId}
 use Rattle.address_map.specs.declared.address.Local.{Local}

@@ -1,5 +1,5 @@
--- Which message a next delivery takes, and how the ring turns. The ring is a list of lines by their places in the slice,
--- the front first: they are looked at in this order.
+-- Which message a next delivery takes, and how the ring turns. The ring is a list of lines by their places in the
+-- slice, the front first: they are looked at in this order.
 use Rattle.std.specs.Prelude.{ℕ, ◌+◌, ◌++◌, Bool, true, false, if◌then◌else◌, List, [], ◌∷◌, drop, filter, take}
 use Rattle.address_map.specs.Locator.{Lines, line_at}
 use Rattle.address_map.specs.declared.address.Local.{Local}

@@ -1,7 +1,8 @@
 -- What each step leaves of a slice's view. The misses that a miss file is left with are given to a step.
 use Rattle.std.specs.Prelude.{ℕ}
 use Rattle.address_map.specs.declared.address.CoreId.{CoreId}
-pub use Rattle.slice_core_plan.specs.Delivery.{block_in, after_directory, after_home, after_forwarded, asked_by, after_settling}
+pub use Rattle.slice_core_plan.specs.Delivery.{block_in, after_directory, after_home, after_forwarded, asked_by}
+pub use Rattle.slice_core_plan.specs.Delivery.{after_settling}
 pub use Rattle.slice_core_plan.specs.Eviction.{after_request, after_evict}
 pub use Rattle.slice_core_plan.specs.Hit.{after_hit}
 pub use Rattle.slice_core_plan.specs.Join.{after_join}

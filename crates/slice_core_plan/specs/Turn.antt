@@ -1,5 +1,5 @@
--- Next deliveries serve the lines in turn: a line with a message that can be moved comes nearer to the front of the ring
--- with each that takes from another line.
+-- Next deliveries serve the lines in turn: a line with a message that can be moved comes nearer to the front of the
+-- ring with each that takes from another line.
 use Rattle.std.specs.Prelude.{◌≡◌, ℕ, ◌<◌, ◌⊎◌, List, [], ◌∷◌, Some, slice_get}
 use Rattle.address_map.specs.Locator.{Lines, line_at}
 use Rattle.address_map.specs.declared.address.Local.{Local}
@@ -41,8 +41,8 @@ pub record ServesInTurn (old : PartsView) (class : Class) (answer : DeliveredNex
   pub nearer : (local : Local) (place : ℕ) → StandsAt old local place → CanMove old.view class local
       → TakesFrom old.view.lines local answer ⊎ StandsBefore new local place
 
--- Next deliveries of the class, made one after another, pass over the line: before each some message of its can be moved,
--- and none takes from it.
+-- Next deliveries of the class, made one after another, pass over the line: before each some message of its can be
+-- moved, and none takes from it.
 abbrev pub PassOver : Local → Class → PartsView → List DeliveredNext → PartsView → Type 0
 PassOver local class old [] new = new ≡ old
 PassOver local class old (answer ∷ answers) new =

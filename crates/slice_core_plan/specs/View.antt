@@ -1,5 +1,6 @@
 -- A slice as one value: the directory, the channels, the cores and the log.
-use Rattle.std.specs.Prelude.{◌≡◌, ℕ, ◌<◌, Bool, List, [], length, slice_index_or, slice_set, Option, Some, None, All, IfSome}
+use Rattle.std.specs.Prelude.{◌≡◌, ℕ, ◌<◌, Bool, List, [], length, slice_index_or, slice_set, Option, Some, None, All}
+use Rattle.std.specs.Prelude.{IfSome}
 use Rattle.address_map.specs.Locator.{Lines, word_at}
 use Rattle.address_map.specs.declared.address.CoreId.{CoreId}
 use Rattle.address_map.specs.declared.address.Local.{Local}

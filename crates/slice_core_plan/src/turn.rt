@@ -8,6 +8,7 @@ ghost use Rattle.slice_queues_message.specs.declared.channel.Class.{Class};
 
 /// A line with messages that can be moved is passed over by no more next deliveries than lines stand in front of it.
 pub fn lines_are_served_in_turn()
-    ensures { (local : Local) (class : Class) (old : PartsView) (answers : List DeliveredNext) (new : PartsView) (place : ℕ)
+    ensures { (local : Local) (class : Class) (old : PartsView) (answers : List DeliveredNext)
+        (new : PartsView) (place : ℕ)
         → StandsAt old local place → PassOver local class old answers new → length answers ≤ place }
 {}

@@ -1,6 +1,7 @@
 -- A core's turn by which nobody else's part changes: an access, an Inv, a Put-Ack, Data-E, or Data that leave the miss
 -- open.
-use Rattle.std.proofs.Common.{◌≡◌, ℕ, ◌<◌, ◌==◌, ◌&&◌, ◌||◌, Bool, true, false, not, refl, sym, subst, true≢false, inl, inr}
+use Rattle.std.proofs.Common.{◌≡◌, ℕ, ◌<◌, ◌==◌, ◌&&◌, ◌||◌, Bool, true, false, not, refl, sym, subst, true≢false, inl}
+use Rattle.std.proofs.Common.{inr}
 use Rattle.std.proofs.lemmas.Bool.{or_cases}
 use Rattle.cache_table.specs.CopyState.{is_waiting}
 use Rattle.cache_table.specs.Law.{sends_data, sends_home}
@@ -10,11 +11,13 @@ use Rattle.cache_table.specs.declared.row.CacheEvent.TheVariants as events
 use Rattle.cache_table.specs.declared.row.CacheSends.{CacheSends}
 use Rattle.cache_table.specs.declared.row.Row.TheVariants as rows
 use Rattle.cache_table.specs.declared.state.CopyState.{CopyState}
-use Rattle.slice_core_protocol.proofs.Each.{all_words, each_fit, each_fit-at, if_go, if_go-at, if_so, if_so-at, implies-at, iff-at, left, not-at, right}
+use Rattle.slice_core_protocol.proofs.Each.{all_words, each_fit, each_fit-at, if_go, if_go-at, if_so, if_so-at}
+use Rattle.slice_core_protocol.proofs.Each.{implies-at, iff-at, left, not-at, right}
 use Rattle.slice_core_protocol.proofs.Frame.{Kept, by_place, lift, still}
 use Rattle.slice_core_protocol.proofs.Seen.{counted_on, kept_from, seen_alike, seen_from, wanted_same}
 use Rattle.slice_core_protocol.specs.Coherent.{IsCoherent, IsCounted}
-use Rattle.slice_core_protocol.specs.Fit.{◌implies◌, ◌iff◌, awaits, is_counting, is_fit, is_only_data, is_open, is_put_ack_first, owes}
+use Rattle.slice_core_protocol.specs.Fit.{◌implies◌, ◌iff◌, awaits, is_counting, is_fit, is_only_data, is_open}
+use Rattle.slice_core_protocol.specs.Fit.{is_put_ack_first, owes}
 use Rattle.slice_core_protocol.specs.Line.{Line, Look, Near, Part, Roles, near_of}
 use Rattle.slice_core_protocol.specs.Machine.{acted, after_turn, change_if, given, turned}
 

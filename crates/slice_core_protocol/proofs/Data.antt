@@ -1,5 +1,6 @@
 -- A core takes its Data: the miss ends, or goes on until the last acknowledgement has come.
-use Rattle.std.proofs.Common.{◌≡◌, ℕ, ◌+◌, ◌<◌, ◌==◌, ◌&&◌, Bool, true, false, not, refl, ap, sym, ◌∙◌, arith, if◌then◌else◌, true≢false, nat_lt, IsTrue}
+use Rattle.std.proofs.Common.{◌≡◌, ℕ, ◌+◌, ◌<◌, ◌==◌, ◌&&◌, Bool, true, false, not, refl, ap, sym, ◌∙◌, arith}
+use Rattle.std.proofs.Common.{if◌then◌else◌, true≢false, nat_lt, IsTrue}
 use Rattle.std.proofs.lemmas.Bool.{and_parts, eqb-true, ltb-true}
 use Rattle.cache_table.specs.CopyState.{is_waiting}
 use Rattle.cache_table.specs.Law.{sends_data, sends_home}
@@ -10,7 +11,8 @@ use Rattle.cache_table.specs.declared.row.CacheSends.{CacheSends}
 use Rattle.cache_table.specs.declared.row.Row.TheVariants as rows
 use Rattle.cache_table.specs.declared.state.CopyState.{CopyState}
 use Rattle.slice_core_protocol.proofs.Alone.{alone_at, alone_kept, is_alone, is_alone_at, turn_alone}
-use Rattle.slice_core_protocol.proofs.Each.{all_words, each_fit, each_fit-at, if_go, if_go-at, if_so, if_so-at, iff-at, left, not-at, right}
+use Rattle.slice_core_protocol.proofs.Each.{all_words, each_fit, each_fit-at, if_go, if_go-at, if_so, if_so-at, iff-at}
+use Rattle.slice_core_protocol.proofs.Each.{left, not-at, right}
 use Rattle.slice_core_protocol.proofs.Frame.{Kept}
 use Rattle.slice_core_protocol.proofs.Samples.{data_row}
 use Rattle.slice_core_protocol.proofs.Seen.{seen_alike, seen_from}

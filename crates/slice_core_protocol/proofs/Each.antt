@@ -8,8 +8,12 @@ use Rattle.cache_table.specs.declared.state.CopyState.{CopyState}
 use Rattle.cache_table.specs.declared.state.CopyState.TheVariants as states
 use Rattle.directory_table.specs.declared.state.DirState.{DirState}
 use Rattle.directory_table.specs.declared.state.DirState.TheVariants as dirs
-use Rattle.slice_core_protocol.specs.Fit.{◌implies◌, ◌iff◌, asker_fits, awaits, clean, comes, data_fits, debt_fits, directory_fits, granted, holder, holder_fits, inv_fits, is_asked, is_fit, is_open, is_put_ack_first, owes, owner_fits, put_fits, reader_fits, request_fits, server_fits, sharer_fits, waits_to_read, waits_to_write}
-use Rattle.slice_core_protocol.specs.Line.{Forward, fwd_get_m, fwd_get_s, no_forward, Incoming, no_data, only_data, shared_data, Look, Near, Request, get_m, get_s, no_request, put_m, put_s}
+use Rattle.slice_core_protocol.specs.Fit.{◌implies◌, ◌iff◌, asker_fits, awaits, clean, comes, data_fits, debt_fits}
+use Rattle.slice_core_protocol.specs.Fit.{directory_fits, granted, holder, holder_fits, inv_fits, is_asked, is_fit}
+use Rattle.slice_core_protocol.specs.Fit.{is_open, is_put_ack_first, owes, owner_fits, put_fits, reader_fits}
+use Rattle.slice_core_protocol.specs.Fit.{request_fits, server_fits, sharer_fits, waits_to_read, waits_to_write}
+use Rattle.slice_core_protocol.specs.Line.{Forward, fwd_get_m, fwd_get_s, no_forward, Incoming, no_data, only_data}
+use Rattle.slice_core_protocol.specs.Line.{shared_data, Look, Near, Request, get_m, get_s, no_request, put_m, put_s}
 
 -- The second where the first holds. Evaluation is strict, so that the second waits for the unit.
 unfoldable pub if_so : Bool → (Unit {0} → Bool) → Bool

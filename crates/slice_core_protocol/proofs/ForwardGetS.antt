@@ -1,5 +1,6 @@
 -- The directory serves a GetS of an owned line: the request goes on to the owner, who is the server from then on.
-use Rattle.std.proofs.Common.{◌≡◌, ℕ, ◌+◌, ◌<◌, ◌≤◌, ◌==◌, ◌&&◌, ◌||◌, Bool, true, false, not, refl, ap, sym, ◌∙◌, subst, arith, Some, None, true≢false, inl, inr}
+use Rattle.std.proofs.Common.{◌≡◌, ℕ, ◌+◌, ◌<◌, ◌≤◌, ◌==◌, ◌&&◌, ◌||◌, Bool, true, false, not, refl, ap, sym, ◌∙◌}
+use Rattle.std.proofs.Common.{subst, arith, Some, None, true≢false, inl, inr}
 use Rattle.std.proofs.Math.Bool.{or-true}
 use Rattle.std.proofs.lemmas.Bool.{and_from, eq-eqb, eqb-true, ne_eqb, or_cases}
 use Rattle.address_map.specs.declared.address.CoreId.{CoreId}
@@ -8,11 +9,13 @@ use Rattle.directory_table.specs.Law.{is_modified}
 use Rattle.directory_table.specs.declared.state.DirState.TheVariants as dirs
 use Rattle.directory_table.specs.declared.row.DirSends.TheVariants as answers
 use Rattle.slice_core_protocol.proofs.Answer.{line_at, told}
-use Rattle.slice_core_protocol.proofs.Each.{all_words, each_fit, each_fit-at, if_so, if_so-at, implies-at, left, not-at, right}
+use Rattle.slice_core_protocol.proofs.Each.{all_words, each_fit, each_fit-at, if_so, if_so-at, implies-at, left, not-at}
+use Rattle.slice_core_protocol.proofs.Each.{right}
 use Rattle.slice_core_protocol.proofs.Frame.{Owing, balance_kept, by_places}
 use Rattle.slice_core_protocol.proofs.Sets.{in_only, in_with}
 use Rattle.slice_core_protocol.specs.Coherent.{IsChained, IsCoherent, IsCounted, wanted}
-use Rattle.slice_core_protocol.specs.Fit.{◌implies◌, awaits, is_fit, is_fwd_get_m, is_fwd_get_s, is_get_s, owes, waits_to_write}
+use Rattle.slice_core_protocol.specs.Fit.{◌implies◌, awaits, is_fit, is_fwd_get_m, is_fwd_get_s, is_get_s, owes}
+use Rattle.slice_core_protocol.specs.Fit.{waits_to_write}
 use Rattle.slice_core_protocol.specs.Line.{Look, Near, Part, Roles, fwd_get_s, near_of, no_request}
 use Rattle.slice_core_protocol.specs.Machine.{answered, change_if, forwarded}
 

@@ -1,5 +1,6 @@
 -- The owner serves a Fwd-GetM: the line goes on to who asks, which is the keeper from then on.
-use Rattle.std.proofs.Common.{◌≡◌, ℕ, ◌+◌, ◌<◌, ◌==◌, ◌&&◌, ◌||◌, Bool, true, false, not, refl, ap, sym, ◌∙◌, subst, arith, if◌then◌else◌, true≢false, IsTrue}
+use Rattle.std.proofs.Common.{◌≡◌, ℕ, ◌+◌, ◌<◌, ◌==◌, ◌&&◌, ◌||◌, Bool, true, false, not, refl, ap, sym, ◌∙◌, subst}
+use Rattle.std.proofs.Common.{arith, if◌then◌else◌, true≢false, IsTrue}
 use Rattle.std.proofs.lemmas.Bool.{and_from, and_parts, eq-eqb, ne_eqb}
 use Rattle.cache_table.specs.CopyState.{is_waiting}
 use Rattle.cache_table.specs.Law.{sends_data, sends_home}
@@ -11,11 +12,13 @@ use Rattle.cache_table.specs.declared.state.CopyState.{CopyState}
 use Rattle.directory_table.specs.Law.{is_awaited, is_modified}
 use Rattle.directory_table.specs.declared.state.DirState.{DirState}
 use Rattle.slice_core_protocol.proofs.Count.{count_below-none}
-use Rattle.slice_core_protocol.proofs.Each.{all_words, each_fit, each_fit-at, if_go, if_go-at, if_so, if_so-at, left, not-at, right}
+use Rattle.slice_core_protocol.proofs.Each.{all_words, each_fit, each_fit-at, if_go, if_go-at, if_so, if_so-at, left}
+use Rattle.slice_core_protocol.proofs.Each.{not-at, right}
 use Rattle.slice_core_protocol.proofs.Frame.{by_places}
 use Rattle.slice_core_protocol.proofs.Quiet.{keeper_holds, quiet_holder}
 use Rattle.slice_core_protocol.specs.Coherent.{IsChained, IsCoherent, IsCounted, debts, wanted}
-use Rattle.slice_core_protocol.specs.Fit.{awaits, holder, is_counting, is_fit, is_fwd_get_m, is_fwd_get_s, owes, waits_to_write}
+use Rattle.slice_core_protocol.specs.Fit.{awaits, holder, is_counting, is_fit, is_fwd_get_m, is_fwd_get_s, owes}
+use Rattle.slice_core_protocol.specs.Fit.{waits_to_write}
 use Rattle.slice_core_protocol.specs.Line.{Line, Look, Near, Part, Roles, near_of, shared_data}
 use Rattle.slice_core_protocol.specs.Machine.{acted, after_turn, change_if, given, stands, turned}
 

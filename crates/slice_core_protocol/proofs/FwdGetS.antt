@@ -1,5 +1,6 @@
 -- The last owner serves a Fwd-GetS: the block goes to who asks and home, and both of them are sharers from then on.
-use Rattle.std.proofs.Common.{◌≡◌, ℕ, ◌<◌, ◌==◌, ◌&&◌, ◌||◌, Bool, true, false, not, refl, sym, ◌∙◌, subst, true≢false, IsTrue}
+use Rattle.std.proofs.Common.{◌≡◌, ℕ, ◌<◌, ◌==◌, ◌&&◌, ◌||◌, Bool, true, false, not, refl, sym, ◌∙◌, subst, true≢false}
+use Rattle.std.proofs.Common.{IsTrue}
 use Rattle.std.proofs.lemmas.Bool.{and_from, and_parts, eq-eqb, eqb-true, ne_eqb}
 use Rattle.cache_table.specs.CopyState.{is_waiting}
 use Rattle.cache_table.specs.Law.{sends_data, sends_home}
@@ -8,7 +9,8 @@ use Rattle.cache_table.specs.declared.row.CacheEvent.TheVariants as events
 use Rattle.cache_table.specs.declared.row.CacheSends.{CacheSends}
 use Rattle.cache_table.specs.declared.row.Row.TheVariants as rows
 use Rattle.cache_table.specs.declared.state.CopyState.{CopyState}
-use Rattle.slice_core_protocol.proofs.Each.{all_words, each_fit, each_fit-at, if_go, if_go-at, if_so, if_so-at, iff-at, left, not-at, right}
+use Rattle.slice_core_protocol.proofs.Each.{all_words, each_fit, each_fit-at, if_go, if_go-at, if_so, if_so-at, iff-at}
+use Rattle.slice_core_protocol.proofs.Each.{left, not-at, right}
 use Rattle.slice_core_protocol.proofs.Frame.{Kept, by_places, lift}
 use Rattle.slice_core_protocol.proofs.Seen.{counted_on, kept_from, seen_alike, seen_from, wanted_same}
 use Rattle.slice_core_protocol.specs.Coherent.{IsCoherent, IsCounted}

@@ -1,5 +1,6 @@
 -- Each row finds room in the channels that it sends to.
-use Rattle.std.proofs.Common.{◌≡◌, ℕ, ◌+◌, ◌<◌, ◌≤◌, ◌==◌, ◌&&◌, ◌||◌, Bool, true, false, not, refl, ap, sym, ◌∙◌, subst, arith, Option, Some, None, if◌then◌else◌, IfSome, IsTrue, true≢false, nat_lt}
+use Rattle.std.proofs.Common.{◌≡◌, ℕ, ◌+◌, ◌<◌, ◌≤◌, ◌==◌, ◌&&◌, ◌||◌, Bool, true, false, not, refl, ap, sym, ◌∙◌}
+use Rattle.std.proofs.Common.{subst, arith, Option, Some, None, if◌then◌else◌, IfSome, IsTrue, true≢false, nat_lt}
 use Rattle.std.proofs.Math.Bool.{or-true}
 use Rattle.std.proofs.lemmas.Bool.{and_from, and_parts, eq-eqb}
 use Rattle.address_map.specs.declared.address.CoreId.{CoreId}
@@ -23,17 +24,20 @@ use Rattle.directory_table.specs.declared.row.DirRow.{DirRow}
 use Rattle.directory_table.specs.declared.row.DirSends.{DirSends}
 use Rattle.directory_table.specs.declared.row.DirSends.TheVariants as answers
 use Rattle.slice_core_protocol.proofs.Answer.{line_at}
-use Rattle.slice_core_protocol.proofs.Each.{all_words, each_fit, each_fit-at, each_state, each_state-at, if_go, if_go-at, if_so, if_so-at, implies-at, left, not-at, right}
+use Rattle.slice_core_protocol.proofs.Each.{all_words, each_fit, each_fit-at, each_state, each_state-at, if_go}
+use Rattle.slice_core_protocol.proofs.Each.{if_go-at, if_so, if_so-at, implies-at, left, not-at, right}
 use Rattle.slice_core_protocol.proofs.FwdGetS as FwdGetS
 use Rattle.slice_core_protocol.proofs.Quiet.{quiet_open}
 use Rattle.slice_core_protocol.proofs.Samples.{ack_row, ack_sample, data_row, data_sample}
 use Rattle.slice_core_protocol.proofs.Sets.{in_without}
 use Rattle.slice_core_protocol.proofs.Settings.{by_setting}
 use Rattle.slice_core_protocol.specs.Coherent.{IsCoherent}
-use Rattle.slice_core_protocol.specs.Fit.{◌implies◌, is_asked, is_fwd_get_m, is_fwd_get_s, is_get_m, is_get_s, is_no_data, is_no_request, is_open, is_put_m, is_put_s, owes, waits_to_write}
+use Rattle.slice_core_protocol.specs.Fit.{◌implies◌, is_asked, is_fwd_get_m, is_fwd_get_s, is_get_m, is_get_s}
+use Rattle.slice_core_protocol.specs.Fit.{is_no_data, is_no_request, is_open, is_put_m, is_put_s, owes, waits_to_write}
 use Rattle.slice_core_protocol.specs.Line.{Line, Look, Near, Part, Roles, near_of}
 use Rattle.slice_core_protocol.specs.Machine.{IsWithin, is_asked_for, stands}
-use Rattle.slice_core_protocol.specs.Promise.{HasRoom, HasRoomAtService, HasRoomAtTurn, has_room_for_forward, has_room_for_inv, has_room_for_put_ack}
+use Rattle.slice_core_protocol.specs.Promise.{HasRoom, HasRoomAtService, HasRoomAtTurn, has_room_for_forward}
+use Rattle.slice_core_protocol.specs.Promise.{has_room_for_inv, has_room_for_put_ack}
 
 -- ---- the caches
 

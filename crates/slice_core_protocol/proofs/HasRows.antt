@@ -1,5 +1,6 @@
 -- No message comes to the front of its channel without a row.
-use Rattle.std.proofs.Common.{◌≡◌, ℕ, ◌+◌, ◌<◌, ◌==◌, ◌&&◌, ◌||◌, Bool, true, false, not, refl, ap, sym, ◌∙◌, subst, arith, Option, Some, None, if◌then◌else◌, IsTrue, true≢false, nat_lt, pred}
+use Rattle.std.proofs.Common.{◌≡◌, ℕ, ◌+◌, ◌<◌, ◌==◌, ◌&&◌, ◌||◌, Bool, true, false, not, refl, ap, sym, ◌∙◌, subst}
+use Rattle.std.proofs.Common.{arith, Option, Some, None, if◌then◌else◌, IsTrue, true≢false, nat_lt, pred}
 use Rattle.std.proofs.Math.Bool.{or-true}
 use Rattle.std.proofs.lemmas.Bool.{and_from, eq-eqb, eqb-false, eqb-true, ltb-false}
 use Rattle.address_map.specs.declared.address.CoreId.{CoreId}
@@ -22,7 +23,8 @@ use Rattle.slice_core_protocol.proofs.Quiet.{keeper_holds}
 use Rattle.slice_core_protocol.proofs.Settings.{by_setting}
 use Rattle.slice_core_protocol.proofs.Samples.{ack_row, ack_sample, data_row, data_sample}
 use Rattle.slice_core_protocol.specs.Coherent.{IsCoherent, debts, wanted}
-use Rattle.slice_core_protocol.specs.Fit.{awaits, holder, is_fit, is_fwd_get_m, is_fwd_get_s, is_get_m, is_get_s, is_only_data, is_put_ack_first, is_put_s, is_shared_data, owes}
+use Rattle.slice_core_protocol.specs.Fit.{awaits, holder, is_fit, is_fwd_get_m, is_fwd_get_s, is_get_m, is_get_s}
+use Rattle.slice_core_protocol.specs.Fit.{is_only_data, is_put_ack_first, is_put_s, is_shared_data, owes}
 use Rattle.slice_core_protocol.specs.Line.{Line, Look, Near, Part, Roles, near_of}
 use Rattle.slice_core_protocol.specs.Machine.{IsWithin, is_asked_for, stands}
 use Rattle.slice_core_protocol.specs.Promise.{HasRows, is_directory_entry, is_entry, is_message}

@@ -1,5 +1,6 @@
 -- A core takes the Inv-Ack of another: one less is due, and one more is counted, or all of them have come.
-use Rattle.std.proofs.Common.{◌≡◌, ℕ, ◌+◌, ◌<◌, ◌==◌, ◌&&◌, ◌||◌, Bool, true, false, not, refl, ap, sym, ◌∙◌, subst, arith, if◌then◌else◌, true≢false, nat_lt, IsTrue}
+use Rattle.std.proofs.Common.{◌≡◌, ℕ, ◌+◌, ◌<◌, ◌==◌, ◌&&◌, ◌||◌, Bool, true, false, not, refl, ap, sym, ◌∙◌, subst}
+use Rattle.std.proofs.Common.{arith, if◌then◌else◌, true≢false, nat_lt, IsTrue}
 use Rattle.std.proofs.lemmas.Bool.{and_parts, eq-eqb, eqb-true, ltb-true}
 use Rattle.cache_table.specs.CopyState.{is_waiting}
 use Rattle.cache_table.specs.Row.{row_of}
@@ -9,7 +10,8 @@ use Rattle.cache_table.specs.declared.row.CacheSends.{CacheSends}
 use Rattle.cache_table.specs.declared.row.Row.TheVariants as rows
 use Rattle.cache_table.specs.declared.state.CopyState.{CopyState}
 use Rattle.slice_core_protocol.proofs.Count.{count_below-less}
-use Rattle.slice_core_protocol.proofs.Each.{all_words, each_fit, each_fit-at, if_go, if_go-at, if_so, if_so-at, iff-at, implies-at, left, not-at, right}
+use Rattle.slice_core_protocol.proofs.Each.{all_words, each_fit, each_fit-at, if_go, if_go-at, if_so, if_so-at, iff-at}
+use Rattle.slice_core_protocol.proofs.Each.{implies-at, left, not-at, right}
 use Rattle.slice_core_protocol.proofs.Frame.{Seen, by_places, chain_kept}
 use Rattle.slice_core_protocol.proofs.Quiet.{quiet}
 use Rattle.slice_core_protocol.proofs.Samples.{ack_row, ack_sample}

@@ -13,7 +13,8 @@ use Rattle.directory_table.specs.declared.row.DirStep.{DirStep}
 use Rattle.directory_table.specs.declared.state.DirState.{DirState}
 use Rattle.directory_table.specs.declared.state.DirState.TheVariants as dirs
 use Rattle.slice_core_protocol.specs.Line.{Line}
-use Rattle.slice_core_protocol.specs.Machine.{Reached, after_service, after_turn, beginning, first, further, serve, turn}
+use Rattle.slice_core_protocol.specs.Machine.{Reached, after_service, after_turn, beginning, first, further, serve}
+use Rattle.slice_core_protocol.specs.Machine.{turn}
 use Rattle.slice_core_protocol.specs.Promise.{CanBeRead, CanBeWritten}
 
 abbrev core_0 : CoreId

@@ -1,9 +1,11 @@
 -- A core's part after a step, from tests of its look before and after.
-use Rattle.std.proofs.Common.{◌≡◌, ℕ, ◌+◌, ◌<◌, ◌&&◌, ◌||◌, Bool, true, false, not, refl, sym, ◌∙◌, arith, if◌then◌else◌, true≢false}
+use Rattle.std.proofs.Common.{◌≡◌, ℕ, ◌+◌, ◌<◌, ◌&&◌, ◌||◌, Bool, true, false, not, refl, sym, ◌∙◌, arith}
+use Rattle.std.proofs.Common.{if◌then◌else◌, true≢false}
 use Rattle.slice_core_protocol.proofs.Each.{implies-at, left, right}
 use Rattle.slice_core_protocol.proofs.Frame.{Kept, Owing, Seen}
 use Rattle.slice_core_protocol.specs.Coherent.{IsCounted, wanted}
-use Rattle.slice_core_protocol.specs.Fit.{◌implies◌, awaits, is_counting, is_fit, is_fwd_get_m, is_fwd_get_s, waits_to_write}
+use Rattle.slice_core_protocol.specs.Fit.{◌implies◌, awaits, is_counting, is_fit, is_fwd_get_m, is_fwd_get_s}
+use Rattle.slice_core_protocol.specs.Fit.{waits_to_write}
 use Rattle.slice_core_protocol.specs.Line.{Look, Near, Part}
 
 -- What others see of the look stays.

@@ -1,5 +1,6 @@
 -- Who is in a set of cores, and how many are, in the words of the machine.
-use Rattle.std.proofs.Common.{◌≡◌, ℕ, zero, suc, ◌+◌, ◌<◌, ◌≤◌, ◌==◌, ◌&&◌, ◌||◌, Bool, true, false, not, ◌∷◌, filter, length, refl, ap, sym, ◌∙◌, arith, if◌then◌else◌, inl, inr}
+use Rattle.std.proofs.Common.{◌≡◌, ℕ, zero, suc, ◌+◌, ◌<◌, ◌≤◌, ◌==◌, ◌&&◌, ◌||◌, Bool, true, false, not, ◌∷◌, filter}
+use Rattle.std.proofs.Common.{length, refl, ap, sym, ◌∙◌, arith, if◌then◌else◌, inl, inr}
 use Rattle.std.specs.List.{range_with_len}
 use Rattle.std.proofs.lemmas.Bool.{and_parts, cases_Bool, eqb-true}
 use Rattle.address_map.proofs.CoreSets.{has-only, has-with, has-without, has-zero}

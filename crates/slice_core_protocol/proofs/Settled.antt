@@ -1,10 +1,12 @@
 -- Nothing comes early, and where nothing is in flight the owner has the line or nobody does.
-use Rattle.std.proofs.Common.{◌≡◌, ℕ, ◌<◌, ◌&&◌, Bool, true, false, not, refl, ap, sym, ◌∙◌, Option, Some, None, IfSome, IsTrue, IsFalse, true≢false}
+use Rattle.std.proofs.Common.{◌≡◌, ℕ, ◌<◌, ◌&&◌, Bool, true, false, not, refl, ap, sym, ◌∙◌, Option, Some, None, IfSome}
+use Rattle.std.proofs.Common.{IsTrue, IsFalse, true≢false}
 use Rattle.std.proofs.lemmas.Bool.{and_from, eq-eqb}
 use Rattle.address_map.specs.declared.address.CoreId.{CoreId}
 use Rattle.cache_table.specs.CopyState.{is_writer}
 use Rattle.directory_table.specs.Law.{is_awaited, is_named}
-use Rattle.slice_core_protocol.proofs.Each.{all_words, each_fit, each_fit-at, if_so, if_so-at, implies-at, left, not-at, right}
+use Rattle.slice_core_protocol.proofs.Each.{all_words, each_fit, each_fit-at, if_so, if_so-at, implies-at, left, not-at}
+use Rattle.slice_core_protocol.proofs.Each.{right}
 use Rattle.slice_core_protocol.specs.Coherent.{IsCoherent}
 use Rattle.slice_core_protocol.specs.Fit.{◌implies◌, is_no_data, is_no_request}
 use Rattle.slice_core_protocol.specs.Line.{Line, Roles, near_of}

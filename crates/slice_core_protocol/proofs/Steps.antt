@@ -1,5 +1,6 @@
 -- Every step of the machine keeps the line coherent, and it is coherent in the beginning. So it is wherever it comes.
-use Rattle.std.proofs.Common.{◌≡◌, ℕ, ◌<◌, ◌≤◌, ◌==◌, ◌&&◌, ◌||◌, Bool, true, false, not, refl, ap, sym, ◌∙◌, subst, arith, true≢false, IsTrue}
+use Rattle.std.proofs.Common.{◌≡◌, ℕ, ◌<◌, ◌≤◌, ◌==◌, ◌&&◌, ◌||◌, Bool, true, false, not, refl, ap, sym, ◌∙◌, subst}
+use Rattle.std.proofs.Common.{arith, true≢false, IsTrue}
 use Rattle.std.proofs.Math.Bool.{or-true}
 use Rattle.std.proofs.lemmas.Bool.{and_from}
 use Rattle.cache_table.specs.Row.{row_of}
@@ -23,7 +24,8 @@ use Rattle.slice_core_protocol.proofs.Sets.{in_none}
 use Rattle.slice_core_protocol.specs.Coherent.{IsCoherent}
 use Rattle.slice_core_protocol.specs.Fit.{is_fit, is_only_data, is_open, is_put_ack_first, owes}
 use Rattle.slice_core_protocol.specs.Line.{Line, Look, Roles}
-use Rattle.slice_core_protocol.specs.Machine.{Reached, Step, after, after_turn, beginning, count, first, further, idle, serve, stands, turn}
+use Rattle.slice_core_protocol.specs.Machine.{Reached, Step, after, after_turn, beginning, count, first, further, idle}
+use Rattle.slice_core_protocol.specs.Machine.{serve, stands, turn}
 
 inv_owes : (l : Look) → l.inv ≡ true → owes l ≡ true
 unfolding owes

@@ -6,7 +6,8 @@ use Rattle.cache_table.specs.declared.row.CacheEvent.TheVariants as events
 use Rattle.cache_table.specs.declared.row.CacheSends.{CacheSends}
 use Rattle.cache_table.specs.declared.row.Row.TheVariants as rows
 use Rattle.cache_table.specs.declared.state.CopyState.{CopyState}
-use Rattle.slice_core_protocol.proofs.Each.{all_words, each_fit, each_fit-at, if_go, if_go-at, if_so, if_so-at, implies-at, left, right}
+use Rattle.slice_core_protocol.proofs.Each.{all_words, each_fit, each_fit-at, if_go, if_go-at, if_so, if_so-at}
+use Rattle.slice_core_protocol.proofs.Each.{implies-at, left, right}
 use Rattle.slice_core_protocol.proofs.Frame.{by_places}
 use Rattle.slice_core_protocol.proofs.InvAck.{pair}
 use Rattle.slice_core_protocol.proofs.Samples.{ack_row, ack_sample}

@@ -1,5 +1,6 @@
 -- A turn of the directory leaves each block that is claimed to be the newest as the newest.
-use Rattle.std.proofs.Common.{◌≡◌, ℕ, ◌<◌, ◌≤◌, ◌⊎◌, ◌==◌, ◌&&◌, ◌||◌, Bool, true, false, not, refl, ap, sym, ◌∙◌, subst, Option, Some, None, if◌then◌else◌, IfSome, IsTrue, true≢false, inl, inr}
+use Rattle.std.proofs.Common.{◌≡◌, ℕ, ◌<◌, ◌≤◌, ◌⊎◌, ◌==◌, ◌&&◌, ◌||◌, Bool, true, false, not, refl, ap, sym, ◌∙◌}
+use Rattle.std.proofs.Common.{subst, Option, Some, None, if◌then◌else◌, IfSome, IsTrue, true≢false, inl, inr}
 use Rattle.std.proofs.lemmas.Bool.{and_parts, eq-eqb, eqb-true, not-true}
 use Rattle.address_map.specs.declared.address.CoreId.{CoreId}
 use Rattle.address_map.specs.declared.block.Block.{Block}
@@ -19,9 +20,11 @@ use Rattle.slice_core_protocol.proofs.HasRoom.{has_room}
 use Rattle.slice_core_protocol.proofs.Settings.{by_setting}
 use Rattle.slice_core_protocol.specs.Coherent.{IsCoherent}
 use Rattle.address_map.specs.CoreSet.{count_of, has, without}
-use Rattle.slice_core_protocol.specs.Fit.{is_counting, is_no_data, is_no_forward, is_put_ack_first, is_put_m, is_written_back}
+use Rattle.slice_core_protocol.specs.Fit.{is_counting, is_no_data, is_no_forward, is_put_ack_first, is_put_m}
+use Rattle.slice_core_protocol.specs.Fit.{is_written_back}
 use Rattle.slice_core_protocol.specs.Line.{Line, Part, Roles}
-use Rattle.slice_core_protocol.specs.Machine.{IsWithin, after_service, answered, change_if, entry_of, forwarded, invalidated_by, is_asked_for, who}
+use Rattle.slice_core_protocol.specs.Machine.{IsWithin, after_service, answered, change_if, entry_of, forwarded}
+use Rattle.slice_core_protocol.specs.Machine.{invalidated_by, is_asked_for, who}
 use Rattle.slice_core_protocol.specs.Promise.{HasRoomAtService, has_room_for_forward, has_room_for_inv}
 use Rattle.slice_core_protocol.specs.Values.{Blocks, IsCurrent, brought, has_newest, is_at_home}
 

@@ -1,5 +1,6 @@
 -- Every step keeps the blocks current, and they are in the beginning.
-use Rattle.std.proofs.Common.{◌≡◌, ℕ, ◌<◌, ◌≤◌, Bool, true, false, refl, ◌∙◌, sym, subst, if◌then◌else◌, IsTrue, true≢false}
+use Rattle.std.proofs.Common.{◌≡◌, ℕ, ◌<◌, ◌≤◌, Bool, true, false, refl, ◌∙◌, sym, subst, if◌then◌else◌, IsTrue}
+use Rattle.std.proofs.Common.{true≢false}
 use Rattle.address_map.specs.declared.block.Block.{Block}
 use Rattle.cache_table.specs.CopyState.{is_writer}
 use Rattle.cache_table.specs.Row.{row_of}
@@ -18,8 +19,10 @@ use Rattle.slice_core_protocol.proofs.ValueWrite.{write_current}
 use Rattle.slice_core_protocol.specs.Coherent.{IsCoherent}
 use Rattle.slice_core_protocol.specs.Fit.{is_no_data, is_put_m}
 use Rattle.slice_core_protocol.specs.Line.{Line, Roles}
-use Rattle.slice_core_protocol.specs.Machine.{Reached, Step, after, after_turn, beginning, count, first, further, serve, stands, turn}
-use Rattle.slice_core_protocol.specs.Values.{Blocks, HasBlocks, IsCurrent, ReachedWith, beginning_with, blocks_after, further_with, has_newest, is_at_home, newest_after, performs}
+use Rattle.slice_core_protocol.specs.Machine.{Reached, Step, after, after_turn, beginning, count, first, further, serve}
+use Rattle.slice_core_protocol.specs.Machine.{stands, turn}
+use Rattle.slice_core_protocol.specs.Values.{Blocks, HasBlocks, IsCurrent, ReachedWith, beginning_with, blocks_after}
+use Rattle.slice_core_protocol.specs.Values.{further_with, has_newest, is_at_home, newest_after, performs}
 
 -- A turn that performs a write is a write by who may write.
 performs_write : (event : CacheEvent) (next : CopyState) → performs event next ≡ true

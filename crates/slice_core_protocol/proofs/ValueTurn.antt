@@ -1,5 +1,6 @@
 -- A core's turn that performs no write leaves each block that is claimed to be the newest as the newest.
-use Rattle.std.proofs.Common.{◌≡◌, ℕ, ◌<◌, ◌==◌, ◌&&◌, ◌||◌, Bool, true, false, not, refl, ap, sym, ◌∙◌, subst, if◌then◌else◌, IsTrue, true≢false, nat_lt}
+use Rattle.std.proofs.Common.{◌≡◌, ℕ, ◌<◌, ◌==◌, ◌&&◌, ◌||◌, Bool, true, false, not, refl, ap, sym, ◌∙◌, subst}
+use Rattle.std.proofs.Common.{if◌then◌else◌, IsTrue, true≢false, nat_lt}
 use Rattle.std.proofs.Math.Bool.{or-false}
 use Rattle.directory_table.specs.Law.{is_named}
 use Rattle.std.proofs.lemmas.Bool.{and_parts, eqb-true}
@@ -12,10 +13,12 @@ use Rattle.cache_table.specs.declared.row.CacheSends.{CacheSends}
 use Rattle.cache_table.specs.declared.row.Row.TheVariants as rows
 use Rattle.cache_table.specs.declared.state.CopyState.{CopyState}
 use Rattle.slice_core_protocol.proofs.Data.{at_hand}
-use Rattle.slice_core_protocol.proofs.Each.{all_words, each_fit, each_fit-at, if_go, if_go-at, if_so, if_so-at, implies-at, left, not-at, right}
+use Rattle.slice_core_protocol.proofs.Each.{all_words, each_fit, each_fit-at, if_go, if_go-at, if_so, if_so-at}
+use Rattle.slice_core_protocol.proofs.Each.{implies-at, left, not-at, right}
 use Rattle.slice_core_protocol.proofs.Samples.{data_row, data_sample}
 use Rattle.slice_core_protocol.specs.Coherent.{IsCoherent}
-use Rattle.slice_core_protocol.specs.Fit.{◌implies◌, is_fwd_get_m, is_fwd_get_s, is_no_data, is_only_data, is_put_ack_first, is_put_m, is_shared_data}
+use Rattle.slice_core_protocol.specs.Fit.{◌implies◌, is_fwd_get_m, is_fwd_get_s, is_no_data, is_only_data}
+use Rattle.slice_core_protocol.specs.Fit.{is_put_ack_first, is_put_m, is_shared_data}
 use Rattle.slice_core_protocol.specs.Line.{Line, Look, Part, Roles, near_of}
 use Rattle.slice_core_protocol.specs.Machine.{acted, after_turn, change_if, given, stands, turned}
 use Rattle.slice_core_protocol.specs.Values.{Blocks, IsCurrent, has_newest}

@@ -22,8 +22,10 @@ use Rattle.directory_table.specs.declared.row.DirSends.{DirSends}
 use Rattle.directory_table.specs.declared.row.DirSends.TheVariants as answers
 use Rattle.directory_table.specs.declared.row.DirStep.{DirStep}
 use Rattle.directory_table.specs.declared.row.DirRow.TheVariants as replies
-use Rattle.slice_core_protocol.specs.Fit.{is_fwd_get_m, is_fwd_get_s, is_get_m, is_get_s, is_only_data, is_put_m, is_put_s, is_put_ack_first, is_shared_data}
-use Rattle.slice_core_protocol.specs.Line.{fwd_get_m, fwd_get_s, no_forward, no_data, only_data, shared_data, Line, Look, Part, Request, get_m, get_s, no_request, put_m, put_s}
+use Rattle.slice_core_protocol.specs.Fit.{is_fwd_get_m, is_fwd_get_s, is_get_m, is_get_s, is_only_data, is_put_m}
+use Rattle.slice_core_protocol.specs.Fit.{is_put_s, is_put_ack_first, is_shared_data}
+use Rattle.slice_core_protocol.specs.Line.{fwd_get_m, fwd_get_s, no_forward, no_data, only_data, shared_data, Line}
+use Rattle.slice_core_protocol.specs.Line.{Look, Part, Request, get_m, get_s, no_request, put_m, put_s}
 
 -- ---- a private cache's turn
 

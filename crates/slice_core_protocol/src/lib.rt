@@ -16,7 +16,8 @@ ghost use Rattle.std.specs.Prelude.{◌≤◌, ◌<◌, ℕ, Bool};
 ghost use Rattle.address_map.specs.declared.block.Block.{Block};
 ghost use Rattle.slice_core_protocol.specs.Line.{Line};
 ghost use Rattle.slice_core_protocol.specs.Machine.{Reached};
-ghost use Rattle.slice_core_protocol.specs.Promise.{CanBeRead, CanBeWritten, HasOneWriter, HasRoom, HasRows, IsSettled, NothingIsEarly};
+ghost use Rattle.slice_core_protocol.specs.Promise.{CanBeRead, CanBeWritten, HasOneWriter, HasRoom, HasRows, IsSettled};
+ghost use Rattle.slice_core_protocol.specs.Promise.{NothingIsEarly};
 ghost use Rattle.slice_core_protocol.specs.Values.{Blocks, HasBlocks, IsCurrent, ReachedWith};
 
 /// Whatever a line reaches, a core that may write it is the only one that may read it.

@@ -1,5 +1,7 @@
 -- The copy of a line, and of every other line, after each step of a core; and each step keeps copies where they belong.
-use Rattle.std.proofs.Common.{◌≡◌, ◌≢◌, ℕ, ◌≤◌, Bool, true, false, List, [], ◌∷◌, Option, Some, None, IsSome, is_some, unwrap_or, option_map, IfSome, IsSomeAnd, if◌then◌else◌, get_or, replicate, arith, refl, sym, ◌∙◌, ap, subst, inl, inr, ◌⊎◌}
+use Rattle.std.proofs.Common.{◌≡◌, ◌≢◌, ℕ, ◌≤◌, Bool, true, false, List, [], ◌∷◌, Option, Some, None, IsSome, is_some}
+use Rattle.std.proofs.Common.{unwrap_or, option_map, IfSome, IsSomeAnd, if◌then◌else◌, get_or, replicate, arith, refl}
+use Rattle.std.proofs.Common.{sym, ◌∙◌, ap, subst, inl, inr, ◌⊎◌}
 use Rattle.std.proofs.lemmas.Bool.{cases_lt}
 use Rattle.std.proofs.lemmas.List.{get_or_past, get_or-replicate, length-replicate}
 use Rattle.std.specs.Int.{IsPowerOfTwo}
@@ -11,7 +13,8 @@ use Rattle.address_map.specs.declared.request.Request.{Request}
 use Rattle.cache_array.specs.Array.{ArrayView, held_at as array_at, IsArray, HasWay, set_index}
 use Rattle.cache_array.specs.Set.{SetView, empty_set, value_in}
 use Rattle.cache_array.specs.Policy.{moves_of}
-use Rattle.cache_array.proofs.Held.{written_held, written_other, written_sound, used_held, used_sound, inserted_held, inserted_other, inserted_sound, removed_held, removed_other, removed_sound}
+use Rattle.cache_array.proofs.Held.{written_held, written_other, written_sound, used_held, used_sound, inserted_held}
+use Rattle.cache_array.proofs.Held.{inserted_other, inserted_sound, removed_held, removed_other, removed_sound}
 use Rattle.cache_table.specs.CopyState.{is_leaving}
 use Rattle.cache_table.specs.Row.{row_of}
 use Rattle.cache_table.specs.declared.row.CacheEvent.TheVariants as events
@@ -25,13 +28,17 @@ use Rattle.slice_core_side.specs.Copy.{found_in, no_copy, missing_copy, leaving_
 use Rattle.slice_core_side.specs.Kept.{IsKept, stands_in_array}
 use Rattle.slice_core_side.specs.Perform.{performed_in}
 use Rattle.slice_core_side.specs.Side.{SideView, copy_of, array_copy, new_side}
-use Rattle.slice_core_side.specs.Steps.{with_copy, without_line_in, used_by, settled, evicted, next_by, victim_for, after_hit, after_open, after_evict, after_draw, after_replace, after_advance, after_change, after_settle, after_hand}
+use Rattle.slice_core_side.specs.Steps.{with_copy, without_line_in, used_by, settled, evicted, next_by, victim_for}
+use Rattle.slice_core_side.specs.Steps.{after_hit, after_open, after_evict, after_draw, after_replace, after_advance}
+use Rattle.slice_core_side.specs.Steps.{after_change, after_settle, after_hand}
 use Rattle.slice_core_side.specs.declared.copy.CacheCopy.{CacheCopy}
 use Rattle.target_list.specs.Target.{no_target}
 use Rattle.target_list.specs.declared.target.Target.{Target}
 use Rattle.writeback_buffer.specs.Buffer.{held_at as buffer_at, in_state, with_state, without_line}
 use Rattle.writeback_buffer.specs.declared.entry.Leaving.{Leaving}
-use Rattle.writeback_buffer.proofs.Held.{put_held, put_other, put_sound, advanced_held, advanced_other, advanced_sound, removed_held as left_held, removed_other as left_other, removed_sound as left_sound}
+use Rattle.writeback_buffer.proofs.Held.{put_held, put_other, put_sound, advanced_held, advanced_other, advanced_sound}
+use Rattle.writeback_buffer.proofs.Held.{removed_held as left_held, removed_other as left_other}
+use Rattle.writeback_buffer.proofs.Held.{removed_sound as left_sound}
 
 -- ---- the array alone
 

@@ -1,5 +1,7 @@
 -- Where a line stands in its set, after its value was changed in its slot, and after another line of the set left.
-use Rattle.std.proofs.Common.{◌≡◌, ◌≢◌, ℕ, ◌%◌, ◌<◌, Bool, true, false, cond, nat_lt, List, length, get_or, set, refl, ap, sym, ◌∙◌, subst, inl, inr, Option, Some, None, IsSome, is_some, IsSomeAnd, IfSome, MatchOption, position, eq-eqb}
+use Rattle.std.proofs.Common.{◌≡◌, ◌≢◌, ℕ, ◌%◌, ◌<◌, Bool, true, false, cond, nat_lt, List, length, get_or, set, refl}
+use Rattle.std.proofs.Common.{ap, sym, ◌∙◌, subst, inl, inr, Option, Some, None, IsSome, is_some, IsSomeAnd, IfSome}
+use Rattle.std.proofs.Common.{MatchOption, position, eq-eqb}
 use Rattle.std.specs.List.{position_or_len}
 use Rattle.std.proofs.lemmas.Bool.{cases_lt}
 use Rattle.std.proofs.lemmas.List.{get_or-set_same, get_or_past, length-set}

@@ -1,10 +1,13 @@
 -- The tags that name a reply, as a set; and the least reply among those that were looked at.
-use Rattle.std.proofs.Common.{◌≡◌, ◌≢◌, ◌↔◌, ◌≤◌, ◌<◌, ℕ, Bool, true, false, List, [], length, get_or, set, replicate, Option, Some, None, refl, sym, ◌∙◌, ap, arith, inl, inr}
+use Rattle.std.proofs.Common.{◌≡◌, ◌≢◌, ◌↔◌, ◌≤◌, ◌<◌, ℕ, Bool, true, false, List, [], length, get_or, set, replicate}
+use Rattle.std.proofs.Common.{Option, Some, None, refl, sym, ◌∙◌, ap, arith, inl, inr}
 use Rattle.std.specs.Prelude.{nat_lt, if◌then◌else◌, IfSome}
 use Rattle.std.proofs.lemmas.Bool.{cases_Bool, cases_eq, cases_lt, ltb-true, ltb-false}
-use Rattle.std.proofs.lemmas.List.{get_or_past, get_or-set_same, get_or-set_other, length-set, get_or-replicate, length-replicate}
+use Rattle.std.proofs.lemmas.List.{get_or_past, get_or-set_same, get_or-set_other, length-set, get_or-replicate}
+use Rattle.std.proofs.lemmas.List.{length-replicate}
 use Rattle.address_map.specs.CoreSet.{has, with, without, members, count_of}
-use Rattle.address_map.proofs.CoreSets.{has-zero, zero-from_none, has-with_same, has-with_other, has-without_same, has-without_other}
+use Rattle.address_map.proofs.CoreSets.{has-zero, zero-from_none, has-with_same, has-with_other, has-without_same}
+use Rattle.address_map.proofs.CoreSets.{has-without_other}
 use Rattle.address_map.proofs.Members.{count_of-without}
 use Rattle.slice_core_side.specs.declared.tags.TagState.{TagState}
 use Rattle.slice_core_side.specs.declared.tags.TagState.TheVariants as tags

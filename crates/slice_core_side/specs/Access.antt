@@ -1,6 +1,7 @@
 -- What an access of a core to a line does, as a function of what the core has: it joins, hits, opens a miss register or
 -- stalls.
-use Rattle.std.specs.Prelude.{◌≡◌, ℕ, ◌<◌, nat_lt, Bool, true, false, not, if◌then◌else◌, length, Option, Some, None, is_some, position, IsSome, IsSomeAnd}
+use Rattle.std.specs.Prelude.{◌≡◌, ℕ, ◌<◌, nat_lt, Bool, true, false, not, if◌then◌else◌, length, Option, Some, None}
+use Rattle.std.specs.Prelude.{is_some, position, IsSome, IsSomeAnd}
 use Rattle.std.specs.List.{list_any}
 use Rattle.address_map.specs.declared.address.Local.{Local}
 use Rattle.address_map.specs.declared.request.Op.{Op}

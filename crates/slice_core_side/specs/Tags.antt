@@ -1,5 +1,6 @@
 -- What a core's tags name, and the reply that is handed out next.
-use Rattle.std.specs.Prelude.{◌≡◌, ◌≢◌, ◌≤◌, ℕ, Bool, true, false, List, length, slice_index_or, nat_lt, if◌then◌else◌, Option, Some, None}
+use Rattle.std.specs.Prelude.{◌≡◌, ◌≢◌, ◌≤◌, ℕ, Bool, true, false, List, length, slice_index_or, nat_lt, if◌then◌else◌}
+use Rattle.std.specs.Prelude.{Option, Some, None}
 use Rattle.address_map.specs.CoreSet.{has}
 use Rattle.slice_core_side.specs.declared.tags.TagState.{TagState}
 use Rattle.slice_core_side.specs.declared.tags.TagState.TheVariants as tags

@@ -1,4 +1,5 @@
-ghost use Rattle.std.specs.Prelude.{◌≡◌, ◌+◌, ◌^◌, ◌<◌, ◌≤◌, ◌++◌, [], ◌∷◌, length, nat_lt, take, vec_capacity, All, slice_set};
+ghost use Rattle.std.specs.Prelude.{◌≡◌, ◌+◌, ◌^◌, ◌<◌, ◌≤◌, ◌++◌, [], ◌∷◌, length, nat_lt, take, vec_capacity, All};
+ghost use Rattle.std.specs.Prelude.{slice_set};
 ghost use Rattle.mshr_file.specs.Miss.{IsMissFile, is_waited, targets_of, TakesTargets};
 ghost use Rattle.slice_core_side.specs.Copy.{performed_on};
 ghost use Rattle.slice_core_side.specs.Perform.{block_after, entries_of, entry_of, left_in, performed_in, tags_after};

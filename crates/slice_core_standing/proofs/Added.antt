@@ -1,5 +1,6 @@
 -- An access that is accepted and waits: the last target of its line, under the core's next number and an open tag.
-use Rattle.std.proofs.Common.{◌≡◌, ◌≢◌, ℕ, ◌+◌, ◌<◌, Bool, true, not, List, [], length, refl, sym, ap, ◌∙◌, ⊎_elim, arith, eq-eqb, get_or}
+use Rattle.std.proofs.Common.{◌≡◌, ◌≢◌, ℕ, ◌+◌, ◌<◌, Bool, true, not, List, [], length, refl, sym, ap, ◌∙◌, ⊎_elim}
+use Rattle.std.proofs.Common.{arith, eq-eqb, get_or}
 use Rattle.std.specs.Prelude.{◌==◌, slice_set}
 use Rattle.std.proofs.lemmas.Bool.{and_from, cases_eq, le-leb, lt-ltb, ne_eqb}
 use Rattle.std.proofs.lemmas.List.{get_or-set_other, get_or-set_same, length-set}
@@ -14,7 +15,8 @@ use Rattle.slice_core_side.specs.declared.tags.TagState.{TagState}
 use Rattle.slice_core_side.specs.declared.tags.TagState.TheVariants as tags
 use Rattle.slice_core_standing.proofs.Facts.{entries-below, tag-names_none, targets-below}
 use Rattle.slice_core_standing.proofs.Lists.{below_next, count_by-cons, one, one_if, none}
-use Rattle.slice_core_standing.specs.Standing.{has_seq, is_asked_by, is_open, is_performable, waiting, CanWait, HasTags, IsAccount, StandsInOrder, StandsOnce}
+use Rattle.slice_core_standing.specs.Standing.{has_seq, is_asked_by, is_open, is_performable, waiting, CanWait, HasTags}
+use Rattle.slice_core_standing.specs.Standing.{IsAccount, StandsInOrder, StandsOnce}
 use Rattle.target_list.specs.declared.target.Target.{Target}
 
 -- what one target adds to a count

@@ -14,7 +14,8 @@ use Rattle.slice_core_side.specs.Targets.{IsPerformable}
 use Rattle.slice_core_side.specs.declared.tags.TagState.{TagState}
 use Rattle.slice_core_side.specs.declared.tags.TagState.TheVariants as tags
 use Rattle.slice_core_standing.proofs.Lists.{at_most_one, none, is_below, count_by-all, counted_at}
-use Rattle.slice_core_standing.specs.Standing.{is_request, has_seq, waiting, is_performable, is_asked_by, is_open, StandsOnce, CanWait, HasTags}
+use Rattle.slice_core_standing.specs.Standing.{is_request, has_seq, waiting, is_performable, is_asked_by, is_open}
+use Rattle.slice_core_standing.specs.Standing.{StandsOnce, CanWait, HasTags}
 use Rattle.target_list.specs.declared.target.Target.{Target}
 
 -- An entry of the core is numbered below what it asks for next.

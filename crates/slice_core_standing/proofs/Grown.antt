@@ -10,8 +10,10 @@ use Rattle.address_map.specs.declared.address.Local.{Local}
 use Rattle.mshr_file.specs.declared.registers.Register.{Register}
 use Rattle.slice_core_log.specs.declared.entry.Entry.{Entry}
 use Rattle.slice_core_side.specs.declared.tags.TagState.{TagState}
-use Rattle.slice_core_standing.proofs.Lists.{count_by-append, count_by-more, count_by-none, count_of-more, slice_get-kept}
-use Rattle.slice_core_standing.specs.Standing.{is_of, is_request, is_asked_by, HasNoEntry, CanWait, HasTags, IsAhead, IsAccount, standings}
+use Rattle.slice_core_standing.proofs.Lists.{count_by-append, count_by-more, count_by-none, count_of-more}
+use Rattle.slice_core_standing.proofs.Lists.{slice_get-kept}
+use Rattle.slice_core_standing.specs.Standing.{is_of, is_request, is_asked_by, HasNoEntry, CanWait, HasTags, IsAhead}
+use Rattle.slice_core_standing.specs.Standing.{IsAccount, standings}
 use Rattle.target_list.specs.declared.target.Target.{Target}
 
 -- ---- lines

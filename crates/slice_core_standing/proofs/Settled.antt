@@ -1,8 +1,10 @@
 -- Targets that are performed: they leave the front of their line, and stand as the last entries of the log.
-use Rattle.std.proofs.Common.{◌≡◌, ℕ, ◌+◌, ◌/◌, ◌*◌, ◌<◌, ◌≤◌, inl, inr, Bool, true, false, List, [], ◌∷◌, ◌++◌, length, Some, refl, sym, ap, subst, ◌∙◌, ⊎_elim, arith, eq-eqb, append_assoc}
+use Rattle.std.proofs.Common.{◌≡◌, ℕ, ◌+◌, ◌/◌, ◌*◌, ◌<◌, ◌≤◌, inl, inr, Bool, true, false, List, [], ◌∷◌, ◌++◌, length}
+use Rattle.std.proofs.Common.{Some, refl, sym, ap, subst, ◌∙◌, ⊎_elim, arith, eq-eqb, append_assoc}
 use Rattle.std.specs.Prelude.{◌==◌, ◌&&◌, count_by, slice_set, slice_get, All}
 use Rattle.std.proofs.lemmas.Bool.{cases_eq, cases_lt, eqb-true}
-use Rattle.std.proofs.lemmas.List.{get_or-set_other, get_or-set_same, get_or_append_left, length-append, length-set, length_push}
+use Rattle.std.proofs.lemmas.List.{get_or-set_other, get_or-set_same, get_or_append_left, length-append, length-set}
+use Rattle.std.proofs.lemmas.List.{length_push}
 use Rattle.std.proofs.lemmas.List.Elements.{All-append, All-cons, All-head, All-nil, All-tail, All-weaker}
 use Rattle.address_map.specs.Locator.{Lines, line_at}
 use Rattle.address_map.specs.declared.address.CoreId.{CoreId}
@@ -20,8 +22,10 @@ use Rattle.slice_core_side.specs.declared.tags.TagState.{TagState}
 use Rattle.slice_core_side.specs.declared.tags.TagState.TheVariants as tags
 use Rattle.slice_core_standing.proofs.Facts.{all-performable}
 use Rattle.slice_core_standing.proofs.Grown.{CanWait-grown, one_place}
-use Rattle.slice_core_standing.proofs.Lists.{ascending-apart, at_most_one, count_by-all, count_by-append, count_by-cons, none, one, one_if, slice_get-kept, slice_get-next, All-right}
-use Rattle.slice_core_standing.specs.Standing.{is_of, is_open, is_request, has_seq, waiting, CanWait, HasTags, IsAccount, IsAhead, StandsInOrder, StandsOnce}
+use Rattle.slice_core_standing.proofs.Lists.{ascending-apart, at_most_one, count_by-all, count_by-append, count_by-cons}
+use Rattle.slice_core_standing.proofs.Lists.{none, one, one_if, slice_get-kept, slice_get-next, All-right}
+use Rattle.slice_core_standing.specs.Standing.{is_of, is_open, is_request, has_seq, waiting, CanWait, HasTags}
+use Rattle.slice_core_standing.specs.Standing.{IsAccount, IsAhead, StandsInOrder, StandsOnce}
 use Rattle.target_list.specs.declared.target.Target.{Target}
 
 -- ---- the entries of targets

@@ -1,6 +1,7 @@
 -- One core's requests: each that was accepted stands in exactly one place. It is a target of a miss register, or an
 -- entry of the log: a reply as long as a tag names its number, and handed out otherwise.
-use Rattle.std.specs.Prelude.{◌≡◌, ℕ, ◌+◌, ◌/◌, ◌<◌, ◌==◌, ◌&&◌, nat_lt, nat_le, Bool, true, false, not, if◌then◌else◌, List, length, count_by, slice_get, Some, All}
+use Rattle.std.specs.Prelude.{◌≡◌, ℕ, ◌+◌, ◌/◌, ◌<◌, ◌==◌, ◌&&◌, nat_lt, nat_le, Bool, true, false, not, if◌then◌else◌}
+use Rattle.std.specs.Prelude.{List, length, count_by, slice_get, Some, All}
 use Rattle.address_map.specs.Locator.{Lines, line_at}
 use Rattle.address_map.specs.declared.address.Local.{Local}
 use Rattle.mshr_file.specs.Miss.{count_of, has_tag, targets_of, IsInOrder, IsMissFile}

@@ -1,5 +1,6 @@
 -- A copy that was changed in its slot is the copy that the array holds, and stands where it stood.
-use Rattle.std.proofs.Common.{◌≡◌, ◌∙◌, ℕ, ◌+◌, suc, Bool, true, false, not, cond, nat_lt, eq-eqb, arith, List, [], ◌∷◌, ◌%◌, ◌<◌, length, get_or, set, refl, ap, sym, inl, inr, Some, None, position, unwrap_or}
+use Rattle.std.proofs.Common.{◌≡◌, ◌∙◌, ℕ, ◌+◌, suc, Bool, true, false, not, cond, nat_lt, eq-eqb, arith, List, [], ◌∷◌}
+use Rattle.std.proofs.Common.{◌%◌, ◌<◌, length, get_or, set, refl, ap, sym, inl, inr, Some, None, position, unwrap_or}
 use Rattle.std.specs.List.{position_or_len}
 use Rattle.std.proofs.lemmas.Bool.{cases_lt, ltb-true}
 use Rattle.std.proofs.lemmas.List.{get_or-set_same, get_or_past, length-set}

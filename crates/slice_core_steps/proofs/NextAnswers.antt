@@ -10,7 +10,8 @@ use Rattle.slice_core_answer.specs.declared.answer.Delivered.TheVariants as deli
 use Rattle.slice_core_answer.specs.declared.answer.DeliveredNext.{DeliveredNext}
 use Rattle.slice_core_answer.specs.declared.answer.DeliveredNext.TheVariants as delivered_next
 use Rattle.slice_core_plan.specs.Next.{next_by, IsNextIn, IsNoBetter}
-use Rattle.slice_core_plan.specs.Parts.{PartsView, AfterDelivery, AfterPlan, IsDone, IsMove, IsNextPick, IsStuck, SomePlan, told}
+use Rattle.slice_core_plan.specs.Parts.{PartsView, AfterDelivery, AfterPlan, IsDone, IsMove, IsNextPick, IsStuck}
+use Rattle.slice_core_plan.specs.Parts.{SomePlan, told}
 use Rattle.slice_core_plan.specs.Plan.{plan_of, planned_at}
 use Rattle.slice_core_plan.specs.Ring.{pick_of}
 use Rattle.slice_core_plan.specs.View.{View}
@@ -103,7 +104,8 @@ moved-there local at channel other (plans.Acknowledge a b) h = (cc, cc)
 
 -- where nothing, or a blocked or a broken message is best, so it is of all channels of the class
 pub pick-nothing : (v : View) (class : Class) → IsNextIn v class nexts.Nothing → IsNextPick v class next_picks.Nothing
-pick-nothing v class next local channel there of_class = none-planned local channel _ (next.0 local channel there of_class)
+pick-nothing v class next local channel there of_class =
+    none-planned local channel _ (next.0 local channel there of_class)
 
 pub pick-blocked : (v : View) (class : Class) → IsNextIn v class nexts.Blocked → IsNextPick v class next_picks.Blocked
 pick-blocked v class next = (
@@ -275,7 +277,8 @@ found-told old new class (nexts.Broken cell) answer next is done =
 found-told old new class (nexts.Move local channel) (delivered_next.Moved pick) next is done =
     let same : pick ≡ pick_at (line_at old.view.lines local) channel = cc in (
       subst (λ (p : Pick). IsTrue (is_of_class class (channel_of p))) (sym same)
-          (of-class-at class channel (line_at old.view.lines local) (can-move old.view class local channel next).of_class),
+          (of-class-at class channel (line_at old.view.lines local)
+          (can-move old.view class local channel next).of_class),
       moves-planned (planned_at old.view pick) old new _ _ done,
     )
 found-told old new class (nexts.Move local channel) delivered_next.Nothing next is done = cc

@@ -1,5 +1,6 @@
 -- What is delivered next: nothing that was looked at is better, and what wasn't looked at has no message.
-use Rattle.std.proofs.Common.{◌≡◌, ◌≢◌, ℕ, suc, ◌+◌, ◌<◌, ◌≤◌, ◌⊎◌, Bool, true, false, ◌&&◌, ◌||◌, if◌then◌else◌, List, [], ◌∷◌, length, drop, get_or, eqb, refl, sym, ◌∙◌, ap, subst, inl, inr, arith}
+use Rattle.std.proofs.Common.{◌≡◌, ◌≢◌, ℕ, suc, ◌+◌, ◌<◌, ◌≤◌, ◌⊎◌, Bool, true, false, ◌&&◌, ◌||◌, if◌then◌else◌, List}
+use Rattle.std.proofs.Common.{[], ◌∷◌, length, drop, get_or, eqb, refl, sym, ◌∙◌, ap, subst, inl, inr, arith}
 use Rattle.std.specs.Prelude.{IsTrue, Option, Some, None, is_some, slice_get, map, nat_lt}
 use Rattle.std.specs.List.{count_by}
 use Rattle.std.proofs.Common.{add-one, drop-cons}
@@ -26,7 +27,8 @@ use Rattle.slice_core_plan.specs.declared.decide.Next.{Next}
 use Rattle.slice_core_plan.specs.declared.decide.Next.TheVariants as nexts
 use Rattle.slice_core_plan.specs.declared.decide.Plan.{Plan}
 use Rattle.slice_core_plan.specs.declared.decide.Plan.TheVariants as plans
-use Rattle.slice_queues.specs.Line.{LineChannels, empty_line, messages_at, request_messages, data_messages, ack_messages, home_messages}
+use Rattle.slice_queues.specs.Line.{LineChannels, empty_line, messages_at, request_messages, data_messages}
+use Rattle.slice_queues.specs.Line.{ack_messages, home_messages}
 use Rattle.slice_queues.specs.Waiting.{is_same_channel, is_waiting, HasEachOnceIn}
 use Rattle.slice_queues_message.specs.Class.{is_of_class}
 use Rattle.slice_queues_message.specs.declared.channel.Channel.{Channel}
@@ -417,7 +419,8 @@ line-there v lines local shaped same within =
 
 -- ---- a line with a message that can be moved stands in the ring
 
-listed-place : (ring : List ℕ) (line : ℕ) → is_listed ring line ≡ true → (place : ℕ) × (slice_get ring place ≡ Some line)
+listed-place : (ring : List ℕ) (line : ℕ) → is_listed ring line ≡ true
+    → (place : ℕ) × (slice_get ring place ≡ Some line)
 listed-place [] line listed = cc
 listed-place (first ∷ rest) line listed =
     by_first (eqb line first) refl listed (listed-place rest line)

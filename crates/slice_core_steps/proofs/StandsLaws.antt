@@ -1,5 +1,6 @@
 -- A copy for which a message is taken stands in the array or the write-back buffer.
-use Rattle.std.proofs.Common.{ℕ, zero, suc, ◌<◌, List, [], ◌∷◌, length, get_or, arith, ◌≡◌, ◌⊎◌, ◌∙◌, ap, inl, inr, Option, Some, None, IsSome, refl}
+use Rattle.std.proofs.Common.{ℕ, zero, suc, ◌<◌, List, [], ◌∷◌, length, get_or, arith, ◌≡◌, ◌⊎◌, ◌∙◌, ap, inl, inr}
+use Rattle.std.proofs.Common.{Option, Some, None, IsSome, refl}
 use Rattle.address_map.specs.declared.address.Local.{Local}
 use Rattle.cache_array.specs.Array.{held_at as array_at}
 use Rattle.cache_table.specs.Row.{row_of}

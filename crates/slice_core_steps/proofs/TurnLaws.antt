@@ -1,5 +1,6 @@
 -- What is next in the order of the ring, as the lines and their channels are looked at one after another.
-use Rattle.std.proofs.Common.{◌≡◌, ◌≢◌, ℕ, ◌+◌, ◌<◌, Bool, true, false, if◌then◌else◌, List, ◌∷◌, length, drop, get_or, refl, sym, ◌∙◌, ap, arith}
+use Rattle.std.proofs.Common.{◌≡◌, ◌≢◌, ℕ, ◌+◌, ◌<◌, Bool, true, false, if◌then◌else◌, List, ◌∷◌, length, drop, get_or}
+use Rattle.std.proofs.Common.{refl, sym, ◌∙◌, ap, arith}
 use Rattle.std.specs.Prelude.{Some, slice_get}
 use Rattle.std.proofs.Common.{add-one, drop-cons}
 use Rattle.address_map.specs.declared.address.Local.{Local}
@@ -87,7 +88,8 @@ not_move (nexts.Move local channel) stays = absurd (stays local channel refl)
 
 -- Nothing that was looked at moves, and what is first of all channels is the better of this and what is first of those
 -- that are left.
-pub record IsFirstSoFar (v : View) (local : Local) (all : List Channel) (next : Next) (left : List Channel) : Type 0 where
+pub record IsFirstSoFar (v : View) (local : Local) (all : List Channel) (next : Next)
+    (left : List Channel) : Type 0 where
   pub still : is_move next ≡ false
   pub split : first_of v local all ≡ next_or next (first_of v local left)
 

@@ -10,10 +10,13 @@ use Rattle.slice_core_plan.specs.Parts.{IsNew, PartsView}
 use Rattle.slice_core_side.specs.Side.{SideView}
 use Rattle.slice_lock.specs.Booked.{AreBounded}
 
-pub new-bounded : (c : Config) (bound : Bound) (slice : SliceId) (p : PartsView) → IsNew c bound slice p → AreBounded c bound p.view
+pub new-bounded : (c : Config) (bound : Bound) (slice : SliceId) (p : PartsView) → IsNew c bound slice p
+    → AreBounded c bound p.view
 new-bounded c bound slice p is core known = ap (λ (side : SideView). side.bound) (is.sides.each core.0 known)
 
-pub kept-bounded : (c : Config) (bound : Bound) (old new : PartsView) → IsSameSlice old new → AreBounded c bound old.view
+pub kept-bounded : (c : Config) (bound : Bound) (old new : PartsView) → IsSameSlice old new
+    → AreBounded c bound old.view
     → AreBounded c bound new.view
 kept-bounded c bound old new same bounded core known =
-    sym (ap (λ (shape : Shape). shape.bound) (same-part old.view.sides new.view.sides core.0 same.shapes)) ∙ bounded core known
+    sym (ap (λ (shape : Shape). shape.bound) (same-part old.view.sides new.view.sides core.0 same.shapes))
+    ∙ bounded core known

@@ -18,7 +18,8 @@ settled c number v ports values init is = record {
   legal = subst (λ pairs. IsLegal (initially pairs) v.log) init is.legal;
   ordered = is.ordered;
   performed =
-      subst (λ pairs. values ≡ map (λ (word : WordAddr). value (initially pairs word.0) v.log word.0) (counters_of c number))
+      subst (λ pairs. values ≡ map (λ (word : WordAddr). value (initially pairs word.0) v.log word.0)
+      (counters_of c number))
       init is.state;
   values_are = is.named_are;
 }

@@ -13,9 +13,9 @@ use Rattle.slice_core_plan.specs.View.{View, IsQuiet}
 use Rattle.slice_lock.specs.declared.slice.Unsettled.{Unsettled}
 use Rattle.slice_lock.specs.declared.slice.Unsettled.TheVariants as faults
 
--- As many receipts as requests were accepted. By number they are exactly a log, which is legal and in each core's order.
--- And these are the values of the slice's counters, ascending by word: each is what the log leaves there, and that is its
--- initial value and what the receipts add to it, modulo 2^64.
+-- As many receipts as requests were accepted. By number they are exactly a log, which is legal and in each core's
+-- order. And these are the values of the slice's counters, ascending by word: each is what the log leaves there, and
+-- that is its initial value and what the receipts add to it, modulo 2^64.
 pub record AreSettled (c : Config) (number : ℕ) (ports : List PortView) (values : List ℕ) : Type 0 where
   pub handed : length (receipts_in ports) ≡ accepted_in ports
   pub log : List Entry

@@ -1,5 +1,6 @@
 ghost use Rattle.std.specs.Prelude.{◌≡◌, ◌<◌, ◌↔◌, length, map, IfErr, IfOk, IsOk, IsTrue, OnErr, OnOk};
-ghost use Rattle.receipt_ledger.specs.Answers.{AfterAsking, AfterReply, AsksFor, AsksReply, IsJudged, IsKnown, IsShortOf};
+ghost use Rattle.receipt_ledger.specs.Answers.{AfterAsking, AfterReply, AsksFor, AsksReply, IsJudged, IsKnown};
+ghost use Rattle.receipt_ledger.specs.Answers.{IsShortOf};
 ghost use Rattle.receipt_ledger.specs.Port.{with_seen};
 ghost use Rattle.slice_core.specs.Facts.{IsNotBroken, IsNotBrokenNext};
 ghost use Rattle.slice_core_plan.specs.Parts.{AfterDeliverNext, AfterDelivery, AfterEvict};
@@ -32,7 +33,8 @@ impl<F: MissFile, N: SliceNames> Model for Booked<F, N> {
 
     ghost view = { λ b. record { state = b.state; totals = b.book } };
 
-    ghost invariant = { λ b. IsBookedSlice N.setup (F.bound_by N.setup) N.number (record { state = b.state; totals = b.book }) };
+    ghost invariant = { λ b. IsBookedSlice N.setup (F.bound_by N.setup) N.number
+        (record { state = b.state; totals = b.book }) };
 }
 
 impl<F: MissFile, N: SliceNames> Booked<F, N> {

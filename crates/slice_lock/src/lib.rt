@@ -5,7 +5,8 @@
 //! of each call; what the state is at that moment isn't, since other threads change it, but whenever the lock is free
 //! state and book belong together: the state is one of the named slice, coherent, and no request of it is lost, doubled
 //! or made up. [`Slice::look`] shows it to whoever looks, and
-//! [`Slice::settle`] says of a quiet slice and all its ports that the receipts are all, and what they make of each counter.
+//! [`Slice::settle`] says of a quiet slice and all its ports that the receipts are all, and what they make of each
+//! counter.
 #![tactic(auto)]
 
 pub use slice::{Look, Question, Slice, Unsettled};

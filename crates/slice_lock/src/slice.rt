@@ -82,8 +82,8 @@ impl<F: MissFile, N: SliceNames> Slice<F, N> {
         }
     }
 
-    /// Hands out the reply of the least number that waits for the port's core, if any does. Where the port has no request
-    /// in flight the lock isn't taken.
+    /// Hands out the reply of the least number that waits for the port's core, if any does. Where the port has no
+    /// request in flight the lock isn't taken.
     pub fn collect<R: Wait>(&self, rt: &R, port: &mut Port<N>) -> Option<Receipt>
         ensures port { AfterReply port.old result port.new }
         ensures idle { length port.old.asked ≤ length port.old.receipts → result ≡ None }
@@ -136,8 +136,8 @@ impl<F: MissFile, N: SliceNames> Slice<F, N> {
     }
 
     /// Settles the slice with all its ports, each lent by whoever holds it: the value of each counter of the slice,
-    /// ascending by word. The ports' receipts are then exactly the slice's log, as it was asked for. It takes no memory,
-    /// and leaves the ports as they were.
+    /// ascending by word. The ports' receipts are then exactly the slice's log, as it was asked for. It takes no
+    /// memory, and leaves the ports as they were.
     pub fn settle<R: Wait, T: Lends<Port<N>, K>, const K: usize>(
         &self,
         rt: &R,

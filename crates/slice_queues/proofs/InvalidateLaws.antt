@@ -1,5 +1,6 @@
 -- One Inv after another to the cores of a set is one change of all these cores.
-use Rattle.std.proofs.Common.{◌≡◌, ◌≢◌, ℕ, ◌+◌, ◌^◌, ◌<◌, ◌≤◌, zero, suc, Bool, true, false, if◌then◌else◌, List, [], ◌∷◌, length, filter, refl, ap, sym, ◌∙◌, arith, Option, inl, inr}
+use Rattle.std.proofs.Common.{◌≡◌, ◌≢◌, ℕ, ◌+◌, ◌^◌, ◌<◌, ◌≤◌, zero, suc, Bool, true, false, if◌then◌else◌, List, []}
+use Rattle.std.proofs.Common.{◌∷◌, length, filter, refl, ap, sym, ◌∙◌, arith, Option, inl, inr}
 use Rattle.std.specs.List.{range_with_len, AllByRecursion}
 use Rattle.std.proofs.Math.ListN.{set, length-set}
 use Rattle.std.proofs.lemmas.Bool.{cases_eq, cases_lt}
@@ -12,7 +13,8 @@ use Rattle.address_map.proofs.CoreSets.{has-below}
 use Rattle.slice_queues_message.specs.declared.channel.Channel.TheVariants as channels
 use Rattle.slice_queues_message.specs.declared.message.Message.TheVariants as messages
 use Rattle.slice_queues_message.specs.declared.message.ForwardedMessage.TheVariants as forwards
-use Rattle.slice_queues.specs.Line.{CoreChannels, LineChannels, no_messages, core_at, HasChannel, HasRoom, after_send, TakesInvalidations, with_invalidation, after_invalidating}
+use Rattle.slice_queues.specs.Line.{CoreChannels, LineChannels, no_messages, core_at, HasChannel, HasRoom, after_send}
+use Rattle.slice_queues.specs.Line.{TakesInvalidations, with_invalidation, after_invalidating}
 
 -- the core's forwarded channel is there and takes another message
 abbrev pub TakesForwarded : LineChannels → ℕ → Type 0

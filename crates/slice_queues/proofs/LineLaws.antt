@@ -1,7 +1,10 @@
 -- A send and a take change their own channel alone.
-use Rattle.std.proofs.Common.{rules, eq-eqb, eqb-true, ◌≡◌, ◌≢◌, ℕ, ◌<◌, ◌≤◌, Bool, true, false, List, [], ◌∷◌, ◌++◌, length, map, drop, refl, ap, sym, ◌∙◌, subst, arith, Option, Some, None, zero, suc, replicate, get_or, ◌⊎◌, inl, inr}
+use Rattle.std.proofs.Common.{rules, eq-eqb, eqb-true, ◌≡◌, ◌≢◌, ℕ, ◌<◌, ◌≤◌, Bool, true, false, List, [], ◌∷◌, ◌++◌}
+use Rattle.std.proofs.Common.{length, map, drop, refl, ap, sym, ◌∙◌, subst, arith, Option, Some, None, zero, suc}
+use Rattle.std.proofs.Common.{replicate, get_or, ◌⊎◌, inl, inr}
 use Rattle.std.proofs.Math.ListN.{set, length-set}
-use Rattle.std.proofs.lemmas.List.{get_or-set_same, get_or-set_other, get_or_past, set-get_or, length-map, length-replicate, map-append}
+use Rattle.std.proofs.lemmas.List.{get_or-set_same, get_or-set_other, get_or_past, set-get_or, length-map}
+use Rattle.std.proofs.lemmas.List.{length-replicate, map-append}
 use Rattle.std.proofs.lemmas.Bool.{cases_eq}
 use borrow.Author.Tests.{ltb-true}
 use Rattle.address_map.specs.declared.address.CoreId.{CoreId}
@@ -15,8 +18,12 @@ use Rattle.slice_queues_message.specs.declared.message.ForwardedMessage.{Forward
 use Rattle.slice_queues_message.specs.declared.message.DataMessage.{DataMessage}
 use Rattle.address_map.specs.CoreSet.{has, with, without}
 use Rattle.slice_queues.specs.Waiting.{is_from_core, is_same_channel}
-use Rattle.slice_queues.specs.Line.{CoreChannels, LineChannels, no_messages, core_at, with_core, request_messages, data_messages, home_messages, ack_messages, messages_at, IsOfCore, HasChannel, HasRoom, Carries, after_send, after_take, SendsOnly, TakesOnly, IsWithinCores, IsEmptyLine}
-use Rattle.address_map.proofs.CoreSets.{has-with_same, has-with_other, has-without_same, has-without_other, without-missing, has-zero, zero-from_none}
+use Rattle.slice_queues.specs.Line.{CoreChannels, LineChannels, no_messages, core_at, with_core, request_messages}
+use Rattle.slice_queues.specs.Line.{data_messages, home_messages, ack_messages, messages_at, IsOfCore, HasChannel}
+use Rattle.slice_queues.specs.Line.{HasRoom, Carries, after_send, after_take, SendsOnly, TakesOnly, IsWithinCores}
+use Rattle.slice_queues.specs.Line.{IsEmptyLine}
+use Rattle.address_map.proofs.CoreSets.{has-with_same, has-with_other, has-without_same, has-without_other}
+use Rattle.address_map.proofs.CoreSets.{without-missing, has-zero, zero-from_none}
 
 -- cores with the same number are the same
 pub same_core : (c d : CoreId) → c.0 ≡ d.0 → c ≡ d

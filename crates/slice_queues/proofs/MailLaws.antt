@@ -1,5 +1,7 @@
 -- The marks of a line follow each send and take.
-use Rattle.std.proofs.Common.{rules, IsTrue, ◌↔◌, ◌≡◌, ℕ, ◌<◌, ◌≤◌, ◌==◌, ◌||◌, ◌++◌, not, zero, suc, drop, Bool, true, false, if◌then◌else◌, List, [], ◌∷◌, length, refl, ap, sym, ◌∙◌, arith, Option, Some, None, replicate, get_or, inl, inr, is_some, nat_lt, bit_or, max}
+use Rattle.std.proofs.Common.{rules, IsTrue, ◌↔◌, ◌≡◌, ℕ, ◌<◌, ◌≤◌, ◌==◌, ◌||◌, ◌++◌, not, zero, suc, drop, Bool, true}
+use Rattle.std.proofs.Common.{false, if◌then◌else◌, List, [], ◌∷◌, length, refl, ap, sym, ◌∙◌, arith, Option, Some}
+use Rattle.std.proofs.Common.{None, replicate, get_or, inl, inr, is_some, nat_lt, bit_or, max}
 use Rattle.std.specs.Int.{bit_at}
 use Rattle.std.specs.List.{list_any}
 use Rattle.std.proofs.Math.ListN.{set}
@@ -7,16 +9,20 @@ use Rattle.std.proofs.lemmas.Bool.{cases_eq, lt-ltb}
 use Rattle.std.proofs.lemmas.List.{get_or-set_same, get_or-set_other}
 use Rattle.std.proofs.lemmas.Nat.Bits.{bit_at_or, bit_at-lt}
 use Rattle.address_map.specs.CoreSet.{has, with, without}
-use Rattle.address_map.proofs.CoreSets.{has-zero, has-with_same, has-with_other, has-without_same, has-without_other, without-missing, zero-from_none}
+use Rattle.address_map.proofs.CoreSets.{has-zero, has-with_same, has-with_other, has-without_same, has-without_other}
+use Rattle.address_map.proofs.CoreSets.{without-missing, zero-from_none}
 use Rattle.address_map.specs.declared.block.Block.{Block}
 use Rattle.slice_queues_message.specs.declared.channel.Channel.TheVariants as channels
 use Rattle.slice_queues_message.specs.declared.message.RequestMessage.{RequestMessage}
 use Rattle.slice_queues_message.specs.declared.message.ForwardedMessage.{ForwardedMessage}
 use Rattle.slice_queues_message.specs.declared.message.DataMessage.{DataMessage}
 use Rattle.slice_queues.specs.declared.mail.Mail.{Mail}
-use Rattle.slice_queues.specs.Line.{CoreChannels, LineChannels, no_messages, core_at, has_request, has_forwarded, has_data, has_acks, has_messages, has_mail, IsEmptyLine, IsWithinCores}
+use Rattle.slice_queues.specs.Line.{CoreChannels, LineChannels, no_messages, core_at, has_request, has_forwarded}
+use Rattle.slice_queues.specs.Line.{has_data, has_acks, has_messages, has_mail, IsEmptyLine, IsWithinCores}
 use Rattle.slice_queues.specs.Mail.{no_marks, all_marked, Marks, IsMarked, IsLine}
-use Rattle.slice_queues.proofs.LineLaws.{IsWithinCores-set, IsWithinCores-with_ack, IsWithinCores-without_ack, IsWithinCores-empty, IsEmptyLine-from_cores, cores-from_IsEmptyLine, None-from_home, read_default, read-replicate}
+use Rattle.slice_queues.proofs.LineLaws.{IsWithinCores-set, IsWithinCores-with_ack, IsWithinCores-without_ack}
+use Rattle.slice_queues.proofs.LineLaws.{IsWithinCores-empty, IsEmptyLine-from_cores, cores-from_IsEmptyLine}
+use Rattle.slice_queues.proofs.LineLaws.{None-from_home, read_default, read-replicate}
 
 -- what is quiet has no mail
 pub not-flips : (quiet mail : Bool) → quiet ≡ not mail → not quiet ≡ mail

@@ -1,5 +1,8 @@
 -- A line's waiting channels: each stands in the list once, and no other does.
-use Rattle.std.proofs.Common.{◌≡◌, ◌≢◌, ℕ, ◌+◌, ◌<◌, ◌≤◌, ◌==◌, Bool, true, false, cond, if◌then◌else◌, List, [], ◌∷◌, ◌++◌, length, map, filter, sum_by, count_by, zero, suc, refl, ap, sym, ◌∙◌, arith, inl, inr, get_or, is_some, nat_lt, ◌&&◌, lt-ltb, le-ltb, eq-eqb, Option, Some, None, add-zero, zero-add}
+use Rattle.std.proofs.Common.{◌≡◌, ◌≢◌, ℕ, ◌+◌, ◌<◌, ◌≤◌, ◌==◌, Bool, true, false, cond, if◌then◌else◌, List, [], ◌∷◌}
+use Rattle.std.proofs.Common.{◌++◌, length, map, filter, sum_by, count_by, zero, suc, refl, ap, sym, ◌∙◌, arith, inl}
+use Rattle.std.proofs.Common.{inr, get_or, is_some, nat_lt, ◌&&◌, lt-ltb, le-ltb, eq-eqb, Option, Some, None, add-zero}
+use Rattle.std.proofs.Common.{zero-add}
 use Rattle.std.specs.List.{flat_map, range_with_len}
 use Rattle.std.proofs.lemmas.Bool.{cases_eq, cases_lt, ne_eqb}
 use Rattle.std.proofs.lemmas.List.{length-map, get_or_past}
@@ -11,8 +14,10 @@ use Rattle.slice_queues_message.specs.declared.message.RequestMessage.{RequestMe
 use Rattle.slice_queues_message.specs.declared.message.DataMessage.{DataMessage}
 use Rattle.address_map.specs.declared.block.Block.{Block}
 use Rattle.address_map.specs.CoreSet.{has, members}
-use Rattle.slice_queues.specs.Line.{CoreChannels, LineChannels, no_messages, core_at, has_request, has_forwarded, has_data, has_acks, request_messages, data_messages, home_messages, ack_messages}
-use Rattle.slice_queues.specs.Waiting.{req_of, fwd_of, data_of, acks_to, acks_at, only_if, cores_where, line_waiting, is_same_channel, is_waiting, is_from_core, HasEachOnce}
+use Rattle.slice_queues.specs.Line.{CoreChannels, LineChannels, no_messages, core_at, has_request, has_forwarded}
+use Rattle.slice_queues.specs.Line.{has_data, has_acks, request_messages, data_messages, home_messages, ack_messages}
+use Rattle.slice_queues.specs.Waiting.{req_of, fwd_of, data_of, acks_to, acks_at, only_if, cores_where, line_waiting}
+use Rattle.slice_queues.specs.Waiting.{is_same_channel, is_waiting, is_from_core, HasEachOnce}
 use Rattle.address_map.proofs.CoreSets.{has-zero}
 
 -- how often a channel stands in a list

@@ -1,5 +1,7 @@
 -- A slice's waiting picks: each stands in the list once, and no other does.
-use Rattle.std.proofs.Common.{◌≡◌, ◌≢◌, ℕ, ◌+◌, ◌*◌, ◌/◌, ◌%◌, ◌<◌, ◌≤◌, ◌==◌, ◌&&◌, Bool, true, false, cond, if◌then◌else◌, List, [], ◌∷◌, ◌++◌, length, map, take, drop, sum_by, count_by, zero, suc, refl, ap, sym, ◌∙◌, arith, inl, inr, get_or, eq-eqb, append_assoc, add-zero, zero-add}
+use Rattle.std.proofs.Common.{◌≡◌, ◌≢◌, ℕ, ◌+◌, ◌*◌, ◌/◌, ◌%◌, ◌<◌, ◌≤◌, ◌==◌, ◌&&◌, Bool, true, false, cond}
+use Rattle.std.proofs.Common.{if◌then◌else◌, List, [], ◌∷◌, ◌++◌, length, map, take, drop, sum_by, count_by, zero, suc}
+use Rattle.std.proofs.Common.{refl, ap, sym, ◌∙◌, arith, inl, inr, get_or, eq-eqb, append_assoc, add-zero, zero-add}
 use Rattle.std.specs.Prelude.{slice_get, None}
 use native.Mathlib.Nat.{div-add-mod'}
 use Rattle.std.proofs.lemmas.Nat.{mod-mul-add, div-mul-add}
@@ -12,7 +14,8 @@ use Rattle.slice_queues_message.specs.declared.channel.Pick.{Pick}
 use Rattle.slice_queues_message.specs.Pick.{line_of, channel_of, pick_at}
 use Rattle.slice_queues.specs.Line.{LineChannels, empty_line}
 use Rattle.slice_queues.specs.Slice.{SliceChannels}
-use Rattle.slice_queues.specs.Waiting.{line_waiting, is_same_channel, is_waiting, line_number, lines_left, lines_waiting, picks_waiting, is_same_pick, is_from_core, HasEachPickOnce}
+use Rattle.slice_queues.specs.Waiting.{line_waiting, is_same_channel, is_waiting, line_number, lines_left}
+use Rattle.slice_queues.specs.Waiting.{lines_waiting, picks_waiting, is_same_pick, is_from_core, HasEachPickOnce}
 use Rattle.slice_queues.proofs.OnceLaws.{times, count-map, count-never, and-false, times-line_waiting}
 use Rattle.slice_queues.proofs.SliceLaws.{line_of-pick_at, channel_of-pick_at}
 

@@ -1,5 +1,7 @@
 -- A round of lines as lines come to its end and leave its front.
-use Rattle.std.proofs.Common.{◌≡◌, ◌≢◌, ℕ, zero, suc, ◌-◌, ◌<◌, ◌≤◌, ◌||◌, ◌++◌, if◌then◌else◌, Bool, true, false, List, [], ◌∷◌, length, drop, take, refl, ap, sym, ◌∙◌, subst, arith, Some, replicate, get_or, inl, inr, eq-eqb, append_assoc, add-one, drop-cons, filter, ◌+◌}
+use Rattle.std.proofs.Common.{◌≡◌, ◌≢◌, ℕ, zero, suc, ◌-◌, ◌<◌, ◌≤◌, ◌||◌, ◌++◌, if◌then◌else◌, Bool, true, false, List}
+use Rattle.std.proofs.Common.{[], ◌∷◌, length, drop, take, refl, ap, sym, ◌∙◌, subst, arith, Some, replicate, get_or}
+use Rattle.std.proofs.Common.{inl, inr, eq-eqb, append_assoc, add-one, drop-cons, filter, ◌+◌}
 use Rattle.std.specs.Prelude.{eqb, slice_get}
 use Rattle.std.specs.List.{list_any, IsDistinct, AllByRecursion}
 use Rattle.std.proofs.Math.ListN.{set, length-set}
@@ -294,7 +296,8 @@ apart-listed order local other = by_test (is_listed order local) refl
       apart,
     )
     by_test false away apart =
-        let split = or_false (is_listed order other) _ (sym (list_any-append (eqb other) order (local ∷ [])) ∙ apart) in (
+        let split = or_false (is_listed order other) _
+        (sym (list_any-append (eqb other) order (local ∷ [])) ∙ apart) in (
           (λ same. let clash : false ≡ true = sym split.1 ∙ rw (eq-eqb other local same) refl in cc),
           split.0,
         )

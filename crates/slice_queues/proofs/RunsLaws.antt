@@ -1,11 +1,16 @@
 -- A line gets a run of its own, and one of its cores' channels change.
-use Rattle.std.proofs.Common.{◌≡◌, ◌≢◌, ℕ, zero, suc, ◌+◌, ◌-◌, ◌*◌, ◌<◌, ◌≤◌, ◌++◌, Bool, true, false, if◌then◌else◌, List, [], ◌∷◌, length, take, drop, replicate, get_or, refl, ap, sym, ◌∙◌, subst, arith, inl, inr, Option, None, count_by, nat_lt}
+use Rattle.std.proofs.Common.{◌≡◌, ◌≢◌, ℕ, zero, suc, ◌+◌, ◌-◌, ◌*◌, ◌<◌, ◌≤◌, ◌++◌, Bool, true, false, if◌then◌else◌}
+use Rattle.std.proofs.Common.{List, [], ◌∷◌, length, take, drop, replicate, get_or, refl, ap, sym, ◌∙◌, subst, arith}
+use Rattle.std.proofs.Common.{inl, inr, Option, None, count_by, nat_lt}
 use Rattle.std.proofs.Math.ListN.{set, length-set}
 use Rattle.std.proofs.Math.Seq.{take-set-lt}
 use Rattle.std.proofs.Math.Seq.{drop-append_seam}
 use Rattle.std.proofs.Math.Nat.{mul-le-mul_right}
 use Rattle.std.proofs.lemmas.Bool.{cases_eq, cases_lt, lt-ltb, ltb-false}
-use Rattle.std.proofs.lemmas.List.{length-take-le, length-drop, length-append, length-replicate, length-map, take_all, take-append-le, take-set-le, drop-append-le, drop-set-lt, drop-set-add, get_or-set_same, get_or-set_other, get_or-take, get_or-drop, get_or-append-add, get_or-map, get_or_past, map-set, ext_get_or, set-set}
+use Rattle.std.proofs.lemmas.List.{length-take-le, length-drop, length-append, length-replicate, length-map, take_all}
+use Rattle.std.proofs.lemmas.List.{take-append-le, take-set-le, drop-append-le, drop-set-lt, drop-set-add}
+use Rattle.std.proofs.lemmas.List.{get_or-set_same, get_or-set_other, get_or-take, get_or-drop, get_or-append-add}
+use Rattle.std.proofs.lemmas.List.{get_or-map, get_or_past, map-set, ext_get_or, set-set}
 use Rattle.std.proofs.lemmas.List.Sums.{sum_by-set, count_by-le-length}
 use Rattle.std.proofs.lemmas.List.Folds.{sum_by-replicate}
 use Rattle.address_map.specs.declared.block.Block.{Block}
@@ -13,7 +18,8 @@ use Rattle.slice_queues.specs.declared.lines.LineHead.{LineHead}
 use Rattle.slice_queues.specs.Line.{CoreChannels, LineChannels, no_messages, core_at, with_core, HasChannel, empty_line}
 use Rattle.slice_queues.specs.declared.mail.Mail.{Mail}
 use Rattle.slice_queues.specs.Mail.{no_marks, IsLine}
-use Rattle.slice_queues.specs.Runs.{blank_head, head_at, has_run, run_under, line_under, lines_under, opened_first, opened_cores, IsRuns}
+use Rattle.slice_queues.specs.Runs.{blank_head, head_at, has_run, run_under, line_under, lines_under, opened_first}
+use Rattle.slice_queues.specs.Runs.{opened_cores, IsRuns}
 use Rattle.slice_queues.specs.Waiting.{is_from_core}
 use Rattle.slice_queues_message.specs.declared.channel.Channel.{Channel}
 use Rattle.slice_queues_message.specs.declared.channel.Channel.TheVariants as channels

@@ -1,5 +1,6 @@
 -- A send and a take change their own pick alone.
-use Rattle.std.proofs.Common.{◌≡◌, ◌≢◌, ℕ, ◌+◌, ◌*◌, ◌/◌, ◌%◌, ◌<◌, Bool, true, false, if◌then◌else◌, [], ◌∷◌, ◌++◌, length, drop, refl, ap, sym, ◌∙◌, inl, inr, get_or, eq-eqb, eqb-true}
+use Rattle.std.proofs.Common.{◌≡◌, ◌≢◌, ℕ, ◌+◌, ◌*◌, ◌/◌, ◌%◌, ◌<◌, Bool, true, false, if◌then◌else◌, [], ◌∷◌, ◌++◌}
+use Rattle.std.proofs.Common.{length, drop, refl, ap, sym, ◌∙◌, inl, inr, get_or, eq-eqb, eqb-true}
 use Rattle.std.proofs.Math.ListN.{set}
 use Rattle.std.proofs.Math.Nat.{div-add-mod}
 use Rattle.std.proofs.lemmas.Nat.{mod-mul-add, div-mul-add}
@@ -12,8 +13,10 @@ use Rattle.slice_queues_message.specs.declared.channel.Pick.{Pick}
 use Rattle.slice_queues_message.specs.declared.channel.Pick.TheVariants as picks
 use Rattle.slice_queues_message.specs.declared.message.Message.{Message}
 use Rattle.slice_queues_message.specs.Pick.{line_of, channel_of, pick_at}
-use Rattle.slice_queues.specs.Line.{LineChannels, messages_at, after_send, empty_line, IsEmptyLine, SendsOnly, TakesOnly}
-use Rattle.slice_queues.specs.Slice.{SliceChannels, is_of_slice, HasLine, local_of, line_at, with_line, messages_in, after_send_in, SendsOnlyIn, TakesOnlyIn, IsEmptySlice}
+use Rattle.slice_queues.specs.Line.{LineChannels, messages_at, after_send, empty_line, IsEmptyLine, SendsOnly}
+use Rattle.slice_queues.specs.Line.{TakesOnly}
+use Rattle.slice_queues.specs.Slice.{SliceChannels, is_of_slice, HasLine, local_of, line_at, with_line, messages_in}
+use Rattle.slice_queues.specs.Slice.{after_send_in, SendsOnlyIn, TakesOnlyIn, IsEmptySlice}
 use Rattle.slice_queues.proofs.LineLaws.{IsEmptyLine-from_cores, read-replicate}
 
 -- a pick is its line and its channel

@@ -1,5 +1,7 @@
 -- What the marks of a line find is what waits in its channels.
-use Rattle.std.proofs.Common.{rules, ◌≡◌, ℕ, ◌+◌, ◌<◌, ◌≤◌, ◌&&◌, zero, suc, Bool, true, false, if◌then◌else◌, List, [], ◌∷◌, ◌++◌, length, map, filter, refl, ap, sym, ◌∙◌, arith, get_or, inl, inr, is_some, count_by}
+use Rattle.std.proofs.Common.{rules, ◌≡◌, ℕ, ◌+◌, ◌<◌, ◌≤◌, ◌&&◌, zero, suc, Bool, true, false, if◌then◌else◌, List, []}
+use Rattle.std.proofs.Common.{◌∷◌, ◌++◌, length, map, filter, refl, ap, sym, ◌∙◌, arith, get_or, inl, inr, is_some}
+use Rattle.std.proofs.Common.{count_by}
 use Rattle.std.specs.List.{flat_map, range_with_len, AllByRecursion}
 use Rattle.std.proofs.lemmas.Bool.{cases_lt}
 use Rattle.std.proofs.lemmas.List.{get_or_past}
@@ -13,9 +15,11 @@ use Rattle.slice_queues_message.specs.declared.channel.Class.{Class}
 use Rattle.slice_queues_message.specs.declared.channel.Class.TheVariants as classes
 use Rattle.slice_queues_message.specs.Class.{is_of_class}
 use Rattle.slice_queues.specs.declared.mail.Mail.{Mail}
-use Rattle.slice_queues.specs.Line.{CoreChannels, LineChannels, no_messages, core_at, has_request, has_forwarded, has_data, has_acks}
+use Rattle.slice_queues.specs.Line.{CoreChannels, LineChannels, no_messages, core_at, has_request, has_forwarded}
+use Rattle.slice_queues.specs.Line.{has_data, has_acks}
 use Rattle.slice_queues.specs.Mail.{marks_of, Marks, IsMarked}
-use Rattle.slice_queues.specs.Waiting.{req_of, fwd_of, data_of, acks_at, only_if, by_kind, cores_where, line_waiting, marked_waiting, is_same_channel, is_waiting, HasEachOnce, HasEachOnceIn}
+use Rattle.slice_queues.specs.Waiting.{req_of, fwd_of, data_of, acks_at, only_if, by_kind, cores_where, line_waiting}
+use Rattle.slice_queues.specs.Waiting.{marked_waiting, is_same_channel, is_waiting, HasEachOnce, HasEachOnceIn}
 use Rattle.slice_queues.proofs.OnceLaws.{count-yes, count-no}
 
 -- of one channel that may be named a filter keeps it or not

@@ -1,5 +1,6 @@
 -- What waits in the channels of one line.
-use Rattle.std.specs.Prelude.{◌≡◌, ◌≢◌, ℕ, ◌<◌, ◌≤◌, ◌||◌, Bool, true, nat_lt, is_some, if◌then◌else◌, List, [], ◌∷◌, ◌++◌, length, map, drop, slice_set, slice_index_or, replicate, Option, Some, None}
+use Rattle.std.specs.Prelude.{◌≡◌, ◌≢◌, ℕ, ◌<◌, ◌≤◌, ◌||◌, Bool, true, nat_lt, is_some, if◌then◌else◌, List, [], ◌∷◌}
+use Rattle.std.specs.Prelude.{◌++◌, length, map, drop, slice_set, slice_index_or, replicate, Option, Some, None}
 use Rattle.std.specs.List.{list_any, range_with_len}
 use Rattle.address_map.specs.CoreSet.{has, with, without}
 use Rattle.address_map.specs.declared.address.CoreId.{CoreId}

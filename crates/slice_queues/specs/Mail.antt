@@ -4,7 +4,8 @@ use Rattle.address_map.specs.CoreSet.{has}
 use Rattle.slice_queues_message.specs.declared.channel.Class.{Class}
 use Rattle.slice_queues_message.specs.declared.channel.Class.TheVariants as classes
 use Rattle.slice_queues.specs.declared.mail.Mail.{Mail}
-use Rattle.slice_queues.specs.Line.{CoreChannels, no_messages, has_request, has_forwarded, has_data, has_acks, IsWithinCores}
+use Rattle.slice_queues.specs.Line.{CoreChannels, no_messages, has_request, has_forwarded, has_data, has_acks}
+use Rattle.slice_queues.specs.Line.{IsWithinCores}
 
 -- no core is marked
 abbrev pub no_marks : Mail

@@ -1,5 +1,6 @@
 -- The ring of the lines of a slice that may have messages.
-use Rattle.std.specs.Prelude.{◌≡◌, ℕ, ◌<◌, ◌++◌, Bool, true, false, if◌then◌else◌, List, [], ◌∷◌, length, eqb, slice_index_or}
+use Rattle.std.specs.Prelude.{◌≡◌, ℕ, ◌<◌, ◌++◌, Bool, true, false, if◌then◌else◌, List, [], ◌∷◌, length, eqb}
+use Rattle.std.specs.Prelude.{slice_index_or}
 use Rattle.std.specs.List.{list_any, IsDistinct}
 use Rattle.address_map.specs.Locator.{Lines, IsOfMachine}
 use Rattle.slice_queues.specs.Line.{LineChannels, has_mail, empty_line}

@@ -1,5 +1,6 @@
 -- How the channels of a slice's lines stand: a head for each line, and runs of cores' channels.
-use Rattle.std.specs.Prelude.{◌≡◌, ℕ, ◌+◌, ◌*◌, ◌<◌, ◌≤◌, ◌++◌, Bool, true, nat_lt, if◌then◌else◌, List, length, map, take, drop, replicate, slice_index_or, count_by, None}
+use Rattle.std.specs.Prelude.{◌≡◌, ℕ, ◌+◌, ◌*◌, ◌<◌, ◌≤◌, ◌++◌, Bool, true, nat_lt, if◌then◌else◌, List, length, map}
+use Rattle.std.specs.Prelude.{take, drop, replicate, slice_index_or, count_by, None}
 use Rattle.slice_queues.specs.declared.lines.LineHead.{LineHead}
 use Rattle.slice_queues.specs.Line.{CoreChannels, LineChannels, no_messages}
 use Rattle.slice_queues.specs.Mail.{no_marks, IsLine}

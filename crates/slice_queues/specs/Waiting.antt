@@ -1,5 +1,7 @@
 -- The channels in which a message waits, each once, in a fixed order.
-use Rattle.std.specs.Prelude.{◌≡◌, ◌==◌, ◌&&◌, true, false, count_by, ℕ, ◌+◌, ◌*◌, ◌/◌, ◌^◌, ◌<◌, ◌++◌, nat_lt, if◌then◌else◌, is_some, length, List, [], ◌∷◌, map, filter, take, drop, slice_index_or, Bool}
+use Rattle.std.specs.Prelude.{◌≡◌, ◌==◌, ◌&&◌, true, false, count_by, ℕ, ◌+◌, ◌*◌, ◌/◌, ◌^◌, ◌<◌, ◌++◌, nat_lt}
+use Rattle.std.specs.Prelude.{if◌then◌else◌, is_some, length, List, [], ◌∷◌, map, filter, take, drop, slice_index_or}
+use Rattle.std.specs.Prelude.{Bool}
 use Rattle.address_map.specs.Locator.{Lines}
 use Rattle.address_map.specs.declared.address.LineAddr.{LineAddr}
 use Rattle.slice_queues_message.specs.declared.channel.Channel.{Channel}
@@ -9,7 +11,8 @@ use Rattle.slice_queues_message.specs.Pick.{line_of, channel_of, pick_at}
 use Rattle.slice_queues_message.specs.declared.channel.Class.{Class}
 use Rattle.slice_queues_message.specs.Class.{is_of_class}
 use Rattle.slice_queues.specs.declared.mail.Mail.{Mail}
-use Rattle.slice_queues.specs.Line.{CoreChannels, LineChannels, no_messages, core_at, messages_at, has_request, has_forwarded, has_data, has_acks}
+use Rattle.slice_queues.specs.Line.{CoreChannels, LineChannels, no_messages, core_at, messages_at, has_request}
+use Rattle.slice_queues.specs.Line.{has_forwarded, has_data, has_acks}
 use Rattle.address_map.specs.CoreSet.{members}
 use Rattle.std.specs.List.{flat_map, range_with_len}
 use Rattle.slice_queues.specs.Slice.{SliceChannels, messages_in}

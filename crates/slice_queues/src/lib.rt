@@ -29,8 +29,8 @@
 //! (specs/Runs.antt), so the largest slice, 65536 lines of 64 cores, begins with 8 MB of the 780 that it may come to. A
 //! send or a take costs the same whatever the number of lines and cores, but for the first change of a line, and so
 //! does [`LineQueues::is_empty`]: four sets say for which cores messages wait. [`LineQueues::waiting`] looks at no core
-//! but those for which acknowledgements wait. [`Queues::is_empty`] looks at the line that was lent last alone, since the
-//! others with a message are counted. [`Queues::picks_of`] and [`Queues::picks_from`] look at each line.
+//! but those for which acknowledgements wait. [`Queues::is_empty`] looks at the line that was lent last alone, since
+//! the others with a message are counted. [`Queues::picks_of`] and [`Queues::picks_from`] look at each line.
 #![tactic(auto)]
 
 pub use line_queues::LineQueues;

@@ -32,7 +32,8 @@ impl<'a> Model for LineQueues<'a> {
 impl<'a> LineQueues<'a> {
     ghost use Rattle.address_map.specs.CoreSet.{has};
     ghost use Rattle.slice_queues.specs.Waiting.{line_waiting, HasEachOnce, HasEachOnceIn};
-    ghost use Rattle.slice_queues.specs.Line.{core_at, messages_at, after_take, HasRoom, HasChannel, IsEmptyLine, has_mail, TakesInvalidations};
+    ghost use Rattle.slice_queues.specs.Line.{core_at, messages_at, after_take, HasRoom, HasChannel, IsEmptyLine};
+    ghost use Rattle.slice_queues.specs.Line.{has_mail, TakesInvalidations};
     ghost use Rattle.slice_queues.specs.Mail.{IsLine};
 
     /// How many cores the line has.

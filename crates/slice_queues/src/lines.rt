@@ -1,6 +1,8 @@
-ghost use Rattle.std.specs.Prelude.{◌≡◌, ◌+◌, ◌<◌, ◌≤◌, ◌++◌, length, replicate, false, vec_capacity, slice_set, slice_index_or, slice_get, IfOk};
+ghost use Rattle.std.specs.Prelude.{◌≡◌, ◌+◌, ◌<◌, ◌≤◌, ◌++◌, length, replicate, false, vec_capacity, slice_set};
+ghost use Rattle.std.specs.Prelude.{slice_index_or, slice_get, IfOk};
 ghost use Rattle.slice_queues_message.specs.declared.channel.Channel.TheVariants as channels;
-ghost use Rattle.slice_queues.specs.Line.{LineChannels, no_messages, core_at, with_core, after_send, after_take, HasChannel, Carries, IsOfCore};
+ghost use Rattle.slice_queues.specs.Line.{LineChannels, no_messages, core_at, with_core, after_send, after_take};
+ghost use Rattle.slice_queues.specs.Line.{HasChannel, Carries, IsOfCore};
 ghost use Rattle.slice_queues.specs.Mail.{IsLine};
 
 use super::core_queues::CoreQueues;
@@ -94,7 +96,8 @@ fn push_blank(cores: &mut Vec<CoreQueues>, width: usize)
 }
 
 impl Lines {
-    ghost use Rattle.slice_queues.specs.Line.{empty_line, messages_at, HasRoom, SendsOnly, TakesOnly, TakesInvalidations, after_invalidating};
+    ghost use Rattle.slice_queues.specs.Line.{empty_line, messages_at, HasRoom, SendsOnly, TakesOnly};
+    ghost use Rattle.slice_queues.specs.Line.{TakesInvalidations, after_invalidating};
 
     /// Takes the memory for `count` lines of `width` cores.
     pub fn build(alloc: Global, count: usize, width: usize) -> Result<Self, AllocError>

@@ -1,4 +1,5 @@
-ghost use Rattle.std.specs.Prelude.{◌≡◌, ℕ, ◌<◌, ◌≤◌, ◌↔◌, ◌++◌, [], length, take, drop, filter, slice_get, slice_index, Some, IsTrue, IfOk};
+ghost use Rattle.std.specs.Prelude.{◌≡◌, ℕ, ◌<◌, ◌≤◌, ◌↔◌, ◌++◌, [], length, take, drop, filter, slice_get};
+ghost use Rattle.std.specs.Prelude.{slice_index, Some, IsTrue, IfOk};
 ghost use Rattle.slice_queues_message.specs.Pick.{line_of, channel_of};
 ghost use Rattle.slice_queues.specs.Ring.{with_listed};
 ghost use Rattle.slice_queues.specs.Count.{IsMailCounted};
@@ -43,7 +44,8 @@ impl Model for Queues {
 
 /// The lines by their places in the slice, and the ring.
 impl Queues {
-    ghost use Rattle.slice_queues.specs.Line.{IsEmptyLine, HasChannel, HasRoom, Carries, SendsOnly, after_send, after_take, TakesInvalidations, after_invalidating};
+    ghost use Rattle.slice_queues.specs.Line.{IsEmptyLine, HasChannel, HasRoom, Carries, SendsOnly, after_send};
+    ghost use Rattle.slice_queues.specs.Line.{after_take, TakesInvalidations, after_invalidating};
     ghost use Rattle.slice_queues.specs.Slice.{at_local, empty_slice, IsEmptySlice};
     ghost use Rattle.slice_queues.specs.Ring.{has_mail_at, with_listed, IsRing};
     ghost use Rattle.slice_queues.specs.Lending.{with_lent};
@@ -183,7 +185,8 @@ impl Queues {
 /// The channels by their names in the whole memory.
 impl Queues {
     ghost use Rattle.slice_queues.specs.Line.{Carries, messages_at, after_take, TakesOnly};
-    ghost use Rattle.slice_queues.specs.Slice.{at_local, with_local, HasLine, local_of, messages_in, HasPick, HasRoomIn, after_send_in, after_take_in, SendsOnlyIn, TakesOnlyIn};
+    ghost use Rattle.slice_queues.specs.Slice.{at_local, with_local, HasLine, local_of, messages_in, HasPick};
+    ghost use Rattle.slice_queues.specs.Slice.{HasRoomIn, after_send_in, after_take_in, SendsOnlyIn, TakesOnlyIn};
     ghost use Rattle.slice_queues.specs.Ring.{with_listed};
     ghost use Rattle.slice_queues.specs.Waiting.{lines_waiting, picks_waiting, placed_by, HasEachPickOnce};
 
@@ -262,7 +265,8 @@ impl Queues {
           channels =
               with_local self.old.channels local.0 (after_take (at_local self.old.channels local.0) channel);
         } }
-        ensures rest { TakesOnly (at_local self.old.channels local.0) (after_take (at_local self.old.channels local.0) channel)
+        ensures rest { TakesOnly (at_local self.old.channels local.0)
+            (after_take (at_local self.old.channels local.0) channel)
             channel }
     {
         self.count.lend(&self.lines, local);

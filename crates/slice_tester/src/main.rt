@@ -2,9 +2,9 @@
 //! the definitions of `docs/DEFINITIONS.md` and `docs/PROTOCOL.md`. Before that it makes a few runs whose answers were
 //! worked out by hand, and compares each.
 //!
-//! The checker knows the definitions alone: it keeps a memory, the requests that were accepted and the counts by itself,
-//! and it uses none of the functions that the slice is built of. It prints a line for each setting, or the first fault
-//! that it finds, and then it ends with status 1.
+//! The checker knows the definitions alone: it keeps a memory, the requests that were accepted and the counts by
+//! itself, and it uses none of the functions that the slice is built of. It prints a line for each setting, or the
+//! first fault that it finds, and then it ends with status 1.
 #![tactic(auto)]
 
 use draw::CALLS;

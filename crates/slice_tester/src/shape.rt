@@ -24,8 +24,8 @@ pub struct Shape {
 }
 
 impl Shape {
-    /// The first twenty seeds have four lines and one way, so that a miss evicts whatever the core has; the others have eight
-    /// lines and two ways, so that the policy has a choice.
+    /// The first twenty seeds have four lines and one way, so that a miss evicts whatever the core has; the others have
+    /// eight lines and two ways, so that the policy has a choice.
     pub fn of_run(setting: Setting, seed: u64) -> Self {
         let ways = if seed < 20 { 1 } else { 2 };
         let lines = 4 * ways;

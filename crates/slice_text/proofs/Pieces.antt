@@ -1,5 +1,6 @@
 -- The texts of copies, lines and slices, in the pieces in which they are written.
-use Rattle.std.proofs.Common.{◌≡◌, ℕ, ◌+◌, ◌&&◌, Bool, true, false, List, [], ◌∷◌, ◌++◌, map, Option, Some, None, refl, sym, ap, ◌∙◌, subst}
+use Rattle.std.proofs.Common.{◌≡◌, ℕ, ◌+◌, ◌&&◌, Bool, true, false, List, [], ◌∷◌, ◌++◌, map, Option, Some, None, refl}
+use Rattle.std.proofs.Common.{sym, ap, ◌∙◌, subst}
 use Rattle.std.specs.List.{list_all}
 use Rattle.address_map.specs.declared.address.CoreId.{CoreId}
 use Rattle.address_map.specs.declared.address.LineAddr.{LineAddr}
@@ -13,7 +14,8 @@ use Rattle.slice_core_side.specs.Side.{state_of}
 use Rattle.slice_core_side.specs.declared.copy.CacheCopy.{CacheCopy}
 use Rattle.slice_core_steps.specs.declared.line_view.LineView.{LineView}
 use Rattle.slice_text.specs.Line.{entry_in, text_of_line, text_of_state}
-use Rattle.slice_text.specs.Shown.{is_idle, rests, text_of_copy, text_of_cores_of, text_of_held, text_of_place, text_of_targets}
+use Rattle.slice_text.specs.Shown.{is_idle, rests, text_of_copy, text_of_cores_of, text_of_held, text_of_place}
+use Rattle.slice_text.specs.Shown.{text_of_targets}
 use Rattle.target_list.specs.declared.target.Target.{Target}
 
 -- a copy that isn't there, or of which nothing is left, says nothing
@@ -36,7 +38,8 @@ shown_of : (v : View) (local : Local) (view : LineView) → ShowsLine v (Some lo
     → (entry_in view ≡ entry_at v local) × (view.copies.items ≡ map (λ side. state_of side local) v.sides)
 shown_of v local view (given, is, dir, owner, sharers, home, copies) =
     let same : given ≡ view = cc in
-    subst (λ (x : LineView). (entry_in x ≡ entry_at v local) × (x.copies.items ≡ map (λ side. state_of side local) v.sides)) same
+    subst (λ (x : LineView). (entry_in x ≡ entry_at v local)
+    × (x.copies.items ≡ map (λ side. state_of side local) v.sides)) same
     (rw (dir, owner, sharers, home) refl, copies)
 
 rests_as : (v : View) (local : Local) (view : LineView) (b : Bool) → ShowsLine v (Some local) (Some view)
@@ -53,13 +56,15 @@ pub no_line : (v : View) (line : LineAddr) (local : Option Local) (shown : Optio
 no_line v line None shown shows none = refl
 no_line v line (Some local) shown (given, is, dir, owner, sharers, home, copies) none = absurd (cc)
 
-pub resting_line : (v : View) (line : LineAddr) (local : Option Local) (view : LineView) (b : Bool) → ShowsLine v local (Some view)
+pub resting_line : (v : View) (line : LineAddr) (local : Option Local) (view : LineView) (b : Bool)
+    → ShowsLine v local (Some view)
     → b ≡ (is_idle view.dir && list_all is_gone view.copies.items) → b ≡ true → [] ≡ text_of_place v line local
 resting_line v line None view b shows is resting = refl
 resting_line v line (Some local) view b shows is resting = rw (rests_as v local view b shows is ∙ resting) refl
 
 -- any other says what is shown of it, and then each core's copy
-pub shown_line : (v : View) (line : LineAddr) (local : Option Local) (view : LineView) (b : Bool) → ShowsLine v local (Some view)
+pub shown_line : (v : View) (line : LineAddr) (local : Option Local) (view : LineView) (b : Bool)
+    → ShowsLine v local (Some view)
     → b ≡ (is_idle view.dir && list_all is_gone view.copies.items) → b ≡ false
     → text_of_line line view ++ text_of_cores_of v line ≡ text_of_place v line local
 shown_line v line None view b shows is moving = absurd (cc)

@@ -32,8 +32,10 @@ text_of_states states = flat_map (λ state. codes " " ++ name_of_copy state) sta
 -- a line: the directory's entry, the home copy, and each core's copy
 abbrev pub text_of_state : LineAddr → DirEntry → List CopyState → List ℕ
 text_of_state line entry copies =
-    text_of_entry line entry.state ++ (text_of_owner entry.owner ++ ((codes " sharers " ++ text_of_cores (members entry.sharers))
-    ++ ((codes " home" ++ text_of_words entry.home.words) ++ ((codes " cores" ++ text_of_states copies) ++ codes "\n"))))
+    text_of_entry line entry.state ++ (text_of_owner entry.owner
+    ++ ((codes " sharers " ++ text_of_cores (members entry.sharers))
+    ++ ((codes " home" ++ text_of_words entry.home.words)
+    ++ ((codes " cores" ++ text_of_states copies) ++ codes "\n"))))
 
 -- the entry that a slice shows
 abbrev pub entry_in : LineView → DirEntry

@@ -1,5 +1,6 @@
 -- All that a slice has and that isn't at rest, as text: what the command `show` prints.
-use Rattle.std.specs.Prelude.{◌≡◌, ℕ, ◌+◌, ◌*◌, ◌==◌, ◌&&◌, Bool, true, false, if◌then◌else◌, List, [], ◌∷◌, ◌++◌, codes, decimal, length, map, slice_get, Option, Some, None, All}
+use Rattle.std.specs.Prelude.{◌≡◌, ℕ, ◌+◌, ◌*◌, ◌==◌, ◌&&◌, Bool, true, false, if◌then◌else◌, List, [], ◌∷◌, ◌++◌}
+use Rattle.std.specs.Prelude.{codes, decimal, length, map, slice_get, Option, Some, None, All}
 use Rattle.std.specs.List.{flat_map, list_all, range_with_len}
 use Rattle.address_map.specs.Locator.{local_at}
 use Rattle.address_map.specs.declared.address.CoreId.{CoreId}
@@ -87,7 +88,8 @@ rests v local = is_idle (entry_at v local).state && list_all is_gone (map (λ si
 
 -- each core's copy
 abbrev pub text_of_cores_of : View → LineAddr → List ℕ
-text_of_cores_of v line = flat_map (λ core. text_of_core v line (record { 0 = core })) (range_with_len 0 (length v.sides))
+text_of_cores_of v line =
+    flat_map (λ core. text_of_core v line (record { 0 = core })) (range_with_len 0 (length v.sides))
 
 -- a line that isn't at rest: what the directory has of it, and then each core's copy
 abbrev pub text_of_place : View → LineAddr → Option Local → List ℕ
@@ -134,8 +136,8 @@ text_of_lines v lines = flat_map (λ line. text_at_line v (record { 0 = line }))
 abbrev pub text_of_number : ℕ → List ℕ
 text_of_number number = codes "slice " ++ decimal number ++ codes " ring"
 
--- a slice of this number, in a machine of so many cores and lines: its lines that aren't at rest, the replies that aren't
--- handed out, and its ring
+-- a slice of this number, in a machine of so many cores and lines: its lines that aren't at rest, the replies that
+-- aren't handed out, and its ring
 abbrev pub text_of_slice : ℕ → ℕ → ℕ → PartsView → List ℕ
 text_of_slice cores lines number p =
     text_of_lines p.view lines ++ (text_of_replies p.view cores

@@ -2,7 +2,8 @@
 ghost use Rattle.std.specs.Prelude.{◌≡◌, ◌<◌, ◌≤◌, OnOk, length};
 ghost use Rattle.std.specs.Fmt.{WritesInCalls};
 ghost use Rattle.slice_core_side.specs.Copy.{is_gone};
-ghost use Rattle.slice_text.specs.Shown.{text_of_acks, text_of_copy, text_of_core, text_of_cores_of, text_of_access, text_of_held, text_of_name, text_of_order, text_of_target, text_of_targets};
+ghost use Rattle.slice_text.specs.Shown.{text_of_acks, text_of_copy, text_of_core, text_of_cores_of, text_of_access};
+ghost use Rattle.slice_text.specs.Shown.{text_of_held, text_of_name, text_of_order, text_of_target, text_of_targets};
 
 use super::line::write_words;
 use address_map::{CoreId, LineAddr, WordAddr};
@@ -117,7 +118,8 @@ fn write_target<W: Write>(core: CoreId, line: LineAddr, target: Target, out: &mu
 }
 
 fn write_access<W: Write>(core: CoreId, tag: u8, asked: Asked, out: &mut W) -> fmt::Result
-    ensures { OnOk result (WritesInCalls W.write_str_gives out.old (text_of_access core tag asked.word asked.op) out.new) }
+    ensures { OnOk result (WritesInCalls W.write_str_gives out.old
+        (text_of_access core tag asked.word asked.op) out.new) }
 {
     let CoreId(core) = core;
     write!(out, "core {core} tag {tag} awaits {asked}")

@@ -56,7 +56,8 @@ pub(crate) fn write_words<W: Write>(words: &[u64], out: &mut W) -> fmt::Result
 }
 
 fn write_copies<W: Write>(copies: &[CopyState], out: &mut W) -> fmt::Result
-    ensures { OnOk result (WritesInCalls W.write_str_gives out.old (codes " cores" ++ text_of_states copies.now) out.new) }
+    ensures { OnOk result (WritesInCalls W.write_str_gives out.old
+        (codes " cores" ++ text_of_states copies.now) out.new) }
 {
     write!(out, " cores")?;
     for state in copies {

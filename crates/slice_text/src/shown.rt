@@ -3,7 +3,8 @@ ghost use Rattle.std.specs.Prelude.{◌≡◌, ◌<◌, ◌≤◌, ◌&&◌, OnO
 ghost use Rattle.std.specs.List.{list_all};
 ghost use Rattle.std.specs.Fmt.{WritesInCalls};
 ghost use Rattle.slice_core_side.specs.Copy.{is_gone};
-ghost use Rattle.slice_text.specs.Shown.{HaveCores, is_idle, text_at_line, text_of_listed, text_of_lines, text_of_machine, text_of_number, text_of_ring, text_of_slice, text_at_place};
+ghost use Rattle.slice_text.specs.Shown.{HaveCores, is_idle, text_at_line, text_of_listed, text_of_lines};
+ghost use Rattle.slice_text.specs.Shown.{text_of_machine, text_of_number, text_of_ring, text_of_slice, text_at_place};
 
 use super::copy::{is_gone, write_cores};
 use super::line::write_line;
@@ -49,7 +50,8 @@ fn write_slice<F: MissFile, W: Write>(
     requires cores { cores ≡ length state.now.view.sides }
     requires few { cores ≤ 64 }
     requires lines { lines ≤ 65536 }
-    ensures { OnOk result (WritesInCalls W.write_str_gives out.old (text_of_slice cores lines number state.now) out.new) }
+    ensures { OnOk result (WritesInCalls W.write_str_gives out.old
+        (text_of_slice cores lines number state.now) out.new) }
 {
     write_lines(state, lines, out)?;
     write_replies(state, cores, out)?;

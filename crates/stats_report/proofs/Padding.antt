@@ -1,11 +1,14 @@
 -- Numbers and names to the right in 10 places: what the layout `{:>10}` makes of them.
-use Rattle.std.proofs.Common.{◌≡◌, ℕ, zero, suc, ◌-◌, ◌^◌, List, [], ◌∷◌, ◌++◌, length, replicate, refl, ap, ◌∙◌, arith, append-nil}
+use Rattle.std.proofs.Common.{◌≡◌, ℕ, zero, suc, ◌-◌, ◌^◌, List, [], ◌∷◌, ◌++◌, length, replicate, refl, ap, ◌∙◌, arith}
+use Rattle.std.proofs.Common.{append-nil}
 use lib.Utf8.{encode}
 use Rattle.std.specs.List.{repeat}
-use Rattle.std.specs.Fmt.{decimal, format_spec, styled_decimal, styled_text, padded_integral, padded, char_count, take_chars}
+use Rattle.std.specs.Fmt.{decimal, format_spec, styled_decimal, styled_text, padded_integral, padded, char_count}
+use Rattle.std.specs.Fmt.{take_chars}
 use Rattle.stats_report.specs.declared.column.Column.{Column}
 use Rattle.stats_report.specs.declared.column.Column.TheVariants.{Hits, Primary, Secondary, Stall, Evictions, Silent}
-use Rattle.slice_core_answer.specs.declared.answer.Stall.TheVariants.{NoRegister, NoTarget, NoWay, WriteBackFull, WriteBackBusy}
+use Rattle.slice_core_answer.specs.declared.answer.Stall.TheVariants.{NoRegister, NoTarget, NoWay, WriteBackFull}
+use Rattle.slice_core_answer.specs.declared.answer.Stall.TheVariants.{WriteBackBusy}
 use Rattle.stats_report.specs.Column.{name_of}
 use Rattle.stats_report.specs.Report.{right_in_10}
 

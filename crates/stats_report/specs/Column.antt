@@ -1,6 +1,7 @@
 -- The columns of the report behind the core's number.
 use Rattle.std.specs.Prelude.{ℕ, Bool, List, [], ◌∷◌, codes, if◌then◌else◌, slice_index}
-use Rattle.slice_core_answer.specs.declared.answer.Stall.TheVariants.{NoRegister, NoTarget, NoWay, WriteBackFull, WriteBackBusy}
+use Rattle.slice_core_answer.specs.declared.answer.Stall.TheVariants.{NoRegister, NoTarget, NoWay, WriteBackFull}
+use Rattle.slice_core_answer.specs.declared.answer.Stall.TheVariants.{WriteBackBusy}
 use Rattle.slice_core_answer.specs.declared.stats.CoreStats.{CoreStats}
 use Rattle.slice_core_answer.specs.Stats.{place_of}
 use Rattle.stats_report.specs.declared.column.Column.{Column}

@@ -1,5 +1,6 @@
 -- The report: a heading, a line for each core with the sums over the slices, and a line with the messages.
-use Rattle.std.specs.Prelude.{◌≡◌, ℕ, ◌-◌, ◌^◌, ◌<◌, min, ◌+◌, List, [], ◌∷◌, ◌++◌, length, map, replicate, sum_by, codes, slice_index_or, All}
+use Rattle.std.specs.Prelude.{◌≡◌, ℕ, ◌-◌, ◌^◌, ◌<◌, min, ◌+◌, List, [], ◌∷◌, ◌++◌, length, map, replicate, sum_by}
+use Rattle.std.specs.Prelude.{codes, slice_index_or, All}
 use Rattle.std.specs.List.{concat, flat_map, range_with_len}
 use Rattle.std.specs.Fmt.{decimal}
 use Rattle.std.specs.Borrow.{Bor}

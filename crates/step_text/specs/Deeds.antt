@@ -1,5 +1,6 @@
 -- What is done at a case, deed by deed, in the words of the tables.
-use Rattle.std.specs.Prelude.{◌==◌, ◌+◌, ◌-◌, nat_lt, Bool, ℕ, List, ◌++◌, codes, decimal, Option, Some, None, if◌then◌else◌}
+use Rattle.std.specs.Prelude.{◌==◌, ◌+◌, ◌-◌, nat_lt, Bool, ℕ, List, ◌++◌, codes, decimal, Option, Some, None}
+use Rattle.std.specs.Prelude.{if◌then◌else◌}
 use Rattle.address_map.specs.CoreSet.{members}
 use Rattle.address_map.specs.declared.address.CoreId.{CoreId}
 use Rattle.cache_table.specs.Name.{name_of as name_of_copy}
@@ -26,7 +27,8 @@ use Rattle.step_text.specs.declared.case.Who.TheVariants as whos
 abbrev pub text_of_entry : DirState → Option CoreId → ℕ → List ℕ
 text_of_entry state (Some owner) sharers = name_of_entry state ++ codes ", owner " ++ decimal owner.0
 text_of_entry state None sharers =
-    if sharers == 0 then name_of_entry state else name_of_entry state ++ codes ", sharers " ++ text_of_cores (members sharers)
+    if sharers == 0 then name_of_entry state else name_of_entry state ++ codes ", sharers "
+    ++ text_of_cores (members sharers)
 
 -- what an entry or a copy in this state waits for
 abbrev pub awaited_in_entry : DirState → List ℕ
@@ -53,10 +55,12 @@ text_of_awaited (whos.Core core state) = awaited_in_copy state
 -- what a row of the directory's table sends for a core's request
 abbrev pub text_of_dir_sends : CoreId → DirSends → List ℕ
 text_of_dir_sends core dir_sends.Nothing = codes ""
-text_of_dir_sends core (dir_sends.Data acks) = codes "; sends Data(" ++ decimal acks ++ codes ") to core " ++ decimal core.0
+text_of_dir_sends core (dir_sends.Data acks) =
+    codes "; sends Data(" ++ decimal acks ++ codes ") to core " ++ decimal core.0
 text_of_dir_sends core dir_sends.DataE = codes "; sends Data-E to core " ++ decimal core.0
 text_of_dir_sends core (dir_sends.DataAndInv acks invalidated) =
-    codes "; sends Data(" ++ decimal acks ++ codes ") to core " ++ decimal core.0 ++ text_of_invalidations (members invalidated)
+    codes "; sends Data(" ++ decimal acks ++ codes ") to core " ++ decimal core.0
+    ++ text_of_invalidations (members invalidated)
 text_of_dir_sends core (dir_sends.FwdGetS owner) = codes "; sends Fwd-GetS to core " ++ decimal owner.0
 text_of_dir_sends core (dir_sends.FwdGetM owner) = codes "; sends Fwd-GetM to core " ++ decimal owner.0
 text_of_dir_sends core dir_sends.PutAck = codes "; sends Put-Ack to core " ++ decimal core.0
@@ -67,10 +71,12 @@ text_of_block slice = codes ", Data home to dir " ++ decimal slice
 
 -- what a row of the cache's table sends for a forwarded message, which asks for nothing
 abbrev pub text_of_cache_sends : ℕ → CoreId → CacheSends → List ℕ
-text_of_cache_sends slice requester cache_sends.DataToRequester = codes "; sends Data(0) to core " ++ decimal requester.0
+text_of_cache_sends slice requester cache_sends.DataToRequester =
+    codes "; sends Data(0) to core " ++ decimal requester.0
 text_of_cache_sends slice requester cache_sends.DataToRequesterAndHome =
     codes "; sends Data(0) to core " ++ decimal requester.0 ++ text_of_block slice
-text_of_cache_sends slice requester cache_sends.InvAckToRequester = codes "; sends Inv-Ack to core " ++ decimal requester.0
+text_of_cache_sends slice requester cache_sends.InvAckToRequester =
+    codes "; sends Inv-Ack to core " ++ decimal requester.0
 text_of_cache_sends slice requester sent = codes ""
 
 -- the block that came along is the home copy
@@ -89,7 +95,8 @@ text_of_numbers first end =
 abbrev pub text_of_asked : ℕ → Option Message → CopyState → List ℕ
 text_of_asked slice None state = codes ""
 text_of_asked slice (Some message) state =
-    codes "; sends " ++ text_of_message message ++ codes " to dir " ++ decimal slice ++ codes "; to " ++ name_of_copy state
+    codes "; sends " ++ text_of_message message ++ codes " to dir " ++ decimal slice
+    ++ codes "; to " ++ name_of_copy state
 
 -- why a message can't be taken
 abbrev pub text_of_broken : Cell → List ℕ

@@ -5,7 +5,8 @@ use Rattle.cache_table.specs.Name.{name_of as name_of_copy}
 use Rattle.slice_core_plan.specs.declared.decide.Plan.{Plan}
 use Rattle.slice_core_plan.specs.declared.decide.Plan.TheVariants as plans
 use Rattle.step_text.specs.Case.{text_of_case}
-use Rattle.step_text.specs.Deeds.{text_of_asked, text_of_awaited, text_of_broken, text_of_cache_sends, text_of_dir_sends, text_of_entry, text_of_home, text_of_numbers}
+use Rattle.step_text.specs.Deeds.{text_of_asked, text_of_awaited, text_of_broken, text_of_cache_sends}
+use Rattle.step_text.specs.Deeds.{text_of_dir_sends, text_of_entry, text_of_home, text_of_numbers}
 use Rattle.step_text.specs.declared.case.Who.{Who}
 use Rattle.step_text.specs.declared.deeds.Done.{Done}
 use Rattle.step_text.specs.declared.delivery.Delivery.{Delivery}

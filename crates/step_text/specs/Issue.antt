@@ -52,7 +52,8 @@ text_of_shortage stalls.WriteBackBusy = codes "waits for Put-Ack"
 abbrev pub text_of_access : ℕ → Access → List ℕ
 text_of_access slice (accesses.Hit place next silent) = codes "hit; to " ++ name_of next ++ text_of_silent silent
 text_of_access slice (accesses.Open next ask way) =
-    codes "primary miss; to " ++ name_of next ++ codes "; sends " ++ text_of_ask ask ++ codes " to dir " ++ decimal slice
+    codes "primary miss; to " ++ name_of next ++ codes "; sends " ++ text_of_ask ask
+    ++ codes " to dir " ++ decimal slice
 text_of_access slice accesses.Join = codes "secondary miss; joins"
 text_of_access slice (accesses.Stall stall) = text_of_shortage stall
 
@@ -67,7 +68,8 @@ text_of_reason request refused = codes "not asked here"
 -- what is decided of a request
 abbrev pub text_of_decision : Issue → Decision → List ℕ
 text_of_decision issue (decisions.Refuse refused) = text_of_reason issue.request refused
-text_of_decision issue (decisions.Access local access) = text_of_case issue.case ++ codes ": " ++ text_of_access issue.slice access
+text_of_decision issue (decisions.Access local access) =
+    text_of_case issue.case ++ codes ": " ++ text_of_access issue.slice access
 
 abbrev pub text_of_issue : Issue → List ℕ
 text_of_issue issue = text_of_decision issue issue.decision

@@ -1,6 +1,7 @@
 //! What is done at a case, deed by deed.
 ghost use Rattle.std.specs.Prelude.{◌≡◌};
-ghost use Rattle.step_text.specs.Deeds.{awaited_in_copy, awaited_in_entry, text_of_awaited, text_of_broken, text_of_home};
+ghost use Rattle.step_text.specs.Deeds.{awaited_in_copy, awaited_in_entry, text_of_awaited, text_of_broken};
+ghost use Rattle.step_text.specs.Deeds.{text_of_home};
 
 use super::case::Who;
 use super::cores::{Cores, Invalidations};

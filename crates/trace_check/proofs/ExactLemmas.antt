@@ -1,5 +1,6 @@
 -- A log with an entry at fault isn't both legal and ordered, so no log has two verdicts.
-use Rattle.std.proofs.Common.{◌≡◌, ℕ, ◌<◌, ◌≤◌, List, length, take, get_or, Some, refl, sym, ap, ◌∙◌, arith, subst, inl, inr}
+use Rattle.std.proofs.Common.{◌≡◌, ℕ, ◌<◌, ◌≤◌, List, length, take, get_or, Some, refl, sym, ap, ◌∙◌, arith, subst, inl}
+use Rattle.std.proofs.Common.{inr}
 use Rattle.std.specs.Prelude.{slice_get}
 use Rattle.std.proofs.lemmas.List.{get_or-take, length-take-le, take-take}
 use Rattle.std.proofs.lemmas.Bool.{cases_lt}

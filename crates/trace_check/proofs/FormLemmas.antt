@@ -1,5 +1,6 @@
 -- How the parts of a trace's lines are written.
-use Rattle.std.proofs.Common.{◌≡◌, ℕ, ◌<◌, List, [], ◌∷◌, ◌++◌, length, get_or, eqb, eq-eqb, true, false, sym, refl, ap, inl, inr, subst, ◌≤◌, lit≤, length-append, ◌∙◌, arith}
+use Rattle.std.proofs.Common.{◌≡◌, ℕ, ◌<◌, List, [], ◌∷◌, ◌++◌, length, get_or, eqb, eq-eqb, true, false, sym, refl, ap}
+use Rattle.std.proofs.Common.{inl, inr, subst, ◌≤◌, lit≤, length-append, ◌∙◌, arith}
 use Rattle.std.specs.Str.Parse.{digits_value}
 use Rattle.std.proofs.lemmas.Bool.{cases_eq}
 use Rattle.std.proofs.lemmas.List.{map-id}
@@ -15,7 +16,8 @@ use Rattle.trace_check.specs.declared.trace_line.Version.{Version}
 use Rattle.trace_check.specs.declared.trace_line.Version.TheVariants as versions
 use Rattle.slice_core_log.specs.declared.entry.Entry.{Entry}
 use Rattle.trace_check.specs.declared.trace_line.TraceLine.TheVariants as lines
-use Rattle.trace_check.specs.TraceLine.{IsOfVersion, BeginsWith, IsInRange, IsEntryOf, IsNoLineOf, completed, ended, parts_of_line}
+use Rattle.trace_check.specs.TraceLine.{IsOfVersion, BeginsWith, IsInRange, IsEntryOf, IsNoLineOf, completed, ended}
+use Rattle.trace_check.specs.TraceLine.{parts_of_line}
 
 -- words behind words write parts behind parts
 pub Writes-append : (ws vs : List (List ℕ)) (ps qs : List Part) → Writes ws ps → Writes vs qs
@@ -110,11 +112,13 @@ begins_otherwise (w ∷ ws) (ops.Add delta) word written of cas =
 begins_otherwise (w ∷ ws) (ops.Cas expect new) word written of cas = absurd of
 
 -- an entry's words, completed
-pub completed_entry : (version : Version) (ws : List (List ℕ)) → completed version (codes "entry" ∷ ws) ≡ codes "entry" ∷ ended version ws
+pub completed_entry : (version : Version) (ws : List (List ℕ))
+    → completed version (codes "entry" ∷ ws) ≡ codes "entry" ∷ ended version ws
 completed_entry version ws = refl
 
 -- .. and another line's
-pub completed_init : (version : Version) (ws : List (List ℕ)) → completed version (codes "init" ∷ ws) ≡ codes "init" ∷ ws
+pub completed_init : (version : Version) (ws : List (List ℕ))
+    → completed version (codes "init" ∷ ws) ≡ codes "init" ∷ ws
 completed_init version ws = refl
 
 -- what the words behind `init` write of a line
@@ -186,7 +190,8 @@ access_count (ops.Add delta) word = lit≤ tt
 access_count (ops.Cas expect new) word = lit≤ tt
 
 -- few words write no entry
-pub entry_too_short : (version : Version) (ws : List (List ℕ)) → length (ended version ws) < 5 → IsNoLineOf version (codes "entry" ∷ ws)
+pub entry_too_short : (version : Version) (ws : List (List ℕ)) → length (ended version ws) < 5
+    → IsNoLineOf version (codes "entry" ∷ ws)
 entry_too_short version ws few (lines.Init word value) is =
     two_names (codes "entry") (codes "entry") (codes "init") refl is.written.0 refl
 entry_too_short version ws few (lines.Entry e) is =

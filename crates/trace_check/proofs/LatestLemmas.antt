@@ -1,5 +1,6 @@
 -- What is kept of a line and a core, as rows are added and changed.
-use Rattle.std.proofs.Common.{◌≡◌, ◌≢◌, ◌&&◌, ℕ, zero, suc, ◌∙◌, cond, eqb, List, [], ◌∷◌, ◌++◌, get_or, Option, Some, None, refl, sym, ap, inl, inr}
+use Rattle.std.proofs.Common.{◌≡◌, ◌≢◌, ◌&&◌, ℕ, zero, suc, ◌∙◌, cond, eqb, List, [], ◌∷◌, ◌++◌, get_or, Option, Some}
+use Rattle.std.proofs.Common.{None, refl, sym, ap, inl, inr}
 use Rattle.std.specs.Prelude.{slice_get, Vec}
 use Rattle.std.specs.declared.alloc.Global.{Global}
 use Rattle.std.proofs.Math.ListN.{set}

@@ -34,16 +34,20 @@ one_version (w ∷ v ∷ ws) versions.Two versions.One h k = absurd (two_names v
 one_version words versions.WithoutSince versions.WithoutSince h k = refl
 one_version [] versions.One versions.WithoutSince h k = absurd h
 one_version (w ∷ []) versions.One versions.WithoutSince h k = absurd h.1
-one_version (w ∷ v ∷ ws) versions.One versions.WithoutSince h k = absurd (two_names v (codes "1") (codes "no-since") h.1.0 k.1.0 refl)
+one_version (w ∷ v ∷ ws) versions.One versions.WithoutSince h k =
+    absurd (two_names v (codes "1") (codes "no-since") h.1.0 k.1.0 refl)
 one_version [] versions.WithoutSince versions.One h k = absurd h
 one_version (w ∷ []) versions.WithoutSince versions.One h k = absurd h.1
-one_version (w ∷ v ∷ ws) versions.WithoutSince versions.One h k = absurd (two_names v (codes "no-since") (codes "1") h.1.0 k.1.0 refl)
+one_version (w ∷ v ∷ ws) versions.WithoutSince versions.One h k =
+    absurd (two_names v (codes "no-since") (codes "1") h.1.0 k.1.0 refl)
 one_version [] versions.Two versions.WithoutSince h k = absurd h
 one_version (w ∷ []) versions.Two versions.WithoutSince h k = absurd h.1
-one_version (w ∷ v ∷ ws) versions.Two versions.WithoutSince h k = absurd (two_names v (codes "2") (codes "no-since") h.1.0 k.1.0 refl)
+one_version (w ∷ v ∷ ws) versions.Two versions.WithoutSince h k =
+    absurd (two_names v (codes "2") (codes "no-since") h.1.0 k.1.0 refl)
 one_version [] versions.WithoutSince versions.Two h k = absurd h
 one_version (w ∷ []) versions.WithoutSince versions.Two h k = absurd h.1
-one_version (w ∷ v ∷ ws) versions.WithoutSince versions.Two h k = absurd (two_names v (codes "no-since") (codes "2") h.1.0 k.1.0 refl)
+one_version (w ∷ v ∷ ws) versions.WithoutSince versions.Two h k =
+    absurd (two_names v (codes "no-since") (codes "2") h.1.0 k.1.0 refl)
 
 -- words that write both rests of two lines
 record Both (ps qs : List Part) : Type 0 where
@@ -187,7 +191,8 @@ same_lines version [] [] (b ∷ ls) h k = absurd k
 same_lines version (s ∷ ss) [] ls h k = absurd h
 same_lines version (s ∷ ss) (a ∷ ks) [] h k = absurd k
 same_lines version (s ∷ ss) (a ∷ ks) (b ∷ ls) h k =
-    same_list a b ks ls (one_line (completed version s.1) a b h.0.written k.0.written) (same_lines version ss ks ls h.1 k.1)
+    same_list a b ks ls (one_line (completed version s.1) a b h.0.written k.0.written)
+    (same_lines version ss ks ls h.1 k.1)
 
 same_entries : (a b : List Entry) → map trace_lines.Entry a ≡ map trace_lines.Entry b → a ≡ b
 same_entries [] [] h = refl

@@ -1,5 +1,6 @@
 -- Where a line can't come next, the text is no trace.
-use Rattle.std.proofs.Common.{◌≡◌, ℕ, ◌+◌, ◌<◌, List, [], ◌∷◌, ◌++◌, length, get_or, Option, Some, None, map, refl, sym, ap, subst, ◌∙◌, arith, inr, length-append, append_assoc}
+use Rattle.std.proofs.Common.{◌≡◌, ℕ, ◌+◌, ◌<◌, List, [], ◌∷◌, ◌++◌, length, get_or, Option, Some, None, map, refl, sym}
+use Rattle.std.proofs.Common.{ap, subst, ◌∙◌, arith, inr, length-append, append_assoc}
 use Rattle.std.specs.Prelude.{IfSome}
 use Rattle.std.specs.Str.Lines.{lines}
 use Rattle.std.proofs.Math.Seq.{get_or-append_seam}
@@ -17,7 +18,8 @@ use Rattle.trace_check.specs.declared.trace_line.Version.{Version}
 use Rattle.trace_check.specs.declared.trace_line.TraceLine.{TraceLine}
 use Rattle.trace_check.specs.declared.trace_line.TraceLine.TheVariants as trace_lines
 use Rattle.trace_check.specs.TraceLine.{IsLineOf, parts_of_first, parts_of_line}
-use Rattle.trace_check.specs.Trace.{AreLines, IsFaultAt, body_of, AreTrace, AreNoTrace, AreSomeTrace, IsNoTrace, IsLastNamed, IsNoMemoryOr, IsNoNextLine, IsReading, MayBegin, MayFollow, HasRead}
+use Rattle.trace_check.specs.Trace.{AreLines, IsFaultAt, body_of, AreTrace, AreNoTrace, AreSomeTrace, IsNoTrace}
+use Rattle.trace_check.specs.Trace.{IsLastNamed, IsNoMemoryOr, IsNoNextLine, IsReading, MayBegin, MayFollow, HasRead}
 use Rattle.trace_check.proofs.ReadingLemmas.{one_version, one_line, same_lines, not_both}
 
 -- the word and the value that a line names, where it names them
@@ -169,7 +171,8 @@ no_trace check version all left s same reading none some =
     trace.ascending names parts.shape)
 
 -- .. and the statement is the first at fault, since those before it are lines of a trace
-pub first_fault : (check : Check) (version : Version) (all left : List (ℕ × List (List ℕ))) (number : ℕ) (words : List (List ℕ))
+pub first_fault : (check : Check) (version : Version) (all left : List (ℕ × List (List ℕ)))
+    (number : ℕ) (words : List (List ℕ))
     → check.version ≡ version → IsReading check all ((number, words) ∷ left) → IsNoNextLine check words
     → IsFirstFault (AreSomeTrace version) all number
 first_fault check version all left number words same reading none = record {

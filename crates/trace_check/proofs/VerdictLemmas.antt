@@ -1,5 +1,6 @@
 -- A judge knows the log that it took.
-use Rattle.std.proofs.Common.{◌≡◌, ℕ, ◌<◌, ◌^◌, ◌/◌, ◌&&◌, cond, eqb, List, [], ◌∷◌, ◌++◌, get_or, Some, None, sym, lit<}
+use Rattle.std.proofs.Common.{◌≡◌, ℕ, ◌<◌, ◌^◌, ◌/◌, ◌&&◌, cond, eqb, List, [], ◌∷◌, ◌++◌, get_or, Some, None, sym}
+use Rattle.std.proofs.Common.{lit<}
 use Rattle.std.specs.Prelude.{All}
 use Rattle.address_map.specs.declared.address.WordAddr.{WordAddr}
 use Rattle.slice_core_log.specs.Log.{initially}
@@ -39,7 +40,8 @@ knows-take was now initial log e set kept knows right = record {
   ordered = IsOrdered-push log e knows.ordered right.order right.since;
 }
 
-pub knows-nothing : (judge : Judge) → judge.values.items ≡ [] → ((line core : ℕ) → latest_of judge.latest line core ≡ None) → Knows judge (initially []) []
+pub knows-nothing : (judge : Judge) → judge.values.items ≡ []
+    → ((line core : ℕ) → latest_of judge.latest line core ≡ None) → Knows judge (initially []) []
 knows-nothing judge no_value no_seq = record {
   values = λ w. rw no_value (sym (value-nil 0 w (lit< tt)));
   greatest = greatest-nil judge.latest no_seq;

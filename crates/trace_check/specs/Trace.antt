@@ -79,8 +79,8 @@ IsNoMemoryOr refused (faults.Line number fault) = refused
 IsNoMemoryOr refused (faults.Config error) = ⊥
 IsNoMemoryOr refused faults.CannotWrite = ⊥
 
--- The line at fault of a text, by its statements: line 1 where there are none, the first of them where it begins no trace,
--- and else the first at fault behind it.
+-- The line at fault of a text, by its statements: line 1 where there are none, the first of them where it begins no
+-- trace, and else the first at fault behind it.
 abbrev pub IsFaultAt : List (ℕ × List (List ℕ)) → ℕ → Type 0
 IsFaultAt [] number = number ≡ 1
 IsFaultAt (first ∷ rest) number =

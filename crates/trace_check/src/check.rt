@@ -13,7 +13,8 @@ ghost use Rattle.trace_check.specs.Verdict.{IsVerdict};
 ghost use Rattle.trace_check.specs.declared.trace_line.Version.TheVariants as versions;
 ghost use Rattle.trace_check.specs.declared.verdict.Reason.TheVariants as reasons;
 ghost use Rattle.trace_check.specs.declared.verdict.Verdict.TheVariants as verdicts;
-ghost use Rattle.trace_check.specs.Trace.{IsJudged, IsTrace, AreJudged, IsFaultAt, IsNoTrace, AreNoTrace, AreSomeTrace, IsNoMemoryOr, IsNoNextLine, IsReading, IsSoFar, HasRead, MayBegin, MayFollow};
+ghost use Rattle.trace_check.specs.Trace.{IsJudged, IsTrace, AreJudged, IsFaultAt, IsNoTrace, AreNoTrace, AreSomeTrace};
+ghost use Rattle.trace_check.specs.Trace.{IsNoMemoryOr, IsNoNextLine, IsReading, IsSoFar, HasRead, MayBegin, MayFollow};
 
 use super::judge::Judge;
 use super::trace_line::{TraceLine, Version};
@@ -58,11 +59,12 @@ pub fn one_judgement()
     ensures { (text : List ℕ) (a b : Verdict) → IsJudged text a → IsJudged text b → a ≡ b }
 {}
 
-/// In a trace without SINCE no entry is at fault by how long the log was, which it doesn't say: its verdict is that of the
-/// replies and of the order alone.
+/// In a trace without SINCE no entry is at fault by how long the log was, which it doesn't say: its verdict is that of
+/// the replies and of the order alone.
 pub fn none_by_since()
     ensures { (text : List ℕ) (init : List (WordAddr × ℕ)) (entries : List Entry) (k : ℕ)
-        → IsTrace versions.WithoutSince init entries text → IsVerdict (initially init) entries (verdicts.Illegal k reasons.Since) → ⊥ }
+        → IsTrace versions.WithoutSince init entries text
+        → IsVerdict (initially init) entries (verdicts.Illegal k reasons.Since) → ⊥ }
 {}
 
 /// Judges the lines behind the first.
@@ -102,7 +104,8 @@ impl Check {
             ((all left : List (ℕ × List (List ℕ)))
             → IsReading self.old all ((statement.now.number, map (λ w. w.now) statement.now.words.items) ∷ left)
             → IsReading self.new all left) }
-        ensures refused { IfErr result (IsNoMemoryOr (IsNoNextLine self.old (map (λ w. w.now) statement.now.words.items))) }
+        ensures refused { IfErr result (IsNoMemoryOr
+            (IsNoNextLine self.old (map (λ w. w.now) statement.now.words.items))) }
         ensures line { IfErr result (IsAtLine (λ number. number ≡ statement.now.number)) }
         ensures version { self.new.version ≡ self.old.version }
     {
@@ -149,7 +152,8 @@ impl Check {
         requires word { word.0 < MOST_WORDS }
         requires place { MayBegin self.old word }
         ensures stands { OnOk result
-            ((init : List (WordAddr × ℕ)) → HasRead self.old init [] → HasRead self.new (init ++ (word, value) ∷ []) []) }
+            ((init : List (WordAddr × ℕ)) → HasRead self.old init []
+            → HasRead self.new (init ++ (word, value) ∷ []) []) }
         ensures refused { IfErr result (λ fault. fault ≡ TextFault.NoMemory) }
         ensures version { self.new.version ≡ self.old.version }
     {

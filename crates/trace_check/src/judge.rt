@@ -1,4 +1,5 @@
-ghost use Rattle.std.specs.Prelude.{◌≡◌, ◌<◌, ℕ, List, [], ◌∷◌, ◌++◌, length, All, OnOk, IfOk, MatchOption, slice_index, IsTrue, ◌↔◌, ◌/◌};
+ghost use Rattle.std.specs.Prelude.{◌≡◌, ◌<◌, ℕ, List, [], ◌∷◌, ◌++◌, length, All, OnOk, IfOk, MatchOption};
+ghost use Rattle.std.specs.Prelude.{slice_index, IsTrue, ◌↔◌, ◌/◌};
 ghost use Rattle.address_map.specs.declared.address.WordAddr.{WordAddr};
 ghost use Rattle.address_map.specs.Words.{IsAscendingBy};
 ghost use Rattle.slice_core_log.specs.Log.{initially};

@@ -4,8 +4,8 @@ ghost use Rattle.trace_check.specs.Latest.{latest_of};
 use super::slots::set_slot;
 use std::alloc::{AllocError, Global};
 
-/// The greatest seq of each core and line. A line that wasn't named has no room, and the others have room for the cores up
-/// to the last that was named with them.
+/// The greatest seq of each core and line. A line that wasn't named has no room, and the others have room for the cores
+/// up to the last that was named with them.
 #[derive(Debug, Drop)]
 pub struct LatestSeqs {
     lines: Vec<Vec<Option<u64>>>,

@@ -2,8 +2,8 @@
 //! first at fault, and why.
 //!
 //! - [`check_trace`] judges a text. At Ok its lines write a trace's initial values and entries, and the verdict is that
-//!   on these entries. A text is refused only where it is no trace, with any initial values and entries, and the line that
-//!   the fault names is the first with which it can be none (`IsFaultAt`); want of memory is a fault of its own
+//!   on these entries. A text is refused only where it is no trace, with any initial values and entries, and the line
+//!   that the fault names is the first with which it can be none (`IsFaultAt`); want of memory is a fault of its own
 //!   (specs/Trace.antt). [`one_judgement`] says that no text has two verdicts, and
 //!   [`none_by_since`] that where entries don't say how long the log was, none is judged by it.
 //! - [`judge_log`] judges a log that is at hand (specs/Verdict.antt), and [`one_verdict`] says that no log has two

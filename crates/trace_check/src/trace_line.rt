@@ -1,8 +1,10 @@
-ghost use Rattle.std.specs.Prelude.{◌≡◌, ◌∷◌, [], ◌++◌, ◌<◌, ◌↔◌, IfOk, IfErr, IfSome, IfNone, IsTrue, map, length, codes, ℕ, List};
+ghost use Rattle.std.specs.Prelude.{◌≡◌, ◌∷◌, [], ◌++◌, ◌<◌, ◌↔◌, IfOk, IfErr, IfSome, IfNone, IsTrue, map, length};
+ghost use Rattle.std.specs.Prelude.{codes, ℕ, List};
 ghost use Rattle.std.specs.Result.{OkIff};
 ghost use Rattle.std.specs.Str.Parse.{digits_value};
 ghost use Rattle.litmus_text.specs.Number.{IsNumber};
-ghost use Rattle.trace_check.specs.TraceLine.{IsLineOf, IsNoLineOf, IsNoFirstLine, IsOfVersion, BeginsWith, cores_of, ended, number_of, parts_of_first};
+ghost use Rattle.trace_check.specs.TraceLine.{IsLineOf, IsNoLineOf, IsNoFirstLine, IsOfVersion, BeginsWith, cores_of};
+ghost use Rattle.trace_check.specs.TraceLine.{ended, number_of, parts_of_first};
 ghost use Rattle.litmus_text.specs.Form.{Writes, key};
 ghost use Rattle.litmus_text.specs.Command.{parts_of_op};
 ghost use Rattle.address_map.specs.declared.request.Op.{Op};
@@ -119,7 +121,8 @@ impl TraceLine {
 #[tactic(auto, unfolding(crate::specs::TraceLine::IsInRange))]
 fn parse_init(words: &[&[u8]]) -> Result<TraceLine, LineFault>
     ensures written { (version : Version) → IfOk result (IsLineOf version (codes "init" ∷ map (λ w. w.now) words.now)) }
-    ensures refused { (version : Version) → IfErr result (λ fault. IsNoLineOf version (codes "init" ∷ map (λ w. w.now) words.now)) }
+    ensures refused { (version : Version) → IfErr result
+        (λ fault. IsNoLineOf version (codes "init" ∷ map (λ w. w.now) words.now)) }
 {
     let [word, value] = words else {
         return Err(LineFault::NotACommand);

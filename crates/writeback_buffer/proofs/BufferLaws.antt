@@ -1,5 +1,6 @@
 -- What a search tells of a buffer, and what each change makes of it.
-use Rattle.std.proofs.Common.{◌≡◌, ◌≢◌, ◌↔◌, ◌==◌, IsTrue, ℕ, ◌<◌, Bool, true, false, List, [], ◌∷◌, length, get_or, drop, Some, None, refl, sym, ◌∙◌, arith, inl, inr, not, append-nil}
+use Rattle.std.proofs.Common.{◌≡◌, ◌≢◌, ◌↔◌, ◌==◌, IsTrue, ℕ, ◌<◌, Bool, true, false, List, [], ◌∷◌, length, get_or}
+use Rattle.std.proofs.Common.{drop, Some, None, refl, sym, ◌∙◌, arith, inl, inr, not, append-nil}
 use Rattle.std.specs.Prelude.{position, remove, slice_set}
 use Rattle.std.specs.Option.{option_map}
 use Rattle.std.specs.List.{refill}
@@ -13,9 +14,12 @@ use Rattle.cache_table.specs.declared.state.CopyState.{CopyState}
 use Rattle.cache_table.specs.declared.state.CopyState.TheVariants as states
 use Rattle.writeback_buffer.specs.declared.entry.Entry.{Entry}
 use Rattle.writeback_buffer.specs.declared.entry.Leaving.{Leaving}
-use Rattle.writeback_buffer.specs.Buffer.{Buffer, IsBuffer, ChangesOnly, is_of, held_at, in_state, advanced_entry, with_line, with_state, without_line}
+use Rattle.writeback_buffer.specs.Buffer.{Buffer, IsBuffer, ChangesOnly, is_of, held_at, in_state, advanced_entry}
+use Rattle.writeback_buffer.specs.Buffer.{with_line, with_state, without_line}
 use Rattle.writeback_buffer.proofs.Places.{PassesOnlyAt, filter-none, none-passes, remove-only, set-only}
-use Rattle.writeback_buffer.proofs.HeldLaws.{held_at-only, held_at-none, none-from_held_at, only-from_once, once-append, once-map, held_at-append_same, held_at-append_other, held_at-map_same, held_at-map_other, held_at-filter_same, held_at-filter_other}
+use Rattle.writeback_buffer.proofs.HeldLaws.{held_at-only, held_at-none, none-from_held_at, only-from_once, once-append}
+use Rattle.writeback_buffer.proofs.HeldLaws.{once-map, held_at-append_same, held_at-append_other, held_at-map_same}
+use Rattle.writeback_buffer.proofs.HeldLaws.{held_at-map_other, held_at-filter_same, held_at-filter_other}
 
 -- ---- a search
 

@@ -5,8 +5,10 @@ use Rattle.std.proofs.lemmas.Bool.{ne_eqb}
 use Rattle.std.proofs.lemmas.List.{length-map}
 use Rattle.cache_table.specs.declared.state.CopyState.{CopyState}
 use Rattle.writeback_buffer.specs.declared.entry.Leaving.{Leaving}
-use Rattle.writeback_buffer.specs.Buffer.{Buffer, IsBuffer, held_at, in_state, advanced_entry, with_line, with_state, without_line}
-use Rattle.writeback_buffer.proofs.BufferLaws.{ChangesOnly-with_line, IsBuffer-with_line, ChangesOnly-with_state, IsBuffer-with_state, ChangesOnly-without_line, IsBuffer-without_line}
+use Rattle.writeback_buffer.specs.Buffer.{Buffer, IsBuffer, held_at, in_state, advanced_entry, with_line, with_state}
+use Rattle.writeback_buffer.specs.Buffer.{without_line}
+use Rattle.writeback_buffer.proofs.BufferLaws.{ChangesOnly-with_line, IsBuffer-with_line, ChangesOnly-with_state}
+use Rattle.writeback_buffer.proofs.BufferLaws.{IsBuffer-with_state, ChangesOnly-without_line, IsBuffer-without_line}
 use Rattle.writeback_buffer.proofs.HeldLaws.{held_at-append_other}
 
 module _ (buffer : Buffer) (line : ℕ) where

@@ -1,6 +1,7 @@
 -- What a write-back buffer holds: the lines that a cache has evicted and that wait for the directory's acknowledgement.
 -- Its entries are kept in the order in which they came, and read as a map from a line to its state and block.
-use Rattle.std.specs.Prelude.{◌≡◌, ◌≢◌, ℕ, ◌≤◌, Bool, ◌==◌, not, if◌then◌else◌, List, [], ◌∷◌, ◌++◌, length, map, filter, AllPairs, Option, Some, None}
+use Rattle.std.specs.Prelude.{◌≡◌, ◌≢◌, ℕ, ◌≤◌, Bool, ◌==◌, not, if◌then◌else◌, List, [], ◌∷◌, ◌++◌, length, map}
+use Rattle.std.specs.Prelude.{filter, AllPairs, Option, Some, None}
 use Rattle.cache_table.specs.declared.state.CopyState.{CopyState}
 use Rattle.writeback_buffer.specs.declared.buffer.TheConstants.{MOST_ENTRIES}
 use Rattle.writeback_buffer.specs.declared.entry.Entry.{Entry}

@@ -29,7 +29,8 @@ impl Model for WritebackBuffer {
 }
 
 impl WritebackBuffer {
-    ghost use Rattle.writeback_buffer.specs.Buffer.{IsBuffer, ChangesOnly, empty_buffer, held_at, in_state, with_line, with_state, without_line};
+    ghost use Rattle.writeback_buffer.specs.Buffer.{IsBuffer, ChangesOnly, empty_buffer, held_at, in_state, with_line};
+    ghost use Rattle.writeback_buffer.specs.Buffer.{with_state, without_line};
 
     /// An empty buffer, with room for as many entries as the configuration has.
     pub fn make(config: &Checked) -> Self

@@ -9,8 +9,8 @@ const HELD: u64 = 8;
 #[derive(Clone, Copy, Debug)]
 pub enum Asks {
     Hits(Hits),
-    /// Adds to twice as many lines as the cache holds, one line after the other: each of them misses, and in a full cache
-    /// takes the place of a line that was written.
+    /// Adds to twice as many lines as the cache holds, one line after the other: each of them misses, and in a full
+    /// cache takes the place of a line that was written.
     Misses,
 }
 

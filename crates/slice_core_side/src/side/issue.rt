@@ -37,8 +37,9 @@ impl<F: MissFile> Side<F> {
         }
     }
 
-    // What is to be done where the line has no register. `room` says that one can be opened. It is inlined, since its answer
-    // has small fields side by side: read back from memory, several at once, they take as long as a fifth of a hit.
+    // What is to be done where the line has no register. `room` says that one can be opened. It is inlined, since its
+    // answer has small fields side by side: read back from memory, several at once, they take as long as a fifth of a
+    // hit.
     #[inline(always)]
     fn decide_alone(&self, local: Local, op: Op, room: bool) -> Access
         ensures decided { result ≡ alone_of self.now local room op }

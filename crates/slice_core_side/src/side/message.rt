@@ -1,4 +1,5 @@
-ghost use Rattle.std.specs.Prelude.{◌≡◌, ℕ, ◌+◌, ◌^◌, ◌<◌, ◌≤◌, ◌++◌, ◌⊎◌, length, vec_capacity, Some, All, IsSome, position};
+ghost use Rattle.std.specs.Prelude.{◌≡◌, ℕ, ◌+◌, ◌^◌, ◌<◌, ◌≤◌, ◌++◌, ◌⊎◌, length, vec_capacity, Some, All, IsSome};
+ghost use Rattle.std.specs.Prelude.{position};
 ghost use Rattle.cache_array.specs.Array.{held_at as array_at, slots_at};
 ghost use Rattle.cache_array.specs.Set.{holds};
 ghost use Rattle.mshr_file.specs.Miss.{targets_of, IsMissFile, TakesTargets};

@@ -74,7 +74,8 @@ fn new_sides<F: MissFile>(
     slice: SliceId,
 ) -> Result<BoxedSlice<Side<F>>, AllocError>
     requires { slice.0 < config.now.slices }
-    ensures { IfOk result (λ v. AreNewSides config.now (F.bound_by config.now) slice.0 config.now.cores (boxed_slice_items v)) }
+    ensures { IfOk result (λ v. AreNewSides config.now (F.bound_by config.now) slice.0 config.now.cores
+        (boxed_slice_items v)) }
 {
     let mut all = Vec::with_capacity(alloc, config.cores())?;
     for core in 0..config.cores() {

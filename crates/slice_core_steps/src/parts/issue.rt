@@ -1,9 +1,11 @@
 ghost use Rattle.std.specs.Prelude.{◌≡◌, ◌+◌, ◌^◌, ◌<◌, ◌≤◌, length, true, false, None, OnOk, OnErr, IfErr};
 ghost use Rattle.mshr_file.specs.Miss.{has_miss, can_open, can_join, AddsTarget, IsMissFile};
-ghost use Rattle.slice_core_answer.specs.Stats.{after_hit as hit_counted, after_eviction, after_primary, after_secondary};
+ghost use Rattle.slice_core_answer.specs.Stats.{after_hit as hit_counted, after_eviction, after_primary};
+ghost use Rattle.slice_core_answer.specs.Stats.{after_secondary};
 ghost use Rattle.slice_core_side.specs.Access.{CanReplace, CanStand, IsWithin};
 ghost use Rattle.slice_core_plan.specs.Decision.{decision_of};
-ghost use Rattle.slice_core_plan.specs.Parts.{PartsView, AfterAccepting, AfterIssue, CanIssue, IsDecided, opened_ring, opened_stats, target_for};
+ghost use Rattle.slice_core_plan.specs.Parts.{PartsView, AfterAccepting, AfterIssue, CanIssue, IsDecided, opened_ring};
+ghost use Rattle.slice_core_plan.specs.Parts.{opened_stats, target_for};
 ghost use Rattle.slice_core_plan.specs.Steps.{after_hit, after_join, after_open, after_opening, with_way};
 ghost use Rattle.slice_core_plan.specs.View.{View, channels_at, side_at, IsShaped};
 ghost use Rattle.slice_core_plan.specs.Within.{StandsAt};
@@ -152,7 +154,8 @@ impl<F: MissFile> Parts<F> {
         requires can { CanIssue self.old core }
         requires tag { request.tag < 64 }
         requires found { has_miss (side_at self.old.view core).misses local.0 ≡ true }
-        requires room { can_join (side_at self.old.view core).bound (side_at self.old.view core).misses local.0 request.tag
+        requires room { can_join (side_at self.old.view core).bound
+            (side_at self.old.view core).misses local.0 request.tag
             ≡ true }
         ensures seq { result ≡ (side_at self.old.view core).accepted }
         ensures added { AddsTarget (side_at self.old.view core).misses (side_at self.new.view core).misses local.0

@@ -61,7 +61,8 @@ impl<F: MissFile> Parts<F> {
     /// The picks with a message, each once and no other, from the first line to the last.
     pub fn waiting(&self) -> Picks<'_>
         requires { IsShaped self.now.view }
-        ensures order { result ≡ lines_waiting self.now.view.lines.slice self.now.view.lines.slices 0 self.now.view.channels }
+        ensures order { result ≡ lines_waiting self.now.view.lines.slice self.now.view.lines.slices 0
+            self.now.view.channels }
         ensures once { HasEachPickOnce (placed_by self.now.view.lines self.now.view.channels) result }
     {
         self.queues.picks_of(self.lines)

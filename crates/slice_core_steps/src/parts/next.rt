@@ -1,6 +1,7 @@
 ghost use Rattle.std.specs.Prelude.{◌≡◌, ℕ, ◌<◌, true};
 ghost use Rattle.slice_core_plan.specs.Next.{IsNextAt, IsNextIn};
-ghost use Rattle.slice_core_plan.specs.Parts.{PartsView, AfterDeliverNext, CanDeliver, IsDone, IsNextPick, next_pick, told};
+ghost use Rattle.slice_core_plan.specs.Parts.{PartsView, AfterDeliverNext, CanDeliver, IsDone, IsNextPick, next_pick};
+ghost use Rattle.slice_core_plan.specs.Parts.{told};
 ghost use Rattle.slice_core_plan.specs.Ring.{has_mail_at, looked_at, next_at, next_in, pick_of};
 ghost use Rattle.slice_core_plan.specs.Turn.{ServesInTurn};
 ghost use Rattle.slice_core_plan.specs.View.{View, IsShaped};
@@ -15,8 +16,8 @@ use slice_core_plan::{Next, NextPick, Plan};
 use slice_queues::Class;
 
 impl<F: MissFile> Parts<F> {
-    /// Makes the delivery that is next of the class, if one can be made. It looks at the lines with mail from the front of
-    /// their ring on; the lines that it looked at go behind the others.
+    /// Makes the delivery that is next of the class, if one can be made. It looks at the lines with mail from the front
+    /// of their ring on; the lines that it looked at go behind the others.
     pub fn deliver_next(&mut self, class: Class) -> DeliveredNext
         requires { CanDeliver self.old }
         ensures step { AfterDeliverNext self.old class result self.new }

@@ -16,8 +16,10 @@ returns-clause-audited g c =
     let allowed = c.config-config.ensures.allowed in
     let set = c.in_ok-settle_all.ensures.counters in
     let unset = c.unsettled-counters.ensures in
-    let one : 1 ≤ setup.slices = subst (λ (x : Config). 1 ≤ x.slices) c.config-config.ensures.named allowed.some_slice in
-    let few : setup.slices ≤ 4 = subst (λ (x : Config). x.slices ≤ 4) c.config-config.ensures.named allowed.few_slices in
+    let one : 1 ≤ setup.slices = subst (λ (x : Config). 1 ≤ x.slices)
+    c.config-config.ensures.named allowed.some_slice in
+    let few : setup.slices ≤ 4 = subst (λ (x : Config). x.slices ≤ 4)
+    c.config-config.ensures.named allowed.few_slices in
     let gathered = c.in-Ok.ensures.receipts ∙ ap (receipts_by_core setup) same in
     let own = subst (λ (us : List CoreView). AreOwnBelow setup us setup.cores) same c.in-Ok.ensures.own in
     let counters =

@@ -25,7 +25,8 @@ loop-core-preserved g c =
           let told = w.in_ok-append_core.ensures in
           let same = sym number ∙ w.if-number_of-number.true in record {
             receipts =
-                filtered-appended (λ (v : CoreView). v.core.0 == c.args.number) (receipts_of_core setup) cores i core before out
+                filtered-appended (λ (v : CoreView). v.core.0 == c.args.number)
+                (receipts_of_core setup) cores i core before out
                 c.if-number_of-number.receipts.items (omega arith) here (eq-eqb _ _ same) so_far.receipts
                 (ap (λ v. v.items) w.receipts-is ∙ told.receipts);
             own =
@@ -36,7 +37,8 @@ loop-core-preserved g c =
           let other = w.if-number_of-number.false in record {
             receipts =
                 ap (λ v. v.items) w.receipts-is
-                ∙ filtered-left (λ (v : CoreView). v.core.0 == c.args.number) (receipts_of_core setup) cores i core before
+                ∙ filtered-left (λ (v : CoreView). v.core.0 == c.args.number)
+                (receipts_of_core setup) cores i core before
                 out (omega arith) here (ne_eqb _ _ (λ same. other (number ∙ same))) so_far.receipts;
             own =
                 all-more (λ (v : CoreView). v.core.0 ≡ c.args.number → HasItsOwn setup setup.slices v) cores i core

@@ -16,7 +16,8 @@ loop-slice-preserved g c =
     let shown = c.receipts.result.now in
     record {
       receipts =
-          range-appended (receipts_of core) c.args.receipts.now.items out c.extend_from_slice.new.self.items n so_far.receipts
+          range-appended (receipts_of core) c.args.receipts.now.items out
+          c.extend_from_slice.new.self.items n so_far.receipts
           (c.in_ok-extend_from_slice.ensures.items ∙ ap (λ (rs : List Receipt). out ++ rs) c.receipts.ensures.receipts);
       own = own-more setup n core shown so_far.own c.receipts.ensures.receipts c.receipts.ensures.own;
     }

@@ -10,6 +10,7 @@ loop-number-preserved g c =
     let cores = c.args.cores.now in
     let n = c.loop-number.number in
     record {
-      receipts = range-appended (receipts_at setup cores) [] _ _ n c.loop-number.invariant.receipts c.in_ok-append_at.ensures.receipts;
+      receipts = range-appended (receipts_at setup cores) [] _ _ n c.loop-number.invariant.receipts
+          c.in_ok-append_at.ensures.receipts;
       own = own-at-more setup cores n c.loop-number.invariant.own c.in_ok-append_at.ensures.own;
     }

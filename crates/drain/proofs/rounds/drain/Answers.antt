@@ -6,5 +6,6 @@ loop-round-init g c = same-cores g.M.SystemNames.setup c.args.cores.now.items
 
 pub loop-round-preserved : goal.loop-round-preserved
 loop-round-preserved g c =
-    cores-then g.M.SystemNames.setup c.args.cores.now.items c.loop-round.cores.items c.turn_each.new.cores.items c.loop-round.invariant
+    cores-then g.M.SystemNames.setup c.args.cores.now.items c.loop-round.cores.items
+    c.turn_each.new.cores.items c.loop-round.invariant
     c.turn_each.ensures

@@ -2,7 +2,8 @@ use Rattle.std.proofs.Common.{◌+◌, ◌∙◌, ◌≡◌, ◌≤◌, List, ma
 use Rattle.address_map.specs.declared.config.Config.{Config}
 use Rattle.address_map.specs.declared.address.SliceId.{SliceId}
 use Rattle.core_thread_system.specs.Core.{CoreView}
-use Rattle.drain.proofs.SettledInTurn.{AreTried, all-tried, all-valued, none-settled, tried-again, tried-first, tried-settled}
+use Rattle.drain.proofs.SettledInTurn.{AreTried, all-tried, all-valued, none-settled, tried-again, tried-first}
+use Rattle.drain.proofs.SettledInTurn.{tried-settled}
 use Rattle.drain.proofs.Valued.{none-set, unset-words}
 use Rattle.drain.specs.Audited.{IsSettledSlice}
 use Rattle.drain.specs.Valued.{with_slice}
@@ -39,7 +40,8 @@ loop-number-preserved g c =
             let here : IsSettledSlice setup cores n =
             subst (λ (us : List CoreView). IsSettledSlice setup us n) so_far.same w.in-Ok.ensures.settled in
             let set : new ≡ map (with_slice setup cores n) old =
-            subst (λ (us : List CoreView). new ≡ map (with_slice setup us n) old) so_far.same w.in-Ok.ensures.counters in
+            subst (λ (us : List CoreView). new ≡ map (with_slice setup us n) old) so_far.same
+            w.in-Ok.ensures.counters in
             subst (λ d. AreTried setup cores (n + 1) d new) (sym w.differs-is)
             (tried-settled setup cores n c.loop-number.differs old new so_far.settled here set)
         | in-Err-Differs+then-is_none w ↦

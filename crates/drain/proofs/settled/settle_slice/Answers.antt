@@ -3,7 +3,8 @@ use Rattle.address_map.specs.declared.config.Config.{Config}
 use Rattle.core_thread_system.specs.Core.{CoreView}
 use Rattle.drain.specs.Valued.{with_slice}
 use Rattle.drain.specs.declared.report.CounterValue.{CounterValue}
-use Rattle.drain.proofs.SettledSlice.{all-set-in, home-is, home-isnt, next-few, next-is, next-within, other-left, own-set, words-kept}
+use Rattle.drain.proofs.SettledSlice.{all-set-in, home-is, home-isnt, next-few, next-is, next-within, other-left}
+use Rattle.drain.proofs.SettledSlice.{own-set, words-kept}
 use Rattle.drain.proofs.settled.settle_slice.Goals as goal
 use Rattle.drain.proofs.settled.settle_slice.Goals.{then-is_of_slice, else-is_of_slice}
 
@@ -37,7 +38,8 @@ bounds-deref-next g c =
     let now = c.loop-place.counters in
     let i = c.loop-place.place in
     next-within setup left slice old now c.deref.result.now c.loop-place.next i unset c.loop-place.invariant
-    (next-is setup c.args.cores.now left slice old c.in_ok-values.values.items c.deref.result.now i c.settle.ensures.cores
+    (next-is setup c.args.cores.now left slice old c.in_ok-values.values.items c.deref.result.now
+    i c.settle.ensures.cores
     c.requires.words c.in_ok-values.ensures.settled c.deref.ensures.0 c.loop-place-test.true)
     (home-is setup _ _ slice c.is_of_slice.result c.config.ensures.named c.is_of_slice.ensures c.if-is_of_slice.true)
 
@@ -53,20 +55,25 @@ loop-place-preserved g c =
     elim c.if-is_of_slice.branch [
       | then-is_of_slice w ↦
           let next = next-is setup c.args.cores.now left slice old c.in_ok-values.values.items w.deref.result.now i
-          c.settle.ensures.cores c.requires.words c.in_ok-values.ensures.settled w.deref.ensures.0 c.loop-place-test.true in
-          let set = own-set setup left slice old now w.deref.result.now c.loop-place.next i unset c.loop-place.invariant next
+          c.settle.ensures.cores c.requires.words c.in_ok-values.ensures.settled w.deref.ensures.0
+          c.loop-place-test.true in
+          let set = own-set setup left slice old now w.deref.result.now c.loop-place.next i unset
+          c.loop-place.invariant next
           c.if-is_of_slice.counters
-          (home-is setup _ _ slice c.is_of_slice.result c.config.ensures.named c.is_of_slice.ensures w.if-is_of_slice.true)
+          (home-is setup _ _ slice c.is_of_slice.result c.config.ensures.named
+          c.is_of_slice.ensures w.if-is_of_slice.true)
           w.counters-is in record {
             counters = set.counters;
             place = w.next-is ∙ set.place;
           }
       | else-is_of_slice w ↦
-          let next = next-is setup c.args.cores.now left slice old c.in_ok-values.values.items c.in_ok-values.values.items i
+          let next = next-is setup c.args.cores.now left slice old c.in_ok-values.values.items
+          c.in_ok-values.values.items i
           c.settle.ensures.cores c.requires.words c.in_ok-values.ensures.settled refl c.loop-place-test.true in
           let set = other-left setup left slice old now c.in_ok-values.values.items c.loop-place.next i unset
           c.loop-place.invariant next
-          (home-isnt setup _ _ slice c.is_of_slice.result c.config.ensures.named c.is_of_slice.ensures w.if-is_of_slice.false) in record {
+          (home-isnt setup _ _ slice c.is_of_slice.result c.config.ensures.named c.is_of_slice.ensures
+          w.if-is_of_slice.false) in record {
             counters = w.counters-is ∙ set.counters;
             place = w.next-is ∙ set.place;
           }

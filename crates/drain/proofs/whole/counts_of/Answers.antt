@@ -16,7 +16,8 @@ overflow_add-counts g c =
     let number = c.number_of.result in
     let i = c.loop-core.core-index in
     let cores = c.args.cores.now in
-    let few : number < 64 = omega (arith, c.number_of.ensures.known, c.number_of.ensures.number, c.requires.configured, c.requires.few) in
+    let few : number < 64 = omega (arith, c.number_of.ensures.known, c.number_of.ensures.number,
+    c.requires.configured, c.requires.few) in
     let is = c.loop-core.invariant.counted number few in
     let most = times-most number (take i cores) in
     let long = length-take-le i cores (omega arith) in
@@ -29,8 +30,10 @@ loop-core-preserved g c =
     let i = c.loop-core.core-index in
     record {
       long = length-set c.loop-core.counts _ _ ∙ so_far.long;
-      counted = counted-more cores c.loop-core.counts i c.number_of.result c.core-item.result (omega arith) c.core-item.is
+      counted = counted-more cores c.loop-core.counts i c.number_of.result c.core-item.result
+          (omega arith) c.core-item.is
           c.number_of.ensures.number so_far.long so_far.counted;
-      known = all-more (λ (v : CoreView). v.core.0 < g.M.SystemNames.setup.cores) cores i c.core-item.result (omega arith) c.core-item.is so_far.known
+      known = all-more (λ (v : CoreView). v.core.0 < g.M.SystemNames.setup.cores) cores i c.core-item.result
+          (omega arith) c.core-item.is so_far.known
           c.number_of.ensures.known;
     }

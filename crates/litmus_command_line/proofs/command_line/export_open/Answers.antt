@@ -14,7 +14,8 @@ returns-clause-reads c =
     let parser : c.value_parser.result.value_parser ≡ Some (parsers.Names forms) = given.1 ∙ ap Some given.2 in
     let rule : rule_of c.value_parser.result ≡ form_rule forms = search rules in
     let given_2 = c.value_parser-2.ensures.given in
-    let parser_2 : c.value_parser-2.result.value_parser ≡ Some (parsers.Names numbers) = given_2.1 ∙ ap Some given_2.2 in
+    let parser_2 : c.value_parser-2.result.value_parser ≡ Some (parsers.Names numbers) =
+    given_2.1 ∙ ap Some given_2.2 in
     let rule_2 : rule_of c.value_parser-2.result ≡ cores_rule numbers = search rules in
     let named : app_of c.after_help.result ≡ new_app (codes "export") = search rules in
     let one = c.in_ok-arg.ensures.shape (search rules) ∙ ap₂ with_rule named rule in

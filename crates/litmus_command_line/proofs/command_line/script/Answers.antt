@@ -5,7 +5,8 @@ use Rattle.litmus_command_line.proofs.command_line.script.Goals as goal
 
 pub returns-clause-reads : goal.returns-clause-reads
 returns-clause-reads c =
-    let vcd = c.in_ok-arg.ensures.shape c.flag.ensures.plain ∙ ap₂ with_rule c.in_ok-answering.ensures.reads c.flag.ensures.rule in
+    let vcd = c.in_ok-arg.ensures.shape c.flag.ensures.plain
+    ∙ ap₂ with_rule c.in_ok-answering.ensures.reads c.flag.ensures.rule in
     IfOk-weaker c.arg-2.result _ _
     (λ made adds. adds.shape c.flag-2.ensures.plain ∙ ap₂ with_rule vcd c.flag-2.ensures.rule)
     c.arg-2.ensures

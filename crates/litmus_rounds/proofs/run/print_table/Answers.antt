@@ -5,5 +5,6 @@ use Rattle.litmus_rounds.proofs.run.print_table.Goals as goal
 pub returns-in-Ok-clause-printed : goal.returns-in-Ok-clause-printed
 returns-in-Ok-clause-printed g c = λ rounds table.
     let contents = g.W.Write.contents in
-    let (name, bytes) = Appends-of_writes (λ s. s.out.ghost_name) (λ s. contents s.out.now) _ _ _ (c.in-Ok.ensures rounds table) in
+    let (name, bytes) = Appends-of_writes (λ s. s.out.ghost_name) (λ s. contents s.out.now) _ _ _
+    (c.in-Ok.ensures rounds table) in
     search rules

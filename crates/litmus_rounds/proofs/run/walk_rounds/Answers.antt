@@ -6,7 +6,8 @@ pub loop-round-init : goal.loop-round-init
 loop-round-init g c = no_rounds _ _ _ c.requires
 
 pub add_outcome-requires-clause-fits : goal.add_outcome-requires-clause-fits
-add_outcome-requires-clause-fits g c = omega (arith, c.loop-round.invariant.counted, c.loop-round.invariant.table_of.count)
+add_outcome-requires-clause-fits g c =
+    omega (arith, c.loop-round.invariant.counted, c.loop-round.invariant.table_of.count)
 
 pub add_outcome-requires-clause-done : goal.add_outcome-requires-clause-done
 add_outcome-requires-clause-done g c = c.in_ok-walked.ensures.done c.if-not-walked.false

@@ -7,5 +7,6 @@ invariant-loop-slice g l =
     let contents = g.W.Write.contents in
     record {
       config : g.D.Deliverer.config_of l.deliverer ≡ g.D.Deliverer.config_of l.fn.deliverer;
-      made : ComesTo g.D.Deliverer.delivers l.slice l.round l.fn.deliverer l.deliverer (contents l.fn.out) (contents l.out);
+      made : ComesTo g.D.Deliverer.delivers l.slice l.round l.fn.deliverer l.deliverer
+          (contents l.fn.out) (contents l.out);
     }

@@ -4,11 +4,13 @@ use Rattle.litmus_script.proofs.pump.pump_slices.Goals as goal
 
 pub returns-in-Empty-clause-pumped : goal.returns-in-Empty-clause-pumped
 returns-in-Empty-clause-pumped g c =
-    pumps_empty g.D.Deliverer.delivers _ _ _ _ _ _ (rw (c.slices-slices.ensures.count, c.in-Empty.is) at c.in_ok-make_rounds.ensures.made)
+    pumps_empty g.D.Deliverer.delivers _ _ _ _ _ _ (rw (c.slices-slices.ensures.count, c.in-Empty.is)
+    at c.in_ok-make_rounds.ensures.made)
 
 pub returns-in-Stuck-clause-pumped : goal.returns-in-Stuck-clause-pumped
 returns-in-Stuck-clause-pumped g c =
-    pumps_stuck g.D.Deliverer.delivers _ _ _ _ _ _ (rw (c.slices-slices.ensures.count, c.in-Stuck.is) at c.in_ok-make_rounds.ensures.made)
+    pumps_stuck g.D.Deliverer.delivers _ _ _ _ _ _ (rw (c.slices-slices.ensures.count, c.in-Stuck.is)
+    at c.in_ok-make_rounds.ensures.made)
 
 pub returns-in_ok-make_round-in-Moved-clause-pumped : goal.returns-in_ok-make_round-in-Moved-clause-pumped
 returns-in_ok-make_round-in-Moved-clause-pumped g c =

@@ -12,9 +12,11 @@ invariant-lines g l =
     let middle = g.W.Write.contents l.out in
     record {
       config : g.P.Player.config_of l.player ≡ machine;
-      all : (end : g.row.P.Denot) (after : Option (List ℕ)) → PlaysAll plays machine l.statements l.player end middle after
+      all : (end : g.row.P.Denot) (after : Option (List ℕ))
+          → PlaysAll plays machine l.statements l.player end middle after
           → PlaysAll plays machine l.fn.statements l.fn.player end before after;
-      up_to : (after : Option (List ℕ)) (fault : TextFault) → PlaysUpTo plays machine l.statements l.player middle after fault
+      up_to : (after : Option (List ℕ)) (fault : TextFault)
+          → PlaysUpTo plays machine l.statements l.player middle after fault
           → PlaysUpTo plays machine l.fn.statements l.fn.player before after fault;
     }
 

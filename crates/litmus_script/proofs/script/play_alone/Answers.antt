@@ -12,7 +12,8 @@ returns-clause-played g c =
     (λ played. (
       _,
       all_shown (λ m. m.slices.items) (λ m. m.config ≡ config) _ (Echoed false Plainly config)
-          (λ old new line command before after same made. (made.0 ∙ same, subst (λ k. IsPrinted k command old.slices.items new.slices.items before after) same made.1))
+          (λ old new line command before after same made.
+          (made.0 ∙ same, subst (λ k. IsPrinted k command old.slices.items new.slices.items before after) same made.1))
           config _ _ _ _ _ refl played,
     ))
     c.play.ensures.played
@@ -22,6 +23,7 @@ returns-clause-fault g c =
     let config = c.args.machine.config in
     IfErr-weaker c.play.result _ _
     (λ fault played. up_to_shown (λ m. m.slices.items) (λ m. m.config ≡ config) _ (Echoed false Plainly config)
-    (λ old new line command before after same made. (made.0 ∙ same, subst (λ k. IsPrinted k command old.slices.items new.slices.items before after) same made.1))
+    (λ old new line command before after same made.
+    (made.0 ∙ same, subst (λ k. IsPrinted k command old.slices.items new.slices.items before after) same made.1))
     config _ _ _ _ _ refl played)
     c.play.ensures.fault

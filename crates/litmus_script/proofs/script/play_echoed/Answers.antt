@@ -12,7 +12,9 @@ returns-clause-played g c =
     (λ played. (
       _,
       all_shown (λ m. m.player.slices.items) (λ m. m.player.config ≡ config) _ (Echoed true Plainly config)
-          (λ old new line command before after same made. (made.2.0 ∙ same, (made.0, made.1, subst (λ k. IsPrinted k command old.player.slices.items new.player.slices.items made.0 after) same made.2.1)))
+          (λ old new line command before after same made.
+          (made.2.0 ∙ same, (made.0, made.1, subst (λ k. IsPrinted k command old.player.slices.items
+          new.player.slices.items made.0 after) same made.2.1)))
           config _ _ _ _ _ refl played,
     ))
     c.play.ensures.played
@@ -21,7 +23,10 @@ pub returns-clause-fault : goal.returns-clause-fault
 returns-clause-fault g c =
     let config = c.args.machine.config in
     IfErr-weaker c.play.result _ _
-    (λ fault played. up_to_shown (λ m. m.player.slices.items) (λ m. m.player.config ≡ config) _ (Echoed true Plainly config)
-    (λ old new line command before after same made. (made.2.0 ∙ same, (made.0, made.1, subst (λ k. IsPrinted k command old.player.slices.items new.player.slices.items made.0 after) same made.2.1)))
+    (λ fault played. up_to_shown (λ m. m.player.slices.items) (λ m. m.player.config ≡ config) _
+    (Echoed true Plainly config)
+    (λ old new line command before after same made.
+    (made.2.0 ∙ same, (made.0, made.1, subst (λ k. IsPrinted k command old.player.slices.items new.player.slices.items
+    made.0 after) same made.2.1)))
     config _ _ _ _ _ refl played)
     c.play.ensures.fault

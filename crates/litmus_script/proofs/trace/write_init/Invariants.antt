@@ -8,5 +8,6 @@ use Rattle.litmus_script.proofs.trace.write_init.Given as goal
 abbrev pub invariant-loop-word : goal.invariant-loop-word
 invariant-loop-word g l =
     let took = g.W.Write.write_str_gives in
-    (new : g.row.W.Denot) → WritesInCalls took l.out (text_of_lines (map (λ pair. lines.Init pair.0 pair.1) (drop l.word-index l.init))) new
+    (new : g.row.W.Denot) → WritesInCalls took l.out
+    (text_of_lines (map (λ pair. lines.Init pair.0 pair.1) (drop l.word-index l.init))) new
     → WritesInCalls took l.fn.out (text_of_lines (map (λ pair. lines.Init pair.0 pair.1) l.init)) new

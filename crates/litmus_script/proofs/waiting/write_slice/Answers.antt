@@ -10,5 +10,7 @@ loop-pick-preserved g c = λ new rest.
     let took = g.W.Write.write_str_gives in
     let v = c.args.state.now.view in
     c.loop-pick.invariant new
-    (next_line took v c.loop-pick.left c.in-Some.pick c.in-Some.ensures.first _ c.write_front.new.out new c.in_ok-write_front.ensures
-    (subst (λ (left : List Pick). WritesInCalls took c.write_front.new.out (lines_of (flights_of v left)) new) c.in-Some.ensures.rest rest))
+    (next_line took v c.loop-pick.left c.in-Some.pick c.in-Some.ensures.first _ c.write_front.new.out new
+    c.in_ok-write_front.ensures
+    (subst (λ (left : List Pick). WritesInCalls took c.write_front.new.out (lines_of (flights_of v left)) new)
+    c.in-Some.ensures.rest rest))

@@ -11,5 +11,6 @@ loop-state-preserved g c = λ new rest.
     let behind = drop (c.loop-state.state-index + 1) slices in
     let here = ap (λ (state : PartsView). lines_of (in_flight (state ∷ behind))) (sym c.state-item.is) in
     c.loop-state.invariant new
-    (next_piece g.W.Write.write_str_gives (λ slices. lines_of (in_flight slices)) slices c.loop-state.state-index _ c.state-item.result
+    (next_piece g.W.Write.write_str_gives (λ slices. lines_of (in_flight slices)) slices
+    c.loop-state.state-index _ c.state-item.result
     c.loop-state-test.true (here ∙ lines_of_slices c.state-item.result behind) _ _ new c.in_ok-write_slice.ensures rest)

@@ -2,7 +2,9 @@ use Rattle.std.proofs.Common.{map, rules}
 use Rattle.std.proofs.lemmas.Result.{err_from_is_err_and, IfErr-weaker, IfOk-weaker}
 use Rattle.litmus_test.specs.Line.{BeginsAsSetting}
 use Rattle.litmus_test.specs.Text.{said_nothing}
-use Rattle.litmus_test.proofs.ReadingLemmas.{IsNoMemoryOr-weaker, at_fault_behind, at_first_fault, at_no_line, nothing_behind, reading_all, reading_none, say_behind, says_nothing, unchecked_all, unchecked_first}
+use Rattle.litmus_test.proofs.ReadingLemmas.{IsNoMemoryOr-weaker, at_fault_behind, at_first_fault, at_no_line}
+use Rattle.litmus_test.proofs.ReadingLemmas.{nothing_behind, reading_all, reading_none, say_behind, says_nothing}
+use Rattle.litmus_test.proofs.ReadingLemmas.{unchecked_all, unchecked_first}
 use Rattle.litmus_test.proofs.reader.read_statements.Goals as goal
 
 pub loop-statement-init : goal.loop-statement-init

@@ -1,13 +1,15 @@
 use Rattle.std.proofs.lemmas.Result.{err_from_is_err_and}
 use Rattle.litmus_test.specs.Text.{said_by}
-use Rattle.litmus_test.proofs.ReadingLemmas.{IsNoMemoryOr-weaker, at_first_fault, reading_all, reading_none, says_nothing}
+use Rattle.litmus_test.proofs.ReadingLemmas.{IsNoMemoryOr-weaker, at_first_fault, reading_all, reading_none}
+use Rattle.litmus_test.proofs.ReadingLemmas.{says_nothing}
 use Rattle.litmus_test.proofs.reader.read_threads.Goals as goal
 
 pub returns-in_err-read_line-clause-refused : goal.returns-in_err-read_line-clause-refused
 returns-in_err-read_line-clause-refused c =
     let p = err_from_is_err_and c.from_residual.result c.from_residual.ensures.1 in
     rw (p.1, p.2)
-    (IsNoMemoryOr-weaker _ _ _ (says_nothing c.args.version _ _ _ _ _ (reading_none c.args.version (said_by c.args.test) _))
+    (IsNoMemoryOr-weaker _ _ _ (says_nothing c.args.version _ _ _ _ _
+    (reading_none c.args.version (said_by c.args.test) _))
     c.in_err-read_line.ensures.refused)
 
 pub loop-statement-init : goal.loop-statement-init

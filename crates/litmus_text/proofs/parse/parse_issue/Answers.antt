@@ -1,5 +1,6 @@
 use Rattle.std.proofs.Common.{ℕ, List, [], Bor}
-use Rattle.litmus_text.proofs.CommandLemmas.{behind_two, issue_access, issue_lacks, issue_number, issue_short, reads_none}
+use Rattle.litmus_text.proofs.CommandLemmas.{behind_two, issue_access, issue_lacks, issue_number, issue_short}
+use Rattle.litmus_text.proofs.CommandLemmas.{reads_none}
 use Rattle.litmus_text.proofs.parse.parse_issue.Goals as goal
 
 abbrev no_word : Bor (List ℕ)

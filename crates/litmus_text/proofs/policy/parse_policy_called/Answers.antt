@@ -20,5 +20,6 @@ pub returns-in_err-one_number-in-Random-clause-fault :
     goal.returns-in_err-one_number-in-Random-clause-fault
 returns-in_err-one_number-in-Random-clause-fault c =
     rw c.in-Random.is
-    (handed_on _ _ c.from_residual-in_err-one_number-in-Random.result c.from_residual-in_err-one_number-in-Random.ensures.1
+    (handed_on _ _ c.from_residual-in_err-one_number-in-Random.result
+    c.from_residual-in_err-one_number-in-Random.ensures.1
     (random_fault _ _ c.in_err-one_number-in-Random.ensures.fault))

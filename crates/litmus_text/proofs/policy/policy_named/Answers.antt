@@ -10,7 +10,8 @@ abbrev names : List (List ℕ × PolicyName)
 names = map (λ entry. (entry.0.now, entry.1)) POLICIES
 
 -- the table has each policy
-no_policy : (name : List ℕ) → Each (λ entry. name ≢ entry.0) names → (policy : PolicyName) → name ≢ name_of_policy policy
+no_policy : (name : List ℕ) → Each (λ entry. name ≢ entry.0) names → (policy : PolicyName)
+    → name ≢ name_of_policy policy
 no_policy name other policies.Lru = other.0
 no_policy name other policies.Fifo = other.1.0
 no_policy name other policies.Random = other.1.1.0

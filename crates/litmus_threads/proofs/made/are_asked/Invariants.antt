@@ -7,5 +7,6 @@ use Rattle.litmus_threads.proofs.made.are_asked.Given as goal
 abbrev pub invariant-loop-step : goal.invariant-loop-step
 invariant-loop-step g l = record {
   within : l.next ≤ length (asked_of l.core l.slice.0);
-  asked : accesses_of (take l.next (asked_of l.core l.slice.0)) ≡ requests_in l.config l.slice.0 (take l.step-index l.steps);
+  asked : accesses_of (take l.next (asked_of l.core l.slice.0)) ≡ requests_in l.config l.slice.0
+      (take l.step-index l.steps);
 }

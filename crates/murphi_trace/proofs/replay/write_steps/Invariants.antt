@@ -13,6 +13,7 @@ invariant-loop-line g l =
     record {
       before : List Rule;
       tags : AreTags l.tags before;
-      rest : (after : Option (List ℕ)) → Appends (contents l.out) after (text_of_steps before (steps_in l.line-iterator))
+      rest : (after : Option (List ℕ)) → Appends (contents l.out) after
+          (text_of_steps before (steps_in l.line-iterator))
           → Appends (contents l.fn.out) after (text_of_steps [] (steps_in (lines l.fn.trace)));
     }

@@ -1,4 +1,5 @@
-use Rattle.std.proofs.Common.{◌≡◌, ◌≢◌, ◌==◌, ◌∷◌, ◌+◌, ◌∙◌, ℕ, Bool, List, ap, arith, drop, false, length, map, not, refl, sym, true, cond}
+use Rattle.std.proofs.Common.{◌≡◌, ◌≢◌, ◌==◌, ◌∷◌, ◌+◌, ◌∙◌, ℕ, Bool, List, ap, arith, drop, false, length, map, not}
+use Rattle.std.proofs.Common.{refl, sym, true, cond}
 use Rattle.std.specs.Prelude.{filter}
 use Rattle.std.specs.List.{range_with_len}
 use Rattle.std.proofs.lemmas.Bool.{ne_eqb}

@@ -10,7 +10,8 @@ pub returns-clause-done : goal.returns-clause-done
 returns-clause-done g c =
     let contents = g.W.Write.contents in
     let says = λ (programs : Programs). IsProgramText c.args.input.now (settings_of programs) (programs_of programs) in
-    let runs = λ (programs : Programs) (status : ℕ). IsProgramsRun programs.config (bound_of programs.misses programs.config)
+    let runs = λ (programs : Programs) (status : ℕ). IsProgramsRun programs.config
+    (bound_of programs.misses programs.config)
     programs.cores.items c.args.form c.args.seed status (contents c.args.out.now) (contents c.run_read.new.out) in
     let these = c.in_ok-programs.programs in
     IfOk-weaker c.run_read.result (runs these) (λ status. (programs : Programs) × says programs × runs programs status)

@@ -8,7 +8,8 @@ returns g c =
     on_ok_weaker c.writeln.result
     (λ last. then _ _ _ _ _
     (then _ _ _ _ _
-    (then _ _ _ _ _ (then _ _ _ _ _ c.in_ok-write.ensures.writes c.in_ok-write_titles.ensures) c.in_ok-write-2.ensures.writes)
+    (then _ _ _ _ _ (then _ _ _ _ _ c.in_ok-write.ensures.writes c.in_ok-write_titles.ensures)
+    c.in_ok-write-2.ensures.writes)
     c.in_ok-write_rules.ensures)
     last)
     c.writeln.ensures.writes

@@ -6,7 +6,8 @@ use Rattle.protocol_tables.proofs.cache.write_lines.Goals as goal
 pub loop-state-preserved : goal.loop-state-preserved
 loop-state-preserved g c = λ new rest.
     c.loop-state.invariant new
-    (next_piece g.W.Write.write_str_gives (λ these. lines_of c.args.exclusive (columns_of c.args.columns.now) these) _ _ _ _
+    (next_piece g.W.Write.write_str_gives (λ these. lines_of c.args.exclusive (columns_of c.args.columns.now) these) _ _
+    _ _
     c.loop-state-test.true refl _ _ new c.in_ok-write_line.ensures rest)
 
 pub returns : goal.returns

@@ -31,7 +31,8 @@ gather_port-returns-clause-share g t c =
     let held = ap (λ (s : Amounts). s.held) c.port.invariant.held in
     let given : totals c.args.words.now c.accepted-accepted.result (entries_of c.receipts.result.now) ≡ had.held =
     ap (λ n. totals c.args.words.now n (entries_of c.receipts.result.now)) c.accepted-accepted.ensures
-    ∙ ap (λ words. totals words (length c.port.inside.account.asked) (entries_of c.receipts.result.now)) c.requires.words.are
+    ∙ ap (λ words. totals words (length c.port.inside.account.asked) (entries_of c.receipts.result.now))
+    c.requires.words.are
     ∙ ap (λ (rs : List Receipt). totals (counters_of setup number) (length c.port.inside.account.asked) (entries_of rs))
     c.receipts.ensures
     ∙ sym held in

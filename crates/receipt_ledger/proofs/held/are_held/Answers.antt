@@ -17,5 +17,6 @@ returns-then-not-is_held g c = (
 
 pub loop-number-preserved : goal.loop-number-preserved
 loop-number-preserved g c =
-    each-more (IsHeld (map g.T.Lends.part c.args.ports.now)) c.args.log.now c.loop-number.number _ c.loop-number.invariant
+    each-more (IsHeld (map g.T.Lends.part c.args.ports.now)) c.args.log.now c.loop-number.number
+    _ c.loop-number.invariant
     c.loop-number-test.true (c.is_held.ensures.0 c.if-not-is_held.false)

@@ -11,8 +11,11 @@ returns-clause-played g c =
     on_ok_weaker c.play.result
     (λ played. (
       _,
-      all_shown (λ b. b.player.machine.slices.items) (λ b. b.player.machine.config ≡ config) _ (IsBeside Explainingly config)
-          (λ old new line command before after same made. (made.1.0 ∙ same, (made.0, subst (λ k. IsExplained k command old.player.machine.slices.items new.player.machine.slices.items (Some []) (Some made.0)) same made.1.1, made.2)))
+      all_shown (λ b. b.player.machine.slices.items) (λ b. b.player.machine.config ≡ config) _
+      (IsBeside Explainingly config)
+          (λ old new line command before after same made.
+          (made.1.0 ∙ same, (made.0, subst (λ k. IsExplained k command old.player.machine.slices.items
+          new.player.machine.slices.items (Some []) (Some made.0)) same made.1.1, made.2)))
           config _ _ _ _ _ refl played,
     ))
     c.play.ensures.played
@@ -21,7 +24,10 @@ pub returns-clause-fault : goal.returns-clause-fault
 returns-clause-fault g c =
     let config = c.args.player.machine.config in
     IfErr-weaker c.play.result _ _
-    (λ fault played. up_to_shown (λ b. b.player.machine.slices.items) (λ b. b.player.machine.config ≡ config) _ (IsBeside Explainingly config)
-    (λ old new line command before after same made. (made.1.0 ∙ same, (made.0, subst (λ k. IsExplained k command old.player.machine.slices.items new.player.machine.slices.items (Some []) (Some made.0)) same made.1.1, made.2)))
+    (λ fault played. up_to_shown (λ b. b.player.machine.slices.items) (λ b. b.player.machine.config ≡ config) _
+    (IsBeside Explainingly config)
+    (λ old new line command before after same made.
+    (made.1.0 ∙ same, (made.0, subst (λ k. IsExplained k command old.player.machine.slices.items
+    new.player.machine.slices.items (Some []) (Some made.0)) same made.1.1, made.2)))
     config _ _ _ _ _ refl played)
     c.play.ensures.fault

@@ -13,7 +13,9 @@ returns-clause-played g c =
     (λ played. (
       _,
       all_shown (λ b. b.player.slices.items) (λ b. b.player.config ≡ config) _ (IsBeside Plainly config)
-          (λ old new line command before after same made. (made.1.0 ∙ same, (made.0, subst (λ k. IsPrinted k command old.player.slices.items new.player.slices.items (Some []) (Some made.0)) same made.1.1, made.2)))
+          (λ old new line command before after same made.
+          (made.1.0 ∙ same, (made.0, subst (λ k. IsPrinted k command old.player.slices.items new.player.slices.items
+          (Some []) (Some made.0)) same made.1.1, made.2)))
           config _ _ _ _ _ refl played,
     ))
     c.play.ensures.played
@@ -22,7 +24,10 @@ pub returns-clause-fault : goal.returns-clause-fault
 returns-clause-fault g c =
     let config = c.args.machine.config in
     IfErr-weaker c.play.result _ _
-    (λ fault played. up_to_shown (λ b. b.player.slices.items) (λ b. b.player.config ≡ config) _ (IsBeside Plainly config)
-    (λ old new line command before after same made. (made.1.0 ∙ same, (made.0, subst (λ k. IsPrinted k command old.player.slices.items new.player.slices.items (Some []) (Some made.0)) same made.1.1, made.2)))
+    (λ fault played. up_to_shown (λ b. b.player.slices.items) (λ b. b.player.config ≡ config) _
+    (IsBeside Plainly config)
+    (λ old new line command before after same made.
+    (made.1.0 ∙ same, (made.0, subst (λ k. IsPrinted k command old.player.slices.items new.player.slices.items (Some [])
+    (Some made.0)) same made.1.1, made.2)))
     config _ _ _ _ _ refl played)
     c.play.ensures.fault

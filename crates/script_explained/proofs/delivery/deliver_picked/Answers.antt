@@ -13,9 +13,11 @@ returns-clause-told g c =
     let pick = c.args.pick in
     let step = c.deliver_next-delivered.ensures.step in
     let says = made_next c.args.slice c.deliver_next-delivered.result _ pick old.view new.view step.next c.requires in
-    let told : Appends (contents c.args.out.now) (contents c.tell_made.new.out) (text_of_made pick (delivery_of c.args.slice pick old.view new.view))
+    let told : Appends (contents c.args.out.now) (contents c.tell_made.new.out)
+    (text_of_made pick (delivery_of c.args.slice pick old.view new.view))
     = search rules in
     record {
       answered = delivered_next old new _ c.deliver_next-delivered.result step;
-      written = subst (λ (text : List ℕ). Appends (contents c.args.out.now) (contents c.tell_made.new.out) text) (sym says) told;
+      written = subst (λ (text : List ℕ). Appends (contents c.args.out.now) (contents c.tell_made.new.out) text)
+          (sym says) told;
     }

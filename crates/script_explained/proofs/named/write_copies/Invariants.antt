@@ -10,6 +10,7 @@ invariant-loop-line g l =
     let took = g.W.Write.write_str_gives in
     (new : g.row.W.Denot)
     → WritesInCalls took l.out
-    (text_of_all_named l.config l.which l.left l.state.view l.core (range_with_len l.line (l.config.lines - l.line))) new
+    (text_of_all_named l.config l.which l.left l.state.view l.core (range_with_len l.line (l.config.lines - l.line)))
+    new
     → WritesInCalls took l.fn.out
     (text_of_all_named l.config l.which l.left l.state.view l.core (range_with_len 0 l.config.lines)) new

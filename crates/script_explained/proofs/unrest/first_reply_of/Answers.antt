@@ -10,20 +10,23 @@ use Rattle.script_explained.proofs.unrest.first_reply_of.Goals as goal
 pub returns-in-Performed : goal.returns-in-Performed
 returns-in-Performed g c =
     let v = c.args.state.now.view in
-    sym (here (λ tag. unrests.Reply c.args.core tag) (λ tag. is_performed (tag_at (side_at v c.args.core) tag)) c.loop-tag.tag 64
+    sym (here (λ tag. unrests.Reply c.args.core tag)
+    (λ tag. is_performed (tag_at (side_at v c.args.core) tag)) c.loop-tag.tag 64
     (omega (arith, c.loop-tag-test.true)) (search rules))
     ∙ ap (λ all. slice_get all 0) c.loop-tag.invariant
 
 pub loop-tag-preserved : goal.loop-tag-preserved
 loop-tag-preserved g c =
     let v = c.args.state.now.view in
-    sym (not_here (λ tag. unrests.Reply c.args.core tag) (λ tag. is_performed (tag_at (side_at v c.args.core) tag)) c.loop-tag.tag 64
+    sym (not_here (λ tag. unrests.Reply c.args.core tag)
+    (λ tag. is_performed (tag_at (side_at v c.args.core) tag)) c.loop-tag.tag 64
     (omega (arith, c.loop-tag-test.true)) (search rules))
     ∙ c.loop-tag.invariant
 
 pub returns : goal.returns
 returns g c =
     let v = c.args.state.now.view in
-    sym (nothing_left (λ tag. unrests.Reply c.args.core tag) (λ tag. is_performed (tag_at (side_at v c.args.core) tag)) c.loop-tag.tag 64
+    sym (nothing_left (λ tag. unrests.Reply c.args.core tag)
+    (λ tag. is_performed (tag_at (side_at v c.args.core) tag)) c.loop-tag.tag 64
     (omega (arith, c.loop-tag-test.false)))
     ∙ ap (λ all. slice_get all 0) c.loop-tag.invariant

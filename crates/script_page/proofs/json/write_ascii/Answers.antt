@@ -9,6 +9,7 @@ pub returns : goal.returns
 returns g c =
     let took = g.W.Write.write_str_gives in
     on_ok_weaker c.write_char.result
-    (λ wrote. subst (λ text. WritesInCalls took c.args.out.now text c.write_char.new.self) (encode_ascii c.args.byte c.requires)
+    (λ wrote. subst (λ text. WritesInCalls took c.args.out.now text c.write_char.new.self)
+    (encode_ascii c.args.byte c.requires)
     (writes_in_calls_single took _ _ _ wrote))
     c.write_char.ensures.writes

@@ -10,5 +10,6 @@ returns g c =
     let then = writes_in_calls_append took in
     let one = writes_in_calls_single took in
     on_ok_weaker c.write_str-2.result
-    (λ last. then _ _ _ _ _ (one _ _ _ (c.in_ok-write_str.ensures.ok refl)) (then _ _ _ _ _ c.in_ok-write_bytes.ensures (one _ _ _ last)))
+    (λ last. then _ _ _ _ _ (one _ _ _ (c.in_ok-write_str.ensures.ok refl))
+    (then _ _ _ _ _ c.in_ok-write_bytes.ensures (one _ _ _ last)))
     (on_ok_from c.write_str-2.result c.write_str-2.ensures.ok)

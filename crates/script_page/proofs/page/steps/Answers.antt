@@ -17,16 +17,19 @@ returns-in-Ok-clause-steps g c =
     (λ p. p.explained.machine.config ≡ config) _ (Steps config)
     (λ old new line command before after same made. (
       made.0 ∙ same,
-      subst (λ k. IsStep k line command (record { slices = old.explained.machine.slices.items; named = old.named.items })
+      subst (λ k. IsStep k line command (record { slices = old.explained.machine.slices.items;
+      named = old.named.items })
           (record { slices = new.explained.machine.slices.items; named = new.named.items }) before after) same made.1,
     ))
     _ _ _ _ _ _ is c.in-Ok.ensures.played in
-    let end : Shown = record { slices = c.play.new.player.explained.machine.slices.items; named = c.play.new.player.named.items } in
+    let end : Shown = record { slices = c.play.new.player.explained.machine.slices.items;
+    named = c.play.new.player.named.items } in
     on_ok_weaker c.end.result (λ ended. record {
       end = end;
       last = contents c.play.new.out;
       played = played_from config _ (commands_of c.args.commands) _ c.args.machine.slices.items _
-          (contents c.args.out.now) (contents c.play.new.out) is (ap (λ machine. machine.slices.items) new.machine) new.named end played;
+          (contents c.args.out.now) (contents c.play.new.out) is
+          (ap (λ machine. machine.slices.items) new.machine) new.named end played;
       ended = ended;
     }) c.end.ensures.ended
 
@@ -40,7 +43,8 @@ returns-clause-fault g c =
     (λ p. p.explained.machine.config ≡ config) _ (Steps config)
     (λ old new line command before after same made. (
       made.0 ∙ same,
-      subst (λ k. IsStep k line command (record { slices = old.explained.machine.slices.items; named = old.named.items })
+      subst (λ k. IsStep k line command (record { slices = old.explained.machine.slices.items;
+      named = old.named.items })
           (record { slices = new.explained.machine.slices.items; named = new.named.items }) before after) same made.1,
     ))
     _ _ _ _ _ c.in-Err.fault is c.in-Err.ensures.fault in
@@ -48,6 +52,7 @@ returns-clause-fault g c =
       first = contents c.args.out.now;
       last = contents c.play.new.out;
       stopped = stopped_from config _ (commands_of c.args.commands) _ c.args.machine.slices.items _
-          (contents c.args.out.now) (contents c.play.new.out) is (ap (λ machine. machine.slices.items) new.machine) new.named
+          (contents c.args.out.now) (contents c.play.new.out) is
+          (ap (λ machine. machine.slices.items) new.machine) new.named
           c.in-Err.fault stopped;
     })

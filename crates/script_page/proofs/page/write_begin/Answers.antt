@@ -11,8 +11,10 @@ returns g c =
     let one = writes_in_calls_single took in
     on_ok_weaker c.write_str-5.result
     (λ last.
-    then _ _ _ _ _ (one _ _ _ (c.in_ok-write_str.ensures.ok refl)) (then _ _ _ _ _ (one _ _ _ (c.in_ok-write_str-2.ensures.ok refl))
+    then _ _ _ _ _ (one _ _ _ (c.in_ok-write_str.ensures.ok refl))
+    (then _ _ _ _ _ (one _ _ _ (c.in_ok-write_str-2.ensures.ok refl))
     (then _ _ _ _ _ c.in_ok-write_json.ensures (then _ _ _ _ _ (one _ _ _ (c.in_ok-write_str-3.ensures.ok refl))
-    (then _ _ _ _ _ (rw c.requires.cache at c.in_ok-write_json-2.ensures) (then _ _ _ _ _ (one _ _ _ (c.in_ok-write_str-4.ensures.ok refl))
+    (then _ _ _ _ _ (rw c.requires.cache at c.in_ok-write_json-2.ensures)
+    (then _ _ _ _ _ (one _ _ _ (c.in_ok-write_str-4.ensures.ok refl))
     (then _ _ _ _ _ (rw c.requires.directory at c.in_ok-write_json-3.ensures) (one _ _ _ last))))))))
     (on_ok_from c.write_str-5.result c.write_str-5.ensures.ok)

@@ -7,6 +7,7 @@ pub returns-in-Some-own_word-clause-refused : goal.returns-in-Some-own_word-clau
 returns-in-Some-own_word-clause-refused c =
     rw c.in-Some.ensures.cases.0
     (IfErr-weaker c.read_own.result _ _
-    (λ fault none. asks_nothing c.args.config.now c.in-Some.name.now.now (map (λ w. w.now) c.in-Some.rest.now) c.in-Some-own_word.word
+    (λ fault none. asks_nothing c.args.config.now c.in-Some.name.now.now
+    (map (λ w. w.now) c.in-Some.rest.now) c.in-Some-own_word.word
     c.in-Some-own_word.ensures.found (λ field. search rules) none)
     c.read_own.ensures.refused)

@@ -9,5 +9,6 @@ invariant-loop-place l =
     let answers = map (λ a. (a.line, a.text.now)) l.answers in
     record {
       taken : l.taken ≤ length l.wants;
-      all : (unlike : Option Unlike) → IsJudged (drop l.taken wants) (drop l.place answers) unlike → IsJudged wants answers unlike;
+      all : (unlike : Option Unlike) → IsJudged (drop l.taken wants) (drop l.place answers) unlike
+          → IsJudged wants answers unlike;
     }

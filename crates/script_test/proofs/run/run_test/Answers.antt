@@ -23,7 +23,8 @@ returns-clause-printed g c =
     let all = c.in_ok-texts.ensures.answers in
     let numbered = rw (c.as_slice-3.ensures.value, c.as_slice-4.ensures.value) at answers in
     IfOk-weaker c.print_judgement.result _ _
-    (λ status printed. prints_test c.args.input.now _ _ _ _ _ _ (c.as_slice.ensures.value ∙ script) (c.as_slice-2.ensures.value ∙ script)
+    (λ status printed. prints_test c.args.input.now _ _ _ _ _ _ (c.as_slice.ensures.value ∙ script)
+    (c.as_slice-2.ensures.value ∙ script)
     all numbers (ap (λ s. map (λ a. (a.line, a.text.now)) s) c.as_slice-6.ensures.value ∙ numbered)
     (ap (λ s. map (λ w. (w.line, w.text.now)) s) c.as_slice-5.ensures.value ∙ wants)
     _ _ status _ (sym (length-map _ _)) printed)

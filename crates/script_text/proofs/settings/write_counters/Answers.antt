@@ -7,5 +7,6 @@ use Rattle.script_text.proofs.settings.write_counters.Goals as goal
 pub loop-counter-preserved : goal.loop-counter-preserved
 loop-counter-preserved g c = λ new rest.
     c.loop-counter.invariant new
-    (next_piece g.W.Write.write_str_gives (λ counters. text_of_lines (map lines.Counter counters)) c.args.counters.now _ _ _
+    (next_piece g.W.Write.write_str_gives (λ counters. text_of_lines (map lines.Counter counters))
+    c.args.counters.now _ _ _
     c.loop-counter-test.true refl _ _ new c.in_ok-writeln.ensures.writes rest)

@@ -8,5 +8,6 @@ use Rattle.script_text.proofs.settings.write_counters.Given as goal
 abbrev pub invariant-loop-counter : goal.invariant-loop-counter
 invariant-loop-counter g l =
     let took = g.W.Write.write_str_gives in
-    (new : g.row.W.Denot) → WritesInCalls took l.out (text_of_lines (map lines.Counter (drop l.counter-index l.counters))) new
+    (new : g.row.W.Denot) → WritesInCalls took l.out
+    (text_of_lines (map lines.Counter (drop l.counter-index l.counters))) new
     → WritesInCalls took l.fn.out (text_of_lines (map lines.Counter l.counters)) new

@@ -15,5 +15,7 @@ returns g c =
     let targets = rw c.targets-targets.ensures.targets at c.in_ok-writeln-7.ensures.writes in
     let writebacks = rw c.writebacks-writebacks.ensures.writebacks at c.writeln-8.ensures.writes in
     on_ok_weaker c.writeln-8.result
-    (λ last. then _ _ _ _ _ cores (then _ _ _ _ _ slices (then _ _ _ _ _ lines (then _ _ _ _ _ sets (then _ _ _ _ _ ways (then _ _ _ _ _ mshrs (then _ _ _ _ _ targets (then _ _ _ _ _ last (writes_in_calls_nil took _)))))))))
+    (λ last. then _ _ _ _ _ cores (then _ _ _ _ _ slices
+    (then _ _ _ _ _ lines (then _ _ _ _ _ sets (then _ _ _ _ _ ways
+    (then _ _ _ _ _ mshrs (then _ _ _ _ _ targets (then _ _ _ _ _ last (writes_in_calls_nil took _)))))))))
     writebacks

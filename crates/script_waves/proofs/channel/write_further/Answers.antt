@@ -12,4 +12,5 @@ loop-channel-preserved g c = λ new rest.
     c.loop-channel.invariant new
     (next_channel took c.loop-channel.left c.in-Some.channel c.in-Some.ensures.first _ c.write_behind.new.out new
     c.in_ok-write_behind.ensures
-    (subst (λ (left : List Channel). WritesInCalls took c.write_behind.new.out (flat_map text_behind left) new) c.in-Some.ensures.rest rest))
+    (subst (λ (left : List Channel). WritesInCalls took c.write_behind.new.out (flat_map text_behind left) new)
+    c.in-Some.ensures.rest rest))

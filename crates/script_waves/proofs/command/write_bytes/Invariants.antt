@@ -8,5 +8,6 @@ use Rattle.script_waves.proofs.command.write_bytes.Given as goal
 abbrev pub invariant-loop-byte : goal.invariant-loop-byte
 invariant-loop-byte g l =
     let took = g.W.Write.write_str_gives in
-    (new : g.row.W.Denot) → WritesInCalls took l.out (flat_map (λ byte. byte_shown byte ∷ []) (drop l.byte-index l.line)) new
+    (new : g.row.W.Denot) → WritesInCalls took l.out
+    (flat_map (λ byte. byte_shown byte ∷ []) (drop l.byte-index l.line)) new
     → WritesInCalls took l.fn.out (flat_map (λ byte. byte_shown byte ∷ []) l.line) new

@@ -15,5 +15,6 @@ returns g c =
     on_ok_weaker c.write_mail.result
     (λ last. subst (λ text. WritesInCalls took c.args.out.now text c.write_mail.new.out)
     (shown_text v c.args.line (local_at v.lines c.args.line.0) c.in-Some.view shows)
-    (then _ _ _ _ _ c.in_ok-write_entry.ensures (then _ _ _ _ _ (rw c.as_slice.ensures.value at c.in_ok-write_copies.ensures) last)))
+    (then _ _ _ _ _ c.in_ok-write_entry.ensures (then _ _ _ _ _
+    (rw c.as_slice.ensures.value at c.in_ok-write_copies.ensures) last)))
     c.write_mail.ensures

@@ -14,14 +14,17 @@ returns-in-Ok-clause-waves g c =
     let contents = g.W.Write.contents in
     let new = c.new-player.ensures in
     let is = ap (λ machine. machine.config) new.machine in
-    let fresh : record { slices = c.new-player.result.machine.slices.items; named = c.new-player.result.named.items; played = c.new-player.result.played }
+    let fresh : record { slices = c.new-player.result.machine.slices.items; named = c.new-player.result.named.items;
+    played = c.new-player.result.played }
     ≡ begun c.args.machine.slices.items = rw (new.machine, new.named, new.played) refl in
     let played = all_shown (λ p. record { slices = p.machine.slices.items; named = p.named.items; played = p.played })
     (λ p. p.machine.config ≡ config) _ (Ticks config)
     (λ old new line command before after same made. (
       made.0 ∙ same,
-      subst (λ k. IsTick k line command (record { slices = old.machine.slices.items; named = old.named.items; played = old.played })
-          (record { slices = new.machine.slices.items; named = new.named.items; played = new.played }) before after) same made.1,
+      subst (λ k. IsTick k line command (record { slices = old.machine.slices.items;
+      named = old.named.items; played = old.played })
+          (record { slices = new.machine.slices.items; named = new.named.items; played = new.played }) before after)
+          same made.1,
     ))
     _ _ _ _ _ _ is c.in-Ok.ensures.played in
     let last = c.play.new.player in
@@ -29,13 +32,17 @@ returns-in-Ok-clause-waves g c =
     on_ok_weaker c.write_all.result (λ written. record {
       end = end;
       ticks = c.play.new.out.items;
-      played = subst (λ (text : List ℕ). PlaysAll (Ticks config) config (commands_of c.args.commands) (begun c.args.machine.slices.items) end
+      played = subst (λ (text : List ℕ). PlaysAll (Ticks config) config (commands_of c.args.commands)
+          (begun c.args.machine.slices.items) end
           (Some text) (Some c.play.new.out.items)) c.new-ticks.ensures.items
-          (played_from config _ (commands_of c.args.commands) _ c.args.machine.slices.items _ (Some c.play.new.out.items)
+          (played_from config _ (commands_of c.args.commands) _ c.args.machine.slices.items _
+          (Some c.play.new.out.items)
           is fresh end played);
-      written = subst (λ (k : Config). IsWritten k.cores end.named c.play.new.out.items (next end.played) (contents c.args.out.now) (contents c.write_all.new.out))
+      written = subst (λ (k : Config). IsWritten k.cores end.named c.play.new.out.items (next end.played)
+          (contents c.args.out.now) (contents c.write_all.new.out))
           (c.play.ensures.config ∙ is)
-          (subst (λ (ticks : List ℕ). IsWritten last.machine.config.cores end.named ticks (next end.played) (contents c.args.out.now) (contents c.write_all.new.out))
+          (subst (λ (ticks : List ℕ). IsWritten last.machine.config.cores end.named ticks (next end.played)
+          (contents c.args.out.now) (contents c.write_all.new.out))
           c.as_slice.ensures.value written);
     }) c.write_all.ensures.written
 
@@ -45,20 +52,26 @@ returns-clause-fault g c =
     let contents = g.W.Write.contents in
     let new = c.new-player.ensures in
     let is = ap (λ machine. machine.config) new.machine in
-    let fresh : record { slices = c.new-player.result.machine.slices.items; named = c.new-player.result.named.items; played = c.new-player.result.played }
+    let fresh : record { slices = c.new-player.result.machine.slices.items; named = c.new-player.result.named.items;
+    played = c.new-player.result.played }
     ≡ begun c.args.machine.slices.items = rw (new.machine, new.named, new.played) refl in
-    let stopped = up_to_shown (λ p. record { slices = p.machine.slices.items; named = p.named.items; played = p.played })
+    let stopped = up_to_shown (λ p. record { slices = p.machine.slices.items;
+    named = p.named.items; played = p.played })
     (λ p. p.machine.config ≡ config) _ (Ticks config)
     (λ old new line command before after same made. (
       made.0 ∙ same,
-      subst (λ k. IsTick k line command (record { slices = old.machine.slices.items; named = old.named.items; played = old.played })
-          (record { slices = new.machine.slices.items; named = new.named.items; played = new.played }) before after) same made.1,
+      subst (λ k. IsTick k line command (record { slices = old.machine.slices.items;
+      named = old.named.items; played = old.played })
+          (record { slices = new.machine.slices.items; named = new.named.items; played = new.played }) before after)
+          same made.1,
     ))
     _ _ _ _ _ c.in-Err.fault is c.in-Err.ensures.fault in
     inr (record {
       ticks = Some c.play.new.out.items;
-      stopped = subst (λ (text : List ℕ). PlaysUpTo (Ticks config) config (commands_of c.args.commands) (begun c.args.machine.slices.items)
+      stopped = subst (λ (text : List ℕ). PlaysUpTo (Ticks config) config (commands_of c.args.commands)
+          (begun c.args.machine.slices.items)
           (Some text) (Some c.play.new.out.items) c.in-Err.fault) c.new-ticks.ensures.items
-          (stopped_from config _ (commands_of c.args.commands) _ c.args.machine.slices.items _ (Some c.play.new.out.items)
+          (stopped_from config _ (commands_of c.args.commands) _ c.args.machine.slices.items _
+          (Some c.play.new.out.items)
           is fresh c.in-Err.fault stopped);
     })

@@ -21,4 +21,5 @@ returns-in-DataAndInv c =
     rw c.in-DataAndInv.is
     (c.invalidate.ensures
     ∙ lent_again c.args.queues.now c.send_data-in-DataAndInv.new.queues c.args.local _
-    (λ l. after_invalidating l c.in-DataAndInv.invalidated c.args.core) c.requires.line c.send_data-in-DataAndInv.ensures)
+    (λ l. after_invalidating l c.in-DataAndInv.invalidated c.args.core) c.requires.line
+    c.send_data-in-DataAndInv.ensures)

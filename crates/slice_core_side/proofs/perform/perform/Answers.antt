@@ -1,5 +1,6 @@
 use Rattle.std.proofs.Common.{arith, ◌∙◌}
-use Rattle.slice_core_side.proofs.Performed.{performed-more, next-performable, all-performed-block, all-performed-tags, all-performed-log}
+use Rattle.slice_core_side.proofs.Performed.{performed-more, next-performable, all-performed-block, all-performed-tags}
+use Rattle.slice_core_side.proofs.Performed.{all-performed-log}
 use Rattle.slice_core_side.proofs.perform.perform.Goals as goal
 
 pub perform_one-requires-clause-performable : goal.perform_one-requires-clause-performable

@@ -3,7 +3,8 @@ use Rattle.address_map.specs.CoreSet.{without}
 use Rattle.slice_queues.specs.Forwarded.{queued}
 use Rattle.slice_queues.specs.Line.{CoreChannels, has_forwarded}
 use Rattle.slice_queues.proofs.LineLaws.{core-there, core-read}
-use Rattle.slice_queues.proofs.MailLaws.{IsLine-taken_request, IsLine-taken_forwarded, IsLine-taken_data, IsLine-taken_ack}
+use Rattle.slice_queues.proofs.MailLaws.{IsLine-taken_request, IsLine-taken_forwarded, IsLine-taken_data}
+use Rattle.slice_queues.proofs.MailLaws.{IsLine-taken_ack}
 use Rattle.slice_queues.proofs.lines.drop_from.Goals as goal
 
 pub returns-in-Req-clause-marked : goal.returns-in-Req-clause-marked

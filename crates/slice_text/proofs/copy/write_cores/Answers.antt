@@ -8,13 +8,16 @@ loop-core-preserved g c = λ new rest.
     let below = c.loop-core-test.true in
     let count = c.requires.cores in
     c.loop-core.invariant new
-    (next_number g.W.Write.write_str_gives (λ core. text_of_core c.args.state.now.view c.args.line (record { 0 = core }))
-    (length c.args.state.now.view.sides) c.loop-core.core (omega (arith, below, count)) _ _ new c.in_ok-write_core.ensures rest)
+    (next_number g.W.Write.write_str_gives (λ core. text_of_core c.args.state.now.view
+    c.args.line (record { 0 = core }))
+    (length c.args.state.now.view.sides) c.loop-core.core (omega (arith, below, count)) _ _ new
+    c.in_ok-write_core.ensures rest)
 
 pub returns : goal.returns
 returns g c =
     let end = c.loop-core-test.false in
     let count = c.requires.cores in
     c.loop-core.invariant _
-    (last_number g.W.Write.write_str_gives (λ core. text_of_core c.args.state.now.view c.args.line (record { 0 = core }))
+    (last_number g.W.Write.write_str_gives (λ core. text_of_core c.args.state.now.view
+    c.args.line (record { 0 = core }))
     (length c.args.state.now.view.sides) c.loop-core.core (omega (arith, end, count)) _)

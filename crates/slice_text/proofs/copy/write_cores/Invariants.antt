@@ -10,5 +10,7 @@ abbrev pub invariant-loop-core : goal.invariant-loop-core
 invariant-loop-core g l =
     let took = g.W.Write.write_str_gives in
     (new : g.row.W.Denot)
-    → WritesInCalls took l.out (flat_map (λ core. text_of_core l.state.view l.line (record { 0 = core })) (drop l.core (range_with_len 0 (length l.state.view.sides)))) new
-    → WritesInCalls took l.fn.out (flat_map (λ core. text_of_core l.state.view l.line (record { 0 = core })) (range_with_len 0 (length l.state.view.sides))) new
+    → WritesInCalls took l.out (flat_map (λ core. text_of_core l.state.view l.line (record { 0 = core }))
+    (drop l.core (range_with_len 0 (length l.state.view.sides)))) new
+    → WritesInCalls took l.fn.out (flat_map (λ core. text_of_core l.state.view l.line (record { 0 = core }))
+    (range_with_len 0 (length l.state.view.sides))) new

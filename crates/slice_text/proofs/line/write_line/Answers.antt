@@ -8,5 +8,6 @@ returns g c =
     on_ok_weaker c.writeln.result
     (λ last. then _ _ _ _ _ c.in_ok-write_entry.ensures (then _ _ _ _ _ c.in_ok-write_owner.ensures
     (then _ _ _ _ _ (rw c.from_bits.ensures at c.in_ok-write.ensures.writes)
-    (then _ _ _ _ _ c.in_ok-write_home.ensures (then _ _ _ _ _ (rw c.as_slice.ensures.value at c.in_ok-write_copies.ensures) last)))))
+    (then _ _ _ _ _ c.in_ok-write_home.ensures (then _ _ _ _ _
+    (rw c.as_slice.ensures.value at c.in_ok-write_copies.ensures) last)))))
     c.writeln.ensures.writes

@@ -9,5 +9,7 @@ abbrev pub invariant-loop-core : goal.invariant-loop-core
 invariant-loop-core g l =
     let took = g.W.Write.write_str_gives in
     (new : g.row.W.Denot)
-    → WritesInCalls took l.out (flat_map (λ core. text_of_replies_to l.state.view (record { 0 = core })) (drop l.core (range_with_len 0 l.cores))) new
-    → WritesInCalls took l.fn.out (flat_map (λ core. text_of_replies_to l.state.view (record { 0 = core })) (range_with_len 0 l.cores)) new
+    → WritesInCalls took l.out (flat_map (λ core. text_of_replies_to l.state.view (record { 0 = core }))
+    (drop l.core (range_with_len 0 l.cores))) new
+    → WritesInCalls took l.fn.out (flat_map (λ core. text_of_replies_to l.state.view (record { 0 = core }))
+    (range_with_len 0 l.cores)) new

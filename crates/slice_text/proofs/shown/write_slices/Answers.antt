@@ -11,7 +11,8 @@ loop-number-preserved g c = λ new rest.
     let config = c.args.config.now in
     let number = c.loop-number.number in
     let slices = c.args.slices.now in
-    let here = rw (c.core_count-cores.ensures.cores, c.lines-lines.ensures.lines, c.index-slices-number.is) at c.in_ok-write_slice.ensures in
+    let here = rw (c.core_count-cores.ensures.cores, c.lines-lines.ensures.lines, c.index-slices-number.is)
+    at c.in_ok-write_slice.ensures in
     c.loop-number.invariant new
     (subst (λ text. WritesInCalls took c.loop-number.out text new)
     (sym (ap (text_of_slices config.cores config.lines number) (drop_more slices number _ c.loop-number-test.true)))

@@ -6,7 +6,8 @@ use Rattle.cache_array.proofs.array.CacheArray.has_victim.Goals as goal
 pub returns-clause-some : goal.returns-clause-some
 returns-clause-some g c =
     λ test answers.
-    some_read (record { sets = c.self.inside.sets.items.items; policy = c.self.inside.policy }) c.args.self.now c.args.line
+    some_read (record { sets = c.self.inside.sets.items.items; policy = c.self.inside.policy })
+    c.args.self.now c.args.line
     c.set_index.result c.index.result.now test c.has_victim.result c.self.view_is c.self.invariant
     c.set_index.ensures.index c.index.ensures (c.has_victim.ensures test answers)
 

@@ -10,7 +10,8 @@ returns-clause-choice g c =
     let asked =
     asked_as _ says (λ slot flag e. record { shown = e.shown; shows = e.shows; says = record { met = e.says.met } })
     c.index.result.now.slots c.victim.ensures.0 c.victim.ensures.1 in
-    choice_read (record { sets = c.self.inside.sets.items.items; policy = c.self.inside.policy }) c.args.self.now c.args.line
+    choice_read (record { sets = c.self.inside.sets.items.items; policy = c.self.inside.policy })
+    c.args.self.now c.args.line
     c.set_index.result c.index.result.now (FnReturnsAt g.F.Fn c.args.allowed) test
     (λ policy flags. g.P.Policy.choice policy flags c.args.word) c.victim.ensures.0 c.victim.result c.self.view_is
     c.self.invariant c.set_index.ensures.index c.index.ensures answers asked c.victim.ensures.4
@@ -22,7 +23,8 @@ returns-clause-victim g c =
     let asked =
     asked_as _ says (λ slot flag e. record { shown = e.shown; shows = e.shows; says = record { met = e.says.met } })
     c.index.result.now.slots c.victim.ensures.0 c.victim.ensures.1 in
-    victim_read (record { sets = c.self.inside.sets.items.items; policy = c.self.inside.policy }) c.args.self.now c.args.line
+    victim_read (record { sets = c.self.inside.sets.items.items; policy = c.self.inside.policy })
+    c.args.self.now c.args.line
     c.set_index.result c.index.result.now (FnReturnsAt g.F.Fn c.args.allowed) test
     (λ policy flags. g.P.Policy.choice policy flags c.args.word) g.P.Policy.moves g.P.Policy.prefers c.victim.ensures.0
     c.victim.result c.self.view_is c.self.invariant c.set_index.ensures.index c.index.ensures answers asked
@@ -35,7 +37,8 @@ returns-clause-some g c =
     let asked =
     asked_as _ says (λ slot flag e. record { shown = e.shown; shows = e.shows; says = record { met = e.says.met } })
     c.index.result.now.slots c.victim.ensures.0 c.victim.ensures.1 in
-    victim_some (record { sets = c.self.inside.sets.items.items; policy = c.self.inside.policy }) c.args.self.now c.args.line
+    victim_some (record { sets = c.self.inside.sets.items.items; policy = c.self.inside.policy })
+    c.args.self.now c.args.line
     c.set_index.result c.index.result.now (FnReturnsAt g.F.Fn c.args.allowed) test
     (g.P.Policy.choice c.self.inside.policy c.victim.ensures.0 c.args.word) c.victim.ensures.0 c.victim.result
     c.self.view_is c.self.invariant c.set_index.ensures.index c.index.ensures answers asked c.victim.ensures.2

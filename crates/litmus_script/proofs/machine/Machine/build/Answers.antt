@@ -8,8 +8,10 @@ loop-slice-preserved g c =
     let state = c.in_ok-state.state in
     let config = c.args.config in
     let count = c.loop-slice.invariant.count in
-    let each = are_slices_push config slices c.loop-slice.slice state c.loop-slice.invariant.each count c.in_ok-state.ensures.slice in
-    let fresh = are_new_push config (g.F.MissFile.bound_by config) slices c.loop-slice.slice state c.loop-slice.invariant.fresh count
+    let each = are_slices_push config slices c.loop-slice.slice state c.loop-slice.invariant.each count
+    c.in_ok-state.ensures.slice in
+    let fresh = are_new_push config (g.F.MissFile.bound_by config) slices c.loop-slice.slice state
+    c.loop-slice.invariant.fresh count
     c.in_ok-state.ensures.new in
     let pushed = c.in-Ok.ensures.items in
     rw pushed (record { count = length-append slices (state ∷ []) ∙ ap (λ n. n + 1) count; each = each; fresh = fresh })

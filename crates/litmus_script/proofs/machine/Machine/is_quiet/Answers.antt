@@ -9,7 +9,8 @@ pub loop-state-preserved : goal.loop-state-preserved
 loop-state-preserved g c =
     let here = rw c.deref-state-items.ensures.value at c.state-item.is in
     let within = rw c.deref-state-items.ensures.value at c.loop-state-test.true in
-    each_more (λ (p : PartsView). IsQuiet p.view) c.args.self.now.slices.items c.loop-state.state-index c.state-item.result here
+    each_more (λ (p : PartsView). IsQuiet p.view) c.args.self.now.slices.items c.loop-state.state-index
+    c.state-item.result here
     within c.loop-state.invariant (c.is_quiet.ensures.0 c.if-not-is_quiet.false)
 
 pub returns-then-not-is_quiet : goal.returns-then-not-is_quiet

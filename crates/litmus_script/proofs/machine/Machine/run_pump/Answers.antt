@@ -17,7 +17,8 @@ returns-clause-printed g c =
         pumped = _;
         middle = contents c.pump_slices.new.out;
         pumps = pumps_shown (λ m. m.slices.items) (λ m. m.config ≡ config) _ Silently
-            (λ old new slice answer before after same made. (made.0 ∙ same, made.1)) _ _ _ _ _ _ _ refl c.in_ok-pumped.ensures.pumped;
+            (λ old new slice answer before after same made. (made.0 ∙ same, made.1)) _ _ _ _ _ _ _ refl
+            c.in_ok-pumped.ensures.pumped;
         said = search rules;
       };
     })

@@ -6,7 +6,8 @@ use Rattle.litmus_script.proofs.machine.Machine.run_show.Goals as goal
 
 pub write_slices-requires : goal.write_slices-requires
 write_slices-requires g c =
-    rw c.as_slice.ensures.value (have_cores c.args.self.now.config c.args.self.now.slices.items c.args.self.now.shaped.each)
+    rw c.as_slice.ensures.value (have_cores c.args.self.now.config c.args.self.now.slices.items
+    c.args.self.now.shaped.each)
 
 pub returns-clause-printed : goal.returns-clause-printed
 returns-clause-printed g c =

@@ -10,12 +10,15 @@ use Rattle.litmus_script.proofs.machine.Machine.stats.Goals as goal
 pub returns-clause-alike : goal.returns-clause-alike
 returns-clause-alike g c =
     let stats = c.loop-slice.stats.items in
-    let as_many : length (views_of stats) ≡ c.loop-slice.slice = length-map stats (λ (s : Bor StatsView). s.now) ∙ c.loop-slice.invariant.count in
-    let some : 1 ≤ length (views_of stats) = omega (arith, as_many, c.slices-slice-end.ensures.allowed.some_slice, c.loop-slice-test.false, c.slices-slice-end.ensures.slices, c.loop-slice.auto.slice-end) in
+    let as_many : length (views_of stats) ≡ c.loop-slice.slice =
+    length-map stats (λ (s : Bor StatsView). s.now) ∙ c.loop-slice.invariant.count in
+    let some : 1 ≤ length (views_of stats) = omega (arith, as_many, c.slices-slice-end.ensures.allowed.some_slice,
+    c.loop-slice-test.false, c.slices-slice-end.ensures.slices, c.loop-slice.auto.slice-end) in
     are_alike c.args.self.now.config (views_of stats) some c.loop-slice.invariant.each
 
 pub returns-clause-counts : goal.returns-clause-counts
 returns-clause-counts g c =
     let slices = c.args.self.now.slices.items in
-    let all : length slices ≤ c.loop-slice.slice = omega (arith, c.loop-slice-test.false, c.slices-slice-end.ensures.slices, c.args.self.now.shaped.count) in
+    let all : length slices ≤ c.loop-slice.slice = omega
+    (arith, c.loop-slice-test.false, c.slices-slice-end.ensures.slices, c.args.self.now.shaped.count) in
     c.loop-slice.invariant.views ∙ ap counts_in (take_all c.loop-slice.slice slices all)

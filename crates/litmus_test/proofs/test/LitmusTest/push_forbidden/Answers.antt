@@ -2,7 +2,8 @@ use Rattle.std.proofs.Common.{◌<◌, arith, is_ok, vec_len}
 use Rattle.std.proofs.lemmas.List.Elements.{All-push}
 use Rattle.litmus_test.specs.declared.test.Pair.{Pair}
 use Rattle.litmus_test.specs.Text.{said_by}
-use Rattle.litmus_test.proofs.BodyLemmas.{forbids_names, forbidden_said, pairs_count, pairs_more, sound_forbidden, with_forbidden}
+use Rattle.litmus_test.proofs.BodyLemmas.{forbids_names, forbidden_said, pairs_count, pairs_more, sound_forbidden}
+use Rattle.litmus_test.proofs.BodyLemmas.{with_forbidden}
 use Rattle.litmus_test.proofs.test.LitmusTest.push_forbidden.Goals as goal
 
 pub pair_of-pair-requires : goal.pair_of-pair-requires

@@ -1,4 +1,5 @@
-use Rattle.litmus_text.proofs.ConfigLineLemmas.{count_fault, counter_fault, exclusive_fault, init_fault, misses_fault, nothing_fault, policy_fault, unnamed_fault}
+use Rattle.litmus_text.proofs.ConfigLineLemmas.{count_fault, counter_fault, exclusive_fault, init_fault, misses_fault}
+use Rattle.litmus_text.proofs.ConfigLineLemmas.{nothing_fault, policy_fault, unnamed_fault}
 use Rattle.litmus_text.proofs.FaultLemmas.{handed_on}
 use Rattle.litmus_text.proofs.FormLemmas.{no_field_written, no_words}
 use Rattle.litmus_text.proofs.config_line.ConfigLine.parse.Goals as goal

@@ -9,13 +9,15 @@ loop-number-init g c = λ number thread below is. absurd (omega (arith, below))
 pub loop-number-preserved : goal.loop-number-preserved
 loop-number-preserved g c =
     let ends = c.is_at_end.ensures.0 c.if-not-is_at_end.false in
-    at-end-more c.args.test.now.threads.items (steps_of c.args.self.now.places.items) c.loop-number.number c.index.result.now
+    at-end-more c.args.test.now.threads.items (steps_of c.args.self.now.places.items)
+    c.loop-number.number c.index.result.now
     c.loop-number.invariant (rw (sym c.index.ensures) ends)
 
 pub returns : goal.returns
 returns g c = (
   λ holds number thread is.
       let (there, same) = found c.args.test.now.threads.items number thread is in
-      c.loop-number.invariant number thread (omega (arith, there, c.loop-number.auto.number-end, c.loop-number-test.false)) is,
+      c.loop-number.invariant number thread (omega (arith, there, c.loop-number.auto.number-end,
+      c.loop-number-test.false)) is,
   λ all. refl,
 )

@@ -3,5 +3,6 @@ use Rattle.litmus_walk.proofs.walker.Walker.set_waiting.Goals as goal
 
 pub returns-in-Some-clause-steps : goal.returns-in-Some-clause-steps
 returns-in-Some-clause-steps g c =
-    steps-kept c.args.self.now.places.items c.args.thread c.in-Some.place.now c.set_waiting.new.self c.in-Some.ensures.value
+    steps-kept c.args.self.now.places.items c.args.thread c.in-Some.place.now
+    c.set_waiting.new.self c.in-Some.ensures.value
     c.set_waiting.ensures

@@ -27,7 +27,8 @@ returns-in_ok-evict-in-Some-Evict-clause-walks g c =
     item-at program.steps.items number c.in-Some-Evict.field-0.now own.3.0 own.1 ∙ ap Some c.in-Some-Evict.field-0-is in
     rw c.done.ensures.recorded
     (walks_by threads c.args.self.now.recorded c.evict.new.self
-    (record { command = commands.Evict program.core c.in-Some-Evict.line; step = Some (record { thread = c.args.thread; step = number }); done = true })
+    (record { command = commands.Evict program.core c.in-Some-Evict.line;
+    step = Some (record { thread = c.args.thread; step = number }); done = true })
     (rw is_thread (refl, is_step)) c.in_ok-evict-in-Some-Evict.ensures)
 
 pub returns-in_ok-evict-in-Some-Evict-clause-done : goal.returns-in_ok-evict-in-Some-Evict-clause-done
@@ -48,7 +49,8 @@ returns-in_ok-evict-in-Some-Evict-clause-done g c =
     (item-at c.args.self.now.places.items c.args.thread c.in-Some-Some.place.now stood.3.0 stood.1) in
     rw (c.done.ensures.recorded, c.done.ensures.steps, c.in_ok-evict-in-Some-Evict.ensures.calls)
     (done-made threads steps calls
-    (record { command = commands.Evict program.core c.in-Some-Evict.line; step = Some (record { thread = c.args.thread; step = number }); done = true })
+    (record { command = commands.Evict program.core c.in-Some-Evict.line;
+    step = Some (record { thread = c.args.thread; step = number }); done = true })
     (record { thread = c.args.thread; step = number }) program (actions.Evict c.in-Some-Evict.line) refl refl refl
     is_thread is_step stands)
 
@@ -63,10 +65,12 @@ returns-in-Some-Settle-clause-done g c =
     let is_thread = item-at threads c.args.thread program look.3.0 look.1 in
     let own = rw c.deref-3.ensures.value at c.in-Some-Settle.ensures.lookup in
     let is_step : slice_get program.steps.items number ≡ Some actions.Settle =
-    item-at program.steps.items number c.in-Some-Settle.field-0.now own.3.0 own.1 ∙ ap Some c.in-Some-Settle.field-0-is in
+    item-at program.steps.items number c.in-Some-Settle.field-0.now own.3.0 own.1
+    ∙ ap Some c.in-Some-Settle.field-0-is in
     let stood = rw c.deref-2.ensures.value at c.in-Some-Some.ensures'.lookup in
     let stands : slice_get steps c.args.thread ≡ Some number =
     steps-at c.args.self.now.places.items c.args.thread c.in-Some-Some.place.now
     (item-at c.args.self.now.places.items c.args.thread c.in-Some-Some.place.now stood.3.0 stood.1) in
     rw (c.done-in-Some-Settle.ensures.recorded, c.done-in-Some-Settle.ensures.steps)
-    (done-settled threads steps calls (record { thread = c.args.thread; step = number }) program is_thread is_step stands)
+    (done-settled threads steps calls (record { thread = c.args.thread; step = number }) program
+    is_thread is_step stands)

@@ -7,7 +7,8 @@ use Rattle.mshr_file.proofs.registers.RegisterTable.find.Goals as goal
 
 pub returns-clause-served : goal.returns-clause-served
 returns-clause-served c =
-    c.is_some.ensures ∙ ap is_some c.search.ensures ∙ found-any (row_serves c.args.line.0) c.args.self.now.rows.items.items
+    c.is_some.ensures ∙ ap is_some c.search.ensures
+    ∙ found-any (row_serves c.args.line.0) c.args.self.now.rows.items.items
     ∙ row_for c.args.self.now c.args.line.0 c.requires
 
 pub returns-clause-sound : goal.returns-clause-sound

@@ -20,10 +20,12 @@ push-requires c =
     omega (arith, short, equal)
 
 same : (c : goal.After-self-2-1) →
-    c.index_mut-register.result.now ≡ slice_index_or c.args.self.now.registers.items.items c.place_of-place.result no_register
+    c.index_mut-register.result.now ≡ slice_index_or c.args.self.now.registers.items.items
+    c.place_of-place.result no_register
 same c =
     c.index_mut-register.ensures.value
-    ∙ get_or_default c.args.self.now.registers.items.items c.place_of-place.result c.index_mut-register.result.now no_register
+    ∙ get_or_default c.args.self.now.registers.items.items c.place_of-place.result
+    c.index_mut-register.result.now no_register
     c.place_of-place.ensures.inside
 
 step : (c : goal.After-self-2-1) →

@@ -8,10 +8,12 @@ use Rattle.mshr_file.proofs.Steps.{sound}
 use Rattle.mshr_file.proofs.registers.RegisterTable.take_first.Goals as goal
 
 same : (c : goal.After-self-3-1) →
-    c.index_mut-register.result.now ≡ slice_index_or c.args.self.now.registers.items.items c.place_of-place.result no_register
+    c.index_mut-register.result.now ≡ slice_index_or c.args.self.now.registers.items.items
+    c.place_of-place.result no_register
 same c =
     c.index_mut-register.ensures.value
-    ∙ get_or_default c.args.self.now.registers.items.items c.place_of-place.result c.index_mut-register.result.now no_register
+    ∙ get_or_default c.args.self.now.registers.items.items c.place_of-place.result
+    c.index_mut-register.result.now no_register
     c.place_of-place.ensures.inside
 
 step : (c : goal.After-self-3-1) →

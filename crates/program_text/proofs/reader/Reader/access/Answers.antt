@@ -64,7 +64,8 @@ returns-clause-counted c =
     (c.in_ok-push_accesses.ensures may.order
     ∙ ap (λ (p : CoreProgram). p.accesses.items ++ spread c.args.range.first c.args.range.last c.args.op)
     c.index_mut.ensures.value) in
-    let counted = spread_counted (said_by c.args.self.now) _ c.args.self.now.accesses c.args.range.first c.args.range.last
+    let counted = spread_counted (said_by c.args.self.now) _ c.args.self.now.accesses
+    c.args.range.first c.args.range.last
     c.args.op c.requires.counted.count may changed in
     record {
       count = counted.0;

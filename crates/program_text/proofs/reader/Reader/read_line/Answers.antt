@@ -36,7 +36,8 @@ pub returns-in-Ok-clause-fault : goal.returns-in-Ok-clause-fault
 unfolding said_by
 returns-in-Ok-clause-fault c =
     IfErr-weaker c.take.result _ _
-    (λ fault place all left reading. place_fault all left (said_by c.args.self.now) _ _ (line_of c.in-Ok.line) fault reading
+    (λ fault place all left reading. place_fault all left (said_by c.args.self.now) _ _
+    (line_of c.in-Ok.line) fault reading
     c.requires.counted.checked (rw c.as_slice.ensures.value at c.in-Ok.ensures.reads.written) place)
     c.take.ensures.fault
 

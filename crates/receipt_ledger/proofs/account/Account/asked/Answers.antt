@@ -38,5 +38,6 @@ returns c =
     (begun-streak had.streaks.items had.accepted had.receipts.items c.self.invariant c.args.seq c.begun-begun.result _ _
     c.deref.ensures.value c.if-self-seq.false c.begun-begun.ensures.within c.begun-begun.ensures.begun
     c.begun-begun.ensures.later c.index.ensures)
-    ∙ ap (λ (receipts : List Receipt). Some (told_in receipts c.index.result.now c.args.seq)) (sym c.deref-2.ensures.value)
+    ∙ ap (λ (receipts : List Receipt). Some (told_in receipts c.index.result.now c.args.seq))
+    (sym c.deref-2.ensures.value)
     ∙ ap (λ (a : Ask). Some a) (sym c.told_in.ensures))

@@ -19,12 +19,14 @@ invariant_of-self c =
     let small : c.args.ask.seen < 2 ^ 64 = search rules in
     rw (c.push_reserved.ensures.items)
     (on-streaks had.streaks.items had.accepted had.receipts.items c.self.invariant c.args.ask c.args.receipt
-    c.requires.named (on-held _ _ _ _ _ _ c.deref.ensures.value c.deref-2.ensures.value (c.goes_on.ensures c.if-goes_on.true)) small)
+    c.requires.named (on-held _ _ _ _ _ _ c.deref.ensures.value c.deref-2.ensures.value
+    (c.goes_on.ensures c.if-goes_on.true)) small)
 
 pub returns-then-goes_on-clause-asked : goal.returns-then-goes_on-clause-asked
 returns-then-goes_on-clause-asked c =
     let had = c.self.inside in
     rw (c.push_reserved.ensures.items)
     (on-asks had.streaks.items had.accepted had.receipts.items c.self.invariant c.args.ask c.args.receipt
-    c.requires.named (on-held _ _ _ _ _ _ c.deref.ensures.value c.deref-2.ensures.value (c.goes_on.ensures c.if-goes_on.true))
+    c.requires.named (on-held _ _ _ _ _ _ c.deref.ensures.value c.deref-2.ensures.value
+    (c.goes_on.ensures c.if-goes_on.true))
     ∙ ap (λ (v : AccountView). v.asked ++ c.args.ask ∷ []) c.self.view_is)

@@ -17,5 +17,6 @@ returns-in-Ok-Done-clause-machine g c =
     let old = c.args.state.now.view in
     let asked = next_of old c.args.port.now.core c.args.request in
     subst (λ number. Leads (accept asked ∷ perform asked ∷ hand number ∷ []) old c.ask.new.state.view)
-    (sym (done-number c.args.port.now c.ask.new.port c.args.request done.field-0-0 c.last.result told.port c.last.ensures))
+    (sym (done-number c.args.port.now c.ask.new.port c.args.request done.field-0-0 c.last.result
+    told.port c.last.ensures))
     told.machine

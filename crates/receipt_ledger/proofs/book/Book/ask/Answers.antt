@@ -30,7 +30,8 @@ pub give_done-requires-clause-named : goal.give_done-requires-clause-named
 give_done-requires-clause-named g c e there =
     let told = rw c.in-Ok-Done.field-0-is at c.in-Ok-Done.ensures in
     let last =
-    done-last c.args.state.now c.issue.new.self c.core.result c.args.request c.in-Ok-Done.number told.step told.machine in
+    done-last c.args.state.now c.issue.new.self c.core.result c.args.request c.in-Ok-Done.number
+    told.step told.machine in
     ap request_of (last.is e there)
 
 pub returns-in-Err-clause-judged : goal.returns-in-Err-clause-judged
@@ -58,7 +59,8 @@ pub returns-in-Ok-Done-clause-port : goal.returns-in-Ok-Done-clause-port
 returns-in-Ok-Done-clause-port g c =
     let told = rw c.in-Ok-Done.field-0-is at c.in-Ok-Done.ensures in
     let last =
-    done-last c.args.state.now c.issue.new.self c.core.result c.args.request c.in-Ok-Done.number told.step told.machine in
+    done-last c.args.state.now c.issue.new.self c.core.result c.args.request c.in-Ok-Done.number
+    told.step told.machine in
     let is = last.is c.give_done.ensures.entry c.give_done.ensures.there in
     let same = c.make_room.ensures.same in (
       given g c,

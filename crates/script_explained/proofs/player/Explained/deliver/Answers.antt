@@ -10,4 +10,5 @@ returns-clause-told g c =
     let config = c.args.self.now.machine.config in
     let at : c.slice_of-slice.result ≡ (line_of c.args.pick).0 % config.slices =
     c.slice_of-slice.ensures.slice ∙ ap (λ (line : LineAddr). line.0 % config.slices) c.line.ensures in
-    on_ok_weaker c.deliver_in.result (λ told. delivery_explained config c.args.pick _ _ _ _ _ at told) c.deliver_in.ensures.told
+    on_ok_weaker c.deliver_in.result (λ told. delivery_explained config c.args.pick _ _ _ _ _ at told)
+    c.deliver_in.ensures.told

@@ -4,7 +4,8 @@ use Rattle.script_explained.proofs.player.Explained.deliver_in.Goals as goal
 
 pub invariant_of-self : goal.invariant_of-self
 invariant_of-self g c = record {
-  shaped = machine_kept c.args.self.now.machine.config c.args.self.now.machine.slices.items c.args.slice c.index_mut.result.now
+  shaped = machine_kept c.args.self.now.machine.config c.args.self.now.machine.slices.items
+      c.args.slice c.index_mut.result.now
       c.deliver.new.state c.requires c.index_mut.ensures.value c.deliver.ensures.same c.args.self.now.machine.shaped;
 }
 

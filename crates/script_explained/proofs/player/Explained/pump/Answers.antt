@@ -17,7 +17,8 @@ returns-clause-told g c =
         pumped = _;
         middle = contents c.pump_slices.new.out;
         pumps = pumps_shown (λ p. p.machine.slices.items) (λ p. p.machine.config ≡ config) _ TellsNext
-            (λ old new slice answer before after same made. (made.0 ∙ same, made.1)) _ _ _ _ _ _ _ refl c.in_ok-pumped.ensures.pumped;
+            (λ old new slice answer before after same made. (made.0 ∙ same, made.1)) _ _ _ _ _ _ _ refl
+            c.in_ok-pumped.ensures.pumped;
         said = search rules;
       };
     })

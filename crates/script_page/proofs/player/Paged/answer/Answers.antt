@@ -4,5 +4,6 @@ use Rattle.script_page.proofs.player.Paged.answer.Goals as goal
 
 pub invariant_of-self : goal.invariant_of-self
 invariant_of-self g c = record {
-  placed = subst (λ config. All (HasLine config) c.args.self.now.named.items) (sym c.play.ensures.config) c.args.self.now.placed;
+  placed = subst (λ config. All (HasLine config) c.args.self.now.named.items)
+      (sym c.play.ensures.config) c.args.self.now.placed;
 }

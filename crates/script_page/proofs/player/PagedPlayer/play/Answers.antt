@@ -30,21 +30,30 @@ returns-clause-plays g c =
           shown = c.as_slice-4.result.now;
         };
         command_of = refl;
-        played = subst (λ text. IsExplained config command old.explained.machine.slices.items slices (Some []) (Some text))
+        played = subst (λ text. IsExplained config command old.explained.machine.slices.items
+            slices (Some []) (Some text))
             (sym c.as_slice.ensures.value)
-            (subst (λ explained. IsExplained config command old.explained.machine.slices.items explained.machine.slices.items (Some [])
+            (subst (λ explained. IsExplained config command old.explained.machine.slices.items
+            explained.machine.slices.items (Some [])
             (Some c.in_ok-answer.answer.items)) (sym c.in_ok-name.ensures.machine) told.played);
         names = subst (λ config. Names config (line_named command) old.named.items new.named.items) told.config
-            (subst (λ named. Names c.answer.new.self.explained.machine.config (line_named command) named.items new.named.items) told.named
+            (subst (λ named. Names c.answer.new.self.explained.machine.config (line_named command) named.items
+            new.named.items) told.named
             c.in_ok-name.ensures.names);
-        states = subst (λ text. ShowsStates config slices new.named.items (Some []) (Some text)) (sym c.as_slice-2.ensures.value)
-            (subst (λ config. ShowsStates config slices new.named.items (Some []) (Some c.in_ok-states.states.items)) same
+        states = subst (λ text. ShowsStates config slices new.named.items (Some []) (Some text))
+            (sym c.as_slice-2.ensures.value)
+            (subst (λ config. ShowsStates config slices new.named.items (Some []) (Some c.in_ok-states.states.items))
+            same
             c.in_ok-states.ensures.states);
-        waiting = subst (λ text. IsPrinted config commands.Waiting slices slices (Some []) (Some text)) (sym c.as_slice-3.ensures.value)
-            (subst (λ config. IsPrinted config commands.Waiting slices slices (Some []) (Some c.in_ok-waiting.waiting.items)) same
+        waiting = subst (λ text. IsPrinted config commands.Waiting slices slices (Some []) (Some text))
+            (sym c.as_slice-3.ensures.value)
+            (subst (λ config. IsPrinted config commands.Waiting slices slices (Some [])
+            (Some c.in_ok-waiting.waiting.items)) same
             c.in_ok-waiting.ensures.waiting);
-        shown = subst (λ text. IsPrinted config commands.Show slices slices (Some []) (Some text)) (sym c.as_slice-4.ensures.value)
-            (subst (λ config. IsPrinted config commands.Show slices slices (Some []) (Some c.in_ok-shown.shown.items)) same
+        shown = subst (λ text. IsPrinted config commands.Show slices slices (Some []) (Some text))
+            (sym c.as_slice-4.ensures.value)
+            (subst (λ config. IsPrinted config commands.Show slices slices (Some []) (Some c.in_ok-shown.shown.items))
+            same
             c.in_ok-shown.ensures.shown);
         written = search rules;
       },

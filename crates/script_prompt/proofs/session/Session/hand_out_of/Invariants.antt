@@ -6,6 +6,7 @@ use Rattle.script_prompt.proofs.session.Session.hand_out_of.Given as goal
 abbrev pub invariant-loop-number : goal.invariant-loop-number
 invariant-loop-number g l = record {
   config : l.self.player.machine.config ≡ l.fn.self.player.machine.config;
-  plays : IsContinued l.fn.self.player.machine.config l.fn.self.player.machine.slices.items l.self.player.machine.slices.items
+  plays : IsContinued l.fn.self.player.machine.config l.fn.self.player.machine.slices.items
+      l.self.player.machine.slices.items
       l.fn.self.script.items l.self.script.items;
 }

@@ -6,5 +6,6 @@ pub returns : goal.returns
 returns g c =
     let then = writes_in_calls_append g.W.Write.write_str_gives in
     on_ok_weaker c.write_lines.result
-    (λ last. then _ _ _ _ _ c.in_ok-write_time.ensures (then _ _ _ _ _ c.in_ok-write_command.ensures (rw c.as_slice.ensures.value at last)))
+    (λ last. then _ _ _ _ _ c.in_ok-write_time.ensures
+    (then _ _ _ _ _ c.in_ok-write_command.ensures (rw c.as_slice.ensures.value at last)))
     c.write_lines.ensures

@@ -19,10 +19,13 @@ returns-clause-plays g c =
       ap (λ machine. machine.config) named.machine ∙ told.config,
       record {
         answer = c.answer.new.self.answer.items;
-        made = subst (λ machine. IsPrinted old.machine.config command old.machine.slices.items machine.slices.items (Some []) (Some c.answer.new.self.answer.items))
+        made = subst (λ machine. IsPrinted old.machine.config command old.machine.slices.items machine.slices.items
+            (Some []) (Some c.answer.new.self.answer.items))
             (sym named.machine) told.played;
-        names = subst (λ config. Names config (line_named command) old.named.items c.name.new.self.named.items) told.config
-            (subst (λ named. Names c.answer.new.self.machine.config (line_named command) named.items c.name.new.self.named.items) told.named
+        names = subst (λ config. Names config (line_named command) old.named.items c.name.new.self.named.items)
+            told.config
+            (subst (λ named. Names c.answer.new.self.machine.config (line_named command) named.items
+            c.name.new.self.named.items) told.named
             named.names);
         counted = ap next (named.count ∙ told.count);
         written = search rules;

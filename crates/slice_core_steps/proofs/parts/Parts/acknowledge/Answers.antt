@@ -49,7 +49,8 @@ returns g c =
     ap (λ k. k.ring) c.drop_at.ensures ∙ ap (λ p. with_listed p.ring local.0) c.self.view_is in
     settles c.args.self.now _ local core
     (channels.Ack core c.args.from) c.args.place _ c.acknowledge.new.self c.settle_copy.new.side
-    false (after_take (channels_at v local) (channels.Ack core c.args.from)) c.settle_copy.new.log.items c.count_message.new.self
+    false (after_take (channels_at v local) (channels.Ack core c.args.from)) c.settle_copy.new.log.items
+    c.count_message.new.self
     c.settle_copy.new.pending c.requires.stands is (sym none)
     c.settle_copy.ensures.taken c.settle_copy.ensures.sound after
     (search rules) (search rules) refl (search rules) (search rules)

@@ -4,7 +4,8 @@ use Rattle.slice_core_steps.proofs.parts.Parts.carry_out.Goals as goal
 pub returns-in-Data : goal.returns-in-Data
 returns-in-Data g c =
     rw (c.in-Fill.is, c.in-Data.is)
-    (after_fill c.args.self.now c.fill.new.self c.args.local c.in-Data.core c.in-Fill.place c.in-Fill.next c.fill.ensures)
+    (after_fill c.args.self.now c.fill.new.self c.args.local c.in-Data.core c.in-Fill.place
+    c.in-Fill.next c.fill.ensures)
 
 pub returns-in-Ack : goal.returns-in-Ack
 returns-in-Ack g c =

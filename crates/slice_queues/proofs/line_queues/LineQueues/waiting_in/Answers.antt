@@ -4,7 +4,8 @@ use Rattle.slice_queues_message.specs.Class.{is_of_class}
 use Rattle.slice_queues.specs.Line.{LineChannels}
 use Rattle.slice_queues.specs.Waiting.{line_waiting, HasEachOnceIn}
 use Rattle.slice_queues.proofs.OnceLaws.{line_waiting-once}
-use Rattle.slice_queues.proofs.WaitingLaws.{AllByRecursion-members, marks_of-below, marked_waiting-of_class, HasEachOnceIn-from_all}
+use Rattle.slice_queues.proofs.WaitingLaws.{AllByRecursion-members, marks_of-below, marked_waiting-of_class}
+use Rattle.slice_queues.proofs.WaitingLaws.{HasEachOnceIn-from_all}
 use Rattle.slice_queues.proofs.line_queues.LineQueues.waiting_in.Goals as goal
 
 pub new-requires : goal.new-requires

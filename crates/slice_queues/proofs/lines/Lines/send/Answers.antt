@@ -60,7 +60,8 @@ returns-in-Req-clause-after c =
     c.place_of-place.ensures.cores c.place_of-place.ensures.head c.place_of-place.ensures.capacity refl refl
     (c.send_to.ensures.marked line there here)).channels
     ∙ ap (set c.args.self.now c.args.local.0)
-    (sym (c.send_to.ensures.line line here) ∙ ap (λ (way : Channel). after_send line way c.args.message) c.in-Req.channel-is)
+    (sym (c.send_to.ensures.line line here) ∙ ap (λ (way : Channel). after_send line way c.args.message)
+    c.in-Req.channel-is)
 
 pub returns-in-Req-clause-sent : goal.returns-in-Req-clause-sent
 returns-in-Req-clause-sent c =

@@ -1,4 +1,5 @@
-use Rattle.std.proofs.Common.{◌≡◌, ◌<◌, ◌∙◌, ◌++◌, [], ◌∷◌, ap, sym, arith, false, true, length, get_or, refl, subst, rules}
+use Rattle.std.proofs.Common.{◌≡◌, ◌<◌, ◌∙◌, ◌++◌, [], ◌∷◌, ap, sym, arith, false, true, length, get_or, refl, subst}
+use Rattle.std.proofs.Common.{rules}
 use Rattle.std.proofs.Math.ListN.{set}
 use Rattle.slice_queues.specs.Ring.{LineOrder, IsRound, is_listed, with_listed}
 use Rattle.slice_queues.proofs.RingLaws.{IsRound-push, pushed-items, listed-view}

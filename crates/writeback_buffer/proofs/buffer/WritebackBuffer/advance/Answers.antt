@@ -1,6 +1,7 @@
 use Rattle.std.proofs.Common.{◌≡◌, false, true, subst, sym, ◌∙◌}
 use Rattle.std.specs.Prelude.{IsSome}
-use Rattle.writeback_buffer.proofs.BufferLaws.{ChangesOnly-with_state, IsBuffer-with_state, held-missing, with_state-written}
+use Rattle.writeback_buffer.proofs.BufferLaws.{ChangesOnly-with_state, IsBuffer-with_state, held-missing}
+use Rattle.writeback_buffer.proofs.BufferLaws.{with_state-written}
 use Rattle.writeback_buffer.proofs.buffer.WritebackBuffer.advance.Goals as goal
 
 pub unreachable-requires : goal.unreachable-requires

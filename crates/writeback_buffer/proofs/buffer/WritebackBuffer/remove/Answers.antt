@@ -1,5 +1,6 @@
 use Rattle.std.proofs.Common.{Some, ap, slice_index_or, sym, ◌∙◌}
-use Rattle.writeback_buffer.proofs.BufferLaws.{ChangesOnly-without_line, IsBuffer-without_line, held-found, held-missing, without_line-missing, without_line-removed}
+use Rattle.writeback_buffer.proofs.BufferLaws.{ChangesOnly-without_line, IsBuffer-without_line, held-found}
+use Rattle.writeback_buffer.proofs.BufferLaws.{held-missing, without_line-missing, without_line-removed}
 use Rattle.writeback_buffer.proofs.buffer.WritebackBuffer.remove.Goals as goal
 
 pub returns-in_default-clause-taken : goal.returns-in_default-clause-taken

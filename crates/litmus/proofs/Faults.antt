@@ -7,18 +7,18 @@ use Rattle.litmus_text.specs.Fault.{IsAtLine}
 use Rattle.litmus_text.specs.Statement.{statements_from}
 use Rattle.litmus_text.specs.declared.fault.TextFault.{TextFault}
 use Rattle.litmus_text.specs.declared.fault.TextFault.TheVariants as faults
-use Rattle.trace_check.specs.Trace.{IsFaultAt as IsTraceFaultAt, IsNoMemoryOr as HasNoMemoryOr, IsNoTrace}
+use Rattle.trace_check.specs.Trace.{IsFaultAt as IsTraceFaultAt, IsNoMemoryOrLine, IsNoTrace}
 use Rattle.litmus.specs.Check.{IsNotChecked}
-use Rattle.litmus.specs.Tests.{IsNotRun}
+use Rattle.litmus.specs.Tests.{IsTestNotRun}
 
 pub not-run : (text : List ℕ) (fault : TextFault) → IsNoMemoryOr ((whole : Said) → ¬ IsLitmusTest text whole) fault
-    → IsAtLine (IsFaultAt (statements_from 0 (lines text))) fault → IsNotRun text fault
+    → IsAtLine (IsFaultAt (statements_from 0 (lines text))) fault → IsTestNotRun text fault
 not-run text faults.NoMemory refused line = inl tt
 not-run text faults.CannotWrite refused line = absurd refused
 not-run text (faults.Line number fault) refused line = inr (refused, line)
 not-run text (faults.Config error) refused line = inr (refused, line)
 
-pub not-checked : (text : List ℕ) (fault : TextFault) → HasNoMemoryOr (IsNoTrace text) fault
+pub not-checked : (text : List ℕ) (fault : TextFault) → IsNoMemoryOrLine (IsNoTrace text) fault
     → IsAtLine (IsTraceFaultAt (statements_from 0 (lines text))) fault → IsNotChecked text fault
 not-checked text faults.NoMemory refused line = inl tt
 not-checked text faults.CannotWrite refused line = absurd refused

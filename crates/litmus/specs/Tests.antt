@@ -16,7 +16,7 @@ pub record IsOfTest (text : List ℕ) (holds : LitmusTest → Type 0) : Type 0 w
 
 -- Why nothing was done with it: there was no memory, the output couldn't be written, or the text writes no test, which
 -- the first line at fault tells.
-abbrev pub IsNotRun : List ℕ → TextFault → Type 0
-IsNotRun text fault =
+abbrev pub IsTestNotRun : List ℕ → TextFault → Type 0
+IsTestNotRun text fault =
     IsOfRun fault
     ⊎ (((whole : Said) → ¬ IsLitmusTest text whole) × IsAtLine (IsFaultAt (statements_from 0 (lines text))) fault)

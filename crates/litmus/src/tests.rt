@@ -1,5 +1,5 @@
 ghost use Rattle.std.specs.Prelude.{◌⊎◌, IfErr, IfOk, Option, unwrap_or};
-ghost use Rattle.litmus.specs.Tests.{IsNotRun, IsOfTest};
+ghost use Rattle.litmus.specs.Tests.{IsTestNotRun, IsOfTest};
 ghost use Rattle.litmus_rounds.specs.Run.{PrintsRounds, PrintsStuck};
 ghost use Rattle.litmus_threads.specs.Run.{IsEndOf};
 ghost use Rattle.litmus_walk.specs.Script.{PrintsWalk};
@@ -27,7 +27,7 @@ pub fn run_litmus<R: Threads + Wait + Sync, W: Write, P: Progress>(
 ) -> Result<u8, TextFault>
     ensures done { IfOk result (λ status. IsOfTest input.now
         (λ test. IsEndOf test (λ text. Appends (W.contents out.old) (W.contents out.new) text) status)) }
-    ensures fault { IfErr result (IsNotRun input.now) }
+    ensures fault { IfErr result (IsTestNotRun input.now) }
 {
     let test = LitmusTest::read(alloc, input)?;
     let ended = play_test(alloc, rt, &test, seed, limit, progress, out);
@@ -50,7 +50,7 @@ pub fn run_walk<W: Write, P: Progress>(
         PrintsRounds test (bound_of test.misses test.config) (unwrap_or rounds test.rounds) seed status
         (W.contents out.old) (W.contents out.new)
         ⊎ PrintsStuck (unwrap_or rounds test.rounds) status (W.contents out.old) (W.contents out.new))) }
-    ensures fault { IfErr result (IsNotRun input.now) }
+    ensures fault { IfErr result (IsTestNotRun input.now) }
 {
     let test = LitmusTest::read(alloc, input)?;
     let rounds = rounds.unwrap_or(test.rounds);
@@ -68,7 +68,7 @@ pub fn write_walk<W: Write>(
 ) -> Result<u8, TextFault>
     ensures done { IfOk result (λ status. IsOfTest input.now (λ test.
         PrintsWalk test (bound_of test.misses test.config) status (W.contents out.old) (W.contents out.new))) }
-    ensures fault { IfErr result (IsNotRun input.now) }
+    ensures fault { IfErr result (IsTestNotRun input.now) }
 {
     let test = LitmusTest::read(alloc, input)?;
     let ended = litmus_walk::write_walk(alloc, &test, seed, out);

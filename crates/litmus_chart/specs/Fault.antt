@@ -12,7 +12,7 @@ abbrev pub Draws : Unit {0} → List ℕ → Command → Option (List ℕ) → O
 Draws old line command before after new = Unit {0}
 
 -- the commands are drawn up to one that can't be
-pub record StopsAt (config : Config) (commands : List (ℕ × List (List ℕ))) (fault : TextFault) : Type 0 where
+pub record ChartStopsAt (config : Config) (commands : List (ℕ × List (List ℕ))) (fault : TextFault) : Type 0 where
   pub before : Option (List ℕ)
   pub after : Option (List ℕ)
   pub stopped : PlaysUpTo Draws config commands tt before after fault
@@ -22,4 +22,4 @@ abbrev pub IsChartFault : List (ℕ × List (List ℕ)) → TextFault → Type 0
 IsChartFault all fault =
     IsNotConfigured all fault ⊎ IsOfRun fault
     ⊎ ((config : Config) × (bound : Bound) × (commands : List (ℕ × List (List ℕ)))
-    × IsSetUp all config bound commands × StopsAt config commands fault)
+    × IsSetUp all config bound commands × ChartStopsAt config commands fault)

@@ -1,6 +1,6 @@
 ghost use Rattle.std.specs.Prelude.{◌≡◌, ◌<◌, ◌⊎◌, IfErr, IfOk};
 ghost use Rattle.std.specs.Str.Lines.{lines};
-ghost use Rattle.litmus_chart.specs.Fault.{IsChartFault, StopsAt};
+ghost use Rattle.litmus_chart.specs.Fault.{IsChartFault, ChartStopsAt};
 ghost use Rattle.litmus_script.specs.Play.{IsOfRun};
 ghost use Rattle.litmus_script.specs.Script.{commands_of};
 ghost use Rattle.litmus_text.specs.Command.{HasCore, IsInRange};
@@ -54,7 +54,7 @@ fn chart_of<W: Write>(
     out: &mut Answers<'_, W>,
 ) -> Result<(), TextFault>
     ensures fault { IfErr result
-        (λ fault. IsOfRun fault ⊎ StopsAt script.entry.config (commands_of script.entry.commands) fault) }
+        (λ fault. IsOfRun fault ⊎ ChartStopsAt script.entry.config (commands_of script.entry.commands) fault) }
 {
     match script.misses {
         MissKind::Explicit => chart_on::<ExplicitFile, W>(alloc, script, out),
@@ -69,7 +69,7 @@ fn chart_on<F: MissFile, W: Write>(
     out: &mut Answers<'_, W>,
 ) -> Result<(), TextFault>
     ensures fault { IfErr result
-        (λ fault. IsOfRun fault ⊎ StopsAt script.entry.config (commands_of script.entry.commands) fault) }
+        (λ fault. IsOfRun fault ⊎ ChartStopsAt script.entry.config (commands_of script.entry.commands) fault) }
 {
     let Script {
         config,

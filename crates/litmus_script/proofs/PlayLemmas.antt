@@ -16,9 +16,16 @@ module _ {P Q : Type 0} (view : P → Q) (Inv : P → Type 0)
       → PlaysOne plays config words old new before after
       → Inv new × PlaysOne shows config words (view old) (view new) before after
   one_shown words old new before after inv one =
-      let next = step old new one.line one.command before after inv one.played in
-      (next.0, record { line = one.line; command = one.command; words_of = one.words_of;
-      read = one.read; played = next.1 })
+      let next = step old new one.line one.command before after inv one.played in (
+        next.0,
+        record {
+          line = one.line;
+          command = one.command;
+          words_of = one.words_of;
+          read = one.read;
+          played = next.1;
+        },
+      )
 
   pub all_shown : (statements : List (ℕ × List (List ℕ))) (old new : P) (before after : Option (List ℕ)) → Inv old
       → PlaysAll plays config statements old new before after

@@ -120,8 +120,12 @@ module _ {D : Type 0} (tells : D → ℕ → DeliveredNext → Option (List ℕ)
         given = last.given;
         moves = moves;
         made = last.made.made;
-        ends = inl (record { whole = last.made.whole; within = within slices calls turns few; still = none.0;
-            said = rw none.1 refl });
+        ends = inl (record {
+          whole = last.made.whole;
+          within = within slices calls turns few;
+          still = none.0;
+          said = rw none.1 refl;
+        });
       }
 
   -- .. in which messages waited, and none was delivered
@@ -137,8 +141,12 @@ module _ {D : Type 0} (tells : D → ℕ → DeliveredNext → Option (List ℕ)
         given = last.given;
         moves = moves;
         made = last.made.made;
-        ends = inl (record { whole = last.made.whole; within = within slices calls turns few; still = none.0;
-            said = rw none.1 refl });
+        ends = inl (record {
+          whole = last.made.whole;
+          within = within slices calls turns few;
+          still = none.0;
+          said = rw none.1 refl;
+        });
       }
 
   -- a pump that ends with the calls that make no whole round
@@ -178,9 +186,14 @@ module _ {D V : Type 0} (view : D → V) (Inv : D → Type 0)
       → Moves tells slices old new before after
       → Inv new × Moves shows slices (view old) (view new) before after
   moves_shown slices old new before after inv moves =
-      let made = delivers_shown 0 moves.given old new before after inv moves.round.made in
-      (made.0, record { given = moves.given; round = record { whole = moves.round.whole; made = made.1 };
-      moved = moves.moved })
+      let made = delivers_shown 0 moves.given old new before after inv moves.round.made in (
+        made.0,
+        record {
+          given = moves.given;
+          round = record { whole = moves.round.whole; made = made.1 };
+          moved = moves.moved;
+        },
+      )
 
   times_shown : (slices n : ℕ) (old new : D) (before after : Option (List ℕ)) → Inv old
       → MovesTimes tells slices n old new before after

@@ -419,7 +419,7 @@ forbidden_said test f fs claims i whole pairs pushed =
 
 pub with_forbidden : (said : Said) (fs gs : List (List Pair)) → fs ≡ gs
     → let one : Said = record said { forbidden = fs } in let other : Said =
-        record said { forbidden = gs } in one ≡ other
+    record said { forbidden = gs } in one ≡ other
 with_forbidden said fs gs same = ap (λ xs. let s : Said = record said { forbidden = xs } in s) same
 
 -- the names behind which a name was put

@@ -3,7 +3,6 @@ pub mod Commas
 pub mod DeliveryLemmas
 pub mod MoveLemmas
 pub mod Names
-pub mod Numbers
 pub mod RunLemmas
 pub mod Seen
 pub mod Totals

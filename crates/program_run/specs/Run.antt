@@ -356,5 +356,5 @@ pub record IsProgramsRun (config : Config) (bound : Bound) (programs : List Core
   pub prints : PrintsEnd config programs form seed status end before after
 
 -- Why no programs were run: the text is at fault, there was no memory, or the report couldn't be written.
-abbrev pub IsNotRun : List ℕ → TextFault → Type 0
-IsNotRun text fault = IsFault (statements_from 0 (lines text)) fault ⊎ IsOfRun fault
+abbrev pub IsProgramNotRun : List ℕ → TextFault → Type 0
+IsProgramNotRun text fault = IsFault (statements_from 0 (lines text)) fault ⊎ IsOfRun fault

@@ -5,7 +5,7 @@ ghost use Rattle.litmus_script.specs.Machine.{bound_of};
 ghost use Rattle.program_text.specs.Fault.{IsProgramText, programs_of, settings_of};
 ghost use Rattle.program_text.specs.declared.programs.Programs.{Programs};
 ghost use Rattle.litmus_script.specs.Play.{IsOfRun};
-ghost use Rattle.program_run.specs.Run.{IsNotRun, IsProgramsRun, Leads, Runs, text_of, text_of_stuck};
+ghost use Rattle.program_run.specs.Run.{IsProgramNotRun, IsProgramsRun, Leads, Runs, text_of, text_of_stuck};
 
 use super::json::write_json;
 use super::moves::Move;
@@ -42,7 +42,7 @@ pub fn run_programs<W: Write>(
         × IsProgramText input.now (settings_of programs) (programs_of programs)
         × IsProgramsRun programs.config (bound_of programs.misses programs.config) programs.cores.items form seed status
         (W.contents out.old) (W.contents out.new)) }
-    ensures fault { IfErr result (IsNotRun input.now) }
+    ensures fault { IfErr result (IsProgramNotRun input.now) }
 {
     let programs = Programs::read(alloc, input)?;
     run_read(alloc, &programs, seed, form, out)

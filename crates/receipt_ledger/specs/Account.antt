@@ -25,8 +25,15 @@ no_account = record { asked = []; receipts = []; room = record { asked = 0; rece
 -- stands where there is no receipt
 abbrev pub no_receipt : Receipt
 no_receipt = record {
-  entry = record { op = ops.Load; word = record { 0 = 0 }; seq = 0; reply = 0; since = 0;
-      core = record { 0 = 0 }; tag = 0 };
+  entry = record {
+    op = ops.Load;
+    word = record { 0 = 0 };
+    seq = 0;
+    reply = 0;
+    since = 0;
+    core = record { 0 = 0 };
+    tag = 0;
+  };
   number = 0;
   slice = record { 0 = 0 };
 }

@@ -25,5 +25,7 @@ pub issue_explained : (config : Config) (core : CoreId) (request : Request) (sli
     → OneSlice slice (ExplainsIssue config slice core request before after) old new
     → IsExplained config (commands.Issue core request) old new before after
 issue_explained config core request slice old new before after at told =
-    record { explained = subst (λ (s : ℕ). OneSlice s (ExplainsIssue config s core request before after) old new)
-    at told }
+    record {
+      explained = subst (λ (s : ℕ). OneSlice s (ExplainsIssue config s core request before after) old new)
+          at told;
+    }

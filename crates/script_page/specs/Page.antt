@@ -55,7 +55,7 @@ IsPage script all before after =
     × IsSetUp all config bound commands × IsPageOf script config bound commands before after)
 
 -- the commands are played up to one that can't be, from these slices on
-pub record StopsAt (config : Config) (commands : List (ℕ × List (List ℕ))) (start : List PartsView)
+pub record PageStopsAt (config : Config) (commands : List (ℕ × List (List ℕ))) (start : List PartsView)
     (fault : TextFault) : Type 0 where
   pub first : Option (List ℕ)
   pub last : Option (List ℕ)
@@ -66,4 +66,4 @@ abbrev pub IsPageFault : List (ℕ × List (List ℕ)) → TextFault → Type 0
 IsPageFault all fault =
     IsNotConfigured all fault ⊎ IsOfRun fault
     ⊎ ((config : Config) × (bound : Bound) × (commands : List (ℕ × List (List ℕ))) × (start : List PartsView)
-    × IsSetUp all config bound commands × IsNewMachine config bound start × StopsAt config commands start fault)
+    × IsSetUp all config bound commands × IsNewMachine config bound start × PageStopsAt config commands start fault)

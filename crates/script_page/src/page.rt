@@ -9,7 +9,8 @@ ghost use Rattle.litmus_script.specs.Script.{commands_of};
 ghost use Rattle.litmus_text.specs.Statement.{statements_from};
 ghost use Rattle.protocol_tables.specs.Cache.{table_of as cache_table};
 ghost use Rattle.protocol_tables.specs.Directory.{table_of as directory_table};
-ghost use Rattle.script_page.specs.Page.{HasSteps, IsPage, IsPageFault, IsPageOf, StopsAt, text_of_begin, text_of_end};
+ghost use Rattle.script_page.specs.Page.{HasSteps, IsPage, IsPageFault, IsPageOf, PageStopsAt, text_of_begin};
+ghost use Rattle.script_page.specs.Page.{text_of_end};
 ghost use Rattle.slice_core_plan.specs.Parts.{PartsView};
 
 use super::frame::{HEAD, TAIL};
@@ -58,7 +59,7 @@ fn page_of<W: Write>(
         (commands_of script.entry.commands) (W.contents out.old) (W.contents out.new)) }
     ensures fault { IfErr result (λ fault. IsOfRun fault ⊎ ((start : List PartsView)
         × IsNewMachine script.entry.config (bound_of script.entry.misses script.entry.config) start
-        × StopsAt script.entry.config (commands_of script.entry.commands) start fault)) }
+        × PageStopsAt script.entry.config (commands_of script.entry.commands) start fault)) }
 {
     let Script {
         config,
@@ -82,7 +83,8 @@ fn page_on<F: MissFile, W: Write>(
     ensures page { OnOk result (IsPageOf input.now config (F.bound_by config) (commands_of commands.entry)
         (W.contents out.old) (W.contents out.new)) }
     ensures fault { IfErr result (λ fault. IsOfRun fault ⊎ ((start : List PartsView)
-        × IsNewMachine config (F.bound_by config) start × StopsAt config (commands_of commands.entry) start fault)) }
+        × IsNewMachine config (F.bound_by config) start
+        × PageStopsAt config (commands_of commands.entry) start fault)) }
 {
     let machine: Machine<F> = Machine::build(alloc, config)?;
     begin(alloc, input, out)?;
@@ -99,7 +101,7 @@ fn steps<F: MissFile, W: Write>(
     ensures steps { OnOk result (HasSteps machine.config (commands_of commands.entry) machine.slices.items
         (W.contents out.old) (W.contents out.new)) }
     ensures fault { IfErr result (λ fault. IsOfRun fault
-        ⊎ StopsAt machine.config (commands_of commands.entry) machine.slices.items fault) }
+        ⊎ PageStopsAt machine.config (commands_of commands.entry) machine.slices.items fault) }
 {
     let mut player = Paged::new(alloc, machine);
     match commands.play(&mut player, out) {

@@ -20,8 +20,13 @@ pub(crate) struct Texts<'a> {
 /// Writes a step as an object of JSON.
 pub(crate) fn write_step<W: Write>(texts: &Texts<'_>, out: &mut W) -> fmt::Result
     ensures { OnOk result (WritesInCalls W.write_str_gives out.old
-        (text_of_step (record { command = texts.now.command.now; answer = texts.now.answer.now;
-        states = texts.now.states.now; waiting = texts.now.waiting.now; shown = texts.now.shown.now })) out.new) }
+        (text_of_step (record {
+          command = texts.now.command.now;
+          answer = texts.now.answer.now;
+          states = texts.now.states.now;
+          waiting = texts.now.waiting.now;
+          shown = texts.now.shown.now;
+        })) out.new) }
 {
     out.write_str("{\"command\":")?;
     write_json(texts.command, out)?;

@@ -62,8 +62,13 @@ continued_one config words line command old new before after old_script new_scri
   played = (
     new,
     new_script,
-    (command, before, after, subst (λ w. PlaysLine config w line command old new before after old_script new_script) is
-    one),
+    (
+      command,
+      before,
+      after,
+      subst (λ w. PlaysLine config w line command old new before after old_script new_script) is
+          one,
+    ),
     (refl, refl),
   );
 }

@@ -10,9 +10,12 @@ use std::io::Write;
 
 /// Prints a difference.
 pub fn write_difference<W: Write>(difference: Difference<'_>, out: &mut W) -> Result<(), Cut>
-    ensures { OnOk result (Appends (W.contents out.old) (W.contents out.new) (text_of_difference
-        (difference.entry.line, option_map (λ t. t.now) difference.entry.wanted, option_map (λ t. t.now)
-        difference.entry.got))) }
+    ensures { OnOk result (Appends (W.contents out.old) (W.contents out.new) (text_of_difference (
+      difference.entry.line,
+      option_map (λ t. t.now) difference.entry.wanted,
+      option_map (λ t. t.now)
+          difference.entry.got,
+    ))) }
 {
     let mut digits = Buffer::new();
     write_text(out, b"line ")?;

@@ -80,7 +80,7 @@ IsWaves all before after =
     × IsSetUp all config bound commands × IsWavesOf config bound commands before after)
 
 -- the commands are played up to one that can't be, from these slices on
-pub record StopsAt (config : Config) (commands : List (ℕ × List (List ℕ))) (start : List PartsView)
+pub record WavesStopAt (config : Config) (commands : List (ℕ × List (List ℕ))) (start : List PartsView)
     (fault : TextFault) : Type 0 where
   pub ticks : Option (List ℕ)
   pub stopped : PlaysUpTo (Ticks config) config commands (begun start) (Some []) ticks fault
@@ -90,4 +90,4 @@ abbrev pub IsWavesFault : List (ℕ × List (List ℕ)) → TextFault → Type 0
 IsWavesFault all fault =
     IsNotConfigured all fault ⊎ IsOfRun fault
     ⊎ ((config : Config) × (bound : Bound) × (commands : List (ℕ × List (List ℕ))) × (start : List PartsView)
-    × IsSetUp all config bound commands × IsNewMachine config bound start × StopsAt config commands start fault)
+    × IsSetUp all config bound commands × IsNewMachine config bound start × WavesStopAt config commands start fault)

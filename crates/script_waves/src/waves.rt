@@ -8,7 +8,7 @@ ghost use Rattle.litmus_script.specs.Script.{commands_of};
 ghost use Rattle.litmus_text.specs.Statement.{statements_from};
 ghost use Rattle.script_waves.specs.Signals.{text_of_header};
 ghost use Rattle.script_waves.specs.Values.{text_of_time};
-ghost use Rattle.script_waves.specs.Waves.{HasWaves, IsWaves, IsWavesFault, IsWavesOf, IsWritten, StopsAt, next};
+ghost use Rattle.script_waves.specs.Waves.{HasWaves, IsWaves, IsWavesFault, IsWavesOf, IsWritten, WavesStopAt, next};
 ghost use Rattle.slice_core_plan.specs.Parts.{PartsView};
 
 use super::command::write_time;
@@ -42,7 +42,7 @@ fn waves_of<W: Write>(alloc: Global, script: Script<'_>, out: &mut W) -> Result<
         (commands_of script.entry.commands) (W.contents out.old) (W.contents out.new)) }
     ensures fault { IfErr result (λ fault. IsOfRun fault ⊎ ((start : List PartsView)
         × IsNewMachine script.entry.config (bound_of script.entry.misses script.entry.config) start
-        × StopsAt script.entry.config (commands_of script.entry.commands) start fault)) }
+        × WavesStopAt script.entry.config (commands_of script.entry.commands) start fault)) }
 {
     let Script {
         config,
@@ -65,7 +65,8 @@ fn waves_on<F: MissFile, W: Write>(
     ensures waves { OnOk result (IsWavesOf config (F.bound_by config) (commands_of commands.entry)
         (W.contents out.old) (W.contents out.new)) }
     ensures fault { IfErr result (λ fault. IsOfRun fault ⊎ ((start : List PartsView)
-        × IsNewMachine config (F.bound_by config) start × StopsAt config (commands_of commands.entry) start fault)) }
+        × IsNewMachine config (F.bound_by config) start
+        × WavesStopAt config (commands_of commands.entry) start fault)) }
 {
     let machine: Machine<F> = Machine::build(alloc, config)?;
     waves(alloc, machine, commands, out)
@@ -80,7 +81,7 @@ fn waves<F: MissFile, W: Write>(
     ensures waves { OnOk result (HasWaves machine.config (commands_of commands.entry) machine.slices.items
         (W.contents out.old) (W.contents out.new)) }
     ensures fault { IfErr result (λ fault. IsOfRun fault
-        ⊎ StopsAt machine.config (commands_of commands.entry) machine.slices.items fault) }
+        ⊎ WavesStopAt machine.config (commands_of commands.entry) machine.slices.items fault) }
 {
     let mut player = Waved::new(alloc, machine);
     let mut ticks = Vec::new(alloc);

@@ -67,8 +67,11 @@ impl Model for Stats {
 
     ghost Value = { StatsView };
 
-    ghost view = { λ own. record { cores = boxed_slice_items own.cores; messages = own.messages;
-        exclusive = own.exclusive } };
+    ghost view = { λ own. record {
+      cores = boxed_slice_items own.cores;
+      messages = own.messages;
+      exclusive = own.exclusive;
+    } };
 }
 
 impl Stats {

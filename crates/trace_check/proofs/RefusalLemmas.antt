@@ -19,7 +19,8 @@ use Rattle.trace_check.specs.declared.trace_line.TraceLine.{TraceLine}
 use Rattle.trace_check.specs.declared.trace_line.TraceLine.TheVariants as trace_lines
 use Rattle.trace_check.specs.TraceLine.{IsLineOf, parts_of_first, parts_of_line}
 use Rattle.trace_check.specs.Trace.{AreLines, IsFaultAt, body_of, AreTrace, AreNoTrace, AreSomeTrace, IsNoTrace}
-use Rattle.trace_check.specs.Trace.{IsLastNamed, IsNoMemoryOr, IsNoNextLine, IsReading, MayBegin, MayFollow, HasRead}
+use Rattle.trace_check.specs.Trace.{IsLastNamed, IsNoMemoryOrLine, IsNoNextLine, IsReading, MayBegin, MayFollow}
+use Rattle.trace_check.specs.Trace.{HasRead}
 use Rattle.trace_check.proofs.ReadingLemmas.{one_version, one_line, same_lines, not_both}
 
 -- the word and the value that a line names, where it names them
@@ -201,7 +202,7 @@ first_fault check version all left number words same reading none = record {
 -- where a fault names the line of a refused statement, it names the first at fault
 pub at_first_fault : (check : Check) (version : Version) (all left : List (ℕ × List (List ℕ))) (number : ℕ)
     (words : List (List ℕ)) (fault : TextFault) → check.version ≡ version → IsReading check all ((number, words) ∷ left)
-    → IsNoMemoryOr (IsNoNextLine check words) fault → IsAtLine (λ n. n ≡ number) fault
+    → IsNoMemoryOrLine (IsNoNextLine check words) fault → IsAtLine (λ n. n ≡ number) fault
     → IsAtLine (IsFirstFault (AreSomeTrace version) all) fault
 at_first_fault check version all left number words faults.NoMemory same reading none at = tt
 at_first_fault check version all left number words (faults.Line n fault) same reading none at =
@@ -244,8 +245,9 @@ at_fault statements rest number first version (faults.Config error) is begins at
 at_fault statements rest number first version faults.CannotWrite is begins at = tt
 
 -- a fault that is no want of memory comes also where less is refused
-pub IsNoMemoryOr-weaker : (P Q : Type 0) (fault : TextFault) → (P → Q) → IsNoMemoryOr P fault → IsNoMemoryOr Q fault
-IsNoMemoryOr-weaker P Q faults.NoMemory f h = tt
-IsNoMemoryOr-weaker P Q (faults.Line number fault) f h = f h
-IsNoMemoryOr-weaker P Q (faults.Config error) f h = absurd h
-IsNoMemoryOr-weaker P Q faults.CannotWrite f h = absurd h
+pub IsNoMemoryOrLine-weaker : (P Q : Type 0) (fault : TextFault) → (P → Q) → IsNoMemoryOrLine P fault
+    → IsNoMemoryOrLine Q fault
+IsNoMemoryOrLine-weaker P Q faults.NoMemory f h = tt
+IsNoMemoryOrLine-weaker P Q (faults.Line number fault) f h = f h
+IsNoMemoryOrLine-weaker P Q (faults.Config error) f h = absurd h
+IsNoMemoryOrLine-weaker P Q faults.CannotWrite f h = absurd h

@@ -73,11 +73,11 @@ abbrev pub AreNoTrace : Version → List (ℕ × List (List ℕ)) → Type 0
 AreNoTrace version statements = ¬ AreSomeTrace version statements
 
 -- why a text was read no further: there was no memory, or a line is at fault, and then it is refused for this
-abbrev pub IsNoMemoryOr : Type 0 → TextFault → Type 0
-IsNoMemoryOr refused faults.NoMemory = Unit {0}
-IsNoMemoryOr refused (faults.Line number fault) = refused
-IsNoMemoryOr refused (faults.Config error) = ⊥
-IsNoMemoryOr refused faults.CannotWrite = ⊥
+abbrev pub IsNoMemoryOrLine : Type 0 → TextFault → Type 0
+IsNoMemoryOrLine refused faults.NoMemory = Unit {0}
+IsNoMemoryOrLine refused (faults.Line number fault) = refused
+IsNoMemoryOrLine refused (faults.Config error) = ⊥
+IsNoMemoryOrLine refused faults.CannotWrite = ⊥
 
 -- The line at fault of a text, by its statements: line 1 where there are none, the first of them where it begins no
 -- trace, and else the first at fault behind it.

@@ -14,7 +14,8 @@ ghost use Rattle.trace_check.specs.declared.trace_line.Version.TheVariants as ve
 ghost use Rattle.trace_check.specs.declared.verdict.Reason.TheVariants as reasons;
 ghost use Rattle.trace_check.specs.declared.verdict.Verdict.TheVariants as verdicts;
 ghost use Rattle.trace_check.specs.Trace.{IsJudged, IsTrace, AreJudged, IsFaultAt, IsNoTrace, AreNoTrace, AreSomeTrace};
-ghost use Rattle.trace_check.specs.Trace.{IsNoMemoryOr, IsNoNextLine, IsReading, IsSoFar, HasRead, MayBegin, MayFollow};
+ghost use Rattle.trace_check.specs.Trace.{IsNoMemoryOrLine, IsNoNextLine, IsReading, IsSoFar, HasRead, MayBegin};
+ghost use Rattle.trace_check.specs.Trace.{MayFollow};
 
 use super::judge::Judge;
 use super::trace_line::{TraceLine, Version};
@@ -41,7 +42,7 @@ struct Check {
 /// want of memory and a faulty line.
 pub fn check_trace(alloc: Global, input: &[u8]) -> Result<Verdict, TextFault>
     ensures judged { IfOk result (IsJudged input.now) }
-    ensures refused { IfErr result (IsNoMemoryOr (IsNoTrace input.now)) }
+    ensures refused { IfErr result (IsNoMemoryOrLine (IsNoTrace input.now)) }
     ensures line { IfErr result (IsAtLine (IsFaultAt (statements_from 0 (lines input.now)))) }
 {
     let mut statements = Statements::of(input);
@@ -74,7 +75,7 @@ fn check_lines(
     mut statements: Statements<'_>,
 ) -> Result<Verdict, TextFault>
     ensures judged { IfOk result (AreJudged version statements.entry) }
-    ensures refused { IfErr result (IsNoMemoryOr (AreNoTrace version statements.entry)) }
+    ensures refused { IfErr result (IsNoMemoryOrLine (AreNoTrace version statements.entry)) }
     ensures line { IfErr result (IsAtLine (IsFirstFault (AreSomeTrace version) statements.entry)) }
 {
     let mut check = Check::new(alloc, version);
@@ -104,7 +105,7 @@ impl Check {
             ((all left : List (ℕ × List (List ℕ)))
             → IsReading self.old all ((statement.now.number, map (λ w. w.now) statement.now.words.items) ∷ left)
             → IsReading self.new all left) }
-        ensures refused { IfErr result (IsNoMemoryOr
+        ensures refused { IfErr result (IsNoMemoryOrLine
             (IsNoNextLine self.old (map (λ w. w.now) statement.now.words.items))) }
         ensures line { IfErr result (IsAtLine (λ number. number ≡ statement.now.number)) }
         ensures version { self.new.version ≡ self.old.version }

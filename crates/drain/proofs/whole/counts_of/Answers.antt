@@ -16,8 +16,13 @@ overflow_add-counts g c =
     let number = c.number_of.result in
     let i = c.loop-core.core-index in
     let cores = c.args.cores.now in
-    let few : number < 64 = omega (arith, c.number_of.ensures.known, c.number_of.ensures.number,
-    c.requires.configured, c.requires.few) in
+    let few : number < 64 = omega (
+      arith,
+      c.number_of.ensures.known,
+      c.number_of.ensures.number,
+      c.requires.configured,
+      c.requires.few,
+    ) in
     let is = c.loop-core.invariant.counted number few in
     let most = times-most number (take i cores) in
     let long = length-take-le i cores (omega arith) in

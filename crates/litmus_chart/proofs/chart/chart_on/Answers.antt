@@ -1,7 +1,7 @@
 use Rattle.std.proofs.Common.{◌≡◌, ℕ, List, Option, inr, subst}
 use Rattle.std.proofs.lemmas.Result.{IfErr-weaker}
 use Rattle.address_map.specs.declared.config.Config.{Config}
-use Rattle.litmus_chart.specs.Fault.{Draws, StopsAt}
+use Rattle.litmus_chart.specs.Fault.{Draws, ChartStopsAt}
 use Rattle.litmus_chart.proofs.chart.chart_on.Goals as goal
 use Rattle.litmus_script.proofs.PlayLemmas.{up_to_shown}
 use Rattle.litmus_script.specs.Play.{PlaysUpTo}
@@ -11,7 +11,7 @@ use Rattle.litmus_text.specs.declared.fault.TextFault.{TextFault}
 -- the chart's machine has the script's shape
 stops : (config other : Config) (commands : List (ℕ × List (List ℕ)))
     (before after : Option (List ℕ)) (fault : TextFault)
-    → other ≡ config → PlaysUpTo Draws other commands tt before after fault → StopsAt config commands fault
+    → other ≡ config → PlaysUpTo Draws other commands tt before after fault → ChartStopsAt config commands fault
 stops config other commands before after fault same stopped = record {
   before = before;
   after = after;

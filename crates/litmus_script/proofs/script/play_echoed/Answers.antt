@@ -12,9 +12,15 @@ returns-clause-played g c =
     (λ played. (
       _,
       all_shown (λ m. m.player.slices.items) (λ m. m.player.config ≡ config) _ (Echoed true Plainly config)
-          (λ old new line command before after same made.
-          (made.2.0 ∙ same, (made.0, made.1, subst (λ k. IsPrinted k command old.player.slices.items
-          new.player.slices.items made.0 after) same made.2.1)))
+          (λ old new line command before after same made. (
+            made.2.0 ∙ same,
+            (
+              made.0,
+              made.1,
+              subst (λ k. IsPrinted k command old.player.slices.items
+                  new.player.slices.items made.0 after) same made.2.1,
+            ),
+          ))
           config _ _ _ _ _ refl played,
     ))
     c.play.ensures.played
@@ -25,8 +31,14 @@ returns-clause-fault g c =
     IfErr-weaker c.play.result _ _
     (λ fault played. up_to_shown (λ m. m.player.slices.items) (λ m. m.player.config ≡ config) _
     (Echoed true Plainly config)
-    (λ old new line command before after same made.
-    (made.2.0 ∙ same, (made.0, made.1, subst (λ k. IsPrinted k command old.player.slices.items new.player.slices.items
-    made.0 after) same made.2.1)))
+    (λ old new line command before after same made. (
+      made.2.0 ∙ same,
+      (
+        made.0,
+        made.1,
+        subst (λ k. IsPrinted k command old.player.slices.items new.player.slices.items
+            made.0 after) same made.2.1,
+      ),
+    ))
     config _ _ _ _ _ refl played)
     c.play.ensures.fault

@@ -19,8 +19,11 @@ loop-line-preserved g c = record {
   tags = c.in_ok-write_line.ensures.tags c.loop-line.invariant.before c.loop-line.invariant.tags;
   rest = λ after rest.
       let steps = c.in-Some.ensures.steps in
-      c.loop-line.invariant.rest after (rw (steps, text_more c.loop-line.invariant.before
-      (step_by c.in-Some.line.now) _)
+      c.loop-line.invariant.rest after (rw (
+        steps,
+        text_more c.loop-line.invariant.before
+            (step_by c.in-Some.line.now) _,
+      )
       (Appends-trans _ _ _ _ _
       (c.in_ok-write_line.ensures.text c.loop-line.invariant.before c.loop-line.invariant.tags) rest));
 }

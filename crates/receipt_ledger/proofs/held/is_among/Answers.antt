@@ -22,5 +22,5 @@ pub returns : goal.returns
 returns c = (
   λ t. absurd (false≢true t),
   λ there. absurd (not-contained c.args.receipts.now c.args.wanted.now _ c.loop-distance.distance (omega arith)
-  (omega arith) c.loop-distance.invariant there),
+      (omega arith) c.loop-distance.invariant there),
 )

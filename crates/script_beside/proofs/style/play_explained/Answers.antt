@@ -12,10 +12,16 @@ returns-clause-played g c =
     (λ played. (
       _,
       all_shown (λ b. b.player.machine.slices.items) (λ b. b.player.machine.config ≡ config) _
-      (IsBeside Explainingly config)
-          (λ old new line command before after same made.
-          (made.1.0 ∙ same, (made.0, subst (λ k. IsExplained k command old.player.machine.slices.items
-          new.player.machine.slices.items (Some []) (Some made.0)) same made.1.1, made.2)))
+          (IsBeside Explainingly config)
+          (λ old new line command before after same made. (
+            made.1.0 ∙ same,
+            (
+              made.0,
+              subst (λ k. IsExplained k command old.player.machine.slices.items
+                  new.player.machine.slices.items (Some []) (Some made.0)) same made.1.1,
+              made.2,
+            ),
+          ))
           config _ _ _ _ _ refl played,
     ))
     c.play.ensures.played
@@ -26,8 +32,14 @@ returns-clause-fault g c =
     IfErr-weaker c.play.result _ _
     (λ fault played. up_to_shown (λ b. b.player.machine.slices.items) (λ b. b.player.machine.config ≡ config) _
     (IsBeside Explainingly config)
-    (λ old new line command before after same made.
-    (made.1.0 ∙ same, (made.0, subst (λ k. IsExplained k command old.player.machine.slices.items
-    new.player.machine.slices.items (Some []) (Some made.0)) same made.1.1, made.2)))
+    (λ old new line command before after same made. (
+      made.1.0 ∙ same,
+      (
+        made.0,
+        subst (λ k. IsExplained k command old.player.machine.slices.items
+            new.player.machine.slices.items (Some []) (Some made.0)) same made.1.1,
+        made.2,
+      ),
+    ))
     config _ _ _ _ _ refl played)
     c.play.ensures.fault

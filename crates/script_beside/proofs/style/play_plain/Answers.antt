@@ -13,9 +13,15 @@ returns-clause-played g c =
     (λ played. (
       _,
       all_shown (λ b. b.player.slices.items) (λ b. b.player.config ≡ config) _ (IsBeside Plainly config)
-          (λ old new line command before after same made.
-          (made.1.0 ∙ same, (made.0, subst (λ k. IsPrinted k command old.player.slices.items new.player.slices.items
-          (Some []) (Some made.0)) same made.1.1, made.2)))
+          (λ old new line command before after same made. (
+            made.1.0 ∙ same,
+            (
+              made.0,
+              subst (λ k. IsPrinted k command old.player.slices.items new.player.slices.items
+                  (Some []) (Some made.0)) same made.1.1,
+              made.2,
+            ),
+          ))
           config _ _ _ _ _ refl played,
     ))
     c.play.ensures.played
@@ -26,8 +32,14 @@ returns-clause-fault g c =
     IfErr-weaker c.play.result _ _
     (λ fault played. up_to_shown (λ b. b.player.slices.items) (λ b. b.player.config ≡ config) _
     (IsBeside Plainly config)
-    (λ old new line command before after same made.
-    (made.1.0 ∙ same, (made.0, subst (λ k. IsPrinted k command old.player.slices.items new.player.slices.items (Some [])
-    (Some made.0)) same made.1.1, made.2)))
+    (λ old new line command before after same made. (
+      made.1.0 ∙ same,
+      (
+        made.0,
+        subst (λ k. IsPrinted k command old.player.slices.items new.player.slices.items (Some [])
+            (Some made.0)) same made.1.1,
+        made.2,
+      ),
+    ))
     config _ _ _ _ _ refl played)
     c.play.ensures.fault

@@ -10,6 +10,10 @@ returns-clause-told g c =
     on_written c.write.result c.written.result c.written.ensures.fine
     (λ wrote.
     let (name, bytes) = Appends-of_writes (λ s. s.out.ghost_name) (λ s. contents s.out.now) _ _ _ wrote in
-    record { answer = _; answered = delivered c.args.state.now c.deliver-delivered.new.self c.args.pick
-    c.deliver-delivered.result c.deliver-delivered.ensures.step; written = search rules })
+    record {
+      answer = _;
+      answered = delivered c.args.state.now c.deliver-delivered.new.self c.args.pick
+          c.deliver-delivered.result c.deliver-delivered.ensures.step;
+      written = search rules;
+    })
     c.write.ensures

@@ -10,6 +10,10 @@ returns-clause-told g c =
     on_written c.write.result c.written.result c.written.ensures.fine
     (λ wrote.
     let (name, bytes) = Appends-of_writes (λ s. s.out.ghost_name) (λ s. contents s.out.now) _ _ _ wrote in
-    record { answer = _; answered = handed c.args.state.now c.hand-handed.new.self c.args.core c.hand-handed.result
-    c.hand-handed.ensures.step; written = search rules })
+    record {
+      answer = _;
+      answered = handed c.args.state.now c.hand-handed.new.self c.args.core c.hand-handed.result
+          c.hand-handed.ensures.step;
+      written = search rules;
+    })
     c.write.ensures

@@ -10,6 +10,10 @@ returns-clause-told g c =
     on_written c.write_eviction.result c.written.result c.written.ensures.fine
     (λ wrote.
     let (name, bytes) = Appends-of_writes (λ s. s.out.ghost_name) (λ s. contents s.out.now) _ _ _ wrote in
-    record { answer = _; answered = evicted c.args.state.now c.evict-answer.new.self c.args.core c.args.line
-    c.evict-answer.result c.evict-answer.ensures.step; written = search rules })
+    record {
+      answer = _;
+      answered = evicted c.args.state.now c.evict-answer.new.self c.args.core c.args.line
+          c.evict-answer.result c.evict-answer.ensures.step;
+      written = search rules;
+    })
     c.write_eviction.ensures

@@ -12,9 +12,11 @@ returns-clause-played g c =
     (λ played. (
       _,
       all_shown (λ m. m.machine.slices.items) (λ m. m.machine.config ≡ config) _ (Echoed false Explainingly config)
-          (λ old new line command before after same made.
-          (made.0 ∙ same, subst (λ k. IsExplained k command old.machine.slices.items new.machine.slices.items
-          before after) same made.1))
+          (λ old new line command before after same made. (
+            made.0 ∙ same,
+            subst (λ k. IsExplained k command old.machine.slices.items new.machine.slices.items
+                before after) same made.1,
+          ))
           config _ _ _ _ _ refl played,
     ))
     c.play.ensures.played
@@ -25,8 +27,10 @@ returns-clause-fault g c =
     IfErr-weaker c.play.result _ _
     (λ fault played. up_to_shown (λ m. m.machine.slices.items) (λ m. m.machine.config ≡ config) _
     (Echoed false Explainingly config)
-    (λ old new line command before after same made.
-    (made.0 ∙ same, subst (λ k. IsExplained k command old.machine.slices.items new.machine.slices.items before after)
-    same made.1))
+    (λ old new line command before after same made. (
+      made.0 ∙ same,
+      subst (λ k. IsExplained k command old.machine.slices.items new.machine.slices.items before after)
+          same made.1,
+    ))
     config _ _ _ _ _ refl played)
     c.play.ensures.fault

@@ -12,10 +12,16 @@ returns-clause-played g c =
     (λ played. (
       _,
       all_shown (λ m. m.player.machine.slices.items) (λ m. m.player.machine.config ≡ config) _
-      (Echoed true Explainingly config)
-          (λ old new line command before after same made.
-          (made.2.0 ∙ same, (made.0, made.1, subst (λ k. IsExplained k command old.player.machine.slices.items
-          new.player.machine.slices.items made.0 after) same made.2.1)))
+          (Echoed true Explainingly config)
+          (λ old new line command before after same made. (
+            made.2.0 ∙ same,
+            (
+              made.0,
+              made.1,
+              subst (λ k. IsExplained k command old.player.machine.slices.items
+                  new.player.machine.slices.items made.0 after) same made.2.1,
+            ),
+          ))
           config _ _ _ _ _ refl played,
     ))
     c.play.ensures.played
@@ -26,8 +32,14 @@ returns-clause-fault g c =
     IfErr-weaker c.play.result _ _
     (λ fault played. up_to_shown (λ m. m.player.machine.slices.items) (λ m. m.player.machine.config ≡ config) _
     (Echoed true Explainingly config)
-    (λ old new line command before after same made.
-    (made.2.0 ∙ same, (made.0, made.1, subst (λ k. IsExplained k command old.player.machine.slices.items
-    new.player.machine.slices.items made.0 after) same made.2.1)))
+    (λ old new line command before after same made. (
+      made.2.0 ∙ same,
+      (
+        made.0,
+        made.1,
+        subst (λ k. IsExplained k command old.player.machine.slices.items
+            new.player.machine.slices.items made.0 after) same made.2.1,
+      ),
+    ))
     config _ _ _ _ _ refl played)
     c.play.ensures.fault

@@ -17,13 +17,17 @@ returns-in-Ok-clause-steps g c =
     (λ p. p.explained.machine.config ≡ config) _ (Steps config)
     (λ old new line command before after same made. (
       made.0 ∙ same,
-      subst (λ k. IsStep k line command (record { slices = old.explained.machine.slices.items;
-      named = old.named.items })
+      subst (λ k. IsStep k line command (record {
+        slices = old.explained.machine.slices.items;
+        named = old.named.items;
+      })
           (record { slices = new.explained.machine.slices.items; named = new.named.items }) before after) same made.1,
     ))
     _ _ _ _ _ _ is c.in-Ok.ensures.played in
-    let end : Shown = record { slices = c.play.new.player.explained.machine.slices.items;
-    named = c.play.new.player.named.items } in
+    let end : Shown = record {
+      slices = c.play.new.player.explained.machine.slices.items;
+      named = c.play.new.player.named.items;
+    } in
     on_ok_weaker c.end.result (λ ended. record {
       end = end;
       last = contents c.play.new.out;
@@ -43,8 +47,10 @@ returns-clause-fault g c =
     (λ p. p.explained.machine.config ≡ config) _ (Steps config)
     (λ old new line command before after same made. (
       made.0 ∙ same,
-      subst (λ k. IsStep k line command (record { slices = old.explained.machine.slices.items;
-      named = old.named.items })
+      subst (λ k. IsStep k line command (record {
+        slices = old.explained.machine.slices.items;
+        named = old.named.items;
+      })
           (record { slices = new.explained.machine.slices.items; named = new.named.items }) before after) same made.1,
     ))
     _ _ _ _ _ c.in-Err.fault is c.in-Err.ensures.fault in

@@ -18,8 +18,12 @@ returns-clause-played g c =
     (Echoed true Explainingly config)
     (λ old new line command before after same made. (
       made.2.0 ∙ same,
-      (made.0, made.1, subst (λ k. IsExplained k command old.player.machine.slices.items new.player.machine.slices.items
-      made.0 after) same made.2.1),
+      (
+        made.0,
+        made.1,
+        subst (λ k. IsExplained k command old.player.machine.slices.items new.player.machine.slices.items
+            made.0 after) same made.2.1,
+      ),
     ))
     machine.config _ _ _ _ _ is c.in_ok-play.ensures.played in
     record {

@@ -16,9 +16,14 @@ returns-in_err-play-clause-fault g c =
     let p = err_from_is_err_and c.from_residual-in_err-play.result c.from_residual-in_err-play.ensures.1 in
     let config = c.in_ok-machine.machine.config in
     let stopped = up_to_shown (λ r. r.machine.slices.items) (λ r. r.machine.config ≡ config) _ (Answering config)
-    (λ old new line command before after same made.
-    (made.0 ∙ same, (made.1, subst (λ k. IsPrinted k command old.machine.slices.items new.machine.slices.items (Some [])
-    (Some made.1)) same made.2)))
+    (λ old new line command before after same made. (
+      made.0 ∙ same,
+      (
+        made.1,
+        subst (λ k. IsPrinted k command old.machine.slices.items new.machine.slices.items (Some [])
+            (Some made.1)) same made.2,
+      ),
+    ))
     config _ _ _ _ _ refl c.in_err-play.ensures.fault in
     rw (p.1, p.2) (
       _,

@@ -14,15 +14,21 @@ returns-in-Ok-clause-waves g c =
     let contents = g.W.Write.contents in
     let new = c.new-player.ensures in
     let is = ap (λ machine. machine.config) new.machine in
-    let fresh : record { slices = c.new-player.result.machine.slices.items; named = c.new-player.result.named.items;
-    played = c.new-player.result.played }
+    let fresh : record {
+      slices = c.new-player.result.machine.slices.items;
+      named = c.new-player.result.named.items;
+      played = c.new-player.result.played;
+    }
     ≡ begun c.args.machine.slices.items = rw (new.machine, new.named, new.played) refl in
     let played = all_shown (λ p. record { slices = p.machine.slices.items; named = p.named.items; played = p.played })
     (λ p. p.machine.config ≡ config) _ (Ticks config)
     (λ old new line command before after same made. (
       made.0 ∙ same,
-      subst (λ k. IsTick k line command (record { slices = old.machine.slices.items;
-      named = old.named.items; played = old.played })
+      subst (λ k. IsTick k line command (record {
+        slices = old.machine.slices.items;
+        named = old.named.items;
+        played = old.played;
+      })
           (record { slices = new.machine.slices.items; named = new.named.items; played = new.played }) before after)
           same made.1,
     ))
@@ -52,16 +58,25 @@ returns-clause-fault g c =
     let contents = g.W.Write.contents in
     let new = c.new-player.ensures in
     let is = ap (λ machine. machine.config) new.machine in
-    let fresh : record { slices = c.new-player.result.machine.slices.items; named = c.new-player.result.named.items;
-    played = c.new-player.result.played }
+    let fresh : record {
+      slices = c.new-player.result.machine.slices.items;
+      named = c.new-player.result.named.items;
+      played = c.new-player.result.played;
+    }
     ≡ begun c.args.machine.slices.items = rw (new.machine, new.named, new.played) refl in
-    let stopped = up_to_shown (λ p. record { slices = p.machine.slices.items;
-    named = p.named.items; played = p.played })
+    let stopped = up_to_shown (λ p. record {
+      slices = p.machine.slices.items;
+      named = p.named.items;
+      played = p.played;
+    })
     (λ p. p.machine.config ≡ config) _ (Ticks config)
     (λ old new line command before after same made. (
       made.0 ∙ same,
-      subst (λ k. IsTick k line command (record { slices = old.machine.slices.items;
-      named = old.named.items; played = old.played })
+      subst (λ k. IsTick k line command (record {
+        slices = old.machine.slices.items;
+        named = old.named.items;
+        played = old.played;
+      })
           (record { slices = new.machine.slices.items; named = new.named.items; played = new.played }) before after)
           same made.1,
     ))

@@ -12,8 +12,14 @@ returns-clause-alike g c =
     let stats = c.loop-slice.stats.items in
     let as_many : length (views_of stats) ≡ c.loop-slice.slice =
     length-map stats (λ (s : Bor StatsView). s.now) ∙ c.loop-slice.invariant.count in
-    let some : 1 ≤ length (views_of stats) = omega (arith, as_many, c.slices-slice-end.ensures.allowed.some_slice,
-    c.loop-slice-test.false, c.slices-slice-end.ensures.slices, c.loop-slice.auto.slice-end) in
+    let some : 1 ≤ length (views_of stats) = omega (
+      arith,
+      as_many,
+      c.slices-slice-end.ensures.allowed.some_slice,
+      c.loop-slice-test.false,
+      c.slices-slice-end.ensures.slices,
+      c.loop-slice.auto.slice-end,
+    ) in
     are_alike c.args.self.now.config (views_of stats) some c.loop-slice.invariant.each
 
 pub returns-clause-counts : goal.returns-clause-counts

@@ -27,6 +27,11 @@ returns c =
     c.in_ok-push_step.ensures.ok
     (name_pushed c.args.self.now c.push_step.new.self.names c.push.new.self c.args.name
     (c.len-thread.result - 1) c.last_steps-step.result c.in_ok-push_step.ensures.names c.in_ok-push.ensures.items
-    (omega (arith, c.len-thread.ensures, c.args.self.now.threads.ok.0, length-map
-    c.args.self.now.threads.items program_of))
+    (omega (
+      arith,
+      c.len-thread.ensures,
+      c.args.self.now.threads.ok.0,
+      length-map
+          c.args.self.now.threads.items program_of,
+    ))
     c.last_steps-step.ensures)

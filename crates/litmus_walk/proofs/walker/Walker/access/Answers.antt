@@ -20,8 +20,13 @@ returns-in-Done-clause-done g c = λ threads is.
 pub returns-in-Pending-clause-done : goal.returns-in-Pending-clause-done
 returns-in-Pending-clause-done g c = λ threads is.
     let makes = rw c.in-Pending.is at c.in_ok-issue.ensures.made in
-    rw (c.done-in-Pending.ensures.recorded, c.done-in-Pending.ensures.steps, c.set_waiting.ensures.recorded,
-    c.set_waiting.ensures.steps, makes.calls)
+    rw (
+      c.done-in-Pending.ensures.recorded,
+      c.done-in-Pending.ensures.steps,
+      c.set_waiting.ensures.recorded,
+      c.set_waiting.ensures.steps,
+      makes.calls,
+    )
     (done-made threads (steps_of c.args.self.now.places.items) c.args.self.now.recorded.calls (record {
       command = commands.Issue c.args.program.now.core
           (record { op = c.args.op; word = c.args.word; tag = c.in-Some.tag });

@@ -17,7 +17,11 @@ pub returns : goal.returns
 returns g c = (
   λ holds number thread is.
       let (there, same) = found c.args.test.now.threads.items number thread is in
-      c.loop-number.invariant number thread (omega (arith, there, c.loop-number.auto.number-end,
-      c.loop-number-test.false)) is,
+      c.loop-number.invariant number thread (omega (
+        arith,
+        there,
+        c.loop-number.auto.number-end,
+        c.loop-number-test.false,
+      )) is,
   λ all. refl,
 )

@@ -27,8 +27,11 @@ returns-in_ok-evict-in-Some-Evict-clause-walks g c =
     item-at program.steps.items number c.in-Some-Evict.field-0.now own.3.0 own.1 ∙ ap Some c.in-Some-Evict.field-0-is in
     rw c.done.ensures.recorded
     (walks_by threads c.args.self.now.recorded c.evict.new.self
-    (record { command = commands.Evict program.core c.in-Some-Evict.line;
-    step = Some (record { thread = c.args.thread; step = number }); done = true })
+    (record {
+      command = commands.Evict program.core c.in-Some-Evict.line;
+      step = Some (record { thread = c.args.thread; step = number });
+      done = true;
+    })
     (rw is_thread (refl, is_step)) c.in_ok-evict-in-Some-Evict.ensures)
 
 pub returns-in_ok-evict-in-Some-Evict-clause-done : goal.returns-in_ok-evict-in-Some-Evict-clause-done
@@ -49,8 +52,11 @@ returns-in_ok-evict-in-Some-Evict-clause-done g c =
     (item-at c.args.self.now.places.items c.args.thread c.in-Some-Some.place.now stood.3.0 stood.1) in
     rw (c.done.ensures.recorded, c.done.ensures.steps, c.in_ok-evict-in-Some-Evict.ensures.calls)
     (done-made threads steps calls
-    (record { command = commands.Evict program.core c.in-Some-Evict.line;
-    step = Some (record { thread = c.args.thread; step = number }); done = true })
+    (record {
+      command = commands.Evict program.core c.in-Some-Evict.line;
+      step = Some (record { thread = c.args.thread; step = number });
+      done = true;
+    })
     (record { thread = c.args.thread; step = number }) program (actions.Evict c.in-Some-Evict.line) refl refl refl
     is_thread is_step stands)
 

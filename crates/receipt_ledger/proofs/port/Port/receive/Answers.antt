@@ -7,8 +7,11 @@ use Rattle.receipt_ledger.proofs.port.Port.receive.Goals as goal
 
 pub invariant_of-self : goal.invariant_of-self
 invariant_of-self g c =
-    let r : Receipt = record { number = c.args.number; entry = c.entry_at-entry.result.now;
-    slice = c.self.inside.slice } in
+    let r : Receipt = record {
+      number = c.args.number;
+      entry = c.entry_at-entry.result.now;
+      slice = c.self.inside.slice;
+    } in
     rw (
       c.receive.ensures,
       c.max-self-inside.ensures,

@@ -44,7 +44,7 @@ loop-index-preserved g c =
           c.ring_at.ensures.there)
           c.loop-index.invariant.0 c.next_at-found.ensures.found c.or-next.ensures,
       (λ plan. plan-for_stuck c.args.self.now.view plan _ _ _ (c.loop-index.invariant.1 plan)
-      c.in_default.not-Move c.or-next.ensures),
+          c.in_default.not-Move c.or-next.ensures),
       turn-more _ _ _ _ _ _ _ c.loop-index.invariant.2
           (omega (arith, c.loop-index-test.true, c.ring_len-index-end.ensures.len)) c.ring_at.ensures.line
           c.next_at-found.ensures.next _ c.in_default.not-Move c.or-next.ensures,

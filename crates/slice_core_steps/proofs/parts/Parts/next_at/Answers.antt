@@ -29,7 +29,7 @@ loop-next-preserved g c = (
       c.plan.ensures.planned
       c.of-one.ensures c.or-next.ensures,
   (λ plan. plan-for_stuck c.args.self.now.view plan _ _ _ (c.loop-next.invariant.1 plan)
-  c.in_default-one.not-Move c.or-next.ensures),
+      c.in_default-one.not-Move c.or-next.ensures),
   first-more _ _ _ _ _ _ _ _ c.loop-next.invariant.2 c.in-Some.ensures.first c.plan.ensures.planned
       c.of-one.ensures _ _ c.in_default-one.not-Move c.or-next.ensures c.in-Some.ensures.rest,
 )

@@ -11,13 +11,13 @@ invariant_of-self c =
     rw c.drop_front.ensures (elim c.if-self-local.branch [
       | then-self-local w ↦ rw w.self-inside-is (
         IsQueues-lent lines c.self.inside.ring c.list.new.self locator c.args.local.0 _
-        c.list.ensures c.self.invariant.0,
+            c.list.ensures c.self.invariant.0,
         IsMailCounted-lent lines w.lend.new.self c.args.local.0 _ w.lend.ensures.lent w.lend.ensures.counted,
       )
       | else-self-local w ↦ rw w.self-inside-is (
         IsQueues-lent lines c.self.inside.ring c.list.new.self locator c.args.local.0 _
-        c.list.ensures c.self.invariant.0,
+            c.list.ensures c.self.invariant.0,
         IsMailCounted-lent lines c.self.inside.count c.args.local.0 _
-        (omega (arith, w.if-self-local)) c.self.invariant.1,
+            (omega (arith, w.if-self-local)) c.self.invariant.1,
       )
     ])

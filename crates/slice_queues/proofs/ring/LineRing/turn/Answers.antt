@@ -24,8 +24,10 @@ invariant_of-self-else-stays c =
 pub returns-then-stays : goal.returns-then-stays
 returns-then-stays c =
     let front : slice_get c.self.inside.order.items 0 ≡ Some c.in-Some.first = search rules in
-    let after : LineOrder = record { order = c.push_back.new.self.items;
-    lines = length c.self.inside.listed.items.items } in
+    let after : LineOrder = record {
+      order = c.push_back.new.self.items;
+      lines = length c.self.inside.listed.items.items;
+    } in
     let P : LineOrder → Type 0 = λ now.
     after ≡ record { order = drop 1 now.order ++ (if c.args.stays then take 1 now.order else []); lines = now.lines } in
     subst

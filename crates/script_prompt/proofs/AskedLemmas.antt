@@ -2,27 +2,22 @@
 use Rattle.std.proofs.Common.{◌≡◌, ℕ, List, ◌∷◌, subst}
 use Rattle.address_map.specs.declared.config.Config.{Config}
 use Rattle.litmus_text.specs.Field.{IsFieldName}
-use Rattle.script_prompt.specs.Asked.{Asks, AsksOwn, name_of}
+use Rattle.litmus_text.specs.Form.{Writes}
+use Rattle.litmus_text.specs.declared.fault.LineFault.{LineFault}
+use Rattle.script_prompt.proofs.OwnLemmas.{refuses}
+use Rattle.script_prompt.specs.Asked.{Asks}
+use Rattle.script_prompt.specs.Own.{IsFaultOfOwn, name_of, parts_of}
 use Rattle.script_prompt.specs.declared.asked.Asked.{Asked}
 use Rattle.script_prompt.specs.declared.asked.Asked.TheVariants as asks
-use Rattle.script_prompt.specs.declared.asked.Word.{Word}
+use Rattle.script_prompt.specs.declared.own.Word.{Word}
 
 -- a line that begins with a word of the prompt's own asks for what it asks for by that word, or for nothing at all
 pub asks_nothing : (config : Config) (name : List ℕ) (rest : List (List ℕ)) (word : Word) → name ≡ name_of word
-    → (IsFieldName name → ⊥) → ((asked : Asked) → AsksOwn config (name_of word ∷ rest) asked → ⊥)
+    → (IsFieldName name → ⊥) → (fault : LineFault) → IsFaultOfOwn config (name_of word ∷ rest) fault
     → (asked : Asked) → Asks config (name ∷ rest) asked → ⊥
-asks_nothing config name rest word is other none asks.Nothing empty = cc
-asks_nothing config name rest word is other none asks.Configuration field = other field
-asks_nothing config name rest word is other none asks.Command begins = begins.1 word is
-asks_nothing config name rest word is other none (asks.Access core op at) own =
-    none (asks.Access core op at) (subst (λ n. AsksOwn config (n ∷ rest) (asks.Access core op at)) is own)
-asks_nothing config name rest word is other none (asks.Next slice) own =
-    none (asks.Next slice) (subst (λ n. AsksOwn config (n ∷ rest) (asks.Next slice)) is own)
-asks_nothing config name rest word is other none asks.Undo own =
-    none asks.Undo (subst (λ n. AsksOwn config (n ∷ rest) asks.Undo) is own)
-asks_nothing config name rest word is other none (asks.Save file) own =
-    none (asks.Save file) (subst (λ n. AsksOwn config (n ∷ rest) (asks.Save file)) is own)
-asks_nothing config name rest word is other none asks.Help own =
-    none asks.Help (subst (λ n. AsksOwn config (n ∷ rest) asks.Help) is own)
-asks_nothing config name rest word is other none asks.Quit own =
-    none asks.Quit (subst (λ n. AsksOwn config (n ∷ rest) asks.Quit) is own)
+asks_nothing config name rest word is other fault wrong asks.Nothing empty = cc
+asks_nothing config name rest word is other fault wrong asks.Configuration field = other field
+asks_nothing config name rest word is other fault wrong asks.Command begins = begins.1 word is
+asks_nothing config name rest word is other fault wrong (asks.Own own) says =
+    refuses config (name_of word ∷ rest) fault wrong own
+    (subst (λ n. Writes (n ∷ rest) (parts_of own)) is says.0) says.1

@@ -1,3 +1,4 @@
 pub mod AskedLemmas
 pub mod NextLemmas
+pub mod OwnLemmas
 pub mod SessionLemmas

@@ -1,4 +1,5 @@
 pub mod Asked
 pub mod Next
+pub mod Own
 pub mod Session
 pub mod Tag

@@ -4,6 +4,7 @@ ghost use Rattle.std.specs.Prelude.{◌≡◌, IfOk};
 use super::asked::Asked;
 use super::help::HELP;
 use super::kinds::AnySession;
+use super::own::Own;
 use super::saver::Saver;
 use litmus_script::{Answers, written};
 use litmus_text::{Statement, Statements, TextFault};
@@ -95,8 +96,8 @@ impl Prompt {
         };
         let before = self.session.script().len();
         match self.session.answer(&statement, out) {
-            Ok(Asked::Quit) => return Ok(false),
-            Ok(Asked::Undo) => {
+            Ok(Asked::Own(Own::Quit)) => return Ok(false),
+            Ok(Asked::Own(Own::Undo)) => {
                 self.undo(out)?;
                 return Ok(true);
             }
@@ -120,8 +121,8 @@ impl Prompt {
     ) -> Result<(), TextFault> {
         match asked {
             Asked::Configuration => self.configure(statement.line, out),
-            Asked::Save(name) => self.save(name, out, saver),
-            Asked::Help => {
+            Asked::Own(Own::Save(name)) => self.save(name, out, saver),
+            Asked::Own(Own::Help) => {
                 let mut answers = Answers { out };
                 written(answers.write_str(HELP))
             }

@@ -9,6 +9,7 @@ ghost use Rattle.script_prompt.specs.Session.{IsContinued, PlaysLine};
 
 use super::asked::{Asked, read_asked};
 use super::machine;
+use super::own::Own;
 use address_map::{Checked, CoreId, Op, Request, SliceId, WordAddr};
 use litmus_script::{Answers, Player, written};
 use litmus_text::{Command, Statement, Statements, TextFault, parse_command};
@@ -54,14 +55,11 @@ impl<F: MissFile> Session<F> {
         };
         match asked {
             Asked::Command => self.answer_command(statement, out)?,
-            Asked::Access { core, op, word } => self.ask(core, op, word, out)?,
-            Asked::Next(slice) => self.deliver_next(slice, out)?,
+            Asked::Own(Own::Access { core, op, word }) => self.ask(core, op, word, out)?,
+            Asked::Own(Own::Next(slice)) => self.deliver_next(slice, out)?,
             Asked::Nothing
             | Asked::Configuration
-            | Asked::Undo
-            | Asked::Save(_)
-            | Asked::Help
-            | Asked::Quit => {}
+            | Asked::Own(Own::Undo | Own::Save(_) | Own::Help | Own::Quit) => {}
         }
         Ok(asked)
     }

@@ -1,10 +1,10 @@
 use Rattle.std.proofs.Common.{◌≡◌, ◌≢◌, ℕ, List, rules, map}
 use Rattle.litmus_text.proofs.TableLemmas.{Each, named, unnamed}
-use Rattle.script_prompt.specs.Asked.{name_of}
-use Rattle.script_prompt.specs.declared.asked.TheConstants.{WORDS}
-use Rattle.script_prompt.specs.declared.asked.Word.{Word}
-use Rattle.script_prompt.specs.declared.asked.Word.TheVariants as words
-use Rattle.script_prompt.proofs.asked.own_word.Goals as goal
+use Rattle.script_prompt.specs.Own.{name_of}
+use Rattle.script_prompt.specs.declared.own.TheConstants.{WORDS}
+use Rattle.script_prompt.specs.declared.own.Word.{Word}
+use Rattle.script_prompt.specs.declared.own.Word.TheVariants as words
+use Rattle.script_prompt.proofs.own.own_word.Goals as goal
 
 abbrev names : List (List ℕ × Word)
 names = map (λ entry. (entry.0.now, entry.1)) WORDS

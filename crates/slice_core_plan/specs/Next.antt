@@ -1,6 +1,8 @@
 -- The next delivery of a class: one that can be made before one that is broken, that before one that is blocked.
 use Rattle.std.specs.Prelude.{◌≡◌, ◌<◌, ◌⊎◌, IsTrue}
 use Rattle.address_map.specs.declared.address.Local.{Local}
+use Rattle.slice_core_answer.specs.declared.answer.Delivered.{Delivered}
+use Rattle.slice_core_answer.specs.declared.answer.Delivered.TheVariants as delivered
 use Rattle.slice_core_plan.specs.Plan.{plan_of}
 use Rattle.slice_core_plan.specs.View.{View}
 use Rattle.slice_core_plan.specs.declared.decide.Next.{Next}
@@ -17,6 +19,13 @@ next_by local channel plans.Nothing = nexts.Nothing
 next_by local channel plans.Blocked = nexts.Blocked
 next_by local channel (plans.Broken cell) = nexts.Broken cell
 next_by local channel _ = nexts.Move local channel
+
+-- what was to be done there, by what its delivery answered
+abbrev pub next_told : Local → Channel → Delivered → Next
+next_told local channel delivered.Moved = nexts.Move local channel
+next_told local channel delivered.Blocked = nexts.Blocked
+next_told local channel delivered.Nothing = nexts.Nothing
+next_told local channel (delivered.Broken cell) = nexts.Broken cell
 
 -- the better of two
 abbrev pub next_or : Next → Next → Next

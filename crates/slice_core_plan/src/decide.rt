@@ -5,7 +5,7 @@ ghost use Rattle.slice_core_plan.specs.Plan.{event_of_forwarded, event_of_reques
 use address_map::{CoreId, CoreSet, Local, Op};
 use cache_table::{CacheEvent, CacheSends, CopyState};
 use directory_table::{DirEvent, DirState, DirStep};
-use slice_core_answer::{Cell, Refused};
+use slice_core_answer::{Cell, Delivered, Refused};
 use slice_core_side::Access;
 use slice_queues_message::{Channel, ForwardedMessage, Pick, RequestMessage};
 
@@ -131,7 +131,7 @@ pub enum NextPick {
 }
 
 impl Next {
-    ghost use Rattle.slice_core_plan.specs.Next.{next_by, next_or};
+    ghost use Rattle.slice_core_plan.specs.Next.{next_by, next_or, next_told};
 
     /// What is to be done at one channel, by what is planned there.
     pub fn of(local: Local, channel: Channel, plan: Plan) -> Next
@@ -146,6 +146,18 @@ impl Next {
             | Plan::Forwarded { .. }
             | Plan::Fill { .. }
             | Plan::Acknowledge { .. } => Next::Move(local, channel),
+        }
+    }
+
+    /// What was to be done there, by what its delivery answered.
+    pub fn told(local: Local, channel: Channel, answer: Delivered) -> Next
+        ensures { result ≡ next_told local channel answer }
+    {
+        match answer {
+            Delivered::Moved => Next::Move(local, channel),
+            Delivered::Blocked => Next::Blocked,
+            Delivered::Nothing => Next::Nothing,
+            Delivered::Broken(cell) => Next::Broken(cell),
         }
     }
 

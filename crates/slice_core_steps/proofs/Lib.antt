@@ -10,3 +10,4 @@ pub mod SettledLaws
 pub mod NextLaws
 pub mod NextAnswers
 pub mod TurnLaws
+pub mod MadeLaws

@@ -20,7 +20,7 @@ use Rattle.slice_core_plan.specs.declared.decide.Next.TheVariants as nexts
 use Rattle.slice_core_plan.specs.declared.decide.NextPick.TheVariants as next_picks
 use Rattle.slice_core_plan.specs.declared.decide.Plan.{Plan}
 use Rattle.slice_core_plan.specs.declared.decide.Plan.TheVariants as plans
-use Rattle.slice_core_steps.specs.Found.{IsMovable}
+use Rattle.slice_core_steps.specs.Found.{IsOfSlice}
 use Rattle.slice_queues_message.specs.Class.{is_of_class}
 use Rattle.slice_queues_message.specs.Pick.{channel_of, pick_at}
 use Rattle.slice_queues_message.specs.declared.channel.Channel.{Channel}
@@ -167,20 +167,8 @@ can-move v class local channel next = met next.1
         let same = moved-there local some.0 channel some.1 (plan_of v some.0 some.1) some.4 in
         at_same some.0 some.1 same.0 same.1 some.2 some.3 some.4
 
--- what can be moved is moved by its delivery
-moved-by : (plan : Plan) (old new : PartsView) (local : Local) (channel : Channel) (answer : Delivered)
-    → IsMove plan → AfterPlan plan old local channel answer new → AfterPlan plan old local channel delivered.Moved new
-moved-by plans.Nothing old new local channel answer move after = absurd move
-moved-by plans.Blocked old new local channel answer move after = absurd move
-moved-by (plans.Broken cell) old new local channel answer move after = absurd move
-moved-by (plans.Directory step) old new local channel answer move after = (refl, after.1)
-moved-by (plans.Home a b c) old new local channel answer move after = (refl, after.1)
-moved-by (plans.Forwarded a b c) old new local channel answer move after = (refl, after.1)
-moved-by (plans.Fill a b) old new local channel answer move after = (refl, after.1)
-moved-by (plans.Acknowledge a b) old new local channel answer move after = (refl, after.1)
-
 -- what is done at a channel of a line's place is done at the pick of both
-delivered-at : (old new : PartsView) (local : Local) (channel : Channel) (line : LineAddr) (answer : Delivered)
+pub delivered-at : (old new : PartsView) (local : Local) (channel : Channel) (line : LineAddr) (answer : Delivered)
     → local_at old.view.lines line.0 ≡ Some local
     → AfterPlan (plan_of old.view local channel) old local channel answer new
     → AfterDelivery old (pick_at line channel) answer new
@@ -189,16 +177,6 @@ delivered-at old new local (channels.Fwd core) line answer found after = rw foun
 delivered-at old new local (channels.Data core) line answer found after = rw found after
 delivered-at old new local (channels.Ack to from) line answer found after = rw found after
 delivered-at old new local channels.Home line answer found after = rw found after
-
--- a message that could be moved was delivered
-pub next-moved : (old new : PartsView) (local : Local) (channel : Channel) (line : LineAddr) (answer : Delivered)
-    (plan : Plan) → IsMove (plan_of old.view local channel) → local_at old.view.lines line.0 ≡ Some local
-    → plan ≡ plan_of old.view local channel → AfterPlan plan old local channel answer new
-    → AfterDelivery old (pick_at line channel) delivered.Moved new
-next-moved old new local channel line answer plan move found planned after =
-    let P : Plan → Type 0 = λ p. AfterPlan p old local channel answer new in
-    delivered-at old new local channel line delivered.Moved found
-    (moved-by (plan_of old.view local channel) old new local channel answer move (subst P planned after))
 
 -- what can be moved is a move
 is-move : (local at : Local) (channel other : Channel) (plan : Plan) → nexts.Move local channel ≡ next_by at other plan
@@ -241,16 +219,12 @@ pick-moved v class local channel line next found =
 
 -- ---- a next delivery
 
--- what was found to be next is one of a line of the slice, and what is planned for it moves it
-pub movable : (v : View) (class : Class) (next : Next) → IsNextIn v class next → IsMovable v next
-movable v class nexts.Nothing next = tt
-movable v class nexts.Blocked next = tt
-movable v class (nexts.Broken cell) next = tt
-movable v class (nexts.Move local channel) next =
-    let can = can-move v class local channel next in (
-      can.there,
-      is-move local local channel channel _ can.planned,
-    )
+-- what was found to be next is one of a line of the slice
+pub of-slice : (v : View) (class : Class) (next : Next) → IsNextIn v class next → IsOfSlice v.lines next
+of-slice v class nexts.Nothing next = tt
+of-slice v class nexts.Blocked next = tt
+of-slice v class (nexts.Broken cell) next = tt
+of-slice v class (nexts.Move local channel) next = (can-move v class local channel next).there
 
 -- what was moved was planned to be
 moves-planned : (plan : Plan) (old new : PartsView) (local : Local) (channel : Channel)

@@ -1,5 +1,5 @@
 -- What is delivered next: nothing that was looked at is better, and what wasn't looked at has no message.
-use Rattle.std.proofs.Common.{◌≡◌, ◌≢◌, ℕ, suc, ◌+◌, ◌<◌, ◌≤◌, ◌⊎◌, Bool, true, false, ◌&&◌, ◌||◌, if◌then◌else◌, List}
+use Rattle.std.proofs.Common.{◌≡◌, ℕ, suc, ◌+◌, ◌<◌, ◌≤◌, ◌⊎◌, Bool, true, false, ◌&&◌, ◌||◌, if◌then◌else◌, List}
 use Rattle.std.proofs.Common.{[], ◌∷◌, length, drop, get_or, eqb, refl, sym, ◌∙◌, ap, subst, inl, inr, arith}
 use Rattle.std.specs.Prelude.{IsTrue, Option, Some, None, is_some, slice_get, map, nat_lt}
 use Rattle.std.specs.List.{count_by}
@@ -21,7 +21,6 @@ use Rattle.slice_core_plan.specs.Plan.{by_ack_row, by_home_row, data_by, forward
 use Rattle.slice_core_plan.specs.Parts.{IsMove, PartsView}
 use Rattle.slice_core_plan.specs.Ring.{has_mail_at}
 use Rattle.slice_core_plan.specs.Turn.{CanMove, StandsAt}
-use Rattle.slice_core_steps.specs.Found.{IsPlanFor}
 use Rattle.slice_core_plan.specs.View.{View, channels_at, entry_at, side_at, IsShaped}
 use Rattle.slice_core_plan.specs.declared.decide.Next.{Next}
 use Rattle.slice_core_plan.specs.declared.decide.Next.TheVariants as nexts
@@ -29,7 +28,8 @@ use Rattle.slice_core_plan.specs.declared.decide.Plan.{Plan}
 use Rattle.slice_core_plan.specs.declared.decide.Plan.TheVariants as plans
 use Rattle.slice_queues.specs.Line.{LineChannels, empty_line, messages_at, request_messages, data_messages}
 use Rattle.slice_queues.specs.Line.{ack_messages, home_messages}
-use Rattle.slice_queues.specs.Waiting.{is_same_channel, is_waiting, HasEachOnceIn}
+use Rattle.slice_queues.specs.Waiting.{channels_left, is_same_channel, is_waiting, HasEachOnceIn}
+use Rattle.slice_queues.specs.declared.waiting.ChannelsLeft.{ChannelsLeft}
 use Rattle.slice_queues_message.specs.Class.{is_of_class}
 use Rattle.slice_queues_message.specs.declared.channel.Channel.{Channel}
 use Rattle.slice_queues_message.specs.declared.channel.Channel.TheVariants as channels
@@ -291,21 +291,27 @@ next-moves v local at class channel other next one left plan so_far first planne
     first-of_class v local class next channel (drop 1 left) (subst P (taken-first left channel (sym first)) so_far) in
     ((λ third of_third. rw moves refl), inr (channel, of_class, is ∙ ap (next_by local channel) planned))
 
--- where neither of two can be moved, no plan has to come with the better
-pub plan-for_stuck : (v : View) (plan : Plan) (next one after_next : Next) → IsPlanFor v next plan
-    → ((local : Local) (channel : Channel) → one ≢ nexts.Move local channel)
-    → after_next ≡ next_or next one → IsPlanFor v after_next plan
-plan-for_stuck v plan next one after_next stuck stays better = rw better (by_better (either-one next one))
-  where
-    by_one : (other : Next) → one ≡ other → IsPlanFor v other plan
-    by_one nexts.Nothing e = tt
-    by_one nexts.Blocked e = tt
-    by_one (nexts.Broken cell) e = tt
-    by_one (nexts.Move local channel) e = absurd (stays local channel e)
+none-left : (left : List Channel) → None ≡ slice_get left 0 → left ≡ []
+none-left [] e = refl
+none-left (first ∷ rest) e = cc
 
-    by_better : (next_or next one ≡ next) ⊎ (next_or next one ≡ one) → IsPlanFor v (next_or next one) plan
-    by_better (inl e) = rw e stuck
-    by_better (inr e) = rw e (by_one one refl)
+-- behind the last channel
+pub next-ends : (v : View) (local : Local) (class : Class) (next : Next) (left : List Channel)
+    → IsNextOf v local class next left → None ≡ slice_get left 0 → IsNextAt v local class next
+next-ends v local class next left so_far end =
+    ((λ channel of_class. so_far.covered channel of_class (rw (none-left left end) refl)), so_far.met)
+
+-- what is left of a line is left of the same line
+pub first-left : (left : ChannelsLeft) (line same : LineChannels) (answer : Option Channel) → line ≡ same
+    → answer ≡ slice_get (channels_left left line.cores) 0 → answer ≡ slice_get (channels_left left same.cores) 0
+first-left left line same answer is first =
+    subst (λ (l : LineChannels). answer ≡ slice_get (channels_left left l.cores) 0) is first
+
+pub rest-left : (left after : ChannelsLeft) (line same : LineChannels) → line ≡ same
+    → channels_left after line.cores ≡ drop 1 (channels_left left line.cores)
+    → channels_left after same.cores ≡ drop 1 (channels_left left same.cores)
+rest-left left after line same is rest =
+    subst (λ (l : LineChannels). channels_left after l.cores ≡ drop 1 (channels_left left l.cores)) is rest
 
 -- before the first channel of a line that was looked up
 pub next-begins_at : (v : View) (local : Local) (class : Class) (line : LineChannels) (names : List Channel)

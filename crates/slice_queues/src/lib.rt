@@ -14,7 +14,8 @@
 //!   each core of a set.
 //! - [`LineQueues::waiting`] goes through the channels in which a message waits, each once and no other
 //!   (`HasEachOnce`), [`LineQueues::waiting_in`] through those of one class. Data come before what is forwarded, which
-//!   is often blocked until they moved.
+//!   is often blocked until they moved. [`LineQueues::left_in`] gives the same channels as [`ChannelsLeft`], which
+//!   doesn't borrow the line: whoever takes a message stops there, and whoever doesn't asks for the next.
 //! - [`Queues`] holds the lines of a slice, by their places in it, and a ring of lines (specs/Ring.antt). Every line
 //!   with a message stands in the ring, and none twice ([`Queues::ring_len`] says so, `IsRing`).
 //!   What changes a line brings it into the ring (`with_lent`), so whatever is sent, that holds.
@@ -39,7 +40,7 @@ pub use queues::Queues;
 pub use slice_queues_message::{
     Channel, Class, DataMessage, ForwardedMessage, Message, Pick, RequestMessage,
 };
-pub use waiting::LineWaiting;
+pub use waiting::{ChannelsLeft, LineWaiting};
 
 mod core_queues;
 mod count;

@@ -1,11 +1,11 @@
-ghost use Rattle.std.specs.Prelude.{◌≡◌, ◌↔◌, [], filter, length, not, ◌&&◌, slice_get, false, IsTrue};
+ghost use Rattle.std.specs.Prelude.{◌≡◌, ◌↔◌, [], drop, filter, length, not, ◌&&◌, slice_get, false, IsTrue};
 ghost use Rattle.slice_queues_message.specs.Class.{is_of_class};
 ghost use Rattle.std.specs.Option.{option_copied};
 ghost use Rattle.slice_queues_message.specs.declared.channel.Channel.TheVariants as channels;
 
 use super::core_queues::CoreQueues;
 use super::lines::LineHead;
-use super::waiting::LineWaiting;
+use super::waiting::{ChannelsLeft, LineWaiting};
 use address_map::{Block, CoreId, CoreSet};
 use slice_queues_message::{Channel, Class, DataMessage, ForwardedMessage, RequestMessage};
 use std::marker::Model;
@@ -31,7 +31,7 @@ impl<'a> Model for LineQueues<'a> {
 /// The channels one kind at a time: nothing is copied to look at a message.
 impl<'a> LineQueues<'a> {
     ghost use Rattle.address_map.specs.CoreSet.{has};
-    ghost use Rattle.slice_queues.specs.Waiting.{line_waiting, HasEachOnce, HasEachOnceIn};
+    ghost use Rattle.slice_queues.specs.Waiting.{AreCores, channels_left, line_waiting, HasEachOnce, HasEachOnceIn};
     ghost use Rattle.slice_queues.specs.Line.{core_at, messages_at, after_take, HasRoom, HasChannel, IsEmptyLine};
     ghost use Rattle.slice_queues.specs.Line.{has_mail, TakesInvalidations};
     ghost use Rattle.slice_queues.specs.Mail.{IsLine};
@@ -72,8 +72,27 @@ impl<'a> LineQueues<'a> {
         ensures order { result ≡ filter (is_of_class class) (line_waiting self.now) }
         ensures once { HasEachOnceIn class self.now result }
     {
+        LineWaiting::new(self.cores, self.left_in(class))
+    }
+
+    /// The same channels, of which [`LineQueues::next_left`] gives one after another.
+    pub fn left_in(&self, class: Class) -> ChannelsLeft
+        ensures order { channels_left result self.now.cores ≡ filter (is_of_class class) (line_waiting self.now) }
+        ensures once { HasEachOnceIn class self.now (channels_left result self.now.cores) }
+        ensures known { AreCores self.now.cores result.acks.receivers }
+    {
         let home = waits_at_home(class, self.head.home.is_some());
-        LineWaiting::new(self.cores, self.head.mail.of_class(class), home)
+        ChannelsLeft::new(self.cores, self.head.mail.of_class(class), home)
+    }
+
+    /// The next of the channels that are left, `None` behind the last.
+    pub fn next_left(&self, left: &mut ChannelsLeft) -> Option<Channel>
+        requires { AreCores self.now.cores left.old.acks.receivers }
+        ensures first { result ≡ slice_get (channels_left left.old self.now.cores) 0 }
+        ensures rest { channels_left left.new self.now.cores ≡ drop 1 (channels_left left.old self.now.cores) }
+        ensures known { AreCores self.now.cores left.new.acks.receivers }
+    {
+        left.next(self.cores)
     }
 
     /// The request that waits for the directory.

@@ -71,11 +71,15 @@ impl LineRing {
     }
 
     /// The first line goes to the end where it stays, or else leaves the round.
+    // Most slices have one line with messages at a time.
     pub fn turn(&mut self, stays: bool)
         requires { 0 < length self.old.order }
         ensures { self.new
             ≡ record self.old { order = drop 1 self.old.order ++ (if stays then take 1 self.old.order else []) } }
     {
+        if stays && self.order.len() == 1 {
+            return;
+        }
         let Some(first) = self.order.pop_front() else {
             unreachable!()
         };

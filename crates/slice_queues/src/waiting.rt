@@ -1,5 +1,6 @@
 ghost use Rattle.std.specs.Prelude.{◌≡◌, ◌<◌, [], length, drop, slice_get, slice_index_or};
 ghost use Rattle.slice_queues.specs.Line.{no_messages};
+ghost use Rattle.slice_queues.specs.Waiting.{AreCores, acks_from, channels_left, marked_waiting};
 
 use super::core_queues::CoreQueues;
 use super::mail::Mail;
@@ -7,100 +8,58 @@ use address_map::{CoreId, CoreSet};
 use slice_queues_message::Channel;
 use std::marker::Model;
 
-/// The acknowledgements of one line that wait, one after another: by their receivers, and those for one by their
-/// senders.
-#[derive(Drop)]
-pub struct AcksWaiting<'a> {
-    cores: &'a [CoreQueues],
+/// The acknowledgements of one line that are left, by their receivers, and those for one by their senders.
+#[derive(Clone, Copy)]
+pub(crate) struct AcksLeft {
     receivers: CoreSet,
     senders: CoreSet,
     to: CoreId,
 }
 
-impl<'a> Model for AcksWaiting<'a> {
-    ghost use Rattle.std.specs.Prelude.{List, ◌<◌, length};
-    ghost use Rattle.std.specs.List.{AllByRecursion};
-    ghost use Rattle.address_map.specs.CoreSet.{members};
-    ghost use Rattle.slice_queues_message.specs.declared.channel.Channel.{Channel};
-    ghost use Rattle.slice_queues.specs.Waiting.{acks_left};
-
-    ghost Value = { List Channel };
-
-    ghost view = { λ left. acks_left left.to.0 left.senders left.receivers left.cores.now };
-
-    ghost invariant = { λ left. AllByRecursion (λ core. core < length left.cores.now) (members left.receivers) };
-}
-
-impl<'a> AcksWaiting<'a> {
-    ghost use Rattle.std.specs.List.{AllByRecursion, flat_map};
-    ghost use Rattle.address_map.specs.CoreSet.{members};
-    ghost use Rattle.slice_queues.specs.Waiting.{acks_at};
-
-    /// The acknowledgements that wait for these cores.
-    #[tactic(auto, using(address_map::proofs::Members::members_none))]
-    pub(crate) fn new(cores: &'a [CoreQueues], receivers: CoreSet) -> Self
-        requires { AllByRecursion (λ core. core < length cores.now) (members receivers) }
-        ensures { result ≡ flat_map (acks_at cores.now) (members receivers) }
-    {
-        AcksWaiting {
-            cores,
-            receivers,
-            senders: CoreSet::none(),
-            to: CoreId(0),
-        }
-    }
-
-    /// The next acknowledgement, `None` behind the last.
-    pub fn next(&mut self) -> Option<Channel>
-        ensures first { result ≡ slice_get self.old 0 }
-        ensures rest { self.new ≡ drop 1 self.old }
+impl AcksLeft {
+    /// The next acknowledgement that waits for one of these cores, `None` behind the last.
+    fn next(&mut self, cores: &[CoreQueues]) -> Option<Channel>
+        requires { AreCores cores.now self.old.receivers }
+        ensures first { result ≡ slice_get (acks_from self.old cores.now) 0 }
+        ensures rest { acks_from self.new cores.now ≡ drop 1 (acks_from self.old cores.now) }
+        ensures known { AreCores cores.now self.new.receivers }
     {
         loop {
             if let Some(from) = self.senders.pop_first() {
                 return Some(Channel::Ack { to: self.to, from });
             }
             let to = self.receivers.pop_first()?;
-            self.senders = senders_to(self.cores, to);
+            self.senders = senders_to(cores, to);
             self.to = to;
         }
     }
 }
 
-/// The channels of one line in which a message waits, one after another: home, the data, the acknowledgements, what is
-/// forwarded, and the requests.
-#[derive(Drop)]
-pub struct LineWaiting<'a> {
-    acks: AcksWaiting<'a>,
+/// The channels of one line that are left, of those in which a message waited: home, the data, the acknowledgements,
+/// what is forwarded, and the requests. It doesn't hold the line, so that this may be changed once a channel was given.
+#[derive(Clone, Copy)]
+pub struct ChannelsLeft {
+    acks: AcksLeft,
     data_messages: CoreSet,
     forwarded: CoreSet,
     requests: CoreSet,
     home: bool,
 }
 
-impl<'a> Model for LineWaiting<'a> {
-    ghost use Rattle.std.specs.Prelude.{List};
-    ghost use Rattle.address_map.specs.CoreSet.{members};
-    ghost use Rattle.slice_queues_message.specs.declared.channel.Channel.{Channel};
-    ghost use Rattle.slice_queues.specs.Waiting.{by_kind};
-
-    ghost Value = { List Channel };
-
-    ghost view = { λ left.
-        by_kind left.home (members left.data_messages) left.acks (members left.forwarded) (members left.requests) };
-}
-
-impl<'a> LineWaiting<'a> {
-    ghost use Rattle.std.specs.List.{AllByRecursion};
-    ghost use Rattle.address_map.specs.CoreSet.{members};
-    ghost use Rattle.slice_queues.specs.Waiting.{marked_waiting};
-
+impl ChannelsLeft {
     /// The channels of these cores for which the marks say that a message waits, and home where one waits there.
-    pub(crate) fn new(cores: &'a [CoreQueues], mail: Mail, home: bool) -> Self
-        requires { AllByRecursion (λ core. core < length cores.now) (members mail.acks) }
-        ensures { result ≡ marked_waiting home mail cores.now }
+    #[tactic(auto, using(address_map::proofs::Members::members_none))]
+    pub(crate) fn new(cores: &[CoreQueues], mail: Mail, home: bool) -> Self
+        requires { AreCores cores.now mail.acks }
+        ensures order { channels_left result cores.now ≡ marked_waiting home mail cores.now }
+        ensures known { AreCores cores.now result.acks.receivers }
     {
-        LineWaiting {
-            acks: AcksWaiting::new(cores, mail.acks),
+        ChannelsLeft {
+            acks: AcksLeft {
+                receivers: mail.acks,
+                senders: CoreSet::none(),
+                to: CoreId(0),
+            },
             data_messages: mail.data_messages,
             forwarded: mail.forwarded,
             requests: mail.requests,
@@ -108,18 +67,12 @@ impl<'a> LineWaiting<'a> {
         }
     }
 
-    /// No channel.
-    #[tactic(auto, using(address_map::proofs::Members::members_none))]
-    pub(crate) fn none() -> Self
-        ensures { result ≡ [] }
-    {
-        LineWaiting::new(&[], Mail::none(), false)
-    }
-
-    /// The next channel, `None` behind the last.
-    pub fn next(&mut self) -> Option<Channel>
-        ensures first { result ≡ slice_get self.old 0 }
-        ensures rest { self.new ≡ drop 1 self.old }
+    /// The next channel of the line with these cores, `None` behind the last.
+    pub(crate) fn next(&mut self, cores: &[CoreQueues]) -> Option<Channel>
+        requires { AreCores cores.now self.old.acks.receivers }
+        ensures first { result ≡ slice_get (channels_left self.old cores.now) 0 }
+        ensures rest { channels_left self.new cores.now ≡ drop 1 (channels_left self.old cores.now) }
+        ensures known { AreCores cores.now self.new.acks.receivers }
     {
         if self.home {
             self.home = false;
@@ -128,7 +81,7 @@ impl<'a> LineWaiting<'a> {
         if let Some(core) = self.data_messages.pop_first() {
             return Some(Channel::Data(core));
         }
-        if let Some(ack) = self.acks.next() {
+        if let Some(ack) = self.acks.next(cores) {
             return Some(ack);
         }
         if let Some(core) = self.forwarded.pop_first() {
@@ -136,6 +89,52 @@ impl<'a> LineWaiting<'a> {
         }
         let core = self.requests.pop_first()?;
         Some(Channel::Req(core))
+    }
+}
+
+/// The channels of one line in which a message waits, one after another: home, the data, the acknowledgements, what is
+/// forwarded, and the requests.
+#[derive(Drop)]
+pub struct LineWaiting<'a> {
+    cores: &'a [CoreQueues],
+    left: ChannelsLeft,
+}
+
+impl<'a> Model for LineWaiting<'a> {
+    ghost use Rattle.std.specs.Prelude.{List};
+    ghost use Rattle.slice_queues_message.specs.declared.channel.Channel.{Channel};
+    ghost use Rattle.slice_queues.specs.Waiting.{AreCores, channels_left};
+
+    ghost Value = { List Channel };
+
+    ghost view = { λ waiting. channels_left waiting.left waiting.cores.now };
+
+    ghost invariant = { λ waiting. AreCores waiting.cores.now waiting.left.acks.receivers };
+}
+
+impl<'a> LineWaiting<'a> {
+    pub(crate) fn new(cores: &'a [CoreQueues], left: ChannelsLeft) -> Self
+        requires { AreCores cores.now left.acks.receivers }
+        ensures { result ≡ channels_left left cores.now }
+    {
+        LineWaiting { cores, left }
+    }
+
+    /// No channel.
+    #[tactic(auto, using(address_map::proofs::Members::members_none))]
+    pub(crate) fn none() -> Self
+        ensures { result ≡ [] }
+    {
+        let left = ChannelsLeft::new(&[], Mail::none(), false);
+        LineWaiting::new(&[], left)
+    }
+
+    /// The next channel, `None` behind the last.
+    pub fn next(&mut self) -> Option<Channel>
+        ensures first { result ≡ slice_get self.old 0 }
+        ensures rest { self.new ≡ drop 1 self.old }
+    {
+        self.left.next(self.cores)
     }
 }
 

@@ -6,6 +6,7 @@ ghost use Rattle.slice_core_side.specs.Side.{array_copy};
 ghost use Rattle.slice_core_side.specs.Steps.{acknowledged, after_change, after_settle};
 ghost use Rattle.slice_core_side.specs.Targets.{IsPerformable};
 ghost use Rattle.slice_core_plan.specs.Parts.{AfterDelivery, AfterPlan, CanDeliver, Moves, Settles, filled_by};
+ghost use Rattle.slice_core_plan.specs.Plan.{plan_of};
 ghost use Rattle.slice_core_plan.specs.Sends.{cache_room, directory_room, directory_sent};
 ghost use Rattle.slice_core_plan.specs.Steps.{after_directory, after_forwarded, after_home, asked_by, block_in};
 ghost use Rattle.slice_core_plan.specs.View.{channels_at, side_at, IsShaped};
@@ -34,16 +35,48 @@ impl<F: MissFile> Parts<F> {
         ensures { AfterDelivery self.old pick result self.new }
     {
         match self.lines.local_of(pick.line()) {
-            Some(local) => {
-                let plan = self.plan(local, pick.channel());
-                self.carry_out(local, pick.channel(), &plan)
-            }
+            Some(local) => self.deliver_at(local, pick.channel()),
             None => Delivered::Nothing,
         }
     }
 
-    /// Does what is planned for the front message of a channel of a line.
-    pub(super) fn carry_out(&mut self, local: Local, channel: Channel, plan: &Plan) -> Delivered
+    /// The same at a channel of a line.
+    // What is planned is carried out kind by kind: one value for all kinds would be written to memory and read back.
+    pub(super) fn deliver_at(&mut self, local: Local, channel: Channel) -> Delivered
+        requires line { local.0 < self.old.view.lines.lines }
+        requires delivers { CanDeliver self.old }
+        ensures { AfterPlan (plan_of self.old.view local channel) self.old local channel result self.new }
+    {
+        if !self.queues.line(local).has_channel(channel) {
+            return Delivered::Nothing;
+        }
+        match channel {
+            Channel::Req(core) => {
+                let plan = self.plan_request(local, core);
+                self.carry_out(local, channel, &plan)
+            }
+            Channel::Fwd(core) => {
+                let plan = self.plan_forwarded(local, core);
+                self.carry_out(local, channel, &plan)
+            }
+            Channel::Data(core) => {
+                let plan = self.plan_data(local, core);
+                self.carry_out(local, channel, &plan)
+            }
+            Channel::Ack { to, from } => {
+                let plan = self.plan_ack(local, to, from);
+                self.carry_out(local, channel, &plan)
+            }
+            Channel::Home => {
+                let plan = self.plan_home(local);
+                self.carry_out(local, channel, &plan)
+            }
+        }
+    }
+
+    // Does what is planned for the front message of a channel of a line.
+    #[inline(always)]
+    fn carry_out(&mut self, local: Local, channel: Channel, plan: &Plan) -> Delivered
         requires line { local.0 < self.old.view.lines.lines }
         requires delivers { CanDeliver self.old }
         requires planned { IsPlanned self.old.view local channel plan.now }

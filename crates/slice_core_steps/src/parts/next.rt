@@ -1,18 +1,17 @@
 ghost use Rattle.std.specs.Prelude.{◌≡◌, ℕ, ◌<◌, true};
 ghost use Rattle.slice_core_plan.specs.Next.{IsNextAt, IsNextIn};
-ghost use Rattle.slice_core_plan.specs.Parts.{PartsView, AfterDeliverNext, CanDeliver, IsDone, IsNextPick, next_pick};
-ghost use Rattle.slice_core_plan.specs.Parts.{told};
+ghost use Rattle.slice_core_plan.specs.Parts.{PartsView, AfterDeliverNext, CanDeliver, IsNextPick, next_pick, told};
 ghost use Rattle.slice_core_plan.specs.Ring.{has_mail_at, looked_at, next_at, next_in, pick_of};
 ghost use Rattle.slice_core_plan.specs.Turn.{ServesInTurn};
 ghost use Rattle.slice_core_plan.specs.View.{View, IsShaped};
 ghost use Rattle.slice_queues.specs.Ring.{is_listed};
-ghost use Rattle.slice_core_steps.specs.Found.{IsMovable, IsPlanFor};
+ghost use Rattle.slice_core_steps.specs.Found.{IsLocated, IsMade, IsOfSlice};
 
 use super::Parts;
-use address_map::Local;
+use address_map::{Local, Locator};
 use mshr_file::MissFile;
 use slice_core_answer::DeliveredNext;
-use slice_core_plan::{Next, NextPick, Plan};
+use slice_core_plan::{Next, NextPick};
 use slice_queues::Class;
 
 impl<F: MissFile> Parts<F> {
@@ -23,11 +22,53 @@ impl<F: MissFile> Parts<F> {
         ensures step { AfterDeliverNext self.old class result self.new }
         ensures turn { ServesInTurn self.old class result self.new }
     {
-        let mut plan = Plan::Nothing;
-        let (next, looked) = self.find_next(class, &mut plan);
-        let answer = self.deliver_found(next, &plan);
+        let lines = self.lines;
+        let (next, looked) = self.deliver_first(class);
+        let answer = answer_to(lines, next);
         self.queues.rotate(looked);
         answer
+    }
+
+    // Makes the delivery of the class that is next, if one can be made. Answers also how many lines of the ring were
+    // looked at for it.
+    fn deliver_first(&mut self, class: Class) -> (Next, usize)
+        requires delivers { CanDeliver self.old }
+        ensures next { result.0 ≡ next_in self.old.view class self.old.ring }
+        ensures looked { result.1 ≡ looked_at self.old.view class self.old.ring }
+        ensures found { IsNextIn self.old.view class result.0 }
+        ensures made { IsMade self.old result.0 self.new }
+        ensures listed { (local : ℕ) → has_mail_at self.old.view local ≡ true → is_listed self.old.ring local ≡ true }
+    {
+        let mut next = Next::Nothing;
+        for index in 0..self.queues.ring_len() {
+            let local = self.queues.ring_at(index);
+            let made = self.deliver_on(local, class);
+            if let Next::Move(..) = made {
+                return (made, index + 1);
+            }
+            next = next.or(made);
+        }
+        (next, self.queues.ring_len())
+    }
+
+    // Makes the delivery of the class that is next of a line, if one can be made.
+    fn deliver_on(&mut self, local: Local, class: Class) -> Next
+        requires line { local.0 < self.old.view.lines.lines }
+        requires delivers { CanDeliver self.old }
+        ensures next { result ≡ next_at self.old.view class local }
+        ensures found { IsNextAt self.old.view local class result }
+        ensures made { IsMade self.old result self.new }
+    {
+        let mut next = Next::Nothing;
+        let mut left = self.queues.line(local).left_in(class);
+        while let Some(channel) = self.queues.line(local).next_left(&mut left) {
+            let one = Next::told(local, channel, self.deliver_at(local, channel));
+            if let Next::Move(..) = one {
+                return one;
+            }
+            next = next.or(one);
+        }
+        next
     }
 
     /// What is to be delivered next of the class: [`Parts::deliver_next`] delivers it. It looks at the same lines, and
@@ -37,9 +78,7 @@ impl<F: MissFile> Parts<F> {
         ensures next { result ≡ next_pick self.now class }
         ensures found { IsNextPick self.now.view class result }
     {
-        let mut plan = Plan::Nothing;
-        let (next, _) = self.find_next(class, &mut plan);
-        match next {
+        match self.find_next(class) {
             Next::Nothing => NextPick::Nothing,
             Next::Blocked => NextPick::Blocked,
             Next::Broken(cell) => NextPick::Broken(cell),
@@ -47,65 +86,53 @@ impl<F: MissFile> Parts<F> {
         }
     }
 
-    // Makes the delivery that was found, where there is one.
-    fn deliver_found(&mut self, next: Next, plan: &Plan) -> DeliveredNext
-        requires delivers { CanDeliver self.old }
-        requires movable { IsMovable self.old.view next }
-        requires planned { IsPlanFor self.old.view next plan.now }
-        ensures told { told result ≡ pick_of self.old.view.lines next }
-        ensures done { IsDone self.old result self.new }
-    {
-        match next {
-            Next::Nothing => DeliveredNext::Nothing,
-            Next::Blocked => DeliveredNext::Blocked,
-            Next::Broken(cell) => DeliveredNext::Broken(cell),
-            Next::Move(local, channel) => {
-                let pick = channel.at(self.lines.line_at(local));
-                let _ = self.carry_out(local, channel, plan);
-                DeliveredNext::Moved(pick)
-            }
-        }
-    }
-
-    // What is to be delivered next of the class, and how many lines of the ring were looked at for it. Where a message
-    // can be moved, its plan is written in place: handed on by value it would be copied twice.
-    fn find_next(&self, class: Class, plan: &mut Plan) -> (Next, usize)
+    // What is to be delivered next of the class.
+    fn find_next(&self, class: Class) -> Next
         requires shaped { IsShaped self.now.view }
-        ensures next { result.0 ≡ next_in self.now.view class self.now.ring }
-        ensures looked { result.1 ≡ looked_at self.now.view class self.now.ring }
-        ensures found { IsNextIn self.now.view class result.0 }
-        ensures plan { IsPlanFor self.now.view result.0 plan.new }
-        ensures listed { (local : ℕ) → has_mail_at self.now.view local ≡ true → is_listed self.now.ring local ≡ true }
+        ensures next { result ≡ next_in self.now.view class self.now.ring }
+        ensures found { IsNextIn self.now.view class result }
     {
         let mut next = Next::Nothing;
-        for index in 0..self.queues.ring_len() {
-            let found = self.next_at(self.queues.ring_at(index), class, plan);
+        for place in 0..self.queues.ring_len() {
+            let found = self.next_at(self.queues.ring_at(place), class);
             if let Next::Move(..) = found {
-                return (found, index + 1);
+                return found;
             }
             next = next.or(found);
         }
-        (next, self.queues.ring_len())
+        next
     }
 
     // What is to be delivered next of a line.
-    fn next_at(&self, local: Local, class: Class, plan: &mut Plan) -> Next
+    fn next_at(&self, local: Local, class: Class) -> Next
         requires line { local.0 < self.now.view.lines.lines }
         requires shaped { IsShaped self.now.view }
         ensures next { result ≡ next_at self.now.view class local }
         ensures found { IsNextAt self.now.view local class result }
-        ensures plan { IsPlanFor self.now.view result plan.new }
     {
         let mut next = Next::Nothing;
         let mut waiting = self.queues.line(local).waiting_in(class);
         while let Some(channel) = waiting.next() {
-            *plan = self.plan(local, channel);
-            let one = Next::of(local, channel, *plan);
-            if let Next::Move(..) = one {
-                return one;
+            let planned = Next::of(local, channel, self.plan(local, channel));
+            if let Next::Move(..) = planned {
+                return planned;
             }
-            next = next.or(one);
+            next = next.or(planned);
         }
         next
+    }
+}
+
+// What a next delivery answers that made this one, where one could be made.
+fn answer_to(lines: Locator, next: Next) -> DeliveredNext
+    requires { IsOfSlice lines next }
+    ensures told { told result ≡ pick_of lines next }
+    ensures there { IsLocated lines next }
+{
+    match next {
+        Next::Nothing => DeliveredNext::Nothing,
+        Next::Blocked => DeliveredNext::Blocked,
+        Next::Broken(cell) => DeliveredNext::Broken(cell),
+        Next::Move(local, channel) => DeliveredNext::Moved(channel.at(lines.line_at(local))),
     }
 }

@@ -49,7 +49,8 @@ impl<F: MissFile> Parts<F> {
     }
 
     // The directory's row for the core's request.
-    fn plan_request(&self, local: Local, core: CoreId) -> Plan
+    #[inline(always)]
+    pub(super) fn plan_request(&self, local: Local, core: CoreId) -> Plan
         requires line { local.0 < self.now.view.lines.lines }
         requires core { core.0 < length self.now.view.sides }
         requires shaped { IsShaped self.now.view }
@@ -72,7 +73,8 @@ impl<F: MissFile> Parts<F> {
     }
 
     // The directory's row for the block that comes home.
-    fn plan_home(&self, local: Local) -> Plan
+    #[inline(always)]
+    pub(super) fn plan_home(&self, local: Local) -> Plan
         requires line { local.0 < self.now.view.lines.lines }
         requires shaped { IsShaped self.now.view }
         ensures planned { result ≡ home_plan self.now.view local }
@@ -93,7 +95,8 @@ impl<F: MissFile> Parts<F> {
     }
 
     // The cache's row for the forwarded message that waits for the core.
-    fn plan_forwarded(&self, local: Local, core: CoreId) -> Plan
+    #[inline(always)]
+    pub(super) fn plan_forwarded(&self, local: Local, core: CoreId) -> Plan
         requires line { local.0 < self.now.view.lines.lines }
         requires core { core.0 < length self.now.view.sides }
         requires shaped { IsShaped self.now.view }
@@ -125,7 +128,8 @@ impl<F: MissFile> Parts<F> {
     }
 
     // The cache's row for the data that wait for the core.
-    fn plan_data(&self, local: Local, core: CoreId) -> Plan
+    #[inline(always)]
+    pub(super) fn plan_data(&self, local: Local, core: CoreId) -> Plan
         requires line { local.0 < self.now.view.lines.lines }
         requires core { core.0 < length self.now.view.sides }
         requires shaped { IsShaped self.now.view }
@@ -159,7 +163,8 @@ impl<F: MissFile> Parts<F> {
     }
 
     // The cache's row for an acknowledgement that waits for the core.
-    fn plan_ack(&self, local: Local, to: CoreId, from: CoreId) -> Plan
+    #[inline(always)]
+    pub(super) fn plan_ack(&self, local: Local, to: CoreId, from: CoreId) -> Plan
         requires line { local.0 < self.now.view.lines.lines }
         requires to { to.0 < length self.now.view.sides }
         requires from { from.0 < length self.now.view.sides }

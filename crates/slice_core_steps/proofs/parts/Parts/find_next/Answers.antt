@@ -1,15 +1,14 @@
 use Rattle.std.proofs.Common.{◌∙◌, ap, arith}
 use Rattle.slice_core_plan.specs.Parts.{PartsView}
-use Rattle.slice_core_plan.specs.Ring.{looked_at, next_in}
-use Rattle.slice_core_steps.proofs.NextLaws.{line-there, plan-for_stuck, ring-begins, ring-more_at, ring-moves}
-use Rattle.slice_core_steps.proofs.TurnLaws.{turn-begins, turn-looked, turn-more, turn-moves}
+use Rattle.slice_core_plan.specs.Ring.{next_in}
+use Rattle.slice_core_steps.proofs.NextLaws.{line-there, ring-begins, ring-more_at, ring-moves}
+use Rattle.slice_core_steps.proofs.TurnLaws.{turn-begins, turn-more, turn-moves}
 use Rattle.slice_core_steps.proofs.parts.Parts.find_next.Goals as goal
 
-pub loop-index-init : goal.loop-index-init
-loop-index-init g c = (
-  ring-begins _ _ c.self.inside.queues c.ring_len-index-end.ensures.ring
+pub loop-place-init : goal.loop-place-init
+loop-place-init g c = (
+  ring-begins _ _ c.self.inside.queues c.ring_len-place-end.ensures.ring
       (ap (λ (p : PartsView). p.view.channels) c.self.view_is),
-  (λ plan. tt),
   turn-begins _ _ _,
 )
 
@@ -23,29 +22,20 @@ returns-in-Move-clause-found g c =
 
 pub returns-in-Move-clause-next : goal.returns-in-Move-clause-next
 returns-in-Move-clause-next g c =
-    turn-moves _ _ _ _ _ _ _ c.loop-index.invariant.2
-    (omega (arith, c.loop-index-test.true, c.ring_len-index-end.ensures.len)) c.ring_at.ensures.line
+    turn-moves _ _ _ _ _ _ _ c.loop-place.invariant.1
+    (omega (arith, c.loop-place-test.true, c.ring_len-place-end.ensures.len)) c.ring_at.ensures.line
     c.next_at-found.ensures.next _ _ c.in-Move.is
     ∙ ap (λ (p : PartsView). next_in c.args.self.now.view c.args.class p.ring) c.self.view_is
 
-pub returns-in-Move-clause-looked : goal.returns-in-Move-clause-looked
-returns-in-Move-clause-looked g c =
-    turn-looked _ _ _ _ _ _ _ c.loop-index.invariant.2
-    (omega (arith, c.loop-index-test.true, c.ring_len-index-end.ensures.len)) c.ring_at.ensures.line
-    c.next_at-found.ensures.next _ _ c.in-Move.is
-    ∙ ap (λ (p : PartsView). looked_at c.args.self.now.view c.args.class p.ring) c.self.view_is
-
-pub loop-index-preserved : goal.loop-index-preserved
-loop-index-preserved g c =
+pub loop-place-preserved : goal.loop-place-preserved
+loop-place-preserved g c =
     let same = ap (λ (p : PartsView). p.view.channels) c.self.view_is in (
-      ring-more_at _ _ _ _ _ c.self.inside.queues.ring c.loop-index.index c.ring_at.result
-          (omega (arith, c.loop-index-test.true, c.ring_len-index-end.ensures.len)) c.ring_at.ensures.line
+      ring-more_at _ _ _ _ _ c.self.inside.queues.ring c.loop-place.place c.ring_at.result
+          (omega (arith, c.loop-place-test.true, c.ring_len-place-end.ensures.len)) c.ring_at.ensures.line
           (line-there c.args.self.now.view c.self.inside.queues.channels.lines c.ring_at.result.0 c.requires.shaped same
           c.ring_at.ensures.there)
-          c.loop-index.invariant.0 c.next_at-found.ensures.found c.or-next.ensures,
-      (λ plan. plan-for_stuck c.args.self.now.view plan _ _ _ (c.loop-index.invariant.1 plan)
-          c.in_default.not-Move c.or-next.ensures),
-      turn-more _ _ _ _ _ _ _ c.loop-index.invariant.2
-          (omega (arith, c.loop-index-test.true, c.ring_len-index-end.ensures.len)) c.ring_at.ensures.line
+          c.loop-place.invariant.0 c.next_at-found.ensures.found c.or-next.ensures,
+      turn-more _ _ _ _ _ _ _ c.loop-place.invariant.1
+          (omega (arith, c.loop-place-test.true, c.ring_len-place-end.ensures.len)) c.ring_at.ensures.line
           c.next_at-found.ensures.next _ c.in_default.not-Move c.or-next.ensures,
     )

@@ -1,12 +1,9 @@
 use Rattle.std.proofs.Common.{drop}
-use Rattle.slice_core_plan.specs.declared.decide.Plan.{Plan}
 use Rattle.slice_core_steps.proofs.NextLaws.{IsNextSoFar}
 use Rattle.slice_core_steps.proofs.TurnLaws.{IsTurnSoFar}
-use Rattle.slice_core_steps.specs.Found.{IsPlanFor}
 use Rattle.slice_core_steps.proofs.parts.Parts.find_next.Given as goal
 
-abbrev pub invariant-loop-index : goal.invariant-loop-index
-invariant-loop-index g l =
-    IsNextSoFar l.self.view l.class l.next (drop l.index l.self-inside.queues.ring)
-    × ((plan : Plan) → IsPlanFor l.self.view l.next plan)
-    × IsTurnSoFar l.self.view l.class l.self-inside.queues.ring l.next l.index
+abbrev pub invariant-loop-place : goal.invariant-loop-place
+invariant-loop-place g l =
+    IsNextSoFar l.self.view l.class l.next (drop l.place l.self-inside.queues.ring)
+    × IsTurnSoFar l.self.view l.class l.self-inside.queues.ring l.next l.place

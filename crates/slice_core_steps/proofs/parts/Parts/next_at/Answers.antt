@@ -1,7 +1,7 @@
 use Rattle.std.proofs.Common.{ap, ◌∙◌}
 use Rattle.slice_core_plan.specs.Parts.{PartsView}
 use Rattle.slice_core_plan.specs.View.{channels_at}
-use Rattle.slice_core_steps.proofs.NextLaws.{next-begins_at, next-more_taken, next-moves, plan-for_stuck}
+use Rattle.slice_core_steps.proofs.NextLaws.{next-begins_at, next-more_taken, next-moves}
 use Rattle.slice_core_steps.proofs.TurnLaws.{first-begins, first-more, first-moves}
 use Rattle.slice_core_steps.proofs.parts.Parts.next_at.Goals as goal
 
@@ -9,27 +9,24 @@ pub loop-next-init : goal.loop-next-init
 loop-next-init g c =
     let line = c.line.ensures ∙ ap (λ (p : PartsView). channels_at p.view c.args.local) c.self.view_is in (
       next-begins_at _ _ _ _ _ line c.waiting_in-waiting.ensures.once,
-      (λ plan. tt),
       first-begins _ _ _ _ _ line c.waiting_in-waiting.ensures.order,
     )
 
 pub returns-in-Move-clause-found : goal.returns-in-Move-clause-found
 returns-in-Move-clause-found g c =
     next-moves _ _ _ _ _ _ _ _ _ _ c.loop-next.invariant.0 c.in-Some.ensures.first c.plan.ensures.planned
-    c.of-one.ensures c.in-Move.is
+    c.of-planned.ensures c.in-Move.is
 
 pub returns-in-Move-clause-next : goal.returns-in-Move-clause-next
 returns-in-Move-clause-next g c =
-    first-moves _ _ _ _ _ _ _ _ c.loop-next.invariant.2 c.in-Some.ensures.first c.plan.ensures.planned
-    c.of-one.ensures _ _ c.in-Move.is
+    first-moves _ _ _ _ _ _ _ _ c.loop-next.invariant.1 c.in-Some.ensures.first c.plan.ensures.planned
+    c.of-planned.ensures _ _ c.in-Move.is
 
 pub loop-next-preserved : goal.loop-next-preserved
 loop-next-preserved g c = (
   next-more_taken _ _ _ _ _ _ _ _ _ _ c.loop-next.invariant.0 c.in-Some.ensures.first c.in-Some.ensures.rest
       c.plan.ensures.planned
-      c.of-one.ensures c.or-next.ensures,
-  (λ plan. plan-for_stuck c.args.self.now.view plan _ _ _ (c.loop-next.invariant.1 plan)
-      c.in_default-one.not-Move c.or-next.ensures),
-  first-more _ _ _ _ _ _ _ _ c.loop-next.invariant.2 c.in-Some.ensures.first c.plan.ensures.planned
-      c.of-one.ensures _ _ c.in_default-one.not-Move c.or-next.ensures c.in-Some.ensures.rest,
+      c.of-planned.ensures c.or-next.ensures,
+  first-more _ _ _ _ _ _ _ _ c.loop-next.invariant.1 c.in-Some.ensures.first c.plan.ensures.planned
+      c.of-planned.ensures _ _ c.in_default-planned.not-Move c.or-next.ensures c.in-Some.ensures.rest,
 )

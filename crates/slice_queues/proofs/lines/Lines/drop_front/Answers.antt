@@ -1,7 +1,7 @@
 use Rattle.std.proofs.Common.{◌≡◌, ◌∙◌, ap, get_or, refl, subst, sym}
 use Rattle.std.proofs.Math.ListN.{set}
 use Rattle.slice_queues_message.specs.declared.channel.Channel.{Channel}
-use Rattle.slice_queues.specs.Line.{LineChannels, core_at, empty_line, after_take, HasChannel, IsOfCore}
+use Rattle.slice_queues.specs.Line.{core_at, empty_line, after_take, HasChannel, IsOfCore}
 use Rattle.slice_queues.proofs.LineLaws.{core-there, of-core}
 use Rattle.slice_queues.proofs.RunsLaws.{read-core, lines-with_core, opens}
 use Rattle.slice_queues.proofs.lines.Lines.drop_front.Goals as goal

@@ -1,7 +1,7 @@
 use Rattle.std.proofs.Common.{◌≡◌, ◌∙◌, ap, get_or, refl, subst, sym}
 use Rattle.std.proofs.Math.ListN.{set}
 use Rattle.slice_queues_message.specs.declared.channel.Channel.{Channel}
-use Rattle.slice_queues.specs.Line.{LineChannels, core_at, empty_line, after_send, HasChannel, IsOfCore}
+use Rattle.slice_queues.specs.Line.{core_at, empty_line, after_send, HasChannel, IsOfCore}
 use Rattle.slice_queues.proofs.LineLaws.{core-there, few-forwarded, of-core, sends_only}
 use Rattle.slice_queues.proofs.RunsLaws.{from-core, read-core, lines-with_core, opens}
 use Rattle.slice_queues.proofs.lines.Lines.send.Goals as goal

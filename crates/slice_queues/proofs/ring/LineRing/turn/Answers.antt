@@ -16,13 +16,13 @@ index_mut-requires c =
     let front : slice_get c.self.inside.order.items 0 ≡ Some c.in-Some.first = search rules in
     omega (arith, listed-below _ _ _ c.in-Some.first c.self.invariant (listed-get _ 0 c.in-Some.first front))
 
-pub invariant_of-self-else-stays : goal.invariant_of-self-else-stays
-invariant_of-self-else-stays c =
+pub invariant_of-self-else-stays-2 : goal.invariant_of-self-else-stays-2
+invariant_of-self-else-stays-2 c =
     let front : slice_get c.self.inside.order.items 0 ≡ Some c.in-Some.first = search rules in
     rw c.pop_front.ensures.items (left-round _ _ _ c.in-Some.first front c.self.invariant)
 
-pub returns-then-stays : goal.returns-then-stays
-returns-then-stays c =
+pub returns-then-stays-2 : goal.returns-then-stays-2
+returns-then-stays-2 c =
     let front : slice_get c.self.inside.order.items 0 ≡ Some c.in-Some.first = search rules in
     let after : LineOrder = record {
       order = c.push_back.new.self.items;
@@ -39,4 +39,4 @@ returns-then-stays c =
     (turned-buffer
     _ c.self.inside.listed.items.items _ c.in-Some.first _ _ front c.self.invariant c.pop_front.ensures.items
     c.push_back.ensures.items)
-    c.if-stays.true)
+    c.if-stays-2.true)

@@ -2,11 +2,11 @@ use Rattle.std.proofs.Common.{rules, ◌≡◌, ◌&&◌, ◌∙◌, subst, filt
 use Rattle.slice_queues_message.specs.declared.channel.Channel.TheVariants as channels
 use Rattle.slice_queues_message.specs.Class.{is_of_class}
 use Rattle.slice_queues.specs.Line.{LineChannels}
-use Rattle.slice_queues.specs.Waiting.{line_waiting, HasEachOnceIn}
+use Rattle.slice_queues.specs.Waiting.{HasEachOnceIn, channels_left, line_waiting}
 use Rattle.slice_queues.proofs.OnceLaws.{line_waiting-once}
 use Rattle.slice_queues.proofs.WaitingLaws.{AllByRecursion-members, marks_of-below, marked_waiting-of_class}
 use Rattle.slice_queues.proofs.WaitingLaws.{HasEachOnceIn-from_all}
-use Rattle.slice_queues.proofs.line_queues.LineQueues.waiting_in.Goals as goal
+use Rattle.slice_queues.proofs.line_queues.LineQueues.left_in.Goals as goal
 
 pub new-requires : goal.new-requires
 new-requires c =
@@ -16,14 +16,15 @@ new-requires c =
 
 pub returns-clause-order : goal.returns-clause-order
 returns-clause-order c =
-    let P : LineChannels → Type 0 = λ line. c.new.result ≡ filter (is_of_class c.args.class) (line_waiting line) in
+    let P : LineChannels → Type 0 =
+    λ line. channels_left c.new.result line.cores ≡ filter (is_of_class c.args.class) (line_waiting line) in
     let home : c.waits_at_home-home.result
     ≡ (is_of_class c.args.class channels.Home && is_some c.self.inside.head.now.home) =
     search rules in
     subst
     P
     c.self.view_is
-    (c.new.ensures
+    (c.new.ensures.order
     ∙ rw
     c.of_class.ensures
     (marked_waiting-of_class
@@ -33,7 +34,8 @@ returns-clause-order c =
 
 pub returns-clause-once : goal.returns-clause-once
 returns-clause-once c =
-    let order : c.new.result ≡ filter (is_of_class c.args.class) (line_waiting c.args.self.now) =
+    let order : channels_left c.new.result c.args.self.now.cores
+    ≡ filter (is_of_class c.args.class) (line_waiting c.args.self.now) =
     returns-clause-order c in
     let P : LineChannels → Type 0 =
     λ line. HasEachOnceIn c.args.class line (filter (is_of_class c.args.class) (line_waiting line)) in

@@ -4,9 +4,9 @@ use Rattle.std.specs.Prelude.{codes}
 use Rattle.std.proofs.lemmas.Grind.{common_steps}
 use Rattle.address_map.specs.declared.request.Op.{Op}
 use Rattle.address_map.specs.declared.request.Op.TheVariants as ops
-use Rattle.litmus_text.specs.declared.access.Access.{Access}
-use Rattle.litmus_text.specs.declared.access.Access.TheVariants as accesses
-use Rattle.litmus_text.specs.declared.access.TheConstants.{ACCESSES}
+use Rattle.litmus_text.specs.declared.parse.Access.{Access}
+use Rattle.litmus_text.specs.declared.parse.Access.TheVariants as accesses
+use Rattle.litmus_text.specs.declared.parse.TheConstants.{ACCESSES}
 use Rattle.litmus_text.specs.Access.{name_of_access}
 use Rattle.litmus_text.specs.Table.{value_named}
 use Rattle.litmus_text.specs.Command.{parts_of_access, parts_of_op}

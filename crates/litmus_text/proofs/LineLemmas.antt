@@ -1,9 +1,8 @@
 -- A text is its first line and the lines of what follows it.
-use Rattle.std.proofs.Common.{inl, inr, ◌≡◌, ℕ, zero, suc, sym, ◌+◌, ◌<◌, ◌≤◌, ◌==◌, Bool, false, List, [], ◌∷◌, length}
-use Rattle.std.proofs.Common.{take, drop, Some, None, refl, arith, ◌∙◌, ap, length-take}
+use Rattle.std.proofs.Common.{inl, inr, ◌≡◌, ℕ, ◌+◌, ◌<◌, ◌≤◌, ◌==◌, Bool, false, List, [], ◌∷◌, length}
+use Rattle.std.proofs.Common.{take, drop, Some, None, refl, arith, ◌∙◌, ap}
 use Rattle.std.specs.List.{position, position_or_len, slice_split, before_first, after_first, onto_first, All}
 use Rattle.std.specs.Str.Lines.{lines, lines_of_parts, strip_carriage_return}
-use Rattle.std.proofs.lemmas.List.{take-take}
 use Rattle.std.proofs.lemmas.List.Splits.{slice_split_first, slice_split_none, slice_split-cons_yes}
 use Rattle.std.proofs.lemmas.List.Splits.{slice_split-cons_no, length-slice_split}
 use Rattle.std.proofs.lemmas.List.Sums.{fails_before_first}
@@ -21,21 +20,6 @@ one_part text h = grind (arith, nat_tests)
 
 no_feed : (text : List ℕ) → length text ≤ position_or_len (λ b. b == 10) text → All (λ b. (b == 10) ≡ false) text
 no_feed text h = λ k d below. fails_before_first (λ b. b == 10) text k d (omega arith)
-
--- as many elements of a list as its front has are that front
-pub front_again : (n : ℕ) (bs : List ℕ) → take (length (take n bs)) bs ≡ take n bs
-front_again zero bs = refl
-front_again (suc n) [] = refl
-front_again (suc n) (b ∷ bs) = ap (λ rest. b ∷ rest) (front_again n bs)
-
--- the front of a front is a front of the whole
-pub front_of_front : (n : ℕ) (bs front : List ℕ) → take (length front) (take n bs) ≡ front
-    → take (length front) bs ≡ front
-front_of_front n bs front is =
-    let shorter : length front ≤ length (take n bs) =
-    omega (arith, ap length is, length-take (length front) (take n bs)) in
-    let few : length front ≤ n = omega (arith, shorter, length-take n bs) in
-    sym (take-take (length front) n bs few) ∙ is
 
 -- a text without a line feed is one line
 pub lines_without_feed : (text : List ℕ) → 0 < length text → position (λ b. b == 10) text ≡ None →

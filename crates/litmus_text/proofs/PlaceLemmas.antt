@@ -23,21 +23,6 @@ at_place n k below place e = grind (arith, nat_tests)
 at_no_place : (n place : ℕ) → place ≡ n → None ≡ cond (ltb place n) (Some place) None
 at_no_place n place e = grind (arith, nat_tests)
 
--- a byte that passes behind those that don't stands at the position
-pub found_here : (test : ℕ → Bool) (bs : List ℕ) (i : ℕ) → i < length bs
-    → ((k : ℕ) → k < i → test (get_or bs k 0) ≡ false)
-    → test (get_or bs i 0) ≡ true → Some i ≡ position test bs
-found_here test bs i below before here =
-    at_place (length bs) i below (position_or_len test bs)
-    (position_or_len_is test bs i 0 (omega arith) before (λ below. here))
-
--- where none passes there is no position
-pub found_not : (test : ℕ → Bool) (bs : List ℕ) → ((k : ℕ) → k < length bs → test (get_or bs k 0) ≡ false)
-    → None ≡ position test bs
-found_not test bs none =
-    at_no_place (length bs) (position_or_len test bs)
-    (position_or_len_is test bs (length bs) 0 (omega arith) none (λ below. absurd (omega arith)))
-
 -- a search for the first byte that passes answers its position
 pub first_byte : (test : ℕ → Bool) (bs : List ℕ) (r : Option ℕ) → IsFirstByte test bs r → r ≡ position test bs
 first_byte test bs None none =

@@ -29,24 +29,30 @@ words_of_blanks bs e =
     sym (words_skip bs)
     ∙ ap words (drop_all (position_or_len q bs) bs (found_nowhere (position_or_len q bs) (length bs) e))
 
--- the words begin at the first byte that is no blank
-pub record BeginsAt (bs : List ℕ) (start : ℕ) : Type 0 where
-  pub within : start < length bs
-  pub some : 0 < length (drop start bs)
-  pub no_blank : is_blank (get_or (drop start bs) 0 0) ≡ false
-  pub same_words : words bs ≡ words (drop start bs)
+-- the first byte that is no blank is one of the text's
+pub first_letter : (bs : List ℕ) (start : ℕ) → position (λ b. not (is_blank b)) bs ≡ Some start → start < length bs
+first_letter bs start e =
+    let at = found_at (position_or_len (λ b. not (is_blank b)) bs) (length bs) start e in
+    omega arith
 
-pub words_begin : (bs : List ℕ) (start : ℕ) → position (λ b. not (is_blank b)) bs ≡ Some start → BeginsAt bs start
-words_begin bs start e =
+-- a text begins with a word, and has the words of the one that it is the end of
+pub record BeginsWith (bs text : List ℕ) : Type 0 where
+  pub some : 0 < length text
+  pub no_blank : is_blank (get_or text 0 0) ≡ false
+  pub same_words : words bs ≡ words text
+
+-- the words begin at the first byte that is no blank
+pub words_begin : (bs text : List ℕ) (start : ℕ) → position (λ b. not (is_blank b)) bs ≡ Some start
+    → text ≡ drop start bs → BeginsWith bs text
+words_begin bs text start e is =
     let q : ℕ → Bool = λ b. not (is_blank b) in
     let at = found_at (position_or_len q bs) (length bs) start e in
     let passes : not (is_blank (get_or bs start 0)) ≡ true = rw at.1 at (passes_at_first q bs 0 at.0) in
-    record {
-      within = omega arith;
+    rw is (record {
       some = simp length-drop (omega arith);
       no_blank = rw (get_or-drop, add-zero) (not-true (is_blank (get_or bs start 0)) passes);
       same_words = sym (words_skip bs) ∙ ap (λ k. words (drop k bs)) at.1;
-    }
+    })
 
 no_blanks : (bs : List ℕ) → length bs ≤ position_or_len is_blank bs → All (λ b. is_blank b ≡ false) bs
 no_blanks bs h = λ k d below. fails_before_first is_blank bs k d (omega arith)

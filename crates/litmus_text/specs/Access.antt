@@ -1,7 +1,7 @@
 -- The words with which accesses begin.
 use Rattle.std.specs.Prelude.{ℕ, List, codes}
-use Rattle.litmus_text.specs.declared.access.Access.{Access}
-use Rattle.litmus_text.specs.declared.access.Access.TheVariants as accesses
+use Rattle.litmus_text.specs.declared.parse.Access.{Access}
+use Rattle.litmus_text.specs.declared.parse.Access.TheVariants as accesses
 
 abbrev pub name_of_access : Access → List ℕ
 name_of_access accesses.Load = codes "load"

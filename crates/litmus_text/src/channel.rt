@@ -5,8 +5,7 @@ ghost use Rattle.litmus_text.specs.Form.{Writes, HasForm, IsFaultOf, num, two_pa
 ghost use Rattle.litmus_text.specs.Command.{ReadsAsPick, HasCore, HasLine, HasLineAndCore};
 
 use super::fault::LineFault;
-use super::number::{one_number, three_numbers, two_numbers};
-use super::range::{core_in, line_in};
+use super::number::{core_in, line_in, one_number, three_numbers, two_numbers};
 use super::table::value_named;
 use address_map::{Checked, CoreId, LineAddr};
 use slice_queues_message::Pick;

@@ -5,7 +5,7 @@ ghost use Rattle.litmus_text.specs.ConfigLine.{name_of_misses, name_of_setting, 
 ghost use Rattle.litmus_text.specs.declared.settings.MissKind.{MissKind};
 
 use super::fault::LineFault;
-use super::field::{Count, Field};
+use super::field::{Count, FIELDS, Field};
 use super::number::{one_number, two_numbers};
 use super::policy::parse_policy;
 use super::settings::{MissKind, Settings};
@@ -35,7 +35,7 @@ impl ConfigLine {
     pub fn is_named(name: &[u8]) -> bool
         ensures { IsTrue result ↔ IsFieldName name.now }
     {
-        Field::named(name).is_some()
+        value_named(&FIELDS, name).is_some()
     }
 
     /// The configuration line that these words write.
@@ -50,7 +50,7 @@ impl ConfigLine {
         let Some((name, rest)) = words.split_first() else {
             return Err(LineFault::NotACommand);
         };
-        let Some(field) = Field::named(name) else {
+        let Some(field) = value_named(&FIELDS, name) else {
             return Err(LineFault::NotACommand);
         };
         match field {

@@ -1,8 +1,5 @@
-ghost use Rattle.std.specs.Prelude.{◌≡◌, ◌≢◌, IfSome, IfNone};
-ghost use Rattle.litmus_text.specs.declared.field.Field.{Field};
-ghost use Rattle.litmus_text.specs.Field.{name_of};
+ghost use Rattle.std.specs.Prelude.{◌≡◌};
 
-use super::table::value_named;
 use address_map::Config;
 
 /// A number of a machine's shape.
@@ -50,7 +47,7 @@ pub(super) enum Field {
 }
 
 /// Each field, by its name.
-static FIELDS: [(&[u8], Field); 13] = [
+pub(super) static FIELDS: [(&[u8], Field); 13] = [
     (b"cores", Field::Count(Count::Cores)),
     (b"slices", Field::Count(Count::Slices)),
     (b"lines", Field::Count(Count::Lines)),
@@ -65,13 +62,3 @@ static FIELDS: [(&[u8], Field); 13] = [
     (b"init", Field::Init),
     (b"counter", Field::Counter),
 ];
-
-impl Field {
-    /// The field with this name.
-    pub(super) fn named(name: &[u8]) -> Option<Field>
-        ensures found { IfSome result (λ field. name.now ≡ name_of field) }
-        ensures none { IfNone result ((field : Field) → name.now ≢ name_of field) }
-    {
-        value_named(&FIELDS, name)
-    }
-}

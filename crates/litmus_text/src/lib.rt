@@ -15,22 +15,21 @@
 //! at a few times.
 #![tactic(auto)]
 
-pub use access::parse_access;
 pub use command::Command;
 pub use config_line::ConfigLine;
 pub use fault::{LineFault, TextFault};
 pub use field::Count;
 pub use line::Lines;
-pub use number::{no_numbers, one_number, parse_number, three_numbers, two_numbers};
-pub use parse::parse_command;
-pub use range::{core_in, line_in, word_in};
+pub use number::{
+    core_in, line_in, no_numbers, one_number, parse_number, three_numbers, two_numbers, word_in,
+};
+pub use parse::{parse_access, parse_command};
 pub use row::{MOST_WORDS, first_words};
 pub use settings::{MissKind, Settings};
 pub use statement::{Statement, Statements};
 pub use table::value_named;
 pub use word::Words;
 
-mod access;
 mod channel;
 mod command;
 mod config_line;
@@ -40,7 +39,6 @@ mod line;
 mod number;
 mod parse;
 mod policy;
-mod range;
 mod row;
 mod settings;
 mod statement;

@@ -1,6 +1,6 @@
 ghost use Rattle.std.specs.Prelude.{◌≡◌, ℕ, ◌<◌, ◌≤◌, List, [], ◌∷◌, length, take, IfSome, MatchOption};
 ghost use Rattle.std.specs.Iterator.{YieldsFirstRef, item_count};
-ghost use Rattle.std.specs.Str.Lines.{lines, strip_carriage_return};
+ghost use Rattle.std.specs.Str.Lines.{lines};
 
 use memchr::memchr;
 use std::marker::Model;
@@ -64,17 +64,10 @@ fn split_line(text: &[u8]) -> (&[u8], &[u8])
     ensures begins { take (length result.0.now) text.now ≡ result.0.now }
 {
     match memchr(b'\n', text) {
-        Some(end) => (without_carriage_return(&text[..end]), &text[end + 1..]),
+        Some(end) => match &text[..end] {
+            [line @ .., b'\r'] => (line, &text[end + 1..]),
+            line => (line, &text[end + 1..]),
+        },
         None => (text, &[]),
-    }
-}
-
-fn without_carriage_return(line: &[u8]) -> &[u8]
-    ensures value { result.now ≡ strip_carriage_return line.now }
-    ensures begins { take (length result.now) line.now ≡ result.now }
-{
-    match line {
-        [front @ .., b'\r'] => front,
-        _ => line,
     }
 }

@@ -1,4 +1,5 @@
-ghost use Rattle.std.specs.Prelude.{◌≡◌, ℕ, ◌+◌, ◌*◌, ◌^◌, ◌<◌, [], ◌∷◌, map, IfOk, IfErr};
+//! The numbers that words spell, and what a machine has of them.
+ghost use Rattle.std.specs.Prelude.{◌≡◌, ℕ, ◌+◌, ◌*◌, ◌/◌, ◌^◌, ◌<◌, [], ◌∷◌, map, IfOk, IfErr};
 ghost use Rattle.std.specs.Option.{SomeIff};
 ghost use Rattle.std.specs.Result.{OkIff};
 ghost use Rattle.std.specs.Char.{digit_value};
@@ -7,6 +8,7 @@ ghost use Rattle.litmus_text.specs.Form.{Writes, IsFormFaultOf, no_parts, num, o
 ghost use Rattle.litmus_text.specs.Number.{IsNumber};
 
 use super::fault::LineFault;
+use address_map::{Checked, CoreId, LineAddr, SliceId, WordAddr};
 
 /// The most digits that a number may have.
 const MOST_DIGITS: usize = 20;
@@ -15,14 +17,25 @@ const MOST_DIGITS: usize = 20;
 pub fn parse_number(word: &[u8]) -> Option<u64>
     ensures { SomeIff result (IsNumber word.now) (digits_value 10 word.now) }
 {
+    number(word).ok()
+}
+
+/// The number that a word has to spell.
+pub(super) fn number(word: &[u8]) -> Result<u64, LineFault>
+    ensures ok { OkIff result (IsNumber word.now) (digits_value 10 word.now) }
+    ensures err { IfErr result (λ fault. fault ≡ LineFault.BadNumber) }
+{
     if word.is_empty() || word.len() > MOST_DIGITS {
-        return None;
+        return Err(LineFault::BadNumber);
     }
     let mut number = 0;
     for byte in word {
-        number = with_digit(number, *byte)?;
+        match with_digit(number, *byte) {
+            Some(longer) => number = longer,
+            None => return Err(LineFault::BadNumber),
+        }
     }
-    Some(number)
+    Ok(number)
 }
 
 // The number with one more digit, where the byte is one and the number still fits.
@@ -34,14 +47,6 @@ fn with_digit(number: u64, byte: u8) -> Option<u64>
         return None;
     }
     number.checked_mul(10)?.checked_add((byte - b'0') as u64)
-}
-
-/// The number that a word has to spell.
-pub(super) fn number(word: &[u8]) -> Result<u64, LineFault>
-    ensures ok { OkIff result (IsNumber word.now) (digits_value 10 word.now) }
-    ensures err { IfErr result (λ fault. fault ≡ LineFault.BadNumber) }
-{
-    parse_number(word).ok_or(LineFault::BadNumber)
 }
 
 /// A tag is a number below 256.
@@ -113,4 +118,52 @@ pub fn three_numbers(words: &[&[u8]]) -> Result<(u64, u64, u64), LineFault>
         return Err(LineFault::NotACommand);
     };
     Ok((number(first)?, number(second)?, number(third)?))
+}
+
+/// The core with this number, where the machine has it.
+pub fn core_in(config: &Checked, number: u64) -> Result<CoreId, LineFault>
+    ensures ok { OkIff result (number < config.now.cores) (record { 0 = number }) }
+    ensures err { IfErr result (λ fault. fault ≡ LineFault.OutOfRange) }
+{
+    if number < config.cores() as u64 {
+        Ok(CoreId(number as u8))
+    } else {
+        Err(LineFault::OutOfRange)
+    }
+}
+
+/// The slice with this number, where the machine has it.
+pub fn slice_in(config: &Checked, number: u64) -> Result<SliceId, LineFault>
+    ensures ok { OkIff result (number < config.now.slices) (record { 0 = number }) }
+    ensures err { IfErr result (λ fault. fault ≡ LineFault.OutOfRange) }
+{
+    if number < config.slices() as u64 {
+        Ok(SliceId(number as u8))
+    } else {
+        Err(LineFault::OutOfRange)
+    }
+}
+
+/// The line with this number, where the machine has it.
+pub fn line_in(config: &Checked, number: u64) -> Result<LineAddr, LineFault>
+    ensures ok { OkIff result (number < config.now.lines) (record { 0 = number }) }
+    ensures err { IfErr result (λ fault. fault ≡ LineFault.OutOfRange) }
+{
+    if number < config.lines() as u64 {
+        Ok(LineAddr(number))
+    } else {
+        Err(LineFault::OutOfRange)
+    }
+}
+
+/// The word with this number, where the machine has it.
+pub fn word_in(config: &Checked, number: u64) -> Result<WordAddr, LineFault>
+    ensures ok { OkIff result (number / 8 < config.now.lines) (record { 0 = number }) }
+    ensures err { IfErr result (λ fault. fault ≡ LineFault.OutOfRange) }
+{
+    if number / 8 < config.lines() as u64 {
+        Ok(WordAddr(number))
+    } else {
+        Err(LineFault::OutOfRange)
+    }
 }

@@ -1,5 +1,4 @@
-ghost use Rattle.std.specs.Prelude.{◌≡◌, ℕ, ◌<◌, List, ◌∷◌, [], length, slice_index, not, false, MatchOption};
-ghost use Rattle.std.specs.List.{position};
+ghost use Rattle.std.specs.Prelude.{◌≡◌, ℕ, List, ◌∷◌, [], MatchOption};
 ghost use Rattle.std.specs.Iterator.{YieldsFirstRef, item_count};
 ghost use Rattle.litmus_text.specs.Text.{is_blank as is_blank_byte, words, words_of_line};
 
@@ -52,50 +51,15 @@ fn is_blank(byte: u8) -> bool
     byte == b' ' || byte == b'\t'
 }
 
-/// Where the first word begins.
-#[inline(always)]
-fn word_at(text: &[u8]) -> Option<usize>
-    ensures { result ≡ position (λ b. not (is_blank_byte b)) text.now }
-{
-    for (place, byte) in text.iter().enumerate() {
-        if !is_blank(*byte) {
-            return Some(place);
-        }
-    }
-    None
-}
-
-#[inline(always)]
-fn blank_at(text: &[u8]) -> Option<usize>
-    ensures { result ≡ position is_blank_byte text.now }
-{
-    for (place, byte) in text.iter().enumerate() {
-        if is_blank(*byte) {
-            return Some(place);
-        }
-    }
-    None
-}
-
-/// The first word of a text, and what follows it.
+/// The first word of a text, and what follows the blank behind it.
 #[inline(always)]
 fn first_word(text: &[u8]) -> Option<(&[u8], &[u8])>
     ensures { MatchOption result (words text.now ≡ []) (λ p. words text.now ≡ p.0.now ∷ words p.1.now) }
 {
-    let start = word_at(text)?;
+    let start = text.iter().position(|byte| !is_blank(*byte))?;
     let (_, text) = text.split_at(start);
-    Some(split_word(text))
-}
-
-/// The word that a text begins with, and what follows the blank behind it.
-#[inline(always)]
-fn split_word(text: &[u8]) -> (&[u8], &[u8])
-    requires some { 0 < length text.now }
-    requires begins { is_blank_byte (slice_index text.now 0) ≡ false }
-    ensures { words text.now ≡ result.0.now ∷ words result.1.now }
-{
-    match blank_at(text) {
-        Some(end) => (&text[..end], &text[end + 1..]),
-        None => (text, &[]),
+    match text.iter().position(|byte| is_blank(*byte)) {
+        Some(end) => Some((&text[..end], &text[end + 1..])),
+        None => Some((text, &[])),
     }
 }

@@ -3,7 +3,7 @@ use Rattle.litmus_text.proofs.AccessLemmas.{add_fault, cas_fault, load_fault, na
 use Rattle.litmus_text.proofs.AccessLemmas.{unnamed_access, unnamed_fault}
 use Rattle.litmus_text.proofs.FaultLemmas.{handed_on}
 use Rattle.litmus_text.proofs.FormLemmas.{no_words}
-use Rattle.litmus_text.proofs.access.parse_access.Goals as goal
+use Rattle.litmus_text.proofs.parse.parse_access.Goals as goal
 
 pub returns-in_default-clause-fault : goal.returns-in_default-clause-fault
 returns-in_default-clause-fault c =

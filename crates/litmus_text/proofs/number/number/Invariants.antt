@@ -1,5 +1,5 @@
 use Rattle.litmus_text.proofs.NumberLemmas.{ReadUpTo}
-use Rattle.litmus_text.proofs.number.parse_number.Given as goal
+use Rattle.litmus_text.proofs.number.number.Given as goal
 
 abbrev pub invariant-loop-byte : goal.invariant-loop-byte
 invariant-loop-byte l = ReadUpTo l.word l.byte-index l.number

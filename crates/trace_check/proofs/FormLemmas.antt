@@ -8,7 +8,7 @@ use Rattle.litmus_text.specs.Number.{IsNumber}
 use Rattle.std.specs.Prelude.{codes}
 use Rattle.address_map.specs.declared.request.Op.{Op}
 use Rattle.address_map.specs.declared.request.Op.TheVariants as ops
-use Rattle.litmus_text.specs.Form.{Part, key, num, Writes}
+use Rattle.litmus_text.specs.Form.{Part, key, num, HasForm, Writes}
 use Rattle.litmus_text.specs.Command.{parts_of_op}
 use Rattle.litmus_text.proofs.FormLemmas.{wrong_count}
 use Rattle.trace_check.specs.declared.judge.TheConstants.{MOST_WORDS}
@@ -28,16 +28,16 @@ Writes-append (w ∷ ws) vs [] qs h k = absurd h
 Writes-append (w ∷ ws) vs (key text ∷ ps) qs h k = (h.0, Writes-append ws vs ps qs h.1 k)
 Writes-append (w ∷ ws) vs (num n ∷ ps) qs h k = (h.0, h.1, Writes-append ws vs ps qs h.2 k)
 
--- words that don't begin with `cas` write no compare-exchange
+-- words that don't begin with `cas` have the form of no compare-exchange
 pub no_compare_exchange : (ws : List (List ℕ)) (op : Op) (word : ℕ) → (BeginsWith (codes "cas") ws → ⊥)
-    → Writes ws (parts_of_op op word)
+    → HasForm ws (parts_of_op op word)
     → IsOfVersion versions.One op
 unfolding parts_of_op
-no_compare_exchange ws ops.Load word other written = tt
-no_compare_exchange ws (ops.Store value) word other written = tt
-no_compare_exchange ws (ops.Add delta) word other written = tt
-no_compare_exchange [] (ops.Cas expect new) word other written = written
-no_compare_exchange (w ∷ ws) (ops.Cas expect new) word other written = other written.0
+no_compare_exchange ws ops.Load word other form = tt
+no_compare_exchange ws (ops.Store value) word other form = tt
+no_compare_exchange ws (ops.Add delta) word other form = tt
+no_compare_exchange [] (ops.Cas expect new) word other form = form
+no_compare_exchange (w ∷ ws) (ops.Cas expect new) word other form = other form.0
 
 -- an entry's words write it where each writes its part
 pub entry_written : (all : List (List ℕ)) (core seq tag : List ℕ) (access : List (List ℕ)) (reply since : List ℕ)
@@ -98,18 +98,18 @@ two_names word a b h k other =
     let same : eqb (get_or a 0 0) (get_or b 0 0) ≡ true =
     eq-eqb (get_or a 0 0) (get_or b 0 0) (ap (λ t. get_or t 0 0) (sym h ∙ k)) in cc
 
--- words that write an access of version 1 don't begin with `cas`
-pub begins_otherwise : (ws : List (List ℕ)) (op : Op) (word : ℕ) → Writes ws (parts_of_op op word)
+-- words that have the form of an access of version 1 don't begin with `cas`
+pub begins_otherwise : (ws : List (List ℕ)) (op : Op) (word : ℕ) → HasForm ws (parts_of_op op word)
     → IsOfVersion versions.One op
     → BeginsWith (codes "cas") ws → ⊥
 unfolding parts_of_op
-begins_otherwise [] op word written of cas = cas
-begins_otherwise (w ∷ ws) ops.Load word written of cas = two_names w (codes "load") (codes "cas") written.0 cas refl
-begins_otherwise (w ∷ ws) (ops.Store value) word written of cas =
-    two_names w (codes "store") (codes "cas") written.0 cas refl
-begins_otherwise (w ∷ ws) (ops.Add delta) word written of cas =
-    two_names w (codes "add") (codes "cas") written.0 cas refl
-begins_otherwise (w ∷ ws) (ops.Cas expect new) word written of cas = absurd of
+begins_otherwise [] op word form of cas = cas
+begins_otherwise (w ∷ ws) ops.Load word form of cas = two_names w (codes "load") (codes "cas") form.0 cas refl
+begins_otherwise (w ∷ ws) (ops.Store value) word form of cas =
+    two_names w (codes "store") (codes "cas") form.0 cas refl
+begins_otherwise (w ∷ ws) (ops.Add delta) word form of cas =
+    two_names w (codes "add") (codes "cas") form.0 cas refl
+begins_otherwise (w ∷ ws) (ops.Cas expect new) word form of cas = absurd of
 
 -- an entry's words, completed
 pub completed_entry : (version : Version) (ws : List (List ℕ))
@@ -144,7 +144,7 @@ pub record AreWordsOf (e : Entry) (ws : List (List ℕ)) (access : List (List �
   pub since : Spells (get_or us 1 []) e.since
 
 -- the words of an entry, one by one
-entry_words : (core seq tag : List ℕ) (access : List (List ℕ)) (reply since : List ℕ) (e : Entry)
+pub entry_words : (core seq tag : List ℕ) (access : List (List ℕ)) (reply since : List ℕ) (e : Entry)
     → Writes (codes "entry" ∷ core ∷ seq ∷ tag ∷ (access ++ reply ∷ since ∷ [])) (parts_of_line (lines.Entry e))
     → AreWordsOf e (core ∷ seq ∷ tag ∷ []) access (reply ∷ since ∷ [])
 entry_words core seq tag access reply since e h =
@@ -182,7 +182,7 @@ entry_refused version all core seq tag access reply since shape none (lines.Entr
     (subst (λ ws. Writes (codes "entry" ∷ ws) (parts_of_line (lines.Entry e))) shape is.written)) is.in_range
 
 -- an access is of two words at least
-access_count : (op : Op) (word : ℕ) → 2 ≤ length (parts_of_op op word)
+pub access_count : (op : Op) (word : ℕ) → 2 ≤ length (parts_of_op op word)
 unfolding parts_of_op
 access_count ops.Load word = lit≤ tt
 access_count (ops.Store value) word = lit≤ tt

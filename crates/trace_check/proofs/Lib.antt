@@ -3,6 +3,7 @@ mod SeqLemmas
 mod ValueLemmas
 mod VerdictLemmas
 mod FormLemmas
+mod LineFaultLemmas
 mod CheckLemmas
 mod ExactLemmas
 mod RefusalLemmas

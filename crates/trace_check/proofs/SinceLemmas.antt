@@ -1,5 +1,5 @@
 -- In a trace without SINCE each entry has 0 for how long the log was, so none is wrong by it.
-use Rattle.std.proofs.Common.{◌≡◌, ℕ, ◌<◌, List, [], ◌∷◌, ◌++◌, length, map, sym, ap, subst, refl, ◌∙◌, arith}
+use Rattle.std.proofs.Common.{◌≡◌, ℕ, ◌<◌, List, [], ◌∷◌, ◌++◌, length, map, sym, ap, subst, ◌∙◌, arith}
 use Rattle.std.proofs.Common.{append_assoc, length-append, get_or, take, Bool, true, false, suc, zero}
 use Rattle.std.specs.Prelude.{codes, if◌then◌else◌}
 use Rattle.std.specs.Str.{bytes_eq}
@@ -9,7 +9,7 @@ use Rattle.address_map.specs.declared.address.WordAddr.{WordAddr}
 use Rattle.litmus_text.specs.Form.{Part, key, num, Writes}
 use Rattle.litmus_text.specs.Command.{parts_of_op}
 use Rattle.slice_core_log.specs.declared.entry.Entry.{Entry}
-use Rattle.trace_check.specs.TraceLine.{IsLineOf, completed, parts_of_line}
+use Rattle.trace_check.specs.TraceLine.{completed, parts_of_line}
 use Rattle.trace_check.specs.Trace.{AreLines, body_of}
 use Rattle.trace_check.specs.Verdict.{IsVerdict, IsWrong}
 use Rattle.trace_check.specs.declared.trace_line.Version.TheVariants as versions

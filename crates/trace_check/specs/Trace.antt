@@ -1,5 +1,5 @@
 -- What the text of a trace is.
-use Rattle.std.specs.Prelude.{◌≡◌, ◌⊎◌, ℕ, List, [], ◌∷◌, ◌++◌, map, length, ◌<◌, IfSome, Option, Some, None}
+use Rattle.std.specs.Prelude.{◌≡◌, ◌⊎◌, ℕ, List, [], ◌∷◌, ◌++◌, map, length, ◌<◌, IfSome, Option, Some, None, codes}
 use Rattle.std.specs.Str.Lines.{lines}
 use Rattle.address_map.specs.declared.address.WordAddr.{WordAddr}
 use Rattle.address_map.specs.Words.{IsAscendingBy}
@@ -8,6 +8,8 @@ use Rattle.slice_core_log.specs.declared.entry.Entry.{Entry}
 use Rattle.litmus_text.specs.Fault.{IsFirstFault}
 use Rattle.litmus_text.specs.Form.{Writes}
 use Rattle.litmus_text.specs.Statement.{statements_from}
+use Rattle.litmus_text.specs.declared.fault.LineFault.{LineFault}
+use Rattle.litmus_text.specs.declared.fault.LineFault.TheVariants as line_faults
 use Rattle.litmus_text.specs.declared.fault.TextFault.{TextFault}
 use Rattle.litmus_text.specs.declared.fault.TextFault.TheVariants as faults
 use Rattle.trace_check.specs.declared.trace_line.Version.{Version}
@@ -18,7 +20,7 @@ use Rattle.trace_check.specs.declared.verdict.Reason.{Reason}
 use Rattle.trace_check.specs.declared.verdict.Verdict.{Verdict}
 use Rattle.trace_check.specs.declared.verdict.Verdict.TheVariants as verdicts
 use Rattle.trace_check.specs.declared.check.Check.{Check}
-use Rattle.trace_check.specs.TraceLine.{IsLineOf, IsNoFirstLine, parts_of_first}
+use Rattle.trace_check.specs.TraceLine.{BeginsWith, IsFaultOfLine, IsLineOf, IsNoFirstLine, parts_of_first}
 use Rattle.trace_check.specs.Verdict.{IsVerdict}
 use Rattle.trace_check.specs.Judge.{Knows}
 
@@ -133,3 +135,49 @@ pub record AreJudged (version : Version) (statements : List (ℕ × List (List �
   pub entries : List Entry
   pub trace : AreTrace version init entries statements
   pub is : IsVerdict (initially init) entries verdict
+
+-- ---- what is wrong with the line at fault
+
+-- the words begin as a value to begin with, where there are entries already
+abbrev pub IsLate : Type 0 → List (List ℕ) → Type 0
+IsLate are_entries words = are_entries × BeginsWith (codes "init") words
+
+-- What is wrong with words that can't come next. Behind an entry a value to begin with is no line there, however it is
+-- written; nor is one for a word that may not be named next. Else it is what is wrong with them as a line.
+abbrev pub IsFaultNext : Type 0 → (WordAddr → Type 0) → Version → List (List ℕ) → LineFault → Type 0
+IsFaultNext are_entries MayBegin version words fault =
+    (IsLate are_entries words × (fault ≡ line_faults.NotACommand))
+    ⊎ ((¬ IsLate are_entries words) × IsFaultOfLine version words fault)
+    ⊎ ((word : WordAddr) × (value : ℕ) × IsLineOf version words (trace_lines.Init word value) × (¬ MayBegin word)
+    × (fault ≡ line_faults.NotACommand))
+
+-- a word that may be given a value behind these initial values and entries: behind no entry, and above those named
+pub record IsNextWord (init : List (WordAddr × ℕ)) (entries : List Entry) (word : WordAddr) : Type 0 where
+  pub early : entries ≡ []
+  pub above : (before : List (WordAddr × ℕ)) (last : WordAddr) (value : ℕ) → init ≡ before ++ (last, value) ∷ []
+      → last.0 < word.0
+
+-- this is wrong with a statement of this number, and those before it are lines of a trace
+pub record IsFaultAmong (version : Version) (statements : List (ℕ × List (List ℕ))) (number : ℕ)
+    (fault : LineFault) : Type 0 where
+  pub before : List (ℕ × List (List ℕ))
+  pub words : List (List ℕ)
+  pub behind : List (ℕ × List (List ℕ))
+  pub stands : statements ≡ before ++ (number, words) ∷ behind
+  pub init : List (WordAddr × ℕ)
+  pub entries : List Entry
+  pub written : AreLines version before (body_of init entries)
+  pub is : IsFaultNext (0 < length entries) (IsNextWord init entries) version words fault
+
+-- What is wrong with the line at fault of a text, by its statements: it is no trace where it says nothing or begins as
+-- none, and else this is wrong with the first line that can't come next.
+abbrev pub IsFaultOfTrace : List (ℕ × List (List ℕ)) → ℕ → LineFault → Type 0
+IsFaultOfTrace [] number fault = fault ≡ line_faults.NotATrace
+IsFaultOfTrace (first ∷ rest) number fault =
+    (IsNoFirstLine first.1 × (fault ≡ line_faults.NotATrace))
+    ⊎ ((version : Version) × Writes first.1 (parts_of_first version) × IsFaultAmong version rest number fault)
+
+-- what holds of the line and of what is wrong with it, where a fault is of a line
+abbrev pub IsOfLine : (ℕ → LineFault → Type 0) → TextFault → Type 0
+IsOfLine holds (faults.Line number fault) = holds number fault
+IsOfLine holds other = Unit {0}

@@ -4,8 +4,9 @@ use Rattle.std.specs.Str.{bytes_eq}
 use Rattle.address_map.specs.declared.request.Op.{Op}
 use Rattle.address_map.specs.declared.request.Op.TheVariants as ops
 use Rattle.slice_core_log.specs.declared.entry.Entry.{Entry}
-use Rattle.litmus_text.specs.Form.{Part, key, num, Writes}
+use Rattle.litmus_text.specs.Form.{Part, key, num, Writes, HasForm, IsFaultOf}
 use Rattle.litmus_text.specs.Command.{parts_of_op}
+use Rattle.litmus_text.specs.declared.fault.LineFault.{LineFault}
 use Rattle.trace_check.specs.declared.judge.TheConstants.{MOST_WORDS}
 use Rattle.trace_check.specs.declared.trace_line.TheConstants.{MOST_TAGS}
 use Rattle.trace_check.specs.declared.trace_line.Version.{Version}
@@ -79,3 +80,22 @@ pub record IsLineOf (version : Version) (words : List (List ℕ)) (line : TraceL
 -- the words write no line of a trace of this version
 abbrev pub IsNoLineOf : Version → List (List ℕ) → Type 0
 IsNoLineOf version words = (line : TraceLine) → ¬ IsLineOf version words line
+
+-- the version has words for the line
+abbrev pub IsKnownTo : Version → TraceLine → Type 0
+IsKnownTo version (lines.Init word value) = Unit {0}
+IsKnownTo version (lines.Entry e) = IsOfVersion version e.op
+
+-- the words have the form of the line
+abbrev pub HasFormOf : Version → List (List ℕ) → TraceLine → Type 0
+HasFormOf version words line = HasForm (completed version words) (parts_of_line line) × IsKnownTo version line
+
+-- the words say the line, whether a trace can name what it names or not
+abbrev pub SaysLine : Version → List (List ℕ) → TraceLine → Type 0
+SaysLine version words line = Writes (completed version words) (parts_of_line line) × IsKnownTo version line
+
+-- What is wrong with words that are no line of a trace of this version. They have the form of none; or of one, but with
+-- a number that can't be read; or they say one that names what no trace can.
+abbrev pub IsFaultOfLine : Version → List (List ℕ) → LineFault → Type 0
+IsFaultOfLine version words fault =
+    IsFaultOf (HasFormOf version words) (SaysLine version words) (IsInRange version) fault

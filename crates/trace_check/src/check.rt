@@ -15,10 +15,10 @@ ghost use Rattle.trace_check.specs.declared.verdict.Reason.TheVariants as reason
 ghost use Rattle.trace_check.specs.declared.verdict.Verdict.TheVariants as verdicts;
 ghost use Rattle.trace_check.specs.Trace.{IsJudged, IsTrace, AreJudged, IsFaultAt, IsNoTrace, AreNoTrace, AreSomeTrace};
 ghost use Rattle.trace_check.specs.Trace.{IsNoMemoryOrLine, IsNoNextLine, IsReading, IsSoFar, HasRead, MayBegin};
-ghost use Rattle.trace_check.specs.Trace.{MayFollow};
+ghost use Rattle.trace_check.specs.Trace.{IsFaultAmong, IsFaultNext, IsFaultOfTrace, IsOfLine, MayFollow};
 
 use super::judge::Judge;
-use super::trace_line::{TraceLine, Version};
+use super::trace_line::{TraceLine, Version, begins_with};
 use super::verdict::{Reason, Verdict};
 use address_map::WordAddr;
 use litmus_text::{LineFault, Statement, Statements, TextFault};
@@ -44,6 +44,7 @@ pub fn check_trace(alloc: Global, input: &[u8]) -> Result<Verdict, TextFault>
     ensures judged { IfOk result (IsJudged input.now) }
     ensures refused { IfErr result (IsNoMemoryOrLine (IsNoTrace input.now)) }
     ensures line { IfErr result (IsAtLine (IsFaultAt (statements_from 0 (lines input.now)))) }
+    ensures fault { IfErr result (IsOfLine (IsFaultOfTrace (statements_from 0 (lines input.now)))) }
 {
     let mut statements = Statements::of(input);
     let Some(first) = statements.next() else {
@@ -77,6 +78,7 @@ fn check_lines(
     ensures judged { IfOk result (AreJudged version statements.entry) }
     ensures refused { IfErr result (IsNoMemoryOrLine (AreNoTrace version statements.entry)) }
     ensures line { IfErr result (IsAtLine (IsFirstFault (AreSomeTrace version) statements.entry)) }
+    ensures fault { IfErr result (IsOfLine (IsFaultAmong version statements.entry)) }
 {
     let mut check = Check::new(alloc, version);
     let mut statement = Statement::blank();
@@ -108,6 +110,9 @@ impl Check {
         ensures refused { IfErr result (IsNoMemoryOrLine
             (IsNoNextLine self.old (map (λ w. w.now) statement.now.words.items))) }
         ensures line { IfErr result (IsAtLine (λ number. number ≡ statement.now.number)) }
+        ensures fault { IfErr result (IsOfLine (λ number fault. (number ≡ statement.now.number)
+            × IsFaultNext (0 < self.old.entries) (MayBegin self.old) self.old.version
+            (map (λ w. w.now) statement.now.words.items) fault)) }
         ensures version { self.new.version ≡ self.old.version }
     {
         match self.line(statement.words.as_slice()) {
@@ -123,6 +128,8 @@ impl Check {
         ensures written { IfOk result (IsLineOf self.now.version (map (λ w. w.now) words.now)) }
         ensures follows { IfOk result (MayFollow self.now) }
         ensures refused { IfErr result (λ fault. IsNoNextLine self.now (map (λ w. w.now) words.now)) }
+        ensures fault { IfErr result (IsFaultNext (0 < self.now.entries) (MayBegin self.now) self.now.version
+            (map (λ w. w.now) words.now)) }
     {
         match TraceLine::parse(self.version, words) {
             Ok(TraceLine::Init(word, value)) if self.may_begin(word) => {
@@ -131,7 +138,7 @@ impl Check {
             Ok(TraceLine::Init(..)) => Err(LineFault::NotACommand),
             Ok(TraceLine::Entry(entry)) => Ok(TraceLine::Entry(entry)),
             // it would be in the wrong place also if it were well formed
-            Err(_) if self.entries > 0 && words.first() == Some(&b"init".as_slice()) => {
+            Err(_) if self.entries > 0 && begins_with(words, b"init") => {
                 Err(LineFault::NotACommand)
             }
             Err(fault) => Err(fault),

@@ -2,14 +2,15 @@
 //! first at fault, and why.
 //!
 //! - [`check_trace`] judges a text. At Ok its lines write a trace's initial values and entries, and the verdict is that
-//!   on these entries. A text is refused only where it is no trace, with any initial values and entries, and the line
-//!   that the fault names is the first with which it can be none (`IsFaultAt`); want of memory is a fault of its own
-//!   (specs/Trace.antt). [`one_judgement`] says that no text has two verdicts, and
-//!   [`none_by_since`] that where entries don't say how long the log was, none is judged by it.
+//!   on these entries. A text is refused only where it is no trace, with any initial values and entries. The line that
+//!   the fault names is the first with which it can be none (`IsFaultAt`), and the fault is what is wrong with it there
+//!   (`IsFaultOfTrace`); want of memory is a fault of its own (specs/Trace.antt). [`one_judgement`] says that no text
+//!   has two verdicts, and [`none_by_since`] that where entries don't say how long the log was, none is judged by it.
 //! - [`judge_log`] judges a log that is at hand (specs/Verdict.antt), and [`one_verdict`] says that no log has two
 //!   verdicts.
 //! - [`TraceLine`] is a line of a trace. At Ok of [`TraceLine::parse`] the words write that line, and it names only
-//!   what a trace of this version can; they are refused only where they write no such line (specs/TraceLine.antt).
+//!   what a trace of this version can; they are refused only where they write no such line, and the fault is what is
+//!   wrong with them (`IsFaultOfLine` in specs/TraceLine.antt).
 //! - [`Judge`] has the value of each word and the greatest seq of each core and line (specs/Judge.antt), so an entry is
 //!   judged without a look at earlier ones.
 //!

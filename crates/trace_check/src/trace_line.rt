@@ -3,16 +3,16 @@ ghost use Rattle.std.specs.Prelude.{codes, ℕ, List};
 ghost use Rattle.std.specs.Result.{OkIff};
 ghost use Rattle.std.specs.Str.Parse.{digits_value};
 ghost use Rattle.litmus_text.specs.Number.{IsNumber};
-ghost use Rattle.trace_check.specs.TraceLine.{IsLineOf, IsNoLineOf, IsNoFirstLine, IsOfVersion, BeginsWith, cores_of};
-ghost use Rattle.trace_check.specs.TraceLine.{ended, number_of, parts_of_first};
-ghost use Rattle.litmus_text.specs.Form.{Writes, key};
+ghost use Rattle.trace_check.specs.TraceLine.{IsFaultOfLine, IsLineOf, IsNoLineOf, IsNoFirstLine, IsOfVersion};
+ghost use Rattle.trace_check.specs.TraceLine.{BeginsWith, cores_of, ended, number_of, parts_of_first};
+ghost use Rattle.litmus_text.specs.Form.{HasForm, Writes, key};
 ghost use Rattle.litmus_text.specs.Command.{parts_of_op};
 ghost use Rattle.address_map.specs.declared.request.Op.{Op};
 ghost use Rattle.trace_check.specs.declared.trace_line.Version.{Version};
 
 use super::judge::{MOST_CORES, MOST_WORDS};
 use address_map::{CoreId, WordAddr};
-use litmus_text::{LineFault, parse_access, parse_number};
+use litmus_text::{LineFault, parse_access, parse_number, two_numbers};
 use slice_core_log::Entry;
 
 /// How many tags a core has.
@@ -43,6 +43,7 @@ impl Version {
     pub fn parse(words: &[&[u8]]) -> Result<Self, LineFault>
         ensures written { IfOk result (λ version. Writes (map (λ w. w.now) words.now) (parts_of_first version)) }
         ensures refused { IfErr result (λ fault. IsNoFirstLine (map (λ w. w.now) words.now)) }
+        ensures fault { IfErr result (λ fault. fault ≡ LineFault.NotATrace) }
     {
         let Some((name, rest)) = words.split_first() else {
             return Err(LineFault::NotATrace);
@@ -55,11 +56,11 @@ impl Version {
 
     /// Whether a trace of this version can have the access, by its name.
     fn has_access(self, access: &[&[u8]]) -> bool
-        ensures { (op : Op) (word : ℕ) → Writes (map (λ w. w.now) access.now) (parts_of_op op word)
+        ensures { (op : Op) (word : ℕ) → HasForm (map (λ w. w.now) access.now) (parts_of_op op word)
             → (IsTrue result ↔ IsOfVersion self op) }
     {
         match self {
-            Version::One => !is_compare_exchange(access),
+            Version::One => !begins_with(access, b"cas"),
             Version::Two | Version::WithoutSince => true,
         }
     }
@@ -81,6 +82,7 @@ fn version_of(words: &[&[u8]]) -> Result<Version, LineFault>
     ensures written { IfOk result (λ version. Writes (map (λ w. w.now) words.now) (key (number_of version) ∷ [])) }
     ensures refused { IfErr result
         (λ fault. (version : Version) → Writes (map (λ w. w.now) words.now) (key (number_of version) ∷ []) → ⊥) }
+    ensures fault { IfErr result (λ fault. fault ≡ LineFault.NotATrace) }
 {
     let [number] = words else {
         return Err(LineFault::NotATrace);
@@ -91,6 +93,7 @@ fn version_of(words: &[&[u8]]) -> Result<Version, LineFault>
 fn numbered(number: &[u8]) -> Result<Version, LineFault>
     ensures written { IfOk result (λ version. number.now ≡ number_of version) }
     ensures refused { IfErr result (λ fault. (version : Version) → number.now ≡ number_of version → ⊥) }
+    ensures fault { IfErr result (λ fault. fault ≡ LineFault.NotATrace) }
 {
     match number {
         b"1" => Ok(Version::One),
@@ -106,15 +109,18 @@ impl TraceLine {
     pub fn parse(version: Version, words: &[&[u8]]) -> Result<Self, LineFault>
         ensures written { IfOk result (IsLineOf version (map (λ w. w.now) words.now)) }
         ensures refused { IfErr result (λ fault. IsNoLineOf version (map (λ w. w.now) words.now)) }
+        ensures fault { IfErr result (IsFaultOfLine version (map (λ w. w.now) words.now)) }
     {
         let Some((name, rest)) = words.split_first() else {
             return Err(LineFault::NotACommand);
         };
-        match *name {
-            b"init" => parse_init(rest),
-            b"entry" => parse_entry(version, rest),
-            _ => Err(LineFault::NotACommand),
+        if *name == b"init".as_slice() {
+            return parse_init(rest);
         }
+        if *name == b"entry".as_slice() {
+            return parse_entry(version, rest);
+        }
+        Err(LineFault::NotACommand)
     }
 }
 
@@ -123,12 +129,10 @@ fn parse_init(words: &[&[u8]]) -> Result<TraceLine, LineFault>
     ensures written { (version : Version) → IfOk result (IsLineOf version (codes "init" ∷ map (λ w. w.now) words.now)) }
     ensures refused { (version : Version) → IfErr result
         (λ fault. IsNoLineOf version (codes "init" ∷ map (λ w. w.now) words.now)) }
+    ensures fault { (version : Version) → IfErr result
+        (IsFaultOfLine version (codes "init" ∷ map (λ w. w.now) words.now)) }
 {
-    let [word, value] = words else {
-        return Err(LineFault::NotACommand);
-    };
-    let word = number(word)?;
-    let value = number(value)?;
+    let (word, value) = two_numbers(words)?;
     if word >= MOST_WORDS {
         return Err(LineFault::OutOfRange);
     }
@@ -200,6 +204,7 @@ fn bare_words<'a>(words: &'a [&'a [u8]]) -> Option<EntryWords<'a>>
 fn parse_entry(version: Version, words: &[&[u8]]) -> Result<TraceLine, LineFault>
     ensures written { IfOk result (IsLineOf version (codes "entry" ∷ map (λ w. w.now) words.now)) }
     ensures refused { IfErr result (λ fault. IsNoLineOf version (codes "entry" ∷ map (λ w. w.now) words.now)) }
+    ensures fault { IfErr result (IsFaultOfLine version (codes "entry" ∷ map (λ w. w.now) words.now)) }
 {
     let Some(words) = entry_words(version, words) else {
         return Err(LineFault::NotACommand);
@@ -227,20 +232,20 @@ fn parse_entry(version: Version, words: &[&[u8]]) -> Result<TraceLine, LineFault
     }))
 }
 
-// Whether an access is named as a compare-exchange.
-fn is_compare_exchange(access: &[&[u8]]) -> bool
-    ensures { IsTrue result ↔ BeginsWith (codes "cas") (map (λ w. w.now) access.now) }
+// Whether this is the first of the words.
+pub(super) fn begins_with(words: &[&[u8]], name: &[u8]) -> bool
+    ensures { IsTrue result ↔ BeginsWith name.now (map (λ w. w.now) words.now) }
 {
-    match access.split_first() {
-        Some((name, _)) => is_cas(name),
+    match words.split_first() {
+        Some((first, _)) => is_same(first, name),
         None => false,
     }
 }
 
-fn is_cas(name: &[u8]) -> bool
-    ensures { IsTrue result ↔ (name.now ≡ codes "cas") }
+fn is_same(word: &[u8], name: &[u8]) -> bool
+    ensures { IsTrue result ↔ (word.now ≡ name.now) }
 {
-    name == b"cas".as_slice()
+    word == name
 }
 
 // The number that a word has to spell.

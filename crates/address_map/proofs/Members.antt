@@ -1,6 +1,6 @@
 -- The cores of a set in ascending order, as its lowest core is taken out again and again, and how many they are.
-use Rattle.std.proofs.Common.{◌≡◌, ℕ, ◌+◌, ◌/◌, ◌%◌, ◌^◌, ◌<◌, ◌≤◌, ◌==◌, Bool, true, false, if◌then◌else◌, List, []}
-use Rattle.std.proofs.Common.{◌∷◌, length, count_ones, zero, suc, add-one, refl, ap, sym, ◌∙◌, arith, inl, inr, filter}
+use Rattle.std.proofs.Common.{◌≡◌, ℕ, ◌+◌, ◌*◌, ◌/◌, ◌%◌, ◌^◌, ◌<◌, ◌≤◌, ◌==◌, Bool, true, false, if◌then◌else◌, List, []}
+use Rattle.std.proofs.Common.{◌∷◌, length, bit_xor, count_ones, zero, suc, add-one, refl, ap, sym, ◌∙◌, arith, inl, inr, filter}
 use Rattle.std.specs.List.{range_with_len}
 use Rattle.std.specs.Int.{bit_at, trailing_zeros, w64}
 use Rattle.std.specs.Int.Count.{ones-le, ones_step}
@@ -10,7 +10,8 @@ use Rattle.std.proofs.lemmas.List.FromFn.{length-range_with_len}
 use Rattle.std.proofs.lemmas.List.Sums.{length-filter, count_by-le-length}
 use Rattle.std.proofs.lemmas.Nat.Bits.{bit_at-trailing_zeros, bit_at_lowest, bit_at-suc, bit_at-lt}
 use Rattle.address_map.specs.CoreSet.{has, without, members, count_of}
-use Rattle.address_map.proofs.CoreSets.{has-without_same, has-without_other, has-zero}
+use Rattle.address_map.proofs.CoreSets.{has-without_same, has-without_other, has-zero, has-below, only-shifted}
+use Rattle.address_map.proofs.CoreSets.{without-cleared}
 
 branch : (b c : Bool) (a : ℕ) (xs ys : List ℕ) → b ≡ c → xs ≡ ys
     → (if b then a ∷ xs else xs) ≡ (if c then a ∷ ys else ys)
@@ -72,6 +73,14 @@ members-lowest set some fits =
 pub lowest-there : (set : ℕ) → 0 < set → set < 18446744073709551616 → has set (trailing_zeros w64 set) ≡ true
 unfolding has
 lowest-there set some fits = ap (λ b. b == 1) (bit_at-trailing_zeros w64 set some fits).1
+
+-- the lowest core is taken out by one exclusive or
+pub lowest-cleared : (set : ℕ) → 0 < set → set < 18446744073709551616
+    → bit_xor set (1 * 2 ^ trailing_zeros w64 set % 18446744073709551616) ≡ without set (trailing_zeros w64 set)
+lowest-cleared set some fits =
+    let there = lowest-there set some fits in
+    let below = has-below set (trailing_zeros w64 set) fits there in
+    rw (only-shifted _ below) (without-cleared set _ there below)
 
 -- the same as a set of lemmas, for tactics
 pub ruleset members_none = members-zero

@@ -116,8 +116,8 @@ impl CoreSet {
         if self.bits == 0 {
             return None;
         }
-        let first = CoreId(self.bits.trailing_zeros() as u8);
-        self.remove(first);
-        Some(first)
+        let first = self.bits.trailing_zeros() as u8;
+        self.bits ^= 1 << first;
+        Some(CoreId(first))
     }
 }

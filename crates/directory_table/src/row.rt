@@ -64,6 +64,7 @@ pub enum DirRow {
 
 /// The cell of the table at an entry and an event. `exclusive` is the setting by which a request to read a line that
 /// nobody has is given the only copy.
+#[inline(always)]
 pub fn dir_row(exclusive: bool, entry: &DirEntry, event: DirEvent) -> DirRow
     ensures table { result ≡ row_of exclusive entry.now event }
 
@@ -97,6 +98,7 @@ pub fn dir_row(exclusive: bool, entry: &DirEntry, event: DirEvent) -> DirRow
 }
 
 // The table itself, one cell one line.
+#[inline(always)]
 #[rattlefmt::skip]
 fn cell(exclusive: bool, state: DirState, owner: Option<CoreId>, sharers: CoreSet, event: DirEvent) -> DirRow
     ensures { result ≡ cell exclusive state owner sharers event }

@@ -42,47 +42,28 @@ told-by old now new local channel answer one same is after =
     (is ∙ told-plan _ now new local channel answer after)
 
 -- what wasn't moved is as it was
-unmoved-nothing : (plan : Plan) (old new : PartsView) (local : Local) (channel : Channel)
-    → AfterPlan plan old local channel delivered.Nothing new → new ≡ old
-unmoved-nothing plans.Nothing old new local channel after = after.1
-unmoved-nothing plans.Blocked old new local channel after = after.1
-unmoved-nothing (plans.Broken cell) old new local channel after = after.1
-unmoved-nothing (plans.Directory step) old new local channel after = cc
-unmoved-nothing (plans.Home a b c) old new local channel after = cc
-unmoved-nothing (plans.Forwarded a b c) old new local channel after = cc
-unmoved-nothing (plans.Fill a b) old new local channel after = cc
-unmoved-nothing (plans.Acknowledge a b) old new local channel after = cc
-
-unmoved-blocked : (plan : Plan) (old new : PartsView) (local : Local) (channel : Channel)
-    → AfterPlan plan old local channel delivered.Blocked new → new ≡ old
-unmoved-blocked plans.Nothing old new local channel after = after.1
-unmoved-blocked plans.Blocked old new local channel after = after.1
-unmoved-blocked (plans.Broken cell) old new local channel after = after.1
-unmoved-blocked (plans.Directory step) old new local channel after = cc
-unmoved-blocked (plans.Home a b c) old new local channel after = cc
-unmoved-blocked (plans.Forwarded a b c) old new local channel after = cc
-unmoved-blocked (plans.Fill a b) old new local channel after = cc
-unmoved-blocked (plans.Acknowledge a b) old new local channel after = cc
-
-unmoved-broken : (plan : Plan) (old new : PartsView) (local : Local) (channel : Channel) (cell : Cell)
-    → AfterPlan plan old local channel (delivered.Broken cell) new → new ≡ old
-unmoved-broken plans.Nothing old new local channel cell after = after.1
-unmoved-broken plans.Blocked old new local channel cell after = after.1
-unmoved-broken (plans.Broken other) old new local channel cell after = after.1
-unmoved-broken (plans.Directory step) old new local channel cell after = cc
-unmoved-broken (plans.Home a b c) old new local channel cell after = cc
-unmoved-broken (plans.Forwarded a b c) old new local channel cell after = cc
-unmoved-broken (plans.Fill a b) old new local channel cell after = cc
-unmoved-broken (plans.Acknowledge a b) old new local channel cell after = cc
+unmoved : (plan : Plan) (old new : PartsView) (local : Local) (channel : Channel) (answer : Delivered)
+    → AfterPlan plan old local channel answer new → answer ≢ delivered.Moved → new ≡ old
+unmoved plans.Nothing old new local channel answer after stays = after.1
+unmoved plans.Blocked old new local channel answer after stays = after.1
+unmoved (plans.Broken cell) old new local channel answer after stays = after.1
+unmoved (plans.Directory step) old new local channel answer after stays = absurd (stays after.0)
+unmoved (plans.Home a b c) old new local channel answer after stays = absurd (stays after.0)
+unmoved (plans.Forwarded a b c) old new local channel answer after stays = absurd (stays after.0)
+unmoved (plans.Fill a b) old new local channel answer after stays = absurd (stays after.0)
+unmoved (plans.Acknowledge a b) old new local channel answer after stays = absurd (stays after.0)
 
 -- what was to be done at the channel is done
 made-plan : (old new : PartsView) (local : Local) (channel : Channel) (answer : Delivered)
     → AfterPlan (plan_of old.view local channel) old local channel answer new
     → IsMade old (next_told local channel answer) new
 made-plan old new local channel delivered.Moved after = after
-made-plan old new local channel delivered.Blocked after = unmoved-blocked _ old new local channel after
-made-plan old new local channel delivered.Nothing after = unmoved-nothing _ old new local channel after
-made-plan old new local channel (delivered.Broken cell) after = unmoved-broken _ old new local channel cell after
+made-plan old new local channel delivered.Blocked after =
+    unmoved _ old new local channel _ after (λ same. absurd (cc same))
+made-plan old new local channel delivered.Nothing after =
+    unmoved _ old new local channel _ after (λ same. absurd (cc same))
+made-plan old new local channel (delivered.Broken cell) after =
+    unmoved _ old new local channel _ after (λ same. absurd (cc same))
 
 pub made-by : (old now new : PartsView) (local : Local) (channel : Channel) (answer : Delivered) (one : Next)
     → now ≡ old → one ≡ next_told local channel answer

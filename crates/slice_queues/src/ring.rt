@@ -71,7 +71,7 @@ impl LineRing {
     }
 
     /// The first line goes to the end where it stays, or else leaves the round.
-    // Most slices have one line with messages at a time.
+    // A round of one line that stays is the same after its turn.
     pub fn turn(&mut self, stays: bool)
         requires { 0 < length self.old.order }
         ensures { self.new

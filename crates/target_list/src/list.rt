@@ -94,6 +94,11 @@ impl TargetList {
         requires { 0 < length self.old }
         ensures { self.old ≡ result ∷ self.new }
     {
+        if self.targets.len() == 1
+            && let Some(only) = self.targets.pop()
+        {
+            return only;
+        }
         let first = self.as_slice()[0];
         self.pass(1);
         first

@@ -183,6 +183,8 @@ impl<V: Copy, P: Policy + Drop> CacheArray<V, P> {
     }
 
     /// Takes a line out with its value. Nothing changes where the array doesn't hold it.
+    // Inlined, so that a value that nobody wants isn't copied.
+    #[inline(always)]
     pub fn remove(&mut self, line: Local) -> Option<V>
         ensures value { result ≡ held_at self.old line }
         ensures after { self.new ≡ with_slots self.old line (after_remove (slots_at self.old line) line) }

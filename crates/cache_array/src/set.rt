@@ -116,6 +116,7 @@ impl<V: Copy> Set<V> {
 
     /// Takes the line out; the slots behind it close up.
     #[tactic(auto, using(crate::proofs::Places::removals))]
+    #[inline(always)]
     pub fn remove(&mut self, line: Local) -> Option<V>
         ensures value { result ≡ value_in self.old.slots line }
         ensures rest { self.new ≡ record self.old { slots = after_remove self.old.slots line } }

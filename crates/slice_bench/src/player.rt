@@ -72,28 +72,31 @@ impl Player {
             self.hand(core);
         }
         self.calls = 0;
+        let mut line = 0;
         for number in 0..requests {
-            let line = LineAddr(number.checked_rem(lines).unwrap_or(0));
             let op = if number & 3 == 0 {
                 Op::Add(1)
             } else {
                 Op::Load
             };
-            let issue = self.issue(core, word_of(line, number & 7), op)?;
+            let issue = self.issue(core, word_of(LineAddr(line), number & 7), op)?;
             wants(matches!(issue, Issue::Done(_)))?;
+            line = after(line, lines);
         }
         Ok(())
     }
 
     fn take_turns(&mut self, cores: u64, lines: u64, requests: u64) -> Result<(), Fault> {
-        for number in 0..requests {
-            let core = number.checked_rem(cores).unwrap_or(0);
-            let turn = number.checked_div(cores).unwrap_or(0);
-            let line = LineAddr(turn.checked_rem(lines).unwrap_or(0));
-            let core = CoreId((core & 63) as u8);
-            self.add(core, line)?;
+        let (mut turn, mut line) = (0, 0);
+        for _ in 0..requests {
+            let core = CoreId((turn & 63) as u8);
+            self.add(core, LineAddr(line))?;
             self.deliver_all();
             self.hand(core);
+            turn = after(turn, cores);
+            if turn == 0 {
+                line = after(line, lines);
+            }
         }
         wants(self.slice.log().len() as u64 == requests)
     }
@@ -195,6 +198,12 @@ impl Player {
             let _ = self.slice.hand(core);
         }
     }
+}
+
+// The next of so many numbers, behind the last the first. A division for it would take a third of a hit.
+fn after(number: u64, count: u64) -> u64 {
+    let next = number.wrapping_add(1);
+    if next < count { next } else { 0 }
 }
 
 fn word_of(line: LineAddr, offset: u64) -> WordAddr {

@@ -4,7 +4,6 @@ pub mod Issued
 pub mod Quiet
 pub mod StandsLaws
 pub mod ShapedLaws
-pub mod PlannedLaws
 pub mod ChangedLaws
 pub mod SettledLaws
 pub mod NextLaws

@@ -78,6 +78,8 @@ impl TargetList {
     }
 
     /// Adds a target behind the others.
+    // A target that is handed on through memory is read back before it is written.
+    #[inline(always)]
     pub fn push(&mut self, target: Target)
         requires { length self.old < MOST_TARGETS }
         ensures { self.new ≡ self.old ++ target ∷ [] }

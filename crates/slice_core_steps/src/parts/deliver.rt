@@ -6,11 +6,11 @@ ghost use Rattle.slice_core_side.specs.Side.{array_copy};
 ghost use Rattle.slice_core_side.specs.Steps.{acknowledged, after_change, after_settle};
 ghost use Rattle.slice_core_side.specs.Targets.{IsPerformable};
 ghost use Rattle.slice_core_plan.specs.Parts.{AfterDelivery, AfterPlan, CanDeliver, Moves, Settles, filled_by};
-ghost use Rattle.slice_core_plan.specs.Plan.{plan_of};
+ghost use Rattle.slice_core_plan.specs.Plan.{ack_plan, data_plan, forwarded_plan, home_plan, plan_of, request_plan};
 ghost use Rattle.slice_core_plan.specs.Sends.{cache_room, directory_room, directory_sent};
 ghost use Rattle.slice_core_plan.specs.Steps.{after_directory, after_forwarded, after_home, asked_by, block_in};
 ghost use Rattle.slice_core_plan.specs.View.{channels_at, side_at, IsShaped};
-ghost use Rattle.slice_core_plan.specs.Within.{IsPlanned, HasCopy, StandsAt, is_shared};
+ghost use Rattle.slice_core_plan.specs.Within.{HasCopy, StandsAt, is_shared};
 ghost use Rattle.slice_queues.specs.Lending.{with_lent};
 ghost use Rattle.slice_queues.specs.Line.{after_take, core_at};
 ghost use Rattle.slice_queues.specs.Ring.{is_listed};
@@ -19,12 +19,15 @@ ghost use Rattle.slice_queues_message.specs.declared.channel.Channel.TheVariants
 
 use super::Parts;
 use address_map::{Block, CoreId, CoreSet, Local, Offset};
-use cache_table::{CacheSends, CopyState};
-use directory_table::{DirState, DirStep};
+use cache_table::{CacheEvent, CacheSends, CopyState, Row, cache_row};
+use directory_table::{DirEvent, DirRow, DirState, DirStep, dir_row};
 use mshr_file::MissFile;
-use slice_core_answer::Delivered;
+use slice_core_answer::{Cell, Delivered};
 use slice_core_log::Entry;
-use slice_core_plan::{Plan, send_from_core, send_from_directory};
+use slice_core_plan::{
+    cache_room, directory_room, event_of_forwarded, event_of_request, is_put_ack, requester_of,
+    send_from_core, send_from_directory,
+};
 use slice_core_side::Side;
 use slice_queues::{Channel, DataMessage, Message, Pick, Queues, RequestMessage};
 
@@ -41,7 +44,6 @@ impl<F: MissFile> Parts<F> {
     }
 
     /// The same at a channel of a line.
-    // What is planned is carried out kind by kind: one value for all kinds would be written to memory and read back.
     pub(super) fn deliver_at(&mut self, local: Local, channel: Channel) -> Delivered
         requires line { local.0 < self.old.view.lines.lines }
         requires delivers { CanDeliver self.old }
@@ -51,76 +53,155 @@ impl<F: MissFile> Parts<F> {
             return Delivered::Nothing;
         }
         match channel {
-            Channel::Req(core) => {
-                let plan = self.plan_request(local, core);
-                self.carry_out(local, channel, &plan)
+            Channel::Req(core) => self.deliver_request(local, core),
+            Channel::Fwd(core) => self.deliver_forwarded(local, core),
+            Channel::Data(core) => self.deliver_data(local, core),
+            Channel::Ack { to, from } => self.deliver_ack(local, to, from),
+            Channel::Home => self.deliver_home(local),
+        }
+    }
+
+    // Each of these does what the plan for its channel says, kind by kind and by the row itself: a plan for all kinds
+    // would be written to memory and read back.
+
+    // Does the directory's row for the core's request.
+    fn deliver_request(&mut self, local: Local, core: CoreId) -> Delivered
+        requires line { local.0 < self.old.view.lines.lines }
+        requires core { core.0 < length self.old.view.sides }
+        requires delivers { CanDeliver self.old }
+        ensures { AfterPlan (request_plan self.old.view local core) self.old local (channels.Req core) result
+            self.new }
+    {
+        let line = self.queues.line(local);
+        let Some(request) = line.front_request(core) else {
+            return Delivered::Nothing;
+        };
+        let event = event_of_request(core, request);
+        match &dir_row(self.exclusive, &self.entries[local.0], event) {
+            DirRow::NoEntry => Delivered::Broken(Cell::Entry),
+            DirRow::Blocked => Delivered::Blocked,
+            DirRow::Go(step) if !directory_room(&line, core, &step.sends) => {
+                Delivered::Broken(Cell::Full)
             }
-            Channel::Fwd(core) => {
-                let plan = self.plan_forwarded(local, core);
-                self.carry_out(local, channel, &plan)
-            }
-            Channel::Data(core) => {
-                let plan = self.plan_data(local, core);
-                self.carry_out(local, channel, &plan)
-            }
-            Channel::Ack { to, from } => {
-                let plan = self.plan_ack(local, to, from);
-                self.carry_out(local, channel, &plan)
-            }
-            Channel::Home => {
-                let plan = self.plan_home(local);
-                self.carry_out(local, channel, &plan)
+            DirRow::Go(step) => {
+                self.serve(local, core, step);
+                Delivered::Moved
             }
         }
     }
 
-    // Does what is planned for the front message of a channel of a line.
-    #[inline(always)]
-    fn carry_out(&mut self, local: Local, channel: Channel, plan: &Plan) -> Delivered
+    // Does the directory's row for the block that comes home.
+    fn deliver_home(&mut self, local: Local) -> Delivered
         requires line { local.0 < self.old.view.lines.lines }
         requires delivers { CanDeliver self.old }
-        requires planned { IsPlanned self.old.view local channel plan.now }
-        ensures { AfterPlan plan.now self.old local channel result self.new }
+        ensures { AfterPlan (home_plan self.old.view local) self.old local channels.Home result self.new }
     {
-        match plan {
-            Plan::Nothing => return Delivered::Nothing,
-            Plan::Blocked => return Delivered::Blocked,
-            Plan::Broken(cell) => return Delivered::Broken(*cell),
-            Plan::Directory(step) => {
-                let Channel::Req(core) = channel else {
-                    unreachable!();
-                };
-                self.serve(local, core, step);
-            }
-            Plan::Home {
-                state,
-                owner,
-                sharers,
-            } => self.take_home(local, *state, *owner, *sharers),
-            Plan::Forwarded {
-                next,
-                sends,
-                requester,
-            } => {
-                let Channel::Fwd(core) = channel else {
-                    unreachable!();
-                };
-                self.forward(local, core, *next, *sends, *requester);
-            }
-            Plan::Fill { place, next } => {
-                let Channel::Data(core) = channel else {
-                    unreachable!();
-                };
-                self.fill(local, core, *place, *next);
-            }
-            Plan::Acknowledge { place, next } => {
-                let Channel::Ack { to, from } = channel else {
-                    unreachable!();
-                };
-                self.acknowledge(local, to, from, *place, *next);
+        if self.queues.line(local).front_home().is_none() {
+            return Delivered::Nothing;
+        }
+        match &dir_row(self.exclusive, &self.entries[local.0], DirEvent::DataHome) {
+            DirRow::NoEntry => Delivered::Broken(Cell::Entry),
+            DirRow::Blocked => Delivered::Blocked,
+            DirRow::Go(step) => {
+                self.take_home(local, step.state, step.owner, step.sharers);
+                Delivered::Moved
             }
         }
-        Delivered::Moved
+    }
+
+    // Does the cache's row for the forwarded message that waits for the core.
+    fn deliver_forwarded(&mut self, local: Local, core: CoreId) -> Delivered
+        requires line { local.0 < self.old.view.lines.lines }
+        requires core { core.0 < length self.old.view.sides }
+        requires delivers { CanDeliver self.old }
+        ensures { AfterPlan (forwarded_plan self.old.view local core) self.old local (channels.Fwd core) result
+            self.new }
+    {
+        let line = self.queues.line(local);
+        let Some(message) = line.front_forwarded(core) else {
+            return Delivered::Nothing;
+        };
+        let message = *message;
+        let requester = requester_of(core, message);
+        let look = self.sides[core.0 as usize].look(local);
+        match cache_row(look.state, event_of_forwarded(message)) {
+            Row::NoEntry => Delivered::Broken(Cell::Entry),
+            Row::Blocked => Delivered::Blocked,
+            Row::Go(_, sends) if !cache_room(&line, core, requester, sends) => {
+                Delivered::Broken(Cell::Full)
+            }
+            Row::Go(_, _) if is_put_ack(message) && line.front_request(core).is_some() => {
+                Delivered::Broken(Cell::Early)
+            }
+            Row::Go(next, sends) => {
+                self.forward(local, core, next, sends, requester);
+                Delivered::Moved
+            }
+        }
+    }
+
+    // Does the cache's row for the data that wait for the core.
+    fn deliver_data(&mut self, local: Local, core: CoreId) -> Delivered
+        requires line { local.0 < self.old.view.lines.lines }
+        requires core { core.0 < length self.old.view.sides }
+        requires delivers { CanDeliver self.old }
+        ensures { AfterPlan (data_plan self.old.view local core) self.old local (channels.Data core) result self.new }
+    {
+        let line = self.queues.line(local);
+        let Some(message) = line.front_data(core) else {
+            return Delivered::Nothing;
+        };
+        let side = &self.sides[core.0 as usize];
+        let look = side.look(local);
+        let event = match message {
+            DataMessage::Data { acks, .. } => CacheEvent::Data {
+                n: *acks,
+                k: look.counted,
+            },
+            DataMessage::DataE(_) => CacheEvent::DataE {
+                all_loads: side.all_loads(local),
+            },
+        };
+        match (cache_row(look.state, event), look.place) {
+            (Row::NoEntry, _) => Delivered::Broken(Cell::Entry),
+            (Row::Blocked, _) => Delivered::Blocked,
+            (Row::Go(..), _) if line.front_request(core).is_some() => Delivered::Broken(
+                Cell::Early,
+            ),
+            (Row::Go(..), None) => Delivered::Broken(Cell::Entry),
+            (Row::Go(next, _), Some(place)) => {
+                self.fill(local, core, place, next);
+                Delivered::Moved
+            }
+        }
+    }
+
+    // Does the cache's row for an acknowledgement that waits for the core.
+    fn deliver_ack(&mut self, local: Local, to: CoreId, from: CoreId) -> Delivered
+        requires line { local.0 < self.old.view.lines.lines }
+        requires to { to.0 < length self.old.view.sides }
+        requires from { from.0 < length self.old.view.sides }
+        requires delivers { CanDeliver self.old }
+        ensures { AfterPlan (ack_plan self.old.view local to from) self.old local (channels.Ack to from) result
+            self.new }
+    {
+        if !self.queues.line(local).has_ack(to, from) {
+            return Delivered::Nothing;
+        }
+        let look = self.sides[to.0 as usize].look(local);
+        let event = CacheEvent::InvAck {
+            n: look.wants,
+            k: look.counted,
+        };
+        match (cache_row(look.state, event), look.place) {
+            (Row::NoEntry, _) => Delivered::Broken(Cell::Entry),
+            (Row::Blocked, _) => Delivered::Blocked,
+            (Row::Go(..), None) => Delivered::Broken(Cell::Entry),
+            (Row::Go(next, _), Some(place)) => {
+                self.acknowledge(local, to, from, place, next);
+                Delivered::Moved
+            }
+        }
     }
 
     // The directory takes a core's request, and does its row.

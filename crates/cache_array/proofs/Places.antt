@@ -1,7 +1,7 @@
 -- The first element of a list that passes a test: where it stands, and the list without it or with it at the end.
 use Rattle.std.proofs.Common.{◌≡◌, ℕ, ◌+◌, ◌<◌, ◌≤◌, Bool, true, false, cond, not, List, [], ◌∷◌, ◌++◌, length, map}
 use Rattle.std.proofs.Common.{get_or, set, zero, suc, refl, ap, sym, ◌∙◌, arith, Some, None, option_to_list, find}
-use Rattle.std.proofs.Common.{position, remove, drop, nat_lt}
+use Rattle.std.proofs.Common.{position, remove, drop, nat_lt, Option, subst}
 use Rattle.std.specs.List.{position_or_len, refill, swap}
 use Rattle.std.specs.Set.{remove_key}
 use Rattle.std.proofs.lemmas.Bool.{ltb-true, ltb-false}
@@ -159,3 +159,30 @@ moved_within p now items old new i e f long at moved =
     let all : length new ≡ length items = long ∙ ap length f in
     take_at new (drop (length new) items) (length items) all
     ∙ sym (moved_at p now new i at (λ d. moved d ∙ ap (λ xs. remove xs i ++ get_or xs i d ∷ []) same))
+
+-- lists with one more element are the same only with the same element
+snoc_some : {X : Type 0} (xs : List X) (x : X) → [] ≡ xs ++ x ∷ [] → ⊥
+snoc_some [] x e = cc
+snoc_some (z ∷ xs) x e = cc
+
+snoc_same : {X : Type 0} (xs ys : List X) (x y : X) → xs ++ x ∷ [] ≡ ys ++ y ∷ [] → (xs ≡ ys) × (x ≡ y)
+snoc_same [] [] x y e = (refl, cc)
+snoc_same [] (b ∷ ys) x y e = absurd (snoc_some ys y cc)
+snoc_same (a ∷ xs) [] x y e = absurd (snoc_some xs x cc)
+snoc_same (a ∷ xs) (b ∷ ys) x y e =
+    let rest = snoc_same xs ys x y cc in
+    (cc (e, rest.0), rest.1)
+
+-- once the element at the place that `position` found went to the end, it is the last, and the others come before it
+pub popped : {X : Type 0} (p : X → Bool) (now items old new rest : List X) (last : X) (i : ℕ) → items ≡ now →
+    old ≡ items → length new ≡ length old → position p now ≡ Some i →
+    ((d : X) → new ≡ remove old i ++ get_or old i d ∷ []) → refill (length items) items new ≡ rest ++ last ∷ [] →
+    (rest ≡ remove_key p now) × (find p now ≡ Some last)
+popped {X = X} p now items old new rest last i e f long at moved there =
+    let found = found_at p now i last at in
+    let whole : moved_to_end p now ≡ rest ++ last ∷ [] =
+    sym (moved_within p now items old new i e f long at moved) ∙ there in
+    let same =
+    snoc_same (remove_key p now) rest (get_or now i last) last
+    (subst (λ (o : Option X). remove_key p now ++ option_to_list o ≡ rest ++ last ∷ []) found whole) in
+    (sym same.0, found ∙ ap Some same.1)

@@ -1,6 +1,6 @@
 -- One set: what each call leaves of its values and its lines.
 use Rattle.std.proofs.Common.{◌≡◌, ◌≢◌, ℕ, ◌+◌, ◌<◌, ◌≤◌, Bool, true, false, cond, not, List, [], ◌∷◌, ◌++◌, length}
-use Rattle.std.proofs.Common.{get_or, set, suc, refl, ap, sym, ◌∙◌, arith, Option, Some, None, option_map}
+use Rattle.std.proofs.Common.{get_or, set, suc, refl, ap, sym, subst, ◌∙◌, arith, Option, Some, None, option_map}
 use Rattle.std.proofs.Common.{option_to_list, find, All, eq-eqb, length-append, is_some, position, remove, slice_get}
 use Rattle.std.specs.List.{position_or_len, refill, AllZip}
 use Rattle.std.specs.Option.{option_or}
@@ -18,7 +18,7 @@ use Rattle.cache_array.specs.Victim.{line_in}
 use Rattle.cache_array.specs.Set.{SetView, holds, lines_of, value_in, after_insert, after_write, after_use}
 use Rattle.cache_array.specs.Set.{after_remove}
 use Rattle.cache_array.proofs.Orders.{found_passes, same_line, gone, AreApart}
-use Rattle.cache_array.proofs.Places.{remove_key-map, moved_to_end-map, moved_within}
+use Rattle.cache_array.proofs.Places.{remove_key-map, moved_to_end-map, moved_within, popped}
 
 -- a test that fails wherever the other passes sees no removal
 find-removed : {X : Type 0} (p q : X → Bool) → ((x : X) → p x ≡ true → q x ≡ false) → (xs : List X) →
@@ -274,6 +274,28 @@ moved_set {V = V} line inside now old new long place l e f kept at moved =
     ∙ moved_within (holds line) now.slots inside.slots old new place (ap (λ (s : SetView V). s.slots) e) f kept at
     moved)
     (ap (λ (s : SetView V). s.ways) e)
+
+-- once the line's slot went to the end it is taken out there
+pub popped_set : {V : Type 0} (line : Local) (inside now : SetView V) (looked old new rest : List (Slot V))
+    (last : Slot V) (out : Option (Slot V)) (long place : ℕ) →
+    long ≡ length inside.slots → inside ≡ now → looked ≡ inside.slots → position (holds line) looked ≡ Some place →
+    old ≡ inside.slots → length new ≡ length old →
+    ((d : Slot V) → new ≡ remove old place ++ get_or old place d ∷ []) →
+    refill long inside.slots new ≡ rest ++ option_to_list out → out ≡ Some last →
+    (◌≡◌ {A = SetView V} (record { slots = rest; ways = inside.ways })
+    (record now { slots = after_remove now.slots line }))
+    × (Some last.value ≡ value_in now.slots line)
+popped_set {V = V} line inside now looked old new rest last out long place l e k at f kept moved there is =
+    let slots = ap (λ (s : SetView V). s.slots) e in
+    let both =
+    popped (holds line) now.slots inside.slots old new rest last place slots f kept
+    (subst (λ (xs : List (Slot V)). position (holds line) xs ≡ Some place) (k ∙ slots) at) moved
+    (ap (λ n. refill n inside.slots new) (sym l) ∙ there
+    ∙ ap (λ (o : Option (Slot V)). rest ++ option_to_list o) is) in (
+      set_is (record now { slots = after_remove now.slots line }) rest inside.ways both.0
+          (ap (λ (s : SetView V). s.ways) e),
+      sym (ap (option_map (λ (slot : Slot V). slot.value)) both.1),
+    )
 
 -- one more slot has its answer
 pub asked_more : {A B : Type 0} (R : A → B → Type 0) (xs : List A) (ys : List B) (x : A) (y : B) →

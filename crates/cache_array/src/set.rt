@@ -115,6 +115,7 @@ impl<V: Copy> Set<V> {
     }
 
     /// Takes the line out; the slots behind it close up.
+    // It goes to the end first: most sets have few slots behind it, and those are passed at little cost.
     #[tactic(auto, using(crate::proofs::Places::removals))]
     #[inline(always)]
     pub fn remove(&mut self, line: Local) -> Option<V>
@@ -124,7 +125,11 @@ impl<V: Copy> Set<V> {
         let Some(place) = place_of(&self.slots, line) else {
             return None;
         };
-        Some(self.slots.remove(place).value)
+        move_to_end(&mut self.slots, place);
+        let Some(slot) = self.slots.pop() else {
+            unreachable!();
+        };
+        Some(slot.value)
     }
 
     /// Moves the slot of the line, which stands there, behind the others.

@@ -66,6 +66,7 @@ pub const fn cache_row(state: CopyState, event: CacheEvent) -> Row
 }
 
 // The table itself, one cell one line.
+#[inline(always)]
 #[rattlefmt::skip]
 const fn cell(state: CopyState, event: CacheEvent) -> Row
     ensures { result ≡ row_of state event }

@@ -35,6 +35,7 @@ impl<F: MissFile> Side<F> {
     }
 
     /// Makes a way for the line: a victim of its set leaves. Answers the victim, and what the directory is sent for it.
+    #[inline(always)]
     pub fn replace(&mut self, local: Local) -> (Local, RequestMessage)
         requires replaces { CanReplace self.old local }
         requires apart { (line : Local) → IsSome (array_at self.old.array line)
@@ -51,6 +52,7 @@ impl<F: MissFile> Side<F> {
     }
 
     // Chooses the line that leaves for another of its set. A random policy draws its next word for it.
+    #[inline(always)]
     fn draw_victim(&mut self, local: Local) -> Local
         requires { has_victim self.old local ≡ true }
         ensures victim { result ≡ victim_for self.old local }
@@ -89,6 +91,8 @@ impl<F: MissFile> Side<F> {
     }
 
     /// Moves the line's copy to the write-back buffer. Answers what the directory is sent.
+    // Its answer carries a block: were it not inlined, that would be copied once more, as by the two above.
+    #[inline(always)]
     pub fn evict(&mut self, local: Local) -> RequestMessage
         requires { CanLeave self.old local }
         ensures put { result ≡ put_of (array_copy self.old local) }

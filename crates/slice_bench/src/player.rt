@@ -200,7 +200,7 @@ impl Player {
     }
 }
 
-// The next of so many numbers, behind the last the first. A division for it would take a third of a hit.
+// The next of so many numbers, and behind the last the first. A remainder would tell as much, and cost more.
 fn after(number: u64, count: u64) -> u64 {
     let next = number.wrapping_add(1);
     if next < count { next } else { 0 }

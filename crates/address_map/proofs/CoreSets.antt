@@ -2,7 +2,7 @@
 use Rattle.std.proofs.Common.{◌≡◌, ◌≢◌, ℕ, ◌*◌, ◌/◌, ◌%◌, ◌^◌, ◌==◌, ◌<◌, ◌≤◌, Bool, true, false, not, ◌&&◌, ◌||◌, refl}
 use Rattle.std.proofs.Common.{sym, ◌∙◌, ap, arith, inl, inr, if◌then◌else◌, eqb-true, bit_and, bit_or, bit_xor, nat_lt}
 use Rattle.std.specs.Int.{bit_at}
-use Rattle.std.specs.Int.Bits.{or_zero_r}
+use Rattle.std.specs.Int.Bits.{or_zero_r, xor_zero_r}
 use Rattle.std.proofs.Math.Bool.{or-true, or-false, and-true, and-false}
 use Rattle.std.proofs.lemmas.Bool.{eq-eqb, eqb-false, ne_eqb, lt-ltb, le-ltb, cases_lt, cases_eq, cases_Bool}
 use Rattle.std.proofs.lemmas.Bool.Decides.{eqb_tells}
@@ -209,3 +209,30 @@ with-joined set core = refl
 pub without-cleared : (set core : ℕ) → has set core ≡ true → core < 64 → bit_xor set (only core) ≡ without set core
 unfolding without
 without-cleared set core there below = rw (there, only-below core below) refl
+
+-- it is the same to take out a core whether it was put in before or not
+pub without-with_any : (set core : ℕ) → without (with set core) core ≡ without set core
+without-with_any set core = same_from_has (without (with set core) core) (without set core) same
+  where
+    same : (other : ℕ) → has (without (with set core) core) other ≡ has (without set core) other
+    same other =
+        elim (cases_eq other core) [
+          | inl here ↦ rw here (has-without_same (with set core) core ∙ sym (has-without_same set core))
+          | inr apart ↦
+              has-without_other (with set core) core other apart
+              ∙ has-with_other set core other apart
+              ∙ sym (has-without_other set core other apart)
+        ]
+
+pub without-joined : (set core : ℕ) → set < 18446744073709551616 →
+    bit_xor (bit_or set (only core)) (only core) ≡ without set core
+without-joined set core fits =
+    elim (cases_lt core 64) [
+      | inl below ↦
+          ap (λ both. bit_xor both (only core)) (with-joined set core)
+          ∙ without-cleared (with set core) core (has-with_same set core below) below
+          ∙ without-with_any set core
+      | inr past ↦
+          rw (only-past core past)
+          (xor_zero_r (bit_or set 0) ∙ or_zero_r set ∙ sym (without-missing set core (has-past set core fits past)))
+    ]

@@ -83,12 +83,9 @@ impl CoreSet {
     pub const fn without(self, core: CoreId) -> Self
         ensures { result ≡ without self core.0 }
     {
-        if self.has(core) {
-            CoreSet {
-                bits: self.bits ^ 1 << core.0,
-            }
-        } else {
-            self
+        let one = Self::only(core).bits;
+        CoreSet {
+            bits: (self.bits | one) ^ one,
         }
     }
 

@@ -19,8 +19,9 @@ pub const MOST_WAYS: usize = 16;
 /// A line with its value.
 #[derive(Clone, Copy, Debug)]
 pub struct Slot<V> {
-    pub line: Local,
+    // In front: its blocks of 16 bytes are then those of the slot, which is moved by such.
     pub value: V,
+    pub line: Local,
 }
 
 /// One set: an insertion goes last, a removal closes up. The memory for its ways is taken when it is made: by its

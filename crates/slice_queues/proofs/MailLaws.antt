@@ -5,6 +5,7 @@ use Rattle.std.proofs.Common.{None, replicate, get_or, inl, inr, is_some, nat_lt
 use Rattle.std.specs.Int.{bit_at}
 use Rattle.std.specs.List.{list_any}
 use Rattle.std.proofs.Math.ListN.{set}
+use Rattle.std.proofs.Math.Bool.{or_comm}
 use Rattle.std.proofs.lemmas.Bool.{cases_eq, lt-ltb}
 use Rattle.std.proofs.lemmas.List.{get_or-set_same, get_or-set_other}
 use Rattle.std.proofs.lemmas.Nat.Bits.{bit_at_or, bit_at-lt}
@@ -16,18 +17,15 @@ use Rattle.slice_queues_message.specs.declared.channel.Channel.TheVariants as ch
 use Rattle.slice_queues_message.specs.declared.message.RequestMessage.{RequestMessage}
 use Rattle.slice_queues_message.specs.declared.message.ForwardedMessage.{ForwardedMessage}
 use Rattle.slice_queues_message.specs.declared.message.DataMessage.{DataMessage}
+use Rattle.slice_queues.specs.declared.lines.LineHead.{LineHead}
 use Rattle.slice_queues.specs.declared.mail.Mail.{Mail}
+use Rattle.slice_queues.specs.Count.{shows_mail}
 use Rattle.slice_queues.specs.Line.{CoreChannels, LineChannels, no_messages, core_at, has_request, has_forwarded}
 use Rattle.slice_queues.specs.Line.{has_data, has_acks, has_messages, has_mail, IsEmptyLine, IsWithinCores}
 use Rattle.slice_queues.specs.Mail.{no_marks, all_marked, Marks, IsMarked, IsLine}
 use Rattle.slice_queues.proofs.LineLaws.{IsWithinCores-set, IsWithinCores-with_ack, IsWithinCores-without_ack}
 use Rattle.slice_queues.proofs.LineLaws.{IsWithinCores-empty, IsEmptyLine-from_cores, cores-from_IsEmptyLine}
 use Rattle.slice_queues.proofs.LineLaws.{None-from_home, read_default, read-replicate}
-
--- what is quiet has no mail
-pub not-flips : (quiet mail : Bool) → quiet ≡ not mail → not quiet ≡ mail
-not-flips quiet true is = ap not is
-not-flips quiet false is = ap not is
 
 -- a core that got a message is marked
 pub Marks-with : (test : CoreChannels → Bool) (marks : ℕ) (cores : List CoreChannels) (core : ℕ) (new : CoreChannels) →
@@ -405,29 +403,31 @@ no_mail-from_IsEmptyLine line empty =
     (None-from_home line.home (empty channels.Home))
     (none-from_each has_messages line.cores (λ core. ap has_messages (cores-from_IsEmptyLine line empty core)))
 
--- a line without a block for the directory has no mail exactly where no core is marked
-pub quiet-from_marks : (line : LineChannels) (mail : Mail) → IsMarked line.cores mail → is_some line.home ≡ false →
-    (quiet : Bool) → (IsTrue quiet ↔ (all_marked mail ≡ 0)) → quiet ≡ not (has_mail line)
-quiet-from_marks line mail marked gone quiet test = by_mail (list_any has_messages line.cores) refl quiet test
+-- some core is marked exactly where some core has a message
+pub any-marked : (cores : List CoreChannels) (mail : Mail) → IsMarked cores mail →
+    nat_lt 0 (all_marked mail) ≡ list_any has_messages cores
+any-marked cores mail marked = by_marks (all_marked mail) refl (list_any has_messages cores) refl
   where
-    by_mail : (some : Bool) → list_any has_messages line.cores ≡ some →
-        (quiet : Bool) → (IsTrue quiet ↔ (all_marked mail ≡ 0)) → quiet ≡ not (has_mail line)
-    by_mail false none true test = rw (gone, none) refl
-    by_mail false none false test =
-        let clash : false ≡ true =
-        test.1 (zero-from_none _ (λ core. Marks-all line.cores mail marked core
-        ∙ none_pass has_messages line.cores refl none core)) in
-        cc
-    by_mail true some false test = rw (gone, some) refl
-    by_mail true some true test =
-        let zero_marks : all_marked mail ≡ 0 = test.0 refl in
-        let none : list_any has_messages line.cores ≡ false =
-        none-from_each
-        has_messages
-        line.cores
-        (λ core. sym (Marks-all line.cores mail marked core) ∙ ap (λ marks. has marks core) zero_marks
-        ∙ has-zero core) in
-        let clash : false ≡ true = sym none ∙ some in cc
+    by_marks : (marks : ℕ) → all_marked mail ≡ marks → (some_core : Bool) → list_any has_messages cores ≡ some_core →
+        nat_lt 0 marks ≡ some_core
+    by_marks marks is false none =
+        let zero_marks : all_marked mail ≡ 0 =
+        zero-from_none _ (λ core. Marks-all cores mail marked core ∙ none_pass has_messages cores refl none core) in
+        ap (nat_lt 0) (sym is ∙ zero_marks)
+    by_marks zero is true there =
+        let none : list_any has_messages cores ≡ false =
+        none-from_each has_messages cores
+        (λ core. sym (Marks-all cores mail marked core) ∙ ap (λ marks. has marks core) is ∙ has-zero core) in
+        let clash : false ≡ true = sym none ∙ there in cc
+    by_marks (suc marks) is true there = some marks
+
+-- so the marks and the block on its way home tell whether the line has mail
+pub shows_mail-is : (line : LineChannels) (head : LineHead) → IsMarked line.cores head.mail →
+    head.home ≡ line.home → shows_mail head ≡ has_mail line
+shows_mail-is line head marked home =
+    ap (λ some_core. some_core || is_some head.home) (any-marked line.cores head.mail marked)
+    ∙ or_comm (list_any has_messages line.cores) (is_some head.home)
+    ∙ ap (λ (block : Option Block). is_some block || list_any has_messages line.cores) home
 
 -- a line with no mail is an empty line
 pub IsEmptyLine-from_quiet : (line : LineChannels) (quiet : Bool) → quiet ≡ not (has_mail line) →

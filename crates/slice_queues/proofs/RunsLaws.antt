@@ -75,7 +75,7 @@ blank-run heads cores width capacity head none runs =
     ap (λ (first : ℕ). take width (drop first cores)) zero ∙ runs.blank
 
 -- a list of heads, and the list of their lines
-pub line-read : (width : ℕ) (cores : List CoreChannels) (heads : List LineHead) (local : ℕ) → local < length heads →
+line-read : (width : ℕ) (cores : List CoreChannels) (heads : List LineHead) (local : ℕ) → local < length heads →
     get_or (lines_under width cores heads) local (empty_line 0) ≡ line_under width cores (head_at heads local)
 line-read width cores heads local there = get_or-map (line_under width cores) heads local blank_head (empty_line 0)
     there
@@ -467,17 +467,17 @@ read-opened heads cores width capacity core head none within runs = by_test (has
         get_or-append-add cores (replicate width no_messages) core none
         ∙ ap (λ run. get_or run core none) (sym (blank-run heads cores width capacity head absent runs))
 
--- a line's home changes
+-- a line's home changes, and its flag may
 pub lines-home : (heads : List LineHead) (cores : List CoreChannels) (width capacity local : ℕ) (old : LineHead)
-    (home : Option Block) →
+    (home : Option Block) (waits : Bool) →
     local < length heads → old ≡ get_or heads local old → IsRuns heads cores width capacity →
     AreLines
-    (set heads local (record old { home = home }))
+    (set heads local (record old { home = home; waits = waits }))
     cores
     width
     capacity
     (set (lines_under width cores heads) local (record { cores = run_under width cores old; home = home }))
-lines-home heads cores width capacity local old home there read runs = record {
+lines-home heads cores width capacity local old home waits there read runs = record {
   runs = record {
     few = runs.few;
     blank = runs.blank;
@@ -499,7 +499,7 @@ lines-home heads cores width capacity local old home there read runs = record {
 }
   where
     head : LineHead
-    head = record old { home = home }
+    head = record old { home = home; waits = waits }
 
     is : old ≡ head_at heads local
     is = read ∙ read_default heads local old blank_head there
@@ -511,7 +511,7 @@ lines-home heads cores width capacity local old home there read runs = record {
         heads local head there (ap (λ h. h.first) is) (λ other differs. refl)
 
 -- where nothing was ever sent each head is blank
-blank-head : (n local : ℕ) → head_at (replicate n blank_head) local ≡ blank_head
+pub blank-head : (n local : ℕ) → head_at (replicate n blank_head) local ≡ blank_head
 blank-head zero local = refl
 blank-head (suc n) zero = refl
 blank-head (suc n) (suc local) = blank-head n local
@@ -604,6 +604,18 @@ read-core heads cores more width capacity local core place old queues lines view
     ∙ ap (λ p. get_or more p no_messages) (sym place_is)
     ∙ sym (queues_is ∙ read_default more place queues no_messages place_there)
 
+-- a line of a slice that is seen so, whose head is read
+pub line-seen : (heads : List LineHead) (cores : List CoreChannels) (width local : ℕ) (old : LineHead)
+    (lines : List LineChannels) →
+    lines_under width cores heads ≡ lines → local < length lines → old ≡ get_or heads local old →
+    get_or lines local (empty_line 0) ≡ line_under width cores old
+line-seen heads cores width local old lines view there read =
+    let below : local < length heads =
+    omega (arith, ap (λ ls. length ls) view, length-map heads (line_under width cores), there) in
+    ap (λ ls. get_or ls local (empty_line 0)) (sym view)
+    ∙ line-read width cores heads local below
+    ∙ ap (line_under width cores) (sym (read ∙ read_default heads local old blank_head below))
+
 -- a core's channels change where they are told to stand
 pub lines-with_core : (heads : List LineHead) (cores more : List CoreChannels)
     (width capacity new_capacity local core place : ℕ) (old opened head : LineHead) (new : CoreChannels)
@@ -628,10 +640,7 @@ lines-with_core heads cores more width capacity new_capacity local core place ol
     let within : core < width = core-within heads cores width local core
     (subst (λ ls. core < length (get_or ls local (empty_line 0)).cores) (sym view) within_line) in
     let old_is : old ≡ head_at heads local = read ∙ read_default heads local old blank_head below in
-    let line : get_or lines local (empty_line 0) ≡ line_under width cores old =
-    ap (λ ls. get_or ls local (empty_line 0)) (sym view)
-    ∙ line-read width cores heads local below
-    ∙ ap (line_under width cores) (sym old_is) in
+    let line = line-seen heads cores width local old lines view there read in
     let before : IsLine (run_under width cores old) opened.mail =
     subst (λ (mail : Mail). IsLine (run_under width cores old) mail) (sym (ap (λ h. h.mail) opened_is))
     (subst (λ (h : LineHead). IsLine (run_under width cores h) h.mail) (sym old_is) (runs.lines local)) in
@@ -655,29 +664,26 @@ lines-with_core heads cores more width capacity new_capacity local core place ol
 
 -- the block on its way home changes
 pub lines-with_home : (heads : List LineHead) (cores : List CoreChannels) (width capacity local : ℕ) (old : LineHead)
-    (home : Option Block) (lines : List LineChannels) →
+    (home : Option Block) (waits : Bool) (lines : List LineChannels) →
     lines_under width cores heads ≡ lines → IsRuns heads cores width capacity → local < length lines →
     old ≡ get_or heads local old →
     AreLines
-    (set heads local (record old { home = home }))
+    (set heads local (record old { home = home; waits = waits }))
     cores
     width
     capacity
     (set lines local (record (get_or lines local (empty_line 0)) { home = home }))
-lines-with_home heads cores width capacity local old home lines view runs there read =
+lines-with_home heads cores width capacity local old home waits lines view runs there read =
     let below : local < length heads =
     omega (arith, ap (λ ls. length ls) view, length-map heads (line_under width cores), there) in
     let old_is : old ≡ head_at heads local = read ∙ read_default heads local old blank_head below in
-    let line : get_or lines local (empty_line 0) ≡ line_under width cores old =
-    ap (λ ls. get_or ls local (empty_line 0)) (sym view)
-    ∙ line-read width cores heads local below
-    ∙ ap (line_under width cores) (sym old_is) in
+    let line = line-seen heads cores width local old lines view there read in
     let P : List LineChannels → LineChannels → Type 0 = λ lines line.
-    AreLines (set heads local (record old { home = home })) cores width capacity
+    AreLines (set heads local (record old { home = home; waits = waits })) cores width capacity
     (set lines local (record line { home = home })) in
     subst (λ l. P lines l) (sym line)
     (subst (λ ls. P ls (line_under width cores old)) view
-    (lines-home heads cores width capacity local old home below read runs))
+    (lines-home heads cores width capacity local old home waits below read runs))
 
 -- a line's head, as it is read: there is room for the line's own run
 pub opens : (heads : List LineHead) (cores : List CoreChannels) (width capacity local : ℕ) (old : LineHead)

@@ -1,13 +1,13 @@
 -- How the channels of a slice's lines stand: a head for each line, and runs of cores' channels.
-use Rattle.std.specs.Prelude.{◌≡◌, ℕ, ◌+◌, ◌*◌, ◌<◌, ◌≤◌, ◌++◌, Bool, true, nat_lt, if◌then◌else◌, List, length, map}
-use Rattle.std.specs.Prelude.{take, drop, replicate, slice_index_or, count_by, None}
+use Rattle.std.specs.Prelude.{◌≡◌, ℕ, ◌+◌, ◌*◌, ◌<◌, ◌≤◌, ◌++◌, Bool, true, false, nat_lt, if◌then◌else◌, List}
+use Rattle.std.specs.Prelude.{length, map, take, drop, replicate, slice_index_or, count_by, None}
 use Rattle.slice_queues.specs.declared.lines.LineHead.{LineHead}
 use Rattle.slice_queues.specs.Line.{CoreChannels, LineChannels, no_messages}
 use Rattle.slice_queues.specs.Mail.{no_marks, IsLine}
 
 -- the head of a line to which nothing was ever sent
 abbrev pub blank_head : LineHead
-blank_head = record { mail = no_marks; home = None; first = 0 }
+blank_head = record { mail = no_marks; first = 0; waits = false; home = None }
 
 -- the head of the line at a place
 abbrev pub head_at : List LineHead → ℕ → LineHead

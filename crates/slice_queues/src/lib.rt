@@ -25,13 +25,14 @@
 //!   [`Queues::picks_from`] round and round from a start line (specs/Waiting.antt), and both give each pick with a
 //!   message once and no other (`HasEachPickOnce`).
 //!
-//! All memory is taken by [`Queues::build`], the only call that can fail: 184 bytes for each core of a line, and 121
+//! All memory is taken by [`Queues::build`], the only call that can fail: 184 bytes for each core of a line, and 129
 //! for the line, of which 9 are for the ring. What is for a line's cores is touched once something is sent to the line
 //! (specs/Runs.antt), so the largest slice, 65536 lines of 64 cores, begins with 8 MB of the 780 that it may come to. A
 //! send or a take costs the same whatever the number of lines and cores, but for the first change of a line, and so
-//! does [`LineQueues::is_empty`]: four sets say for which cores messages wait. [`LineQueues::waiting`] looks at no core
-//! but those for which acknowledgements wait. [`Queues::is_empty`] looks at the line that was lent last alone, since
-//! the others with a message are counted. [`Queues::picks_of`] and [`Queues::picks_from`] look at each line.
+//! does [`LineQueues::is_empty`]: each line has a flag for that (specs/Count.antt). Four sets say for which cores
+//! messages wait, so [`LineQueues::waiting`] looks at no core but those for which acknowledgements wait.
+//! [`Queues::is_empty`] looks at no line, since those with a message are counted. [`Queues::picks_of`] and
+//! [`Queues::picks_from`] look at each line.
 #![tactic(auto)]
 
 pub use line_queues::LineQueues;
@@ -43,7 +44,6 @@ pub use slice_queues_message::{
 pub use waiting::{ChannelsLeft, LineWaiting};
 
 mod core_queues;
-mod count;
 mod forwarded_queue;
 mod line_by_channel;
 mod line_queues;

@@ -19,13 +19,13 @@ pub struct LineQueues<'a> {
 
 impl<'a> Model for LineQueues<'a> {
     ghost use Rattle.slice_queues.specs.Line.{LineChannels};
-    ghost use Rattle.slice_queues.specs.Mail.{IsLine};
+    ghost use Rattle.slice_queues.specs.Count.{IsHead};
 
     ghost Value = { LineChannels };
 
     ghost view = { λ line. record { cores = line.cores.now; home = line.head.now.home } };
 
-    ghost invariant = { λ line. IsLine line.cores.now line.head.now.mail };
+    ghost invariant = { λ line. IsHead line.cores.now line.head.now };
 }
 
 /// The channels one kind at a time: nothing is copied to look at a message.
@@ -34,7 +34,6 @@ impl<'a> LineQueues<'a> {
     ghost use Rattle.slice_queues.specs.Waiting.{AreCores, channels_left, line_waiting, HasEachOnce, HasEachOnceIn};
     ghost use Rattle.slice_queues.specs.Line.{core_at, messages_at, after_take, HasRoom, HasChannel, IsEmptyLine};
     ghost use Rattle.slice_queues.specs.Line.{has_mail, TakesInvalidations};
-    ghost use Rattle.slice_queues.specs.Mail.{IsLine};
 
     /// How many cores the line has.
     pub fn cores(&self) -> usize
@@ -159,7 +158,8 @@ impl<'a> LineQueues<'a> {
     pub fn has_mail(&self) -> bool
         ensures { result ≡ has_mail self.now }
     {
-        self.head.home.is_some() || !self.head.mail.cores().is_empty()
+        let _ = &self.cores;
+        self.head.waits
     }
 
     /// Whether all of these are cores of the line, and each one's forwarded channel takes another message.

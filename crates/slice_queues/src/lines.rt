@@ -1,5 +1,5 @@
-ghost use Rattle.std.specs.Prelude.{◌≡◌, ◌+◌, ◌<◌, ◌≤◌, ◌++◌, length, replicate, false, vec_capacity, slice_set};
-ghost use Rattle.std.specs.Prelude.{slice_index_or, slice_get, IfOk};
+ghost use Rattle.std.specs.Prelude.{◌≡◌, ◌↔◌, ℕ, ◌+◌, ◌^◌, ◌<◌, ◌≤◌, ◌++◌, ◌&&◌, length, replicate, true, false};
+ghost use Rattle.std.specs.Prelude.{vec_capacity, slice_set, slice_index_or, slice_get, IfOk, IsTrue};
 ghost use Rattle.slice_queues_message.specs.declared.channel.Channel.TheVariants as channels;
 ghost use Rattle.slice_queues.specs.Line.{LineChannels, no_messages, core_at, with_core, after_send, after_take};
 ghost use Rattle.slice_queues.specs.Line.{HasChannel, Carries, IsOfCore};
@@ -21,6 +21,8 @@ pub struct LineHead {
     pub mail: Mail,
     /// Where the run of its cores' channels begins, 0 as long as it has none of its own.
     pub first: usize,
+    /// Whether a message waits in a channel of the line.
+    pub waits: bool,
     pub home: Option<Block>,
 }
 
@@ -33,6 +35,8 @@ pub struct Lines {
     // for a run of each line, and what isn't used of it is never touched.
     cores: Vec<CoreQueues>,
     width: usize,
+    // how many lines have a message
+    waiting: usize,
 }
 
 impl Model for Lines {
@@ -40,17 +44,21 @@ impl Model for Lines {
     ghost use Rattle.std.specs.Box.{boxed_slice_items};
     ghost use Rattle.slice_queues.specs.Line.{LineChannels};
     ghost use Rattle.slice_queues.specs.Runs.{lines_under, IsRuns};
+    ghost use Rattle.slice_queues.specs.Count.{IsMailCounted};
 
     ghost Value = { List LineChannels };
 
     ghost view = { λ lines. lines_under lines.width lines.cores.items (boxed_slice_items lines.heads) };
 
-    ghost invariant = { λ lines. IsRuns (boxed_slice_items lines.heads) lines.cores.items lines.width
-        (vec_capacity lines.cores) };
+    ghost invariant = { λ lines.
+        IsRuns (boxed_slice_items lines.heads) lines.cores.items lines.width (vec_capacity lines.cores)
+        × IsMailCounted (boxed_slice_items lines.heads)
+        (lines_under lines.width lines.cores.items (boxed_slice_items lines.heads)) lines.waiting };
 }
 
 impl LineHead {
     ghost use Rattle.slice_queues.specs.Runs.{blank_head, opened_first, opened_cores, has_run};
+    ghost use Rattle.slice_queues.specs.Count.{one_where, shows_mail};
 
     /// The head of a line to which nothing was ever sent.
     fn blank() -> Self
@@ -59,6 +67,7 @@ impl LineHead {
         LineHead {
             mail: Mail::none(),
             first: 0,
+            waits: false,
             home: None,
         }
     }
@@ -81,6 +90,39 @@ impl LineHead {
         }
         self.first + core.0 as usize
     }
+
+    /// Whether the marks, or a block for the directory, say that a message waits.
+    fn shows_mail(&self) -> bool
+        ensures { result ≡ shows_mail self.now }
+    {
+        self.mail.cores().bits() > 0 || self.home.is_some()
+    }
+
+    /// A message was sent: the line is one of those that have some, of which there are so many.
+    #[inline(always)]
+    fn note_sent(&mut self, waiting: &mut usize)
+        requires { self.old.waits ≡ false → waiting.old + 1 < 2 ^ 64 }
+        ensures head { self.new ≡ record self.old { waits = true } }
+        ensures count { waiting.new + one_where self.old.waits ≡ waiting.old + 1 }
+    {
+        if !self.waits {
+            self.waits = true;
+            *waiting += 1;
+        }
+    }
+
+    /// A message was taken, if there was one: where it was the last, the line is none of those any more.
+    #[inline(always)]
+    fn note_taken(&mut self, waiting: &mut usize)
+        requires { self.old.waits ≡ true → 0 < waiting.old }
+        ensures head { self.new ≡ record self.old { waits = self.old.waits && shows_mail self.old } }
+        ensures count { waiting.new + one_where self.old.waits ≡ waiting.old + one_where self.new.waits }
+    {
+        if self.waits && !self.shows_mail() {
+            self.waits = false;
+            *waiting -= 1;
+        }
+    }
 }
 
 // Adds a run of cores' channels in which nothing waits. Were it inlined, each later change of a line would cost more.
@@ -96,7 +138,7 @@ fn push_blank(cores: &mut Vec<CoreQueues>, width: usize)
 }
 
 impl Lines {
-    ghost use Rattle.slice_queues.specs.Line.{empty_line, messages_at, HasRoom, SendsOnly, TakesOnly};
+    ghost use Rattle.slice_queues.specs.Line.{empty_line, has_mail, messages_at, HasRoom, SendsOnly, TakesOnly};
     ghost use Rattle.slice_queues.specs.Line.{TakesInvalidations, after_invalidating};
 
     /// Takes the memory for `count` lines of `width` cores.
@@ -115,6 +157,7 @@ impl Lines {
             heads: heads.into_boxed_slice(),
             cores,
             width,
+            waiting: 0,
         })
     }
 
@@ -122,6 +165,14 @@ impl Lines {
         ensures { result ≡ length self.now }
     {
         self.heads.len()
+    }
+
+    /// Whether no line has a message.
+    pub fn is_quiet(&self) -> bool
+        ensures { IsTrue result ↔ ((local : ℕ) → has_mail (slice_index_or self.now local (empty_line 0)) ≡ false) }
+    {
+        let _ = &self.heads;
+        self.waiting == 0
     }
 
     /// The channels of one line.
@@ -155,6 +206,7 @@ impl Lines {
                 let place = head.place_of(core, &mut self.cores, self.width);
                 let queues = &mut self.cores[place];
                 send_to(queues, &mut head.mail, core, channel, message);
+                head.note_sent(&mut self.waiting);
             }
             Channel::Home => self.send_home(local, message),
         }
@@ -176,6 +228,7 @@ impl Lines {
             Message::Home(block) => head.home = Some(block),
             _ => unreachable!(),
         }
+        head.note_sent(&mut self.waiting);
     }
 
     /// Takes the oldest message of a channel of the line without a look at it.
@@ -195,6 +248,7 @@ impl Lines {
                 let place = head.place_of(core, &mut self.cores, self.width);
                 let queues = &mut self.cores[place];
                 drop_from(queues, &mut head.mail, core, channel);
+                head.note_taken(&mut self.waiting);
             }
             Channel::Home => self.drop_home(local),
         }
@@ -209,6 +263,7 @@ impl Lines {
     {
         let head = &mut self.heads[local.0];
         head.home = None;
+        head.note_taken(&mut self.waiting);
     }
 
     /// Takes the oldest message of a channel of the line. Nothing changes where none waits, or the line has no such

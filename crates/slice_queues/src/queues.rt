@@ -2,9 +2,7 @@ ghost use Rattle.std.specs.Prelude.{◌≡◌, ℕ, ◌<◌, ◌≤◌, ◌↔�
 ghost use Rattle.std.specs.Prelude.{slice_index, Some, IsTrue, IfOk};
 ghost use Rattle.slice_queues_message.specs.Pick.{line_of, channel_of};
 ghost use Rattle.slice_queues.specs.Ring.{with_listed};
-ghost use Rattle.slice_queues.specs.Count.{IsMailCounted};
 
-use super::count::MailCount;
 use super::line_queues::LineQueues;
 use super::lines::Lines;
 use super::picks::{LinesWaiting, Picks};
@@ -20,12 +18,10 @@ pub struct Queues {
     lines: Lines,
     ring: LineRing,
     locator: Locator,
-    count: MailCount,
 }
 
 impl Model for Queues {
     ghost use Rattle.slice_queues.specs.Ring.{QueuesView, IsQueues};
-    ghost use Rattle.slice_queues.specs.Count.{IsMailCounted};
 
     ghost Value = { QueuesView };
 
@@ -37,9 +33,7 @@ impl Model for Queues {
               queues.ring.order;
         } };
 
-    ghost invariant = { λ queues.
-        IsQueues queues.lines queues.ring queues.locator
-        × IsMailCounted queues.lines queues.count };
+    ghost invariant = { λ queues. IsQueues queues.lines queues.ring queues.locator };
 }
 
 /// The lines by their places in the slice, and the ring.
@@ -65,7 +59,6 @@ impl Queues {
             lines: Lines::build(alloc, count, cores)?,
             ring: LineRing::build(alloc, count)?,
             locator,
-            count: MailCount { lent: 0, others: 0 },
         })
     }
 
@@ -106,9 +99,6 @@ impl Queues {
             (after_send (at_local self.old.channels local.0) channel message) channel message }
     {
         self.ring.list(local);
-        if self.count.lent != local.0 {
-            self.count.lend(&self.lines, local);
-        }
         self.lines.send(local, channel, message);
     }
 
@@ -120,9 +110,6 @@ impl Queues {
         ensures { self.new ≡ with_lent self.old local (after_take (at_local self.old.channels local.0) channel) }
     {
         self.ring.list(local);
-        if self.count.lent != local.0 {
-            self.count.lend(&self.lines, local);
-        }
         self.lines.drop_front(local, channel);
     }
 
@@ -135,9 +122,6 @@ impl Queues {
             ≡ with_lent self.old local (after_invalidating (at_local self.old.channels local.0) cores requester) }
     {
         self.ring.list(local);
-        if self.count.lent != local.0 {
-            self.count.lend(&self.lines, local);
-        }
         self.lines.invalidate(local, cores, requester);
     }
 
@@ -178,7 +162,7 @@ impl Queues {
         ensures slice { IsTrue result ↔ IsEmptySlice self.now.channels }
         ensures lines { IsTrue result ↔ ((local : ℕ) → IsEmptyLine (at_local self.now.channels local)) }
     {
-        self.count.is_zero(&self.lines)
+        self.lines.is_quiet()
     }
 }
 
@@ -269,7 +253,6 @@ impl Queues {
             (after_take (at_local self.old.channels local.0) channel)
             channel }
     {
-        self.count.lend(&self.lines, local);
         self.lines.take(local, channel)
     }
 

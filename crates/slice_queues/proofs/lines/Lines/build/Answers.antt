@@ -2,6 +2,7 @@ use Rattle.std.proofs.Common.{◌≡◌, ◌∙◌, ◌+◌, ◌*◌, ◌++◌, 
 use Rattle.std.specs.Prelude.{vec_capacity}
 use Rattle.slice_queues.specs.Line.{no_messages}
 use Rattle.slice_queues.specs.Runs.{blank_head}
+use Rattle.slice_queues.proofs.CountLaws.{IsMailCounted-blank}
 use Rattle.slice_queues.proofs.RunsLaws.{lines-blank}
 use Rattle.slice_queues.proofs.lines.Lines.build.Goals as goal
 
@@ -16,7 +17,9 @@ invariant_of-result c =
     ∙ ap (λ cores. cores ++ replicate c.args.width no_messages) c.in_ok-cores.ensures.items in
     let room : vec_capacity c.push_blank.new.cores ≡ (c.args.count + 1) * c.args.width =
     c.push_blank.ensures.capacity ∙ c.in_ok-cores.ensures.exact in
-    rw (all, blank, room) (lines-blank c.args.count c.args.width c.requires.cores).runs
+    let lines = lines-blank c.args.count c.args.width c.requires.cores in
+    rw (all, blank, room)
+    (lines.runs, rw lines.channels (IsMailCounted-blank c.args.count c.args.width))
 
 pub returns : goal.returns
 returns c =

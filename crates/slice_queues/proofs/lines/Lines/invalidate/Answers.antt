@@ -44,7 +44,7 @@ returns c =
     let local = c.args.local.0 in
     let few : length (get_or c.args.self.now local (empty_line 0)).cores ≤ 64 =
     few-cores c.self.inside.heads.items.items c.self.inside.cores.items _ _ local c.args.self.now c.self.view_is
-    c.self.invariant in
+    c.self.invariant.0 in
     let none : members c.loop-core.left ≡ [] = (c.pop_first.ensures.none c.in_default.is).0 in
     c.loop-core.invariant.2
     ∙ ap (set c.args.self.now local)

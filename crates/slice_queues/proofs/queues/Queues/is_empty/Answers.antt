@@ -9,10 +9,10 @@ use Rattle.slice_queues.proofs.queues.Queues.is_empty.Goals as goal
 pub returns-clause-lines : goal.returns-clause-lines
 returns-clause-lines c =
     let lines = c.self.inside.lines in
-    let is : IsTrue c.is_zero.result ↔ ((local : ℕ) → has_mail (get_or lines local (empty_line 0)) ≡ false) =
-    c.is_zero.ensures in
+    let is : IsTrue c.is_quiet.result ↔ ((local : ℕ) → has_mail (get_or lines local (empty_line 0)) ≡ false) =
+    c.is_quiet.ensures in
     let P : QueuesView → Type 0 =
-    λ queues. IsTrue c.is_zero.result ↔ ((local : ℕ) → IsEmptyLine (at_local queues.channels local)) in
+    λ queues. IsTrue c.is_quiet.result ↔ ((local : ℕ) → IsEmptyLine (at_local queues.channels local)) in
     subst P c.self.view_is (
       (λ zero local. IsEmptyLine-from_no_mail (get_or lines local (empty_line 0)) (is.0 zero local)),
       (λ empty. is.1 (λ local. no_mail-from_IsEmptyLine (get_or lines local (empty_line 0)) (empty local))),
@@ -21,9 +21,9 @@ returns-clause-lines c =
 pub returns-clause-slice : goal.returns-clause-slice
 returns-clause-slice c =
     let P : QueuesView → Type 0 = λ queues.
-    (IsTrue c.is_zero.result ↔ ((local : ℕ) → IsEmptyLine (at_local queues.channels local))) →
-    IsTrue c.is_zero.result ↔ IsEmptySlice queues.channels in
+    (IsTrue c.is_quiet.result ↔ ((local : ℕ) → IsEmptyLine (at_local queues.channels local))) →
+    IsTrue c.is_quiet.result ↔ IsEmptySlice queues.channels in
     subst P c.self.view_is (λ lines. (
       (λ zero. IsEmptySlice-from_lines _ (lines.0 zero)),
-      (λ empty. lines.1 (lines-from_IsEmptySlice _ c.self.invariant.0.machine.slice empty)),
+      (λ empty. lines.1 (lines-from_IsEmptySlice _ c.self.invariant.machine.slice empty)),
     )) (returns-clause-lines c)

@@ -22,5 +22,5 @@ returns-clause-once c =
     let P : QueuesView → Type 0 =
     λ queues. HasEachPickOnce queues.channels (picks_waiting queues.channels c.args.start) in
     let once : HasEachPickOnce c.args.self.now.channels (picks_waiting c.args.self.now.channels c.args.start) =
-    subst P c.self.view_is (picks_waiting-once _ c.args.start c.self.invariant.0.machine.slice) in
+    subst P c.self.view_is (picks_waiting-once _ c.args.start c.self.invariant.machine.slice) in
     rw (returns-clause-order c) once

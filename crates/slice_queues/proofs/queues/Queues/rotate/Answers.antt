@@ -26,5 +26,4 @@ loop-turn-preserved c =
       IsQueues-turn
           now.lines now.ring _ now.locator c.line.result c.has_mail-has_mail.result line
           c.has_mail-has_mail.ensures c.turn.ensures queues,
-      c.loop-turn.invariant.4,
     )

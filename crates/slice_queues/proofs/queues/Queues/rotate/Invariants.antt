@@ -13,4 +13,3 @@ invariant-loop-turn l =
     × (now.lines ≡ began.lines)
     × (now.locator ≡ began.locator)
     × IsQueues now.lines now.ring now.locator
-    × (now.count ≡ began.count)

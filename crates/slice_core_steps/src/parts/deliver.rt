@@ -19,15 +19,12 @@ ghost use Rattle.slice_queues_message.specs.declared.channel.Channel.TheVariants
 
 use super::Parts;
 use address_map::{Block, CoreId, CoreSet, Local, Offset};
-use cache_table::{CacheEvent, CacheSends, CopyState, Row, cache_row};
-use directory_table::{DirEvent, DirRow, DirState, DirStep, dir_row};
+use cache_table::{CacheSends, CopyState};
+use directory_table::{DirState, DirStep};
 use mshr_file::MissFile;
-use slice_core_answer::{Cell, Delivered};
+use slice_core_answer::Delivered;
 use slice_core_log::Entry;
-use slice_core_plan::{
-    cache_room, directory_room, event_of_forwarded, event_of_request, is_put_ack, requester_of,
-    send_from_core, send_from_directory,
-};
+use slice_core_plan::{Plan, send_from_core, send_from_directory};
 use slice_core_side::Side;
 use slice_queues::{Channel, DataMessage, Message, Pick, Queues, RequestMessage};
 
@@ -61,8 +58,8 @@ impl<F: MissFile> Parts<F> {
         }
     }
 
-    // Each of these does what the plan for its channel says, kind by kind and by the row itself: a plan for all kinds
-    // would be written to memory and read back.
+    // Each of these does what is planned for its kind of channel. A plan is inlined where it is carried out: one for
+    // all kinds would be written to memory and read back.
 
     // Does the directory's row for the core's request.
     fn deliver_request(&mut self, local: Local, core: CoreId) -> Delivered
@@ -72,21 +69,15 @@ impl<F: MissFile> Parts<F> {
         ensures { AfterPlan (request_plan self.old.view local core) self.old local (channels.Req core) result
             self.new }
     {
-        let line = self.queues.line(local);
-        let Some(request) = line.front_request(core) else {
-            return Delivered::Nothing;
-        };
-        let event = event_of_request(core, request);
-        match &dir_row(self.exclusive, &self.entries[local.0], event) {
-            DirRow::NoEntry => Delivered::Broken(Cell::Entry),
-            DirRow::Blocked => Delivered::Blocked,
-            DirRow::Go(step) if !directory_room(&line, core, &step.sends) => {
-                Delivered::Broken(Cell::Full)
-            }
-            DirRow::Go(step) => {
-                self.serve(local, core, step);
+        match self.plan_request(local, core) {
+            Plan::Directory(step) => {
+                self.serve(local, core, &step);
                 Delivered::Moved
             }
+            Plan::Nothing => Delivered::Nothing,
+            Plan::Blocked => Delivered::Blocked,
+            Plan::Broken(cell) => Delivered::Broken(cell),
+            _ => unreachable!(),
         }
     }
 
@@ -96,16 +87,19 @@ impl<F: MissFile> Parts<F> {
         requires delivers { CanDeliver self.old }
         ensures { AfterPlan (home_plan self.old.view local) self.old local channels.Home result self.new }
     {
-        if self.queues.line(local).front_home().is_none() {
-            return Delivered::Nothing;
-        }
-        match &dir_row(self.exclusive, &self.entries[local.0], DirEvent::DataHome) {
-            DirRow::NoEntry => Delivered::Broken(Cell::Entry),
-            DirRow::Blocked => Delivered::Blocked,
-            DirRow::Go(step) => {
-                self.take_home(local, step.state, step.owner, step.sharers);
+        match self.plan_home(local) {
+            Plan::Home {
+                state,
+                owner,
+                sharers,
+            } => {
+                self.take_home(local, state, owner, sharers);
                 Delivered::Moved
             }
+            Plan::Nothing => Delivered::Nothing,
+            Plan::Blocked => Delivered::Blocked,
+            Plan::Broken(cell) => Delivered::Broken(cell),
+            _ => unreachable!(),
         }
     }
 
@@ -117,26 +111,19 @@ impl<F: MissFile> Parts<F> {
         ensures { AfterPlan (forwarded_plan self.old.view local core) self.old local (channels.Fwd core) result
             self.new }
     {
-        let line = self.queues.line(local);
-        let Some(message) = line.front_forwarded(core) else {
-            return Delivered::Nothing;
-        };
-        let message = *message;
-        let requester = requester_of(core, message);
-        let look = self.sides[core.0 as usize].look(local);
-        match cache_row(look.state, event_of_forwarded(message)) {
-            Row::NoEntry => Delivered::Broken(Cell::Entry),
-            Row::Blocked => Delivered::Blocked,
-            Row::Go(_, sends) if !cache_room(&line, core, requester, sends) => {
-                Delivered::Broken(Cell::Full)
-            }
-            Row::Go(_, _) if is_put_ack(message) && line.front_request(core).is_some() => {
-                Delivered::Broken(Cell::Early)
-            }
-            Row::Go(next, sends) => {
+        match self.plan_forwarded(local, core) {
+            Plan::Forwarded {
+                next,
+                sends,
+                requester,
+            } => {
                 self.forward(local, core, next, sends, requester);
                 Delivered::Moved
             }
+            Plan::Nothing => Delivered::Nothing,
+            Plan::Blocked => Delivered::Blocked,
+            Plan::Broken(cell) => Delivered::Broken(cell),
+            _ => unreachable!(),
         }
     }
 
@@ -147,32 +134,15 @@ impl<F: MissFile> Parts<F> {
         requires delivers { CanDeliver self.old }
         ensures { AfterPlan (data_plan self.old.view local core) self.old local (channels.Data core) result self.new }
     {
-        let line = self.queues.line(local);
-        let Some(message) = line.front_data(core) else {
-            return Delivered::Nothing;
-        };
-        let side = &self.sides[core.0 as usize];
-        let look = side.look(local);
-        let event = match message {
-            DataMessage::Data { acks, .. } => CacheEvent::Data {
-                n: *acks,
-                k: look.counted,
-            },
-            DataMessage::DataE(_) => CacheEvent::DataE {
-                all_loads: side.all_loads(local),
-            },
-        };
-        match (cache_row(look.state, event), look.place) {
-            (Row::NoEntry, _) => Delivered::Broken(Cell::Entry),
-            (Row::Blocked, _) => Delivered::Blocked,
-            (Row::Go(..), _) if line.front_request(core).is_some() => Delivered::Broken(
-                Cell::Early,
-            ),
-            (Row::Go(..), None) => Delivered::Broken(Cell::Entry),
-            (Row::Go(next, _), Some(place)) => {
+        match self.plan_data(local, core) {
+            Plan::Fill { place, next } => {
                 self.fill(local, core, place, next);
                 Delivered::Moved
             }
+            Plan::Nothing => Delivered::Nothing,
+            Plan::Blocked => Delivered::Blocked,
+            Plan::Broken(cell) => Delivered::Broken(cell),
+            _ => unreachable!(),
         }
     }
 
@@ -185,22 +155,15 @@ impl<F: MissFile> Parts<F> {
         ensures { AfterPlan (ack_plan self.old.view local to from) self.old local (channels.Ack to from) result
             self.new }
     {
-        if !self.queues.line(local).has_ack(to, from) {
-            return Delivered::Nothing;
-        }
-        let look = self.sides[to.0 as usize].look(local);
-        let event = CacheEvent::InvAck {
-            n: look.wants,
-            k: look.counted,
-        };
-        match (cache_row(look.state, event), look.place) {
-            (Row::NoEntry, _) => Delivered::Broken(Cell::Entry),
-            (Row::Blocked, _) => Delivered::Blocked,
-            (Row::Go(..), None) => Delivered::Broken(Cell::Entry),
-            (Row::Go(next, _), Some(place)) => {
+        match self.plan_ack(local, to, from) {
+            Plan::Acknowledge { place, next } => {
                 self.acknowledge(local, to, from, place, next);
                 Delivered::Moved
             }
+            Plan::Nothing => Delivered::Nothing,
+            Plan::Blocked => Delivered::Blocked,
+            Plan::Broken(cell) => Delivered::Broken(cell),
+            _ => unreachable!(),
         }
     }
 

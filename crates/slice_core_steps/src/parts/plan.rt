@@ -2,6 +2,7 @@ ghost use Rattle.std.specs.Prelude.{◌≡◌, ◌<◌, length};
 ghost use Rattle.slice_core_plan.specs.Plan.{plan_of, planned_at, request_plan, home_plan, forwarded_plan, data_plan};
 ghost use Rattle.slice_core_plan.specs.Plan.{ack_plan};
 ghost use Rattle.slice_core_plan.specs.View.{View, IsShaped};
+ghost use Rattle.slice_core_steps.specs.Planned.{IsPlanned};
 ghost use Rattle.slice_queues_message.specs.declared.channel.Channel.TheVariants as channels;
 
 use super::Parts;
@@ -47,11 +48,13 @@ impl<F: MissFile> Parts<F> {
     }
 
     // The directory's row for the core's request.
-    fn plan_request(&self, local: Local, core: CoreId) -> Plan
+    #[inline(always)]
+    pub(super) fn plan_request(&self, local: Local, core: CoreId) -> Plan
         requires line { local.0 < self.now.view.lines.lines }
         requires core { core.0 < length self.now.view.sides }
         requires shaped { IsShaped self.now.view }
         ensures planned { result ≡ request_plan self.now.view local core }
+        ensures within { IsPlanned self.now.view local (channels.Req core) result }
     {
         let line = self.queues.line(local);
         let Some(request) = line.front_request(core) else {
@@ -69,10 +72,12 @@ impl<F: MissFile> Parts<F> {
     }
 
     // The directory's row for the block that comes home.
-    fn plan_home(&self, local: Local) -> Plan
+    #[inline(always)]
+    pub(super) fn plan_home(&self, local: Local) -> Plan
         requires line { local.0 < self.now.view.lines.lines }
         requires shaped { IsShaped self.now.view }
         ensures planned { result ≡ home_plan self.now.view local }
+        ensures within { IsPlanned self.now.view local channels.Home result }
     {
         if self.queues.line(local).front_home().is_none() {
             return Plan::Nothing;
@@ -89,11 +94,13 @@ impl<F: MissFile> Parts<F> {
     }
 
     // The cache's row for the forwarded message that waits for the core.
-    fn plan_forwarded(&self, local: Local, core: CoreId) -> Plan
+    #[inline(always)]
+    pub(super) fn plan_forwarded(&self, local: Local, core: CoreId) -> Plan
         requires line { local.0 < self.now.view.lines.lines }
         requires core { core.0 < length self.now.view.sides }
         requires shaped { IsShaped self.now.view }
         ensures planned { result ≡ forwarded_plan self.now.view local core }
+        ensures within { IsPlanned self.now.view local (channels.Fwd core) result }
     {
         let line = self.queues.line(local);
         let Some(message) = line.front_forwarded(core) else {
@@ -120,11 +127,13 @@ impl<F: MissFile> Parts<F> {
     }
 
     // The cache's row for the data that wait for the core.
-    fn plan_data(&self, local: Local, core: CoreId) -> Plan
+    #[inline(always)]
+    pub(super) fn plan_data(&self, local: Local, core: CoreId) -> Plan
         requires line { local.0 < self.now.view.lines.lines }
         requires core { core.0 < length self.now.view.sides }
         requires shaped { IsShaped self.now.view }
         ensures planned { result ≡ data_plan self.now.view local core }
+        ensures within { IsPlanned self.now.view local (channels.Data core) result }
     {
         let line = self.queues.line(local);
         let Some(message) = line.front_data(core) else {
@@ -153,12 +162,14 @@ impl<F: MissFile> Parts<F> {
     }
 
     // The cache's row for an acknowledgement that waits for the core.
-    fn plan_ack(&self, local: Local, to: CoreId, from: CoreId) -> Plan
+    #[inline(always)]
+    pub(super) fn plan_ack(&self, local: Local, to: CoreId, from: CoreId) -> Plan
         requires line { local.0 < self.now.view.lines.lines }
         requires to { to.0 < length self.now.view.sides }
         requires from { from.0 < length self.now.view.sides }
         requires shaped { IsShaped self.now.view }
         ensures planned { result ≡ ack_plan self.now.view local to from }
+        ensures within { IsPlanned self.now.view local (channels.Ack to from) result }
     {
         if !self.queues.line(local).has_ack(to, from) {
             return Plan::Nothing;

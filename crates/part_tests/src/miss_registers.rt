@@ -1,4 +1,4 @@
-use super::settings::checked;
+use super::settings::{allocate_until, checked};
 use address_map::{Checked, Config, ConfigError, Local, Offset, Op};
 use arrayvec::ArrayVec;
 use mshr_file::{Admission, ExplicitFile, InvertedFile, MissFile, Target};
@@ -221,4 +221,21 @@ fn has_an_entry_for_each_tag(file: &mut InvertedFile) -> bool {
 fn an_inverted_file_has_an_entry_for_each_tag(rt: HostRuntime) -> Result<(), Fail> {
     assert!(rt; has_an_entry_for_each_tag(&mut made(rt.alloc(), 1, 1)?));
     Ok(())
+}
+
+/// Makes a table whose allocation of this number is the fourth.
+fn makes_registers(alloc: Global, number: usize) -> Result<(), Fail> {
+    allocate_until(alloc, number)?;
+    drop(made::<ExplicitFile>(alloc, 2, 4)?);
+    Ok(())
+}
+
+#[test]
+fn allocation_1_is_the_fourth(rt: HostRuntime) -> Result<(), Fail> {
+    makes_registers(rt.alloc(), 1)
+}
+
+#[test]
+fn allocation_2_is_the_fourth(rt: HostRuntime) -> Result<(), Fail> {
+    makes_registers(rt.alloc(), 2)
 }

@@ -1,4 +1,4 @@
-use super::settings::checked;
+use super::settings::{allocate_until, checked};
 use address_map::{Checked, Config, ConfigError, Local, PolicyKind};
 use cache_array::{CacheArray, Policy};
 use rand_core::{Rng, SeedableRng};
@@ -241,4 +241,26 @@ fn only_lru_moves_on_use(rt: HostRuntime) {
             && policy.choose(&[false; 2], 7).is_none();
         assert!(rt; is_right, "{policy:?}");
     }
+}
+
+/// Makes an array whose allocation of this number is the fourth.
+fn makes_two_sets(alloc: Global, number: usize) -> Result<(), Fail> {
+    allocate_until(alloc, number)?;
+    drop(array_of(alloc, 2, 1, PolicyKind::Lru)?);
+    Ok(())
+}
+
+#[test]
+fn allocation_1_is_the_fourth(rt: HostRuntime) -> Result<(), Fail> {
+    makes_two_sets(rt.alloc(), 1)
+}
+
+#[test]
+fn allocation_2_is_the_fourth(rt: HostRuntime) -> Result<(), Fail> {
+    makes_two_sets(rt.alloc(), 2)
+}
+
+#[test]
+fn allocation_3_is_the_fourth(rt: HostRuntime) -> Result<(), Fail> {
+    makes_two_sets(rt.alloc(), 3)
 }

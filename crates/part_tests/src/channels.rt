@@ -3,7 +3,7 @@ ghost use Rattle.slice_queues.specs.Line.{Carries, HasChannel};
 ghost use Rattle.slice_queues_message.specs.declared.channel.Channel.TheVariants as channels;
 ghost use Rattle.slice_queues_message.specs.Pick.{channel_of};
 
-use super::settings::checked;
+use super::settings::{allocate_until, checked};
 use address_map::{Block, Config, CoreId, CoreSet, LineAddr, Local, Locator, SliceId};
 use slice_queues::{
     Channel, Class, DataMessage, ForwardedMessage, LineQueues, Message, Pick, Queues,
@@ -159,4 +159,31 @@ fn lines_with_messages_stay_in_the_ring(rt: HostRuntime) -> Result<(), Fail> {
     drop(queues);
     assert!(rt; is_right);
     Ok(())
+}
+
+/// Makes channels whose allocation of this number is the fourth.
+fn makes_queues(alloc: Global, number: usize) -> Result<(), Fail> {
+    allocate_until(alloc, number)?;
+    drop(queues(alloc)?);
+    Ok(())
+}
+
+#[test]
+fn allocation_1_is_the_fourth(rt: HostRuntime) -> Result<(), Fail> {
+    makes_queues(rt.alloc(), 1)
+}
+
+#[test]
+fn allocation_2_is_the_fourth(rt: HostRuntime) -> Result<(), Fail> {
+    makes_queues(rt.alloc(), 2)
+}
+
+#[test]
+fn allocation_3_is_the_fourth(rt: HostRuntime) -> Result<(), Fail> {
+    makes_queues(rt.alloc(), 3)
+}
+
+#[test]
+fn allocation_4_is_the_fourth(rt: HostRuntime) -> Result<(), Fail> {
+    makes_queues(rt.alloc(), 4)
 }

@@ -1,6 +1,6 @@
-//! The unit tests of the crates that a slice is made of, but for its parts (`part_tests` has those), and nothing else. A
-//! crate with tests is proved twice, so those crates have none, and all their tests are here. Each file tests one crate,
-//! which its imports name; `theorems` calls the theorems of three.
+//! The unit tests of the crates that a slice is made of, but for its parts (`part_tests` has those), and nothing else.
+//! A crate with tests is proved twice, so those crates have none, and all their tests are here. Each file tests one
+//! crate, which its imports name; `theorems` calls the theorems of three.
 #![tactic(auto)]
 
 #[cfg(test)]

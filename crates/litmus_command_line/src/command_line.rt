@@ -321,7 +321,7 @@ fn top<'a>(alloc: Global) -> Command<'a>
 {
     Command::new(alloc, "lockup")
         .about("Runs a verified model of lockup-free caches under a directory protocol")
-        .version("0.1.0")
+        .version("0.2.0")
         .subcommand_required(true)
 }
 

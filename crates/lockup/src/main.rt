@@ -13,7 +13,9 @@ use litmus::{
     run_walk, run_waves, write_walk,
 };
 use litmus_text::TextFault;
+use painted::Painted;
 use progress::Shown;
+use std::env::VarError;
 use std::fmt::Display;
 use std::io::{BufWriter, IsTerminal, Read, Write};
 use std::process::ExitCode;
@@ -22,6 +24,7 @@ use std::sync::Wait;
 use std::thread::Threads;
 use std::{env, fs, io};
 
+mod painted;
 mod progress;
 mod prompt;
 
@@ -32,19 +35,33 @@ const REFUSED: u8 = 2;
 const STANDARD_INPUT: &str = "-";
 
 fn main(rt: HostRuntime) -> ExitCode {
+    let is_watched = rt.stderr().is_terminal();
+    let may_color = may_color(&rt);
     let people = People {
-        watch: rt.stderr().is_terminal(),
+        watch: is_watched,
         type_lines: rt.stdin().is_terminal(),
+        color_answers: may_color && rt.stdout().is_terminal(),
+        color_errors: may_color && is_watched,
     };
     ExitCode::from(run(&rt, people))
 }
 
-/// Whether somebody watches, to whom a long run shows how far it is, and whether somebody types, to whom a prompt shows
-/// that it waits.
+/// Returns whether colors are wanted: the environment has no `NO_COLOR`, or an empty one.
+fn may_color<R: Env + AllocGlobal>(rt: &R) -> bool {
+    match env::var(rt, "NO_COLOR") {
+        Ok(value) => value.is_empty(),
+        Err(error) => error == VarError::NotPresent,
+    }
+}
+
+/// Who is at the other end: whether somebody watches, to whom a long run shows how far it is, or types, to whom a prompt
+/// shows that it waits; and whether answers and errors have colors.
 #[derive(Clone, Copy)]
 struct People {
     watch: bool,
     type_lines: bool,
+    color_answers: bool,
+    color_errors: bool,
 }
 
 /// Does what the command line asks for, and answers the exit status.
@@ -54,11 +71,20 @@ where
 {
     let words: Vec<String> = match env::args(rt).and_then(|words| Ok(words.collect(rt.alloc())?)) {
         Ok(words) => words,
-        Err(error) => return report(rt, &error, "cannot read the command line"),
+        Err(error) => return report(rt, people, &error, unread(&error)),
     };
     match read_line(rt.alloc(), &words) {
         Ok(line) => answer(rt, line, people),
-        Err(error) => show(rt, &error),
+        Err(error) => show(rt, people, &error),
+    }
+}
+
+/// Says why the command line can't be read.
+fn unread(error: &io::Error) -> &'static str {
+    if error.kind() == io::ErrorKind::InvalidData {
+        "cannot read the command line: it isn't UTF-8 (FILE may be -, for standard input)"
+    } else {
+        "cannot read the command line"
     }
 }
 
@@ -71,29 +97,29 @@ where
     if let Some(file) = file_of(line) {
         match read(rt, file) {
             Ok(text) => input = text,
-            Err(error) => return report(rt, &error, format_args!("cannot read {file}")),
+            Err(error) => return report(rt, people, &error, format_args!("cannot read {file}")),
         }
     }
     match print_answers(rt, line, &input, people) {
         Ok(status) => status,
         Err(fault) => {
-            complain_of(rt, line, &input, fault);
+            complain_of(rt, people, line, &input, fault);
             fault.status()
         }
     }
 }
 
 /// Complains of a fault, and where answers are explained, of what the line at fault was expected to say.
-fn complain_of<R>(rt: &R, line: CommandLine<'_>, input: &[u8], fault: TextFault)
+fn complain_of<R>(rt: &R, people: People, line: CommandLine<'_>, input: &[u8], fault: TextFault)
 where
     R: AllocGlobal + Eprint,
 {
     if !is_explained(line) {
-        return complain(rt, fault);
+        return complain(rt, people, fault);
     }
     match expected(rt.alloc(), input, fault) {
-        Some(misfit) => complain(rt, format_args!("{fault}   {misfit}")),
-        None => complain(rt, fault),
+        Some(misfit) => complain(rt, people, format_args!("{fault}   {misfit}")),
+        None => complain(rt, people, fault),
     }
 }
 
@@ -141,9 +167,10 @@ fn print_answers<R>(
 where
     R: Files + Input + AllocGlobal + Print + Eprint + Threads + Wait + Sync,
 {
-    let Ok(mut out) = BufWriter::new(rt.alloc(), io::writer(rt)) else {
+    let Ok(out) = BufWriter::new(rt.alloc(), io::writer(rt)) else {
         return Err(TextFault::NoMemory);
     };
+    let mut out = Painted::new(out, people.color_answers && is_explained(line));
     let ran = write_answers(rt, line, input, people, &mut out);
     match out.flush() {
         Ok(()) => ran,
@@ -214,32 +241,36 @@ where
 }
 
 /// Shows what the reader of the command line has to say: help, or why it was refused.
-fn show<R: Print + Eprint>(rt: &R, error: &Error) -> u8 {
+fn show<R: Print + Eprint>(rt: &R, people: People, error: &Error) -> u8 {
     if error.kind() == ErrorKind::OutOfMemory {
-        complain(rt, TextFault::NoMemory);
+        complain(rt, people, TextFault::NoMemory);
         return TextFault::NoMemory.status();
     }
     match error.print(rt) {
         Ok(()) if !error.use_stderr() => 0,
         Ok(()) => REFUSED,
         Err(_) => {
-            complain(rt, TextFault::CannotWrite);
+            complain(rt, people, TextFault::CannotWrite);
             TextFault::CannotWrite.status()
         }
     }
 }
 
 /// Reports that input can't be read: for want of memory, or else as the text says.
-fn report<R: Eprint>(rt: &R, error: &io::Error, text: impl Display + Drop) -> u8 {
+fn report<R: Eprint>(rt: &R, people: People, error: &io::Error, text: impl Display + Drop) -> u8 {
     if error.kind() == io::ErrorKind::OutOfMemory {
-        complain(rt, TextFault::NoMemory);
+        complain(rt, people, TextFault::NoMemory);
         return TextFault::NoMemory.status();
     }
-    complain(rt, text);
+    complain(rt, people, text);
     REFUSED
 }
 
 /// Writes one line to standard error. Where that fails nobody is left to tell.
-fn complain<R: Eprint>(rt: &R, text: impl Display + Drop) {
-    let _ = eprintln!(rt; "lockup: {text}");
+fn complain<R: Eprint>(rt: &R, people: People, text: impl Display + Drop) {
+    let _ = if people.color_errors {
+        eprintln!(rt; "\x1b[1;31mlockup:\x1b[0m {text}")
+    } else {
+        eprintln!(rt; "lockup: {text}")
+    };
 }

@@ -1,5 +1,5 @@
 //! Makes random calls on small machines, and checks every answer, and what can be seen of the slice after it, against
-//! the definitions of `docs/DEFINITIONS.md` and `docs/PROTOCOL.md`. Before that it makes a few runs whose answers were
+//! the definitions of `docs/TRUST.md` and `docs/PROTOCOL.md`. Before that it makes a few runs whose answers were
 //! worked out by hand, and compares each.
 //!
 //! The checker knows the definitions alone: it keeps a memory, the requests that were accepted and the counts by

@@ -3,6 +3,7 @@ ghost use Rattle.receipt_ledger.specs.Answers.{IsUndone, Tells};
 use address_map::{Request, SliceId};
 use slice_core_answer::{Issue, Refused, Stall};
 use slice_core_log::Entry;
+use std::fmt;
 
 /// A request that was accepted through a port.
 #[derive(Clone, Copy, Debug, PartialEq, Eq)]
@@ -54,4 +55,16 @@ impl Answer {
 pub enum LearnError {
     /// The slice's log has no such entry at that number, or the receipt is of another slice.
     Unknown,
+}
+
+impl fmt::Display for LearnError {
+    ghost use Rattle.std.specs.Prelude.{Some, codes};
+
+    ghost output = { λ error. Some (codes "7 Unknown") };
+
+    fn fmt<W: fmt::Write>(&self, f: &mut fmt::Formatter<W>) -> fmt::Result {
+        f.write_str(match self {
+            LearnError::Unknown => "7 Unknown",
+        })
+    }
 }

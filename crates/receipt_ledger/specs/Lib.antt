@@ -4,6 +4,7 @@ pub mod Answers
 pub mod Booked
 pub mod Counted
 pub mod History
+pub mod Kept
 pub mod Port
 pub mod Settled
 pub mod Slice

@@ -19,12 +19,13 @@
 //!
 //! That a state and a book belong together (`IsTied` of `specs/Booked.antt`) is asked of whoever calls, and kept. The
 //! slice is seen there as the small machine of `slice_core_machine`: how many requests wait and were performed, and
-//! which entries of the log are handed out. What deliveries and evictions keep of it stands in `proofs/Tied.antt`. What
-//! the book counts as accepted is what the cores had accepted ([`accepted_are_the_cores_own`]).
+//! which entries of the log are handed out. Deliveries and evictions of the state keep it too
+//! ([`deliveries_keep_the_book`]). What the book counts as accepted is what the cores had accepted
+//! ([`accepted_are_the_cores_own`]).
 #![tactic(auto)]
 
 pub use book::Book;
-pub use laws::accepted_are_the_cores_own;
+pub use laws::{accepted_are_the_cores_own, deliveries_keep_the_book};
 pub use lends::{Alone, Lends};
 pub use port::Port;
 pub use receipt::{Answer, Ask, LearnError, Receipt};

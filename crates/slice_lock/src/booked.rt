@@ -1,7 +1,9 @@
 ghost use Rattle.std.specs.Prelude.{◌≡◌, ◌<◌, ◌↔◌, length, map, IfErr, IfOk, IsOk, IsTrue, OnErr, OnOk};
 ghost use Rattle.receipt_ledger.specs.Answers.{AfterAsking, AfterReply, AsksFor, AsksReply, IsJudged, IsKnown};
 ghost use Rattle.receipt_ledger.specs.Answers.{IsShortOf};
+ghost use Rattle.receipt_ledger.specs.History.{AreHeld};
 ghost use Rattle.receipt_ledger.specs.Port.{with_seen};
+ghost use Rattle.receipt_ledger.specs.Settled.{IsSettled};
 ghost use Rattle.slice_core.specs.Facts.{IsNotBroken, IsNotBrokenNext};
 ghost use Rattle.slice_core_plan.specs.Parts.{AfterDeliverNext, AfterDelivery, AfterEvict};
 ghost use Rattle.slice_core_plan.specs.View.{IsQuiet};
@@ -105,6 +107,10 @@ impl<F: MissFile, N: SliceNames> Booked<F, N> {
         ports: &mut [T],
     ) -> Result<ArrayVec<u64, 8>, Unsettled>
         requires whole { length ports.old ≡ N.setup.cores }
+        ensures history { IsOk result ↔ IsQuiet self.old.state.view
+            × AreHeld (map T.part ports.old) self.old.state.view.log }
+        ensures state { IfOk result (λ values. IsSettled N.setup N.number self.old.state.view
+            (map T.part ports.old) values.items) }
         ensures settled { IfOk result (λ values. AreSettled N.setup N.number (map T.part ports.old) values.items) }
         ensures unsettled { IfErr result (IsUnsettledBy self.old.state.view (map T.part ports.old)) }
         ensures same { self.new ≡ self.old }

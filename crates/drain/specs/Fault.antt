@@ -28,5 +28,5 @@ abbrev pub text_of_error : AuditError → List ℕ
 text_of_error (errors.Missing core) = codes "1 Missing " ++ decimal core.0
 text_of_error (errors.Repeated core) = codes "2 Repeated " ++ decimal core.0
 text_of_error (errors.NotQuiet slice) = codes "3 NotQuiet " ++ decimal slice.0
-text_of_error (errors.Differs slice) = codes "4 Differs " ++ decimal slice.0
-text_of_error errors.Memory = codes "5 Memory"
+text_of_error errors.Memory = codes "4 Memory"
+text_of_error (errors.Differs slice) = codes "5 Differs " ++ decimal slice.0

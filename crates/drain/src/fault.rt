@@ -29,8 +29,8 @@ impl fmt::Display for AuditError {
             AuditError::Missing(core) => write!(f, "1 Missing {}", core.0),
             AuditError::Repeated(core) => write!(f, "2 Repeated {}", core.0),
             AuditError::NotQuiet(slice) => write!(f, "3 NotQuiet {}", slice.0),
-            AuditError::Differs(slice) => write!(f, "4 Differs {}", slice.0),
-            AuditError::Memory => f.write_str("5 Memory"),
+            AuditError::Memory => f.write_str("4 Memory"),
+            AuditError::Differs(slice) => write!(f, "5 Differs {}", slice.0),
         }
     }
 }

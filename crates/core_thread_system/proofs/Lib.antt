@@ -1,5 +1,5 @@
 mod Checked
 mod Dealt
-mod Made
+pub mod Made
 mod Owned
 mod Placed

@@ -4,7 +4,8 @@ use Rattle.std.proofs.Common.{subst, inl, inr, arith, append-nil, append_assoc, 
 use Rattle.std.proofs.Common.{eq-eqb}
 use Rattle.std.proofs.Math.Seq.{take-length}
 use Rattle.std.specs.Prelude.{◌==◌, if◌then◌else◌, IsSomeAnd, MatchOption, OnErr, length, slice_get, slice_index_or}
-use Rattle.std.specs.Prelude.{take}
+use Rattle.std.specs.Prelude.{max, take}
+use Rattle.std.proofs.Math.Nat.{le-max_left}
 use Rattle.std.proofs.lemmas.Bool.{cases_eq, ne_eqb}
 use Rattle.std.proofs.lemmas.List.{map-append, take_more}
 use Rattle.std.proofs.lemmas.Nat.{mod_below}
@@ -31,6 +32,9 @@ use Rattle.slice_core_answer.specs.declared.answer.Refused.{Refused}
 
 pub nothing-accepted : (p : PortView) → HasAccepted p [] p
 nothing-accepted p = record {
+  core = refl;
+  slice = refl;
+  seen = omega arith;
   asks = [];
   asked = sym (append-nil p.asked);
   accesses_are = refl;
@@ -41,6 +45,9 @@ nothing-accepted p = record {
 accepted-then : (a b d : PortView) (first later : List (WordAddr × Op))
     → HasAccepted a first b → HasAccepted b later d → HasAccepted a (first ++ later) d
 accepted-then a b d first later f l = record {
+  core = l.core ∙ f.core;
+  slice = l.slice ∙ f.slice;
+  seen = omega (arith, f.seen, l.seen);
   asks = f.asks ++ l.asks;
   asked = l.asked ∙ ap (λ asked. asked ++ l.asks) f.asked ∙ append_assoc a.asked f.asks l.asks;
   accesses_are =
@@ -51,11 +58,18 @@ accepted-then a b d first later f l = record {
   receipts = l.receipts ∙ ap (λ receipts. receipts ++ l.more) f.receipts ∙ append_assoc a.receipts f.more l.more;
 }
 
+-- Where a receipt was got, no less was seen.
+no-less-seen : (old number new : ℕ) → new ≡ max old number → old ≤ new
+no-less-seen old number new e = subst (λ seen. old ≤ seen) (sym e) (le-max_left old number)
+
 -- A reply accepts nothing.
 reply-accepts-nothing : (old : PortView) (received : Option Receipt) (new : PortView)
     → AfterReply old received new → HasAccepted old [] new
 reply-accepts-nothing old None new after = subst (λ p. HasAccepted old [] p) (sym after) (nothing-accepted old)
 reply-accepts-nothing old (Some r) new after = record {
+  core = ap (λ p. p.core) after.1;
+  slice = ap (λ p. p.slice) after.1;
+  seen = no-less-seen old.seen (r.number + 1) new.seen (ap (λ p. p.seen) after.1);
   asks = [];
   asked = ap (λ p. p.asked) after.1 ∙ sym (append-nil old.asked);
   accesses_are = refl;
@@ -66,6 +80,9 @@ reply-accepts-nothing old (Some r) new after = record {
 -- more room accepts nothing
 room-accepts-nothing : (old new : PortView) → IsWithRoom old new → HasAccepted old [] new
 room-accepts-nothing old new roomier = record {
+  core = ap (λ p. p.core) roomier;
+  slice = ap (λ p. p.slice) roomier;
+  seen = let same = ap (λ p. p.seen) roomier in omega (arith, same);
   asks = [];
   asked = ap (λ p. p.asked) roomier ∙ sym (append-nil old.asked);
   accesses_are = refl;
@@ -82,6 +99,9 @@ requested request answer = []
 request-accepts : (old : PortView) (request : Request) (answer : Result Answer Refused) (new : PortView)
     → AfterRequest old request answer new → HasAccepted old (requested request answer) new
 request-accepts old request (Ok (answers.Done r)) new after = record {
+  core = ap (λ p. p.core) after.1;
+  slice = ap (λ p. p.slice) after.1;
+  seen = no-less-seen old.seen (r.number + 1) new.seen (ap (λ p. p.seen) after.1);
   asks = record { request = request; seen = old.seen } ∷ [];
   asked = ap (λ p. p.asked) after.1;
   accesses_are = refl;
@@ -89,6 +109,9 @@ request-accepts old request (Ok (answers.Done r)) new after = record {
   receipts = ap (λ p. p.receipts) after.1;
 }
 request-accepts old request (Ok answers.Pending) new after = record {
+  core = ap (λ p. p.core) after;
+  slice = ap (λ p. p.slice) after;
+  seen = let same = ap (λ p. p.seen) after in omega (arith, same);
   asks = record { request = request; seen = old.seen } ∷ [];
   asked = ap (λ p. p.asked) after;
   accesses_are = refl;

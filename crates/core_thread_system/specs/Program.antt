@@ -1,6 +1,6 @@
 -- Programs, and what a core has made of one.
-use Rattle.std.specs.Prelude.{◌≡◌, ℕ, ◌+◌, ◌<◌, ◌==◌, if◌then◌else◌, List, [], ◌∷◌, ◌++◌, length, map, take, slice_get}
-use Rattle.std.specs.Prelude.{IsSomeAnd, Some}
+use Rattle.std.specs.Prelude.{◌≡◌, ℕ, ◌+◌, ◌<◌, ◌≤◌, ◌==◌, if◌then◌else◌, List, [], ◌∷◌, ◌++◌, length, map, take}
+use Rattle.std.specs.Prelude.{IsSomeAnd, Some, slice_get}
 use Rattle.address_map.specs.Place.{line_of, slice_of}
 use Rattle.address_map.specs.declared.address.WordAddr.{WordAddr}
 use Rattle.address_map.specs.declared.config.Config.{Config}
@@ -27,9 +27,12 @@ accesses_in c slice (step ∷ program) = accesses_in c slice program
 abbrev pub accesses_of : List Ask → List (WordAddr × Op)
 accesses_of asked = map (λ ask. (ask.request.word, ask.request.op)) asked
 
--- Through the port these accesses were accepted, in this order, and no other. It has the receipts that it had, and may
--- have got more.
+-- Through the port these accesses were accepted, in this order, and no other. It is the same core's, of the same slice.
+-- It has the receipts that it had, and may have got more; and it has seen no less of the log.
 pub record HasAccepted (old : PortView) (accesses : List (WordAddr × Op)) (new : PortView) : Type 0 where
+  pub core : new.core ≡ old.core
+  pub slice : new.slice ≡ old.slice
+  pub seen : old.seen ≤ new.seen
   pub asks : List Ask
   pub asked : new.asked ≡ old.asked ++ asks
   pub accesses_are : accesses_of asks ≡ accesses

@@ -12,10 +12,10 @@ use std::sync::Wait;
 pub fn drain<F: MissFile, M: SystemNames, R: Wait>(
     rt: &R,
     system: &System<F, M>,
-    cores: &mut Vec<Core<'_, F, M>>,
+    cores: &mut [Core<'_, F, M>],
     limit: u64,
 ) -> Drain
-    ensures { HaveMadeNothing M.setup cores.old.items cores.new.items }
+    ensures { HaveMadeNothing M.setup cores.old cores.new }
 {
     let _few = system.config();
     for _round in 0..limit {
@@ -42,9 +42,9 @@ fn is_quiet<F: MissFile, M: SystemNames, R: Wait>(rt: &R, system: &System<F, M>)
 }
 
 // Lets each core take a turn.
-fn turn_each<F: MissFile, M: SystemNames, R: Wait>(rt: &R, cores: &mut Vec<Core<'_, F, M>>)
+fn turn_each<F: MissFile, M: SystemNames, R: Wait>(rt: &R, cores: &mut [Core<'_, F, M>])
     requires { M.setup.slices ≤ 4 }
-    ensures { HaveMadeNothing M.setup cores.old.items cores.new.items }
+    ensures { HaveMadeNothing M.setup cores.old cores.new }
 {
     for place in 0..cores.len() {
         let _received = cores[place].turn(rt);

@@ -4,6 +4,6 @@ use Rattle.drain.proofs.rounds.turn_each.Given as goal
 
 abbrev pub invariant-loop-place : goal.invariant-loop-place
 invariant-loop-place g l = record {
-  long : length l.cores.items ≡ length l.initial.cores.items;
-  received : HaveMadeNothing g.M.SystemNames.setup l.initial.cores.items l.cores.items;
+  long : length l.cores ≡ length l.initial.cores;
+  received : HaveMadeNothing g.M.SystemNames.setup l.initial.cores l.cores;
 }

@@ -3,3 +3,4 @@ mod Dealt
 pub mod Made
 mod Owned
 mod Placed
+mod Ran

@@ -2,12 +2,11 @@
 use Rattle.std.proofs.Common.{◌≡◌, ℕ, ◌+◌, ◌<◌, ◌≤◌, ◌⊎◌, Bool, true, false, List, [], ◌∷◌, ◌++◌, refl, sym, ap, ◌∙◌}
 use Rattle.std.proofs.Common.{subst, inl, inr, arith, append-nil, append_assoc, Option, Some, None, Result, Ok, Err}
 use Rattle.std.proofs.Common.{eq-eqb}
-use Rattle.std.proofs.Math.Seq.{take-length}
 use Rattle.std.specs.Prelude.{◌==◌, if◌then◌else◌, IsSomeAnd, MatchOption, OnErr, length, slice_get, slice_index_or}
-use Rattle.std.specs.Prelude.{max, take}
+use Rattle.std.specs.Prelude.{max}
 use Rattle.std.proofs.Math.Nat.{le-max_left}
 use Rattle.std.proofs.lemmas.Bool.{cases_eq, ne_eqb}
-use Rattle.std.proofs.lemmas.List.{map-append, take_more}
+use Rattle.std.proofs.lemmas.List.{map-append}
 use Rattle.std.proofs.lemmas.Nat.{mod_below}
 use Rattle.std.proofs.lemmas.Option.{slice_get-get_or}
 use Rattle.address_map.specs.Place.{line_of, slice_of}
@@ -228,18 +227,6 @@ made-then c a b d first later f l = record {
       (accesses_in c slice later) (f.each slice within) (l.each slice within));
 }
 
-abbrev pub IsAccess : Step → Type 0
-IsAccess (steps.Access word op) = Unit {0}
-IsAccess step = ⊥
-
--- A step that isn't an access makes none.
-pub made-no-access : (c : Config) (old new : CoreView) (step : Step) → (IsAccess step → ⊥)
-    → HasMade c old [] new → HasMade c old (step ∷ []) new
-made-no-access c old new (steps.Access word op) not made = absurd (not tt)
-made-no-access c old new steps.Settle not made = record { core = made.core; each = made.each }
-made-no-access c old new (steps.Evict line) not made = record { core = made.core; each = made.each }
-made-no-access c old new (steps.Turns count) not made = record { core = made.core; each = made.each }
-
 -- ---- a turn
 
 pub turn-makes-nothing : (c : Config) (old : CoreView) (received : Option Receipt) (new : CoreView) → c.slices ≤ 4
@@ -313,25 +300,6 @@ still-nothing c a b d f l = made-then c a b d [] [] f l
 pub nothing-then : (c : Config) (a b d : CoreView) (program : List Step)
     → HasMade c a [] b → HasMade c b program d → HasMade c a program d
 nothing-then c a b d program f l = made-then c a b d [] program f l
-
-pub then-nothing : (c : Config) (a b d : CoreView) (program : List Step)
-    → HasMade c a program b → HasMade c b [] d → HasMade c a program d
-then-nothing c a b d program f l =
-    subst (λ made. HasMade c a made d) (append-nil program) (made-then c a b d program [] f l)
-
--- One step more of a program was made.
-pub next-made : (c : Config) (a b d : CoreView) (program : List Step) (place : ℕ) (step : Step)
-    → place < length program → HasMade c a (take place program) b
-    → HasMade c b (slice_index_or program place step ∷ []) d → HasMade c a (take (place + 1) program) d
-next-made c a b d program place step within f l =
-    subst (λ made. HasMade c a made d) (sym (take_more program place step within))
-    (made-then c a b d (take place program) (slice_index_or program place step ∷ []) f l)
-
--- All steps of the program were made.
-pub all-made : (c : Config) (a b : CoreView) (program : List Step) (place : ℕ) → place ≡ length program
-    → HasMade c a (take place program) b → HasMade c a program b
-all-made c a b program place end made =
-    subst (λ steps. HasMade c a steps b) (ap (λ n. take n program) end ∙ take-length program) made
 
 -- What holds of the step at a place is so of what is found there.
 pub is-step-at : (P : Step → Type 0) (program : List Step) (place : ℕ) (step : Step) → place < length program

@@ -7,7 +7,7 @@ use Rattle.address_map.specs.declared.address.WordAddr.{WordAddr}
 use Rattle.address_map.specs.declared.config.Config.{Config}
 use Rattle.core_thread_system.specs.Answers.{IsAtItsSlice, IsJudgedThere}
 use Rattle.address_map.specs.declared.request.Request.{Request}
-use Rattle.receipt_ledger.specs.Answers.{IsAtSlice, IsJudged}
+use Rattle.receipt_ledger.specs.Answers.{IsAtSlice}
 use Rattle.receipt_ledger.specs.declared.receipt.Answer.{Answer}
 use Rattle.slice_core_answer.specs.declared.answer.Refused.{Refused}
 use Rattle.slice_core_answer.specs.declared.answer.Refused.TheVariants as refusals

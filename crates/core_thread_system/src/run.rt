@@ -1,8 +1,9 @@
-ghost use Rattle.std.specs.Prelude.{◌≡◌, ◌<◌, [], ◌∷◌, IfErr, IfOk, IfSome, None, OnErr, OnOk, if◌then◌else◌};
+ghost use Rattle.std.specs.Prelude.{◌≡◌, ◌<◌, [], ◌∷◌, IfErr, IfOk, IfSome, None, OnErr, OnOk, Some, if◌then◌else◌};
 ghost use Rattle.address_map.specs.CoreSet.{has};
 ghost use Rattle.core_thread_system.specs.Answers.{IsAtItsSlice, IsJudgedThere};
+ghost use Rattle.core_thread_system.specs.Moves.{HasRun};
 ghost use Rattle.core_thread_system.specs.Program.{EndsSettled, HasMade, IsSettledBy, IsStepOf, done_of};
-ghost use Rattle.core_thread_system.specs.Running.{IsHaltOf, accepted_steps};
+ghost use Rattle.core_thread_system.specs.Running.{IsHaltOf, IsLowestFree, accepted_steps};
 ghost use Rattle.core_thread_system.specs.declared.program.Step.TheVariants as steps;
 ghost use Rattle.core_thread_system.specs.declared.run.Halt.TheVariants as halts;
 
@@ -32,8 +33,8 @@ enum Halt {
 }
 
 impl<'a, F: MissFile, M: SystemNames> Core<'a, F, M> {
-    /// Runs a program. The gate is told of each request. A run that would need more turns than `limit` ends before the
-    /// step that needs one more is done.
+    /// Runs a program, each access under the lowest tag that is free. The gate is told of each request. A run that would
+    /// need more turns than `limit` ends before the step that needs one more is done.
     pub fn run<R: Wait, G: Gate>(
         &mut self,
         rt: &R,
@@ -42,9 +43,11 @@ impl<'a, F: MissFile, M: SystemNames> Core<'a, F, M> {
         limit: u64,
     ) -> Outcome
         ensures made { HasMade M.setup self.old (done_of program.now result) self.new }
+        ensures ran { HasRun M.setup self.old (done_of program.now result) self.new }
         ensures step { IsStepOf M.setup program.now result }
         ensures settled { EndsSettled program.now result self.new }
     {
+        let _few = self.slices();
         let mut pace = Pace {
             gate,
             left: limit,
@@ -67,8 +70,8 @@ impl<'a, F: MissFile, M: SystemNames> Core<'a, F, M> {
         step: Step,
         pace: &mut Pace<'_, G>,
     ) -> Result<(), Halt>
-        ensures made { OnOk result (HasMade M.setup self.old (step ∷ []) self.new) }
-        ensures halted { OnErr result (HasMade M.setup self.old [] self.new) }
+        ensures ran { OnOk result (HasRun M.setup self.old (step ∷ []) self.new) }
+        ensures halted { OnErr result (HasRun M.setup self.old [] self.new) }
         ensures reason { IfErr result (IsHaltOf M.setup step) }
         ensures settled { OnOk result (IsSettledBy self.new step) }
     {
@@ -91,8 +94,8 @@ impl<'a, F: MissFile, M: SystemNames> Core<'a, F, M> {
         op: Op,
         pace: &mut Pace<'_, G>,
     ) -> Result<(), Halt>
-        ensures made { OnOk result (HasMade M.setup self.old (steps.Access word op ∷ []) self.new) }
-        ensures halted { OnErr result (HasMade M.setup self.old [] self.new) }
+        ensures ran { OnOk result (HasRun M.setup self.old (steps.Access word op ∷ []) self.new) }
+        ensures halted { OnErr result (HasRun M.setup self.old [] self.new) }
         ensures reason { IfErr result (IsHaltOf M.setup (steps.Access word op)) }
     {
         for _ in rt.forever() {
@@ -112,9 +115,9 @@ impl<'a, F: MissFile, M: SystemNames> Core<'a, F, M> {
         op: Op,
         pace: &mut Pace<'_, G>,
     ) -> Result<bool, Halt>
-        ensures made { IfOk result (λ accepted. HasMade M.setup self.old
+        ensures ran { IfOk result (λ accepted. HasRun M.setup self.old
             (if accepted then steps.Access word op ∷ [] else []) self.new) }
-        ensures halted { OnErr result (HasMade M.setup self.old [] self.new) }
+        ensures halted { OnErr result (HasRun M.setup self.old [] self.new) }
         ensures reason { IfErr result (IsHaltOf M.setup (steps.Access word op)) }
     {
         let Some(tag) = free_tag(self.tags_in_flight()) else {
@@ -134,12 +137,12 @@ impl<'a, F: MissFile, M: SystemNames> Core<'a, F, M> {
         request: Request,
         pace: &mut Pace<'_, G>,
     ) -> Result<Answer, Refused>
-        ensures made { HasMade M.setup self.old (accepted_steps request result) self.new }
+        requires { IsLowestFree self.old.tags (Some request.tag) }
+        ensures ran { HasRun M.setup self.old (accepted_steps request result) self.new }
         ensures judged { IsJudgedThere M.setup request result }
         ensures slice { IsAtItsSlice result }
     {
         pace.calls = pace.calls.saturating_add(1);
-        let _few = self.slices();
         pace.gate.before(rt, self.core(), pace.calls);
         let answer = self.issue(rt, request);
         pace.gate.after(rt, self.core(), pace.calls);
@@ -148,7 +151,7 @@ impl<'a, F: MissFile, M: SystemNames> Core<'a, F, M> {
 
     // Makes turns until no tag is in flight.
     fn land<R: Wait, G: Gate>(&mut self, rt: &R, pace: &mut Pace<'_, G>) -> Result<(), Halt>
-        ensures made { HasMade M.setup self.old [] self.new }
+        ensures ran { HasRun M.setup self.old [] self.new }
         ensures landed { OnOk result (self.new.tags ≡ 0) }
         ensures reason { IfErr result (λ halt. halt ≡ halts.Limit) }
     {
@@ -168,7 +171,7 @@ impl<'a, F: MissFile, M: SystemNames> Core<'a, F, M> {
         count: u8,
         pace: &mut Pace<'_, G>,
     ) -> Result<(), Halt>
-        ensures made { HasMade M.setup self.old [] self.new }
+        ensures ran { HasRun M.setup self.old [] self.new }
         ensures reason { IfErr result (λ halt. halt ≡ halts.Limit) }
     {
         for _ in 0..count {
@@ -179,14 +182,13 @@ impl<'a, F: MissFile, M: SystemNames> Core<'a, F, M> {
 
     // Makes a turn, if the run has one left.
     fn turn_within<R: Wait, G: Gate>(&mut self, rt: &R, pace: &mut Pace<'_, G>) -> Result<(), Halt>
-        ensures made { HasMade M.setup self.old [] self.new }
+        ensures ran { HasRun M.setup self.old [] self.new }
         ensures reason { IfErr result (λ halt. halt ≡ halts.Limit) }
     {
         if pace.left == 0 {
             return Err(Halt::Limit);
         }
         pace.left -= 1;
-        let _few = self.slices();
         let _ = self.turn(rt);
         Ok(())
     }

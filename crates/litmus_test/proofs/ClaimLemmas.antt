@@ -1,9 +1,12 @@
 -- Claims are read word by word.
 use Rattle.std.proofs.Common.{Bor, map, drop, get_or, ◌+◌, ◌≤◌, add-one, ◌≡◌, ℕ, ◌<◌, List, [], ◌∷◌, ◌++◌, length, refl}
 use Rattle.std.proofs.Common.{sym, ap, subst, ◌∙◌, append_assoc, append-nil, suc, arith}
+use Rattle.std.specs.Prelude.{◌&&◌}
+use Rattle.std.specs.List.{list_all}
 use Rattle.std.proofs.Math.Seq.{drop-cons}
 use Rattle.std.proofs.lemmas.List.{length-map, get_or-map, map-append, drop_all}
 use Rattle.litmus_test.specs.declared.claim.Claim.{Claim}
+use Rattle.litmus_test.specs.Fault.{has_claim_form}
 use Rattle.litmus_test.specs.Claim.{IsClaim, AreClaims, WritesClaims, claimed, claims_of}
 
 -- there is a claim for each word
@@ -140,3 +143,9 @@ claims_read words done h count some few =
       some = omega (arith, long);
       few = omega (arith, long);
     }
+
+-- all words have the form of claims where all their texts do
+pub all_forms : (words : List (Bor (List ℕ)))
+    → list_all (λ (w : Bor (List ℕ)). has_claim_form w.now) words ≡ list_all has_claim_form (map (λ w. w.now) words)
+all_forms [] = refl
+all_forms (word ∷ words) = ap (λ rest. has_claim_form word.now && rest) (all_forms words)

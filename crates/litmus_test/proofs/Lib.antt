@@ -4,3 +4,6 @@ mod ReadingLemmas
 mod SoundLemmas
 mod BodyLemmas
 mod PreambleLemmas
+mod FaultLemmas
+mod CountLemmas
+mod SettingLemmas

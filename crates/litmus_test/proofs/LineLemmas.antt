@@ -1,15 +1,17 @@
 -- The words with which lines begin.
-use Rattle.std.proofs.Common.{◌≡◌, ◌≢◌, ℕ, [], not, List, ◌∷◌, inl, inr, refl, subst}
+use Rattle.std.proofs.Common.{◌≡◌, ◌≢◌, ℕ, [], not, List, ◌∷◌, Some, inl, inr, refl, rules, subst, sym}
 use Rattle.std.specs.Prelude.{codes, IsTrue}
 use Rattle.std.specs.Str.{bytes_eq}
 use Rattle.litmus_text.specs.declared.config_line.ConfigLine.TheVariants as lines
+use Rattle.litmus_text.specs.Table.{value_named}
+use Rattle.litmus_text.proofs.TableLemmas.{named}
 use Rattle.litmus_text.proofs.FieldLemmas.{is_no_field, no_field_name, field_name}
 use Rattle.litmus_test.specs.declared.setting.Setting.{Setting}
 use Rattle.litmus_test.specs.declared.setting.Setting.TheVariants as settings
 use Rattle.litmus_test.specs.declared.keyword.Keyword.{Keyword}
 use Rattle.litmus_test.specs.declared.keyword.Keyword.TheVariants as keywords
 use Rattle.litmus_test.specs.declared.version.Version.{Version}
-use Rattle.litmus_test.specs.Keyword.{name_of_keyword}
+use Rattle.litmus_test.specs.Keyword.{keywords_by_name, name_of_keyword}
 use Rattle.litmus_test.specs.Line.{Line, setting, thread, load, store, add, cas, settle, evict, forbid, IsSettingName}
 use Rattle.litmus_test.specs.Line.{WritesSetting, WritesLine}
 
@@ -51,9 +53,15 @@ keyword_is_other keywords.Settle = record { no_rounds = refl; no_movers = refl; 
 keyword_is_other keywords.Evict = record { no_rounds = refl; no_movers = refl; no_field = refl }
 keyword_is_other keywords.Forbid = record { no_rounds = refl; no_movers = refl; no_field = refl }
 
-other_named : (keyword : Keyword) (word : List ℕ) → IsSettingName word → word ≡ name_of_keyword keyword → ⊥
+pub other_named : (keyword : Keyword) (word : List ℕ) → IsSettingName word → word ≡ name_of_keyword keyword → ⊥
 other_named keyword word named is =
     other_name (name_of_keyword keyword) (keyword_is_other keyword) (subst IsSettingName is named)
+
+-- a word that is found among the keywords is that one
+pub named_so : (word : List ℕ) (keyword : Keyword) → value_named keywords_by_name word ≡ Some keyword
+    → word ≡ name_of_keyword keyword
+named_so word keyword is =
+    named (λ name k. name ≡ name_of_keyword k) keywords_by_name word (Some keyword) (sym is) (search rules)
 
 -- so do those of all other lines
 pub thread_sets_nothing : (words : List (List ℕ)) (s : Setting) → WritesSetting (codes "thread" ∷ words) s → ⊥

@@ -21,6 +21,15 @@ pub checked_ok : (c d : Config) → Ok d ≡ checked_of c → (d ≡ c) × IsChe
 checked_ok c d h =
     let p = checked_from c d (first_fault c) (checked_of c) (sym h) refl in (p.0, record { no_fault = p.1 })
 
+refused_from : (c : Config) (error : ConfigError) (fault : Option ConfigError) (whole : Result Config ConfigError)
+    → whole ≡ Err error → whole ≡ option_map_or refusal fault (Ok c) → fault ≡ Some error
+refused_from c error None whole h k = cc
+refused_from c error (Some f) whole h k = cc
+
+-- .. and one that is refused has this one
+pub checked_err : (c : Config) (error : ConfigError) → Err error ≡ checked_of c → first_fault c ≡ Some error
+checked_err c error h = refused_from c error (first_fault c) (checked_of c) (sym h) refl
+
 pub sound_first : (c : Config) (rounds movers : ℕ) → IsChecked c → 1 ≤ rounds → rounds ≤ 10000 → movers ≤ 4
     → IsSound c rounds movers [] [] []
 sound_first c rounds movers checked some few few_movers = record {

@@ -31,7 +31,7 @@ use Rattle.litmus_test.proofs.BodyLemmas.{length-with_step}
 use Rattle.litmus_test.proofs.LineLemmas.{no_empty_line, only_setting, setting_name}
 
 -- what statements say, and what others say behind them, both say together
-says_append : (version : Version) (start said whole : Said) (done left : List (ℕ × List (List ℕ)))
+pub says_append : (version : Version) (start said whole : Said) (done left : List (ℕ × List (List ℕ)))
     → Says version start done said → Says version said left whole → Says version start (done ++ left) whole
 unfolding Says
 says_append version start said whole [] left first behind = rw first behind

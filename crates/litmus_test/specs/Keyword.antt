@@ -1,5 +1,5 @@
 -- The words with which the lines begin that are no settings.
-use Rattle.std.specs.Prelude.{ℕ, List, codes}
+use Rattle.std.specs.Prelude.{ℕ, List, [], ◌∷◌, codes}
 use Rattle.litmus_test.specs.declared.keyword.Keyword.{Keyword}
 use Rattle.litmus_test.specs.declared.keyword.Keyword.TheVariants as keywords
 
@@ -12,3 +12,9 @@ name_of_keyword keywords.Cas = codes "cas"
 name_of_keyword keywords.Settle = codes "settle"
 name_of_keyword keywords.Evict = codes "evict"
 name_of_keyword keywords.Forbid = codes "forbid"
+
+abbrev pub keywords_by_name : List (List ℕ × Keyword)
+keywords_by_name =
+    (codes "thread", keywords.Thread) ∷ (codes "load", keywords.Load) ∷ (codes "store", keywords.Store)
+    ∷ (codes "add", keywords.Add) ∷ (codes "cas", keywords.Cas) ∷ (codes "settle", keywords.Settle)
+    ∷ (codes "evict", keywords.Evict) ∷ (codes "forbid", keywords.Forbid) ∷ []

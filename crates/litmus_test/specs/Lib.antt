@@ -5,3 +5,4 @@ pub mod Line
 pub mod Claim
 pub mod Text
 pub mod Reading
+pub mod Fault

@@ -6,6 +6,8 @@ ghost use Rattle.litmus_text.specs.Fault.{IsAtLine};
 ghost use Rattle.litmus_test.specs.declared.claim.Claim.{Claim};
 ghost use Rattle.litmus_test.specs.declared.test.NamedReply.{NamedReply};
 ghost use Rattle.litmus_test.specs.declared.test.Thread.{Thread};
+ghost use Rattle.litmus_test.specs.Fault.{HasAccessFault, HasCounterFault, HasEvictFault, HasFault, HasForbidFault};
+ghost use Rattle.litmus_test.specs.Fault.{HasNameFault, HasStepFault, HasThreadFault, IsPlaceFault};
 ghost use Rattle.litmus_test.specs.Reading.{HasNames};
 ghost use Rattle.litmus_test.specs.Claim.{claims_of};
 ghost use Rattle.litmus_test.specs.Line.{line_of, evict, thread, forbid};
@@ -37,6 +39,7 @@ impl<'a> LitmusTest<'a> {
         ensures said { OnOk result (said_by self.new ≡ said_line (said_by self.old) (line_of line.entry)) }
         ensures refused { IfErr result (IsNoMemoryOr (¬ MayFollow (said_by self.old) (line_of line.entry))) }
         ensures line { IfErr result (IsAtLine (λ n. n ≡ number)) }
+        ensures fault { IfErr result (IsPlaceFault (said_by self.old) number (line_of line.entry)) }
     {
         if let Err(fault) = self.judge(&line) {
             return Err(fault.at(number));
@@ -48,10 +51,11 @@ impl<'a> LitmusTest<'a> {
     }
 
     /// Whether the line may come next.
-    #[tactic(auto, unfolding(crate::specs::Text::MayFollow))]
+    #[tactic(auto, unfolding(crate::specs::Text::MayFollow, crate::specs::Fault::HasFault))]
     fn judge(&self, line: &Line<'_>) -> Result<(), LineFault>
         ensures may { OnOk result (MayFollow (said_by self.now) (line_of line.now)) }
         ensures refused { OnErr result (¬ MayFollow (said_by self.now) (line_of line.now)) }
+        ensures fault { IfErr result (HasFault (said_by self.now) (line_of line.now)) }
     {
         match line {
             Line::Thread(core) => self.may_begin(*core),
@@ -78,6 +82,7 @@ impl<'a> LitmusTest<'a> {
     fn may_begin(&self, core: u64) -> Result<(), LineFault>
         ensures may { OnOk result (MayBegin (said_by self.now) core) }
         ensures refused { OnErr result (¬ MayBegin (said_by self.now) core) }
+        ensures fault { IfErr result (HasThreadFault (said_by self.now) core) }
     {
         if !self.forbidden.is_empty() {
             return Err(LineFault::NotACommand);
@@ -99,6 +104,7 @@ impl<'a> LitmusTest<'a> {
     fn may_step(&self) -> Result<(), LineFault>
         ensures may { OnOk result (MayStep (said_by self.now)) }
         ensures refused { OnErr result (¬ MayStep (said_by self.now)) }
+        ensures fault { IfErr result (HasStepFault (said_by self.now)) }
     {
         if self.threads.is_empty() || !self.forbidden.is_empty() {
             return Err(LineFault::NotACommand);
@@ -121,6 +127,7 @@ impl<'a> LitmusTest<'a> {
     fn may_access(&self, word: u64) -> Result<(), LineFault>
         ensures may { OnOk result (MayAccess (said_by self.now) word) }
         ensures refused { OnErr result (¬ MayAccess (said_by self.now) word) }
+        ensures fault { IfErr result (HasAccessFault (said_by self.now) word) }
     {
         self.may_step()?;
         self.has_word(word)
@@ -130,6 +137,7 @@ impl<'a> LitmusTest<'a> {
     fn has_word(&self, word: u64) -> Result<(), LineFault>
         ensures may { OnOk result (word / 8 < (said_by self.now).settings.config.lines) }
         ensures refused { OnErr result (¬ (word / 8 < (said_by self.now).settings.config.lines)) }
+        ensures fault { IfErr result (λ fault. fault ≡ LineFault.OutOfRange) }
     {
         word_in(&self.config, word)?;
         Ok(())
@@ -139,6 +147,7 @@ impl<'a> LitmusTest<'a> {
     fn may_evict(&self, line: u64) -> Result<(), LineFault>
         ensures may { OnOk result (MayFollow (said_by self.now) (evict line)) }
         ensures refused { OnErr result (¬ MayFollow (said_by self.now) (evict line)) }
+        ensures fault { IfErr result (HasEvictFault (said_by self.now) line) }
     {
         self.may_step()?;
         self.has_line(line)
@@ -148,6 +157,7 @@ impl<'a> LitmusTest<'a> {
     fn has_line(&self, line: u64) -> Result<(), LineFault>
         ensures may { OnOk result (line < (said_by self.now).settings.config.lines) }
         ensures refused { OnErr result (¬ (line < (said_by self.now).settings.config.lines)) }
+        ensures fault { IfErr result (λ fault. fault ≡ LineFault.OutOfRange) }
     {
         line_in(&self.config, line)?;
         Ok(())
@@ -156,6 +166,7 @@ impl<'a> LitmusTest<'a> {
     fn may_name(&self, name: &[u8]) -> Result<(), LineFault>
         ensures may { OnOk result (MayName (said_by self.now) name.now) }
         ensures refused { OnErr result (¬ MayName (said_by self.now) name.now) }
+        ensures fault { IfErr result (HasNameFault (said_by self.now) name.now) }
     {
         if self.knows(name) {
             return Err(LineFault::NameUsedTwice);
@@ -184,6 +195,7 @@ impl<'a> LitmusTest<'a> {
     fn may_overwrite(&self, word: u64) -> Result<(), LineFault>
         ensures may { OnOk result (MayOverwrite (said_by self.now) word) }
         ensures refused { OnErr result (¬ MayOverwrite (said_by self.now) word) }
+        ensures fault { IfErr result (HasCounterFault (said_by self.now) word) }
     {
         if is_counter(&self.config, WordAddr(word)) {
             Err(LineFault::StoreToACounter)
@@ -195,6 +207,7 @@ impl<'a> LitmusTest<'a> {
     fn may_forbid(&self, claims: &[Claim<'_>]) -> Result<(), LineFault>
         ensures may { OnOk result (MayForbid (said_by self.now) (claims_of claims.now)) }
         ensures refused { OnErr result (¬ MayForbid (said_by self.now) (claims_of claims.now)) }
+        ensures fault { IfErr result (HasForbidFault (said_by self.now) (claims_of claims.now)) }
     {
         if self.knows_all(claims) {
             Ok(())

@@ -1,6 +1,8 @@
 ghost use Rattle.std.specs.Prelude.{◌≡◌, ◌+◌, ℕ, ◌≤◌, List, ◌∷◌, [], map, take, drop, IfOk, IfErr, IfSome, IfNone};
-ghost use Rattle.std.specs.Prelude.{IsTrue};
-ghost use Rattle.std.specs.List.{position};
+ghost use Rattle.std.specs.Prelude.{IsTrue, is_some};
+ghost use Rattle.std.specs.Borrow.{Bor};
+ghost use Rattle.std.specs.List.{list_all, position};
+ghost use Rattle.litmus_test.specs.Fault.{HasClaimsForm, IsFormFault, has_claim_form};
 ghost use Rattle.litmus_test.specs.Name.{is_name as is_name_lem};
 ghost use Rattle.litmus_test.specs.Claim.{IsClaim, WritesClaims, is_equals_sign, claims_of};
 
@@ -29,6 +31,7 @@ impl<'a> Sides<'a> {
             × (take at word.now ≡ sides.name.now) × (drop (at + 1) word.now ≡ sides.number.now))) }
         ensures form { IfSome result (λ sides. IsTrue (is_name_lem sides.name.now)) }
         ensures none { IfNone result ((name : List ℕ) (value : ℕ) → IsClaim word.now name value → ⊥) }
+        ensures is_form { is_some result ≡ has_claim_form word.now }
     {
         let at = equals_sign_at(word)?;
         let name = &word[..at];
@@ -75,6 +78,7 @@ pub(super) fn parse_claims<'a>(
         → WritesClaims (map (λ w. w.now) words.now) other → other ≡ claims_of claims.items) }
     ensures refused { IfErr result
         (λ fault. (other : List (List ℕ × ℕ)) → WritesClaims (map (λ w. w.now) words.now) other → ⊥) }
+    ensures form { IfErr result (IsFormFault (HasClaimsForm (map (λ w. w.now) words.now))) }
 {
     if words.is_empty() || words.len() > MOST_PAIRS {
         return Err(LineFault::NotACommand);
@@ -90,10 +94,24 @@ pub(super) fn parse_claims<'a>(
 }
 
 // The forms of all words are judged before any number.
-fn fault_of(words: &[&[u8]]) -> LineFault {
-    if words.iter().all(|word| Sides::of(word).is_some()) {
+fn fault_of(words: &[&[u8]]) -> LineFault
+    ensures { IsFormFault (IsTrue (list_all has_claim_form (map (λ w. w.now) words.now))) result }
+{
+    if have_form(words) {
         LineFault::BadNumber
     } else {
         LineFault::NotACommand
     }
+}
+
+fn have_form(words: &[&[u8]]) -> bool
+    ensures { result ≡ list_all (λ (w : Bor (List ℕ)). has_claim_form w.now) words.now }
+{
+    words.iter().all(|word| has_form(word))
+}
+
+fn has_form(word: &[u8]) -> bool
+    ensures { result ≡ has_claim_form word.now }
+{
+    Sides::of(word).is_some()
 }

@@ -1,6 +1,7 @@
 ghost use Rattle.std.specs.Prelude.{◌≡◌, ◌≢◌, IfSome, IfNone};
 ghost use Rattle.litmus_test.specs.declared.keyword.Keyword.{Keyword};
-ghost use Rattle.litmus_test.specs.Keyword.{name_of_keyword};
+ghost use Rattle.litmus_test.specs.Keyword.{keywords_by_name, name_of_keyword};
+ghost use Rattle.litmus_text.specs.Table.{value_named};
 
 use litmus_text::value_named;
 
@@ -32,6 +33,7 @@ static KEYWORDS: [(&[u8], Keyword); 8] = [
 impl Keyword {
     /// The keyword with this name.
     pub(super) fn named(name: &[u8]) -> Option<Keyword>
+        ensures value { result ≡ value_named keywords_by_name name.now }
         ensures found { IfSome result (λ keyword. name.now ≡ name_of_keyword keyword) }
         ensures none { IfNone result ((keyword : Keyword) → name.now ≢ name_of_keyword keyword) }
     {

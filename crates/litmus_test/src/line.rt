@@ -1,10 +1,11 @@
-ghost use Rattle.std.specs.Prelude.{◌≡◌, ℕ, List, [], ◌∷◌, IfErr, IfOk, IsTrue, codes, map};
+ghost use Rattle.std.specs.Prelude.{◌≡◌, ℕ, List, [], ◌∷◌, IfErr, IfOk, IsTrue, codes, get_or, length, map};
 ghost use Rattle.litmus_text.specs.Form.{Writes, key, num};
 ghost use Rattle.std.specs.Result.{OkIff};
 ghost use Rattle.std.specs.Str.Parse.{digits_value};
 ghost use Rattle.litmus_text.specs.Number.{IsNumber};
 ghost use Rattle.litmus_test.specs.declared.version.Version.{Version};
 ghost use Rattle.litmus_test.specs.Name.{is_name as is_name_lem};
+ghost use Rattle.litmus_test.specs.Fault.{HasClaimsForm, HasForm, IsFormFault, IsLineFault};
 ghost use Rattle.litmus_test.specs.Keyword.{name_of_keyword};
 ghost use Rattle.litmus_test.specs.Line.{BeginsAsSetting};
 ghost use Rattle.litmus_test.specs.Reading.{ReadsAs};
@@ -40,7 +41,8 @@ impl<'a> Line<'a> {
     /// as numbers.
     pub(super) fn parse(version: Version, words: &[&'a [u8]]) -> Result<Self, LineFault>
         requires { ¬ BeginsAsSetting (map (λ w. w.now) words.now) }
-        ensures { ReadsAs version (map (λ w. w.now) words.now) result }
+        ensures reads { ReadsAs version (map (λ w. w.now) words.now) result }
+        ensures form { IfErr result (IsLineFault version (map (λ w. w.now) words.now)) }
     {
         let Some((name, rest)) = words.split_first() else {
             return Err(LineFault::NotACommand);
@@ -58,7 +60,8 @@ fn parse_called<'a>(
     keyword: Keyword,
     words: &[&'a [u8]],
 ) -> Result<Line<'a>, LineFault>
-    ensures { ReadsAs version (name_of_keyword keyword ∷ map (λ w. w.now) words.now) result }
+    ensures reads { ReadsAs version (name_of_keyword keyword ∷ map (λ w. w.now) words.now) result }
+    ensures form { IfErr result (IsFormFault (HasForm version keyword (map (λ w. w.now) words.now))) }
 {
     match keyword {
         Keyword::Thread => parse_thread(words),
@@ -74,14 +77,17 @@ fn parse_called<'a>(
 
 #[tactic(auto, using(crate::proofs::LineLemmas::thread_sets_nothing))]
 fn parse_thread<'a>(words: &[&'a [u8]]) -> Result<Line<'a>, LineFault>
-    ensures { (version : Version) → ReadsAs version (codes "thread" ∷ map (λ w. w.now) words.now) result }
+    ensures reads { (version : Version) → ReadsAs version (codes "thread" ∷ map (λ w. w.now) words.now) result }
+    ensures form { IfErr result (IsFormFault (length (map (λ w. w.now) words.now) ≡ 1)) }
 {
     Ok(Line::Thread(one_number(words)?))
 }
 
 #[tactic(auto, using(crate::proofs::LineLemmas::load_sets_nothing))]
 fn parse_load<'a>(words: &[&'a [u8]]) -> Result<Line<'a>, LineFault>
-    ensures { (version : Version) → ReadsAs version (codes "load" ∷ map (λ w. w.now) words.now) result }
+    ensures reads { (version : Version) → ReadsAs version (codes "load" ∷ map (λ w. w.now) words.now) result }
+    ensures form { IfErr result (IsFormFault ((length (map (λ w. w.now) words.now) ≡ 2)
+        × IsTrue (is_name_lem (get_or (map (λ w. w.now) words.now) 1 [])))) }
 {
     let (word, name) = number_and_name(words)?;
     Ok(Line::Load(word, name))
@@ -89,7 +95,8 @@ fn parse_load<'a>(words: &[&'a [u8]]) -> Result<Line<'a>, LineFault>
 
 #[tactic(auto, using(crate::proofs::LineLemmas::store_sets_nothing))]
 fn parse_store<'a>(words: &[&'a [u8]]) -> Result<Line<'a>, LineFault>
-    ensures { (version : Version) → ReadsAs version (codes "store" ∷ map (λ w. w.now) words.now) result }
+    ensures reads { (version : Version) → ReadsAs version (codes "store" ∷ map (λ w. w.now) words.now) result }
+    ensures form { IfErr result (IsFormFault (length (map (λ w. w.now) words.now) ≡ 2)) }
 {
     let (word, value) = two_numbers(words)?;
     Ok(Line::Store(word, value))
@@ -97,7 +104,9 @@ fn parse_store<'a>(words: &[&'a [u8]]) -> Result<Line<'a>, LineFault>
 
 #[tactic(auto, using(crate::proofs::LineLemmas::add_sets_nothing))]
 fn parse_add<'a>(words: &[&'a [u8]]) -> Result<Line<'a>, LineFault>
-    ensures { (version : Version) → ReadsAs version (codes "add" ∷ map (λ w. w.now) words.now) result }
+    ensures reads { (version : Version) → ReadsAs version (codes "add" ∷ map (λ w. w.now) words.now) result }
+    ensures form { IfErr result (IsFormFault ((length (map (λ w. w.now) words.now) ≡ 3)
+        × IsTrue (is_name_lem (get_or (map (λ w. w.now) words.now) 2 [])))) }
 {
     let (word, delta, name) = two_numbers_and_name(words)?;
     Ok(Line::Add(word, delta, name))
@@ -105,7 +114,8 @@ fn parse_add<'a>(words: &[&'a [u8]]) -> Result<Line<'a>, LineFault>
 
 #[tactic(auto, using(crate::proofs::LineLemmas::cas_sets_nothing))]
 fn parse_cas<'a>(version: Version, words: &[&'a [u8]]) -> Result<Line<'a>, LineFault>
-    ensures { ReadsAs version (codes "cas" ∷ map (λ w. w.now) words.now) result }
+    ensures reads { ReadsAs version (codes "cas" ∷ map (λ w. w.now) words.now) result }
+    ensures form { IfErr result (IsFormFault (HasForm version Keyword.Cas (map (λ w. w.now) words.now))) }
 {
     if !version.has_cas() {
         return Err(LineFault::NotACommand);
@@ -121,7 +131,8 @@ fn parse_cas<'a>(version: Version, words: &[&'a [u8]]) -> Result<Line<'a>, LineF
 
 #[tactic(auto, using(crate::proofs::LineLemmas::settle_sets_nothing))]
 fn parse_settle<'a>(words: &[&'a [u8]]) -> Result<Line<'a>, LineFault>
-    ensures { (version : Version) → ReadsAs version (codes "settle" ∷ map (λ w. w.now) words.now) result }
+    ensures reads { (version : Version) → ReadsAs version (codes "settle" ∷ map (λ w. w.now) words.now) result }
+    ensures form { IfErr result (IsFormFault (length (map (λ w. w.now) words.now) ≡ 0)) }
 {
     no_numbers(words)?;
     Ok(Line::Settle)
@@ -129,14 +140,16 @@ fn parse_settle<'a>(words: &[&'a [u8]]) -> Result<Line<'a>, LineFault>
 
 #[tactic(auto, using(crate::proofs::LineLemmas::evict_sets_nothing))]
 fn parse_evict<'a>(words: &[&'a [u8]]) -> Result<Line<'a>, LineFault>
-    ensures { (version : Version) → ReadsAs version (codes "evict" ∷ map (λ w. w.now) words.now) result }
+    ensures reads { (version : Version) → ReadsAs version (codes "evict" ∷ map (λ w. w.now) words.now) result }
+    ensures form { IfErr result (IsFormFault (length (map (λ w. w.now) words.now) ≡ 1)) }
 {
     Ok(Line::Evict(one_number(words)?))
 }
 
 #[tactic(auto, using(crate::proofs::LineLemmas::forbid_sets_nothing))]
 fn parse_forbid<'a>(words: &[&'a [u8]]) -> Result<Line<'a>, LineFault>
-    ensures { (version : Version) → ReadsAs version (codes "forbid" ∷ map (λ w. w.now) words.now) result }
+    ensures reads { (version : Version) → ReadsAs version (codes "forbid" ∷ map (λ w. w.now) words.now) result }
+    ensures form { IfErr result (IsFormFault (HasClaimsForm (map (λ w. w.now) words.now))) }
 {
     Ok(Line::Forbid(parse_claims(words)?))
 }
@@ -149,6 +162,8 @@ fn number_and_name<'a>(words: &[&'a [u8]]) -> Result<(u64, &'a [u8]), LineFault>
         → Writes (map (λ w. w.now) words.now) (num n ∷ key name ∷ []) → (n ≡ p.0) × (name ≡ p.1.now)) }
     ensures refused { IfErr result (λ fault. (n : ℕ) (name : List ℕ)
         → Writes (map (λ w. w.now) words.now) (num n ∷ key name ∷ []) → IsTrue (is_name_lem name) → ⊥) }
+    ensures form { IfErr result (IsFormFault ((length (map (λ w. w.now) words.now) ≡ 2)
+        × IsTrue (is_name_lem (get_or (map (λ w. w.now) words.now) 1 [])))) }
 {
     let [number, name] = words else {
         return Err(LineFault::NotACommand);
@@ -166,6 +181,8 @@ fn two_numbers_and_name<'a>(words: &[&'a [u8]]) -> Result<(u64, u64, &'a [u8]), 
         → (n ≡ p.0) × (m ≡ p.1) × (name ≡ p.2.now)) }
     ensures refused { IfErr result (λ fault. (n m : ℕ) (name : List ℕ)
         → Writes (map (λ w. w.now) words.now) (num n ∷ num m ∷ key name ∷ []) → IsTrue (is_name_lem name) → ⊥) }
+    ensures form { IfErr result (IsFormFault ((length (map (λ w. w.now) words.now) ≡ 3)
+        × IsTrue (is_name_lem (get_or (map (λ w. w.now) words.now) 2 [])))) }
 {
     let [first, second, name] = words else {
         return Err(LineFault::NotACommand);
@@ -184,6 +201,8 @@ fn three_numbers_and_name<'a>(words: &[&'a [u8]]) -> Result<(u64, u64, u64, &'a 
         → (n ≡ p.0) × (m ≡ p.1) × (k ≡ p.2) × (name ≡ p.3.now)) }
     ensures refused { IfErr result (λ fault. (n m k : ℕ) (name : List ℕ)
         → Writes (map (λ w. w.now) words.now) (num n ∷ num m ∷ num k ∷ key name ∷ []) → IsTrue (is_name_lem name) → ⊥) }
+    ensures form { IfErr result (IsFormFault ((length (map (λ w. w.now) words.now) ≡ 4)
+        × IsTrue (is_name_lem (get_or (map (λ w. w.now) words.now) 3 [])))) }
 {
     let [first, second, third, name] = words else {
         return Err(LineFault::NotACommand);
@@ -202,6 +221,7 @@ fn name_of(word: &[u8]) -> Result<&[u8], LineFault>
     ensures same { IfOk result (λ name. name.now ≡ word.now) }
     ensures form { IfOk result (λ name. IsTrue (is_name_lem word.now)) }
     ensures err { IfErr result (λ fault. ¬ IsTrue (is_name_lem word.now)) }
+    ensures fault { IfErr result (λ fault. fault ≡ LineFault.NotACommand) }
 {
     if is_name(word) {
         Ok(word)

@@ -22,6 +22,8 @@ impl Preamble {
     ghost use Rattle.litmus_text.specs.Fault.{IsAtLine};
     ghost use Rattle.litmus_test.specs.declared.setting.Setting.{Setting};
     ghost use Rattle.litmus_test.specs.Reading.{IsNoMemoryOr, said_first};
+    ghost use Rattle.litmus_test.specs.Fault.{IsPlaceFault, IsSettingsFault};
+    ghost use Rattle.litmus_test.specs.Line.{setting as setting_line};
     ghost use Rattle.litmus_test.specs.Sound.{IsChecked};
     ghost use Rattle.litmus_test.specs.Text.{MaySet, said_by, said_nothing, said_setting};
 
@@ -37,12 +39,13 @@ impl Preamble {
     }
 
     /// Takes one more setting, from the line with this number.
-    #[tactic(auto, unfolding(crate::specs::Reading::said_first))]
+    #[tactic(auto, unfolding(crate::specs::Reading::said_first, crate::specs::Fault::HasFault))]
     pub(super) fn take(&mut self, number: usize, setting: Setting) -> Result<(), TextFault>
         ensures may { OnOk result (MaySet (said_first self.old) setting) }
         ensures said { OnOk result (said_first self.new ≡ said_setting (said_first self.old) setting) }
         ensures refused { IfErr result (IsNoMemoryOr (¬ MaySet (said_first self.old) setting)) }
         ensures line { IfErr result (IsAtLine (λ n. n ≡ number)) }
+        ensures fault { IfErr result (IsPlaceFault (said_first self.old) number (setting_line setting)) }
     {
         match setting {
             Setting::Config(line) => self.configure(line),
@@ -76,6 +79,7 @@ impl Preamble {
         ensures checked { OnOk result (IsChecked self.settings.config) }
         ensures refused { IfErr result (IsNoMemoryOr (¬ IsChecked self.settings.config)) }
         ensures line { IfErr result (IsAtLine (λ number. ⊥)) }
+        ensures fault { IfErr result (IsSettingsFault self.settings.config) }
     {
         let settings = self.settings;
         let misses = settings.misses;

@@ -1,8 +1,9 @@
-ghost use Rattle.std.specs.Prelude.{◌≡◌, ℕ, List, ◌∷◌, IfErr, IfOk, IsTrue, ◌↔◌, OnOk, map};
+ghost use Rattle.std.specs.Prelude.{◌≡◌, ◌≢◌, ℕ, List, [], ◌∷◌, IfErr, IfOk, IsTrue, ◌↔◌, OnOk, map};
 ghost use Rattle.std.specs.Str.Lines.{lines};
 ghost use Rattle.litmus_text.specs.Fault.{IsAtLine, IsFirstFault};
 ghost use Rattle.litmus_text.specs.Statement.{statements_from};
 ghost use Rattle.litmus_test.specs.declared.version.Version.{Version};
+ghost use Rattle.litmus_test.specs.Fault.{IsAstray, IsFault, IsFaultAmong, IsNextFault, IsWrong, keyword_of};
 ghost use Rattle.litmus_test.specs.Line.{BeginsAsSetting};
 ghost use Rattle.litmus_test.specs.Reading.{IsBegun, IsNoMemoryOr, IsNoNextLine, IsReading, SayNothing, SayOnly};
 ghost use Rattle.litmus_test.specs.Reading.{said_first};
@@ -25,6 +26,7 @@ impl<'a> LitmusTest<'a> {
         ensures only { IfOk result (λ test. (other : Said) → IsLitmusTest input.now other → other ≡ said_by test) }
         ensures refused { IfErr result (IsNoMemoryOr ((whole : Said) → ¬ IsLitmusTest input.now whole)) }
         ensures line { IfErr result (IsAtLine (IsFaultAt (statements_from 0 (lines input.now)))) }
+        ensures fault { IfErr result (IsFault (statements_from 0 (lines input.now))) }
     {
         let mut statements = Statements::of(input);
         let Some(first) = statements.next() else {
@@ -53,6 +55,8 @@ impl<'a> LitmusTest<'a> {
         ensures refused { IfErr result (IsNoMemoryOr
             (IsNoNextLine version (said_by self.old) (map (λ w. w.now) statement.now.words.items))) }
         ensures line { IfErr result (IsAtLine (λ number. number ≡ statement.now.number)) }
+        ensures fault { IfErr result (IsNextFault version (said_by self.old) statement.now.number
+            (map (λ w. w.now) statement.now.words.items)) }
     {
         let words = statement.words.as_slice();
         match Line::parse(version, words) {
@@ -61,21 +65,50 @@ impl<'a> LitmusTest<'a> {
         }
     }
 
-    // The fault of a line that isn't well formed. In the wrong place it would be none either if it were.
-    fn fault_of(&self, words: &[&[u8]], fault: LineFault) -> LineFault {
-        let Some(name) = words.first() else {
-            return fault;
-        };
-        let is_misplaced = match Keyword::named(name) {
-            Some(Keyword::Thread) => !self.forbidden.is_empty(),
-            Some(Keyword::Forbid) | None => false,
-            Some(_) => self.threads.is_empty() || !self.forbidden.is_empty(),
-        };
-        if is_misplaced {
+    // The fault of a line that isn't well formed. In another's part it would be none either if it were.
+    fn fault_of(&self, words: &[&[u8]], fault: LineFault) -> LineFault
+        ensures astray { IsAstray (said_by self.now) (keyword_of (map (λ w. w.now) words.now))
+            → result ≡ LineFault.NotACommand }
+        ensures placed { ¬ IsAstray (said_by self.now) (keyword_of (map (λ w. w.now) words.now)) → result ≡ fault }
+    {
+        if self.is_astray(keyword_of(words)) {
             LineFault::NotACommand
         } else {
             fault
         }
+    }
+
+    // Whether a line that begins with this keyword, or with none, stands in another's part.
+    fn is_astray(&self, keyword: Option<Keyword>) -> bool
+        ensures { IsTrue result ↔ IsAstray (said_by self.now) keyword }
+    {
+        match keyword {
+            Some(Keyword::Thread) => self.has_outcome(),
+            Some(Keyword::Forbid) => false,
+            Some(
+                Keyword::Load
+                | Keyword::Store
+                | Keyword::Add
+                | Keyword::Cas
+                | Keyword::Settle
+                | Keyword::Evict,
+            ) => self.has_no_thread() || self.has_outcome(),
+            None => self.has_no_thread() && self.has_outcome(),
+        }
+    }
+
+    #[tactic(auto, unfolding(crate::specs::Text::said_by))]
+    fn has_no_thread(&self) -> bool
+        ensures { IsTrue result ↔ ((said_by self.now).threads ≡ []) }
+    {
+        self.threads.is_empty()
+    }
+
+    #[tactic(auto, unfolding(crate::specs::Text::said_by))]
+    fn has_outcome(&self) -> bool
+        ensures { IsTrue result ↔ ((said_by self.now).forbidden ≢ []) }
+    {
+        !self.forbidden.is_empty()
     }
 
     /// Reads a line behind the first that is no setting.
@@ -95,6 +128,8 @@ impl<'a> LitmusTest<'a> {
         ensures refused { IfErr result (IsNoMemoryOr
             (IsNoNextLine version (said_by self.old) (map (λ w. w.now) statement.now.words.items))) }
         ensures line { IfErr result (IsAtLine (λ number. number ≡ statement.now.number)) }
+        ensures fault { IfErr result (IsNextFault version (said_by self.old) statement.now.number
+            (map (λ w. w.now) statement.now.words.items)) }
     {
         let words = statement.words.as_slice();
         if begins_as_setting(words) {
@@ -104,14 +139,25 @@ impl<'a> LitmusTest<'a> {
     }
 
     // The fault of a setting behind the first thread, or behind a `forbid` where no thread came.
-    fn late_fault(&self, words: &[&[u8]]) -> LineFault {
-        if self.threads.is_empty() {
-            return LineFault::NotACommand;
-        }
+    fn late_fault(&self, words: &[&[u8]]) -> LineFault
+        requires begun { IsBegun (said_by self.now) }
+        requires begins { BeginsAsSetting (map (λ w. w.now) words.now) }
+        ensures { (version : Version) → IsWrong version (said_by self.now) (map (λ w. w.now) words.now) result }
+    {
         match Setting::parse(words) {
+            Ok(_) if self.has_no_thread() => LineFault::NotACommand,
             Ok(_) => LineFault::LateConfiguration,
-            Err(fault) => fault,
+            Err(fault) => self.fault_of(words, fault),
         }
+    }
+}
+
+fn keyword_of(words: &[&[u8]]) -> Option<Keyword>
+    ensures { result ≡ keyword_of (map (λ w. w.now) words.now) }
+{
+    match words.split_first() {
+        Some((name, _)) => Keyword::named(name),
+        None => None,
     }
 }
 
@@ -136,6 +182,8 @@ impl Preamble {
         ensures refused { (version : Version) → IfErr result (IsNoMemoryOr
             (IsNoNextLine version (said_first self.old) (map (λ w. w.now) statement.now.words.items))) }
         ensures line { IfErr result (IsAtLine (λ number. number ≡ statement.now.number)) }
+        ensures fault { (version : Version) → IfErr result (IsNextFault version (said_first self.old) statement.now.number
+            (map (λ w. w.now) statement.now.words.items)) }
     {
         match Setting::parse(statement.words.as_slice()) {
             Ok(setting) => self.take(statement.number, setting),
@@ -153,6 +201,7 @@ fn read_statements<'a>(
     ensures says { IfOk result (λ test. SayOnly version said_nothing statements.entry (said_by test)) }
     ensures refused { IfErr result (IsNoMemoryOr (SayNothing version said_nothing statements.entry)) }
     ensures line { IfErr result (IsAtLine (IsFirstFault (AreLines version said_nothing) statements.entry)) }
+    ensures fault { IfErr result (IsFaultAmong version said_nothing statements.entry) }
 {
     let mut preamble = Preamble::new(alloc);
     while let Some(statement) = statements.next() {
@@ -180,6 +229,8 @@ fn read_threads<'a>(
         ((first.entry.number, map (λ w. w.now) first.entry.words.items) ∷ statements.entry))) }
     ensures line { IfErr result (IsAtLine (IsFirstFault (AreLines version (said_by test.entry))
         ((first.entry.number, map (λ w. w.now) first.entry.words.items) ∷ statements.entry))) }
+    ensures fault { IfErr result (IsFaultAmong version (said_by test.entry)
+        ((first.entry.number, map (λ w. w.now) first.entry.words.items) ∷ statements.entry)) }
 {
     test.read_line(alloc, version, &first)?;
     for statement in statements {

@@ -1,4 +1,7 @@
-ghost use Rattle.std.specs.Prelude.{◌≡◌, ◌↔◌, IfOk, IfErr, IsTrue, map};
+ghost use Rattle.std.specs.Prelude.{◌≡◌, ◌↔◌, ◌∷◌, IfOk, IfErr, IsTrue, codes, map};
+ghost use Rattle.litmus_text.specs.Form.{IsFormFaultOf};
+ghost use Rattle.litmus_test.specs.declared.setting.Setting.{Setting};
+ghost use Rattle.litmus_test.specs.Line.{IsSettingName, WritesSetting, parts_of_setting};
 
 use litmus_text::{ConfigLine, LineFault, one_number};
 
@@ -13,9 +16,6 @@ pub(super) enum Setting {
 }
 
 impl Setting {
-    ghost use Rattle.litmus_test.specs.declared.setting.Setting.{Setting};
-    ghost use Rattle.litmus_test.specs.Line.{IsSettingName, WritesSetting};
-
     /// Whether a line that begins with this word is a setting, or would be if it were well formed.
     pub(super) fn is_named(name: &[u8]) -> bool
         ensures { IsTrue result ↔ IsSettingName name.now }
@@ -31,14 +31,41 @@ impl Setting {
             → WritesSetting (map (λ w. w.now) words.now) other → other ≡ setting) }
         ensures refused { IfErr result
             (λ fault. (other : Setting) → WritesSetting (map (λ w. w.now) words.now) other → ⊥) }
+        ensures fault { IfErr result (IsFormFaultOf parts_of_setting (map (λ w. w.now) words.now)) }
     {
         let Some((name, rest)) = words.split_first() else {
             return Err(LineFault::NotACommand);
         };
-        match *name {
-            b"rounds" => Ok(Setting::Rounds(one_number(rest)?)),
-            b"movers" => Ok(Setting::Movers(one_number(rest)?)),
-            _ => Ok(Setting::Config(ConfigLine::parse(words)?)),
+        if *name == b"rounds".as_slice() {
+            return parse_rounds(rest);
         }
+        if *name == b"movers".as_slice() {
+            return parse_movers(rest);
+        }
+        Ok(Setting::Config(ConfigLine::parse(words)?))
     }
+}
+
+#[tactic(auto, unfolding(crate::specs::Line::WritesSetting))]
+fn parse_rounds(words: &[&[u8]]) -> Result<Setting, LineFault>
+    ensures written { IfOk result (λ setting. WritesSetting (codes "rounds" ∷ map (λ w. w.now) words.now) setting) }
+    ensures only { IfOk result (λ setting. (other : Setting)
+        → WritesSetting (codes "rounds" ∷ map (λ w. w.now) words.now) other → other ≡ setting) }
+    ensures refused { IfErr result
+        (λ fault. (other : Setting) → WritesSetting (codes "rounds" ∷ map (λ w. w.now) words.now) other → ⊥) }
+    ensures fault { IfErr result (IsFormFaultOf parts_of_setting (codes "rounds" ∷ map (λ w. w.now) words.now)) }
+{
+    Ok(Setting::Rounds(one_number(words)?))
+}
+
+#[tactic(auto, unfolding(crate::specs::Line::WritesSetting))]
+fn parse_movers(words: &[&[u8]]) -> Result<Setting, LineFault>
+    ensures written { IfOk result (λ setting. WritesSetting (codes "movers" ∷ map (λ w. w.now) words.now) setting) }
+    ensures only { IfOk result (λ setting. (other : Setting)
+        → WritesSetting (codes "movers" ∷ map (λ w. w.now) words.now) other → other ≡ setting) }
+    ensures refused { IfErr result
+        (λ fault. (other : Setting) → WritesSetting (codes "movers" ∷ map (λ w. w.now) words.now) other → ⊥) }
+    ensures fault { IfErr result (IsFormFaultOf parts_of_setting (codes "movers" ∷ map (λ w. w.now) words.now)) }
+{
+    Ok(Setting::Movers(one_number(words)?))
 }

@@ -21,6 +21,7 @@ impl Version {
             → Writes (map (λ w. w.now) words.now) (parts_of_first other) → other ≡ version) }
         ensures refused { IfErr result
             (λ fault. (other : Version) → Writes (map (λ w. w.now) words.now) (parts_of_first other) → ⊥) }
+        ensures fault { IfErr result (λ fault. fault ≡ LineFault.NotALitmusText) }
     {
         let Some((name, rest)) = words.split_first() else {
             return Err(LineFault::NotALitmusText);
@@ -47,6 +48,7 @@ fn version_of(words: &[&[u8]]) -> Result<Version, LineFault>
         → Writes (map (λ w. w.now) words.now) (key (number_of other) ∷ []) → other ≡ version) }
     ensures refused { IfErr result
         (λ fault. (other : Version) → Writes (map (λ w. w.now) words.now) (key (number_of other) ∷ []) → ⊥) }
+    ensures fault { IfErr result (λ fault. fault ≡ LineFault.NotALitmusText) }
 {
     let [number] = words else {
         return Err(LineFault::NotALitmusText);
@@ -58,6 +60,7 @@ fn numbered(number: &[u8]) -> Result<Version, LineFault>
     ensures written { IfOk result (λ version. number.now ≡ number_of version) }
     ensures only { IfOk result (λ version. (other : Version) → number.now ≡ number_of other → other ≡ version) }
     ensures refused { IfErr result (λ fault. (other : Version) → number.now ≡ number_of other → ⊥) }
+    ensures fault { IfErr result (λ fault. fault ≡ LineFault.NotALitmusText) }
 {
     match number {
         b"1" => Ok(Version::One),

@@ -1,10 +1,11 @@
-use Rattle.std.proofs.Common.{map, rules}
+use Rattle.std.proofs.Common.{inl, map, rules}
 use Rattle.std.proofs.lemmas.Result.{err_from_is_err_and, IfErr-weaker, IfOk-weaker}
 use Rattle.litmus_test.specs.Line.{BeginsAsSetting}
 use Rattle.litmus_test.specs.Text.{said_nothing}
 use Rattle.litmus_test.proofs.ReadingLemmas.{IsNoMemoryOr-weaker, at_fault_behind, at_first_fault, at_no_line}
 use Rattle.litmus_test.proofs.ReadingLemmas.{nothing_behind, reading_all, reading_none, say_behind, says_nothing}
 use Rattle.litmus_test.proofs.ReadingLemmas.{unchecked_all, unchecked_first}
+use Rattle.litmus_test.proofs.FaultLemmas.{config_among, left_among, next_among, settings_refused}
 use Rattle.litmus_test.proofs.reader.read_statements.Goals as goal
 
 pub loop-statement-init : goal.loop-statement-init
@@ -83,3 +84,35 @@ returns-in_err-read_setting-clause-line c =
 pub returns-clause-line : goal.returns-clause-line
 returns-clause-line c =
     IfErr-weaker c.test-2.result _ _ (λ fault. at_no_line _ fault) c.test-2.ensures.line
+
+pub returns-in_err-test-clause-fault : goal.returns-in_err-test-clause-fault
+returns-in_err-test-clause-fault c =
+    let p = err_from_is_err_and c.from_residual.result c.from_residual.ensures.1 in
+    let begins : ¬ BeginsAsSetting (map (λ w. w.now) c.in-Some.statement.words.items) = search rules in
+    rw (p.1, p.2)
+    (config_among c.args.version _ _ _ _ _ (rw c.in-Some.ensures.steps at c.loop-statement.invariant) begins
+    (settings_refused c.loop-statement.preamble _ c.in_err-test.ensures.fault))
+
+pub returns-then-not-begins_as_setting-clause-fault : goal.returns-then-not-begins_as_setting-clause-fault
+returns-then-not-begins_as_setting-clause-fault c =
+    IfErr-weaker c.read_threads.result _ _
+    (λ fault wrong. left_among c.args.version _ _ _ _ fault
+    (rw c.in-Some.ensures.steps at c.loop-statement.invariant) (rw c.in_ok-test.ensures.said at wrong))
+    c.read_threads.ensures.fault
+
+pub returns-in_err-read_setting-clause-fault : goal.returns-in_err-read_setting-clause-fault
+returns-in_err-read_setting-clause-fault c =
+    let p = err_from_is_err_and c.from_residual-in_err-read_setting.result
+    c.from_residual-in_err-read_setting.ensures.1 in
+    let begins : BeginsAsSetting (map (λ w. w.now) c.in-Some.statement.words.items) = search rules in
+    rw (p.1, p.2)
+    (next_among c.args.version _ _ _ _ _ _ _ (rw c.in-Some.ensures.steps at c.loop-statement.invariant) (inl begins)
+    (c.in_err-read_setting.ensures.fault c.args.version))
+
+pub returns-clause-fault : goal.returns-clause-fault
+returns-clause-fault c =
+    IfErr-weaker c.test-2.result _ _
+    (λ fault wrong. config_among c.args.version _ _ _ _ fault
+    (rw c.in_default.ensures.steps.0 at c.loop-statement.invariant) tt
+    (settings_refused c.loop-statement.preamble fault wrong))
+    c.test-2.ensures.fault

@@ -2,6 +2,8 @@ use Rattle.std.proofs.lemmas.Result.{err_from_is_err_and}
 use Rattle.litmus_test.specs.Text.{said_by}
 use Rattle.litmus_test.proofs.ReadingLemmas.{IsNoMemoryOr-weaker, at_first_fault, reading_all, reading_none}
 use Rattle.litmus_test.proofs.ReadingLemmas.{says_nothing}
+use Rattle.std.proofs.Common.{inr}
+use Rattle.litmus_test.proofs.FaultLemmas.{checked_test, next_among}
 use Rattle.litmus_test.proofs.reader.read_threads.Goals as goal
 
 pub returns-in_err-read_line-clause-refused : goal.returns-in_err-read_line-clause-refused
@@ -52,3 +54,17 @@ returns-in_err-read_next-clause-line c =
     (at_first_fault c.args.version _ _ _ _ _ _ _
     (rw c.in-Some.ensures.steps at c.loop-statement.invariant.reading)
     c.in_err-read_next.ensures.refused c.in_err-read_next.ensures.line)
+
+pub returns-in_err-read_line-clause-fault : goal.returns-in_err-read_line-clause-fault
+returns-in_err-read_line-clause-fault c =
+    let p = err_from_is_err_and c.from_residual.result c.from_residual.ensures.1 in
+    rw (p.1, p.2)
+    (next_among c.args.version _ _ _ _ _ _ _ (reading_none c.args.version (said_by c.args.test) _)
+    (inr (checked_test c.args.test)) c.in_err-read_line.ensures.fault)
+
+pub returns-in_err-read_next-clause-fault : goal.returns-in_err-read_next-clause-fault
+returns-in_err-read_next-clause-fault c =
+    let p = err_from_is_err_and c.from_residual-in_err-read_next.result c.from_residual-in_err-read_next.ensures.1 in
+    rw (p.1, p.2)
+    (next_among c.args.version _ _ _ _ _ _ _ (rw c.in-Some.ensures.steps at c.loop-statement.invariant.reading)
+    (inr (checked_test c.loop-statement.test)) c.in_err-read_next.ensures.fault)

@@ -2,7 +2,7 @@ use Rattle.std.proofs.Common.{refl, subst, sym}
 use Rattle.litmus_test.specs.Sound.{IsChecked}
 use Rattle.litmus_test.specs.Text.{said_by}
 use Rattle.litmus_test.specs.Reading.{said_first}
-use Rattle.litmus_test.proofs.PreambleLemmas.{checked_ok, sound_first}
+use Rattle.litmus_test.proofs.PreambleLemmas.{checked_err, checked_ok, sound_first}
 use Rattle.litmus_test.proofs.preamble.Preamble.test.Goals as goal
 
 pub invariant_of-result : goal.invariant_of-result
@@ -23,3 +23,6 @@ returns-clause-said c =
 pub returns-clause-checked : goal.returns-clause-checked
 returns-clause-checked c =
     let ok = checked_ok c.args.self.settings.config c.in-Ok.config c.in-Ok.ensures.value in ok.1
+
+pub returns-in-Err-clause-fault : goal.returns-in-Err-clause-fault
+returns-in-Err-clause-fault c = checked_err c.args.self.settings.config _ c.in-Err.ensures.value

@@ -1,4 +1,4 @@
-use Rattle.std.proofs.Common.{arith, sym, ◌∙◌}
+use Rattle.std.proofs.Common.{arith, inr, refl, sym, ◌∙◌}
 use Rattle.std.proofs.lemmas.Bool.{false≢true}
 use Rattle.std.proofs.lemmas.Grind.{common_steps}
 use Rattle.litmus_test.specs.Text.{said_by}
@@ -26,3 +26,11 @@ returns-clause-may c =
       in_range = c.in_ok-core.ensures.ok.0;
       first = same ∙ sym (rw core at none);
     }
+
+pub returns-then-has_thread-clause-fault : goal.returns-then-has_thread-clause-fault
+unfolding said_by
+returns-then-has_thread-clause-fault c =
+    let same = has_core-programs c.args.core c.args.self.now.threads.items in
+    let found = c.if-has_thread.ensures in
+    let core = c.in_ok-core.ensures.ok.1 in
+    inr (grind (arith, common_steps), inr (same ∙ sym (rw core at found)), refl)

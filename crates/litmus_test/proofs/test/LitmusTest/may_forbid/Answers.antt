@@ -1,4 +1,4 @@
-use Rattle.std.proofs.Common.{sym, ◌∙◌}
+use Rattle.std.proofs.Common.{refl, sym, ◌∙◌}
 use Rattle.std.proofs.lemmas.Bool.{false≢true}
 use Rattle.litmus_test.specs.Text.{said_by}
 use Rattle.litmus_test.proofs.BodyLemmas.{all_known}
@@ -16,3 +16,8 @@ returns-else-knows_all-clause-refused c = λ may.
     let known = may.known in
     let same = all_known c.args.self.now.names.items c.args.claims.now in
     false≢true (c.if-knows_all.ensures ∙ sym same ∙ known)
+
+pub returns-else-knows_all-clause-fault : goal.returns-else-knows_all-clause-fault
+unfolding said_by
+returns-else-knows_all-clause-fault c =
+    let same = all_known c.args.self.now.names.items c.args.claims.now in (same ∙ sym c.if-knows_all.ensures, refl)

@@ -1,6 +1,7 @@
 use Rattle.std.proofs.Common.{map, sym, ◌∙◌}
 use Rattle.std.proofs.lemmas.Result.{IfErr-weaker, IfOk-weaker}
 use Rattle.litmus_test.proofs.ReadingLemmas.{IsNoMemoryOr-weaker, at_fault, is_test, other_test}
+use Rattle.litmus_test.proofs.FaultLemmas.{among_text}
 use Rattle.litmus_test.proofs.test.LitmusTest.read.Goals as goal
 
 pub returns-in-Ok-clause-written : goal.returns-in-Ok-clause-written
@@ -38,3 +39,11 @@ returns-in-Ok-clause-line c =
     (sym c.of-statements.ensures ∙ c.in-Some.ensures.steps)
     (rw c.as_slice.ensures.value at c.in-Ok.ensures.written))
     c.read_statements.ensures.line
+
+pub returns-in-Ok-clause-fault : goal.returns-in-Ok-clause-fault
+returns-in-Ok-clause-fault c =
+    IfErr-weaker c.read_statements.result _ _
+    (λ fault. among_text _ _ c.in-Some.first.number (map (λ w. w.now) c.in-Some.first.words.items) c.in-Ok.version fault
+    (sym c.of-statements.ensures ∙ c.in-Some.ensures.steps)
+    (rw c.as_slice.ensures.value at c.in-Ok.ensures.written))
+    c.read_statements.ensures.fault

@@ -1,5 +1,5 @@
 -- Why the chart of a script that was read ends early.
-use Rattle.std.proofs.Common.{◌≡◌, ◌⊎◌, ℕ, List, ap, inl, inr}
+use Rattle.std.proofs.Common.{◌⊎◌, ℕ, List, inl, inr}
 use Rattle.litmus_chart.specs.Fault.{IsChartFault, ChartStopsAt}
 use Rattle.litmus_script.specs.Machine.{bound_of}
 use Rattle.litmus_script.specs.Play.{IsOfRun}
@@ -14,11 +14,6 @@ fault_of_script all script fault read (inr stopped) = inr (inr (
   script.config,
   bound_of script.misses script.config,
   commands_of script.commands,
-  record {
-    settings = read.settings;
-    configured = read.configured;
-    checked = read.checked;
-    bounded = ap (λ misses. bound_of misses script.config) read.misses;
-  },
+  read,
   stopped,
 ))

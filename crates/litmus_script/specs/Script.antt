@@ -88,12 +88,20 @@ left_of (Some first) rest = said_by first ∷ rest
 abbrev pub commands_of : Commands → List (ℕ × List (List ℕ))
 commands_of commands = left_of commands.first commands.rest
 
--- the statements are this script
-pub record IsScript (all : List (ℕ × List (List ℕ))) (script : Script) : Type 0 where
+-- the machine that the first statements configure, up to the first that begins as no line that does, and the commands
+-- from there on
+pub record IsSetUp (all : List (ℕ × List (List ℕ))) (config : Config) (bound : Bound)
+    (commands : List (ℕ × List (List ℕ))) : Type 0 where
   pub settings : Settings
-  pub configured : IsConfigured all settings (commands_of script.commands)
-  pub checked : checked_of settings.config ≡ Ok script.config
-  pub misses : script.misses ≡ settings.misses
+  pub configured : IsConfigured all settings commands
+  pub others : BeginOtherwise commands
+  pub checked : checked_of settings.config ≡ Ok config
+  pub bounded : bound ≡ bound_of settings.misses config
+
+-- the statements are this script
+abbrev pub IsScript : List (ℕ × List (List ℕ)) → Script → Type 0
+IsScript all script =
+    IsSetUp all script.config (bound_of script.misses script.config) (commands_of script.commands)
 
 -- .. or there is none where nothing is said
 abbrev pub IsReadAs : List (ℕ × List (List ℕ)) → Option Script → Type 0
@@ -142,14 +150,6 @@ abbrev pub IsPlayedUpTo : Playing → Config → Bound → List (ℕ × List (Li
     → Option (List ℕ) → TextFault → Type 0
 IsPlayedUpTo plays config bound commands before after fault =
     ((fault ≡ faults.NoMemory) × (after ≡ before)) ⊎ IsStoppedOn plays config bound commands before after fault
-
--- the machine that the first statements configure, and the commands behind them
-pub record IsSetUp (all : List (ℕ × List (List ℕ))) (config : Config) (bound : Bound)
-    (commands : List (ℕ × List (List ℕ))) : Type 0 where
-  pub settings : Settings
-  pub configured : IsConfigured all settings commands
-  pub checked : checked_of settings.config ≡ Ok config
-  pub bounded : bound ≡ bound_of settings.misses config
 
 -- A script is run: what its commands print is written, in order. One that says nothing writes nothing.
 abbrev pub IsRun : Playing → List (ℕ × List (List ℕ)) → Option (List ℕ) → Option (List ℕ) → Type 0

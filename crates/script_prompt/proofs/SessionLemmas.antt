@@ -9,7 +9,6 @@ use Rattle.litmus_script.specs.declared.script.Script.{Script}
 use Rattle.litmus_text.specs.Settings.{default_settings}
 use Rattle.litmus_text.specs.Statement.{kept_words, statements_from}
 use Rattle.litmus_text.specs.declared.command.Command.{Command}
-use Rattle.litmus_text.specs.declared.settings.MissKind.{MissKind}
 use Rattle.slice_core_plan.specs.Parts.{PartsView}
 use Rattle.script_prompt.specs.Session.{IsAfter, IsContinued, IsPlayedTo, PlaysLine, PlaysLines}
 
@@ -21,12 +20,7 @@ pub after_read : (text : List ℕ) (script : Script) (slices : List PartsView) (
 after_read text script slices before after is played = record {
   bound = bound_of script.misses script.config;
   commands = commands_of script.commands;
-  set_up = record {
-    settings = is.settings;
-    configured = is.configured;
-    checked = is.checked;
-    bounded = subst (λ (k : MissKind). bound_of script.misses script.config ≡ bound_of k script.config) is.misses refl;
-  };
+  set_up = is;
   played = played;
 }
 
@@ -40,6 +34,7 @@ after_nothing text config slices before none checked fresh = record {
   set_up = record {
     settings = default_settings;
     configured = record { done = []; split = none; configured = refl };
+    others = tt;
     checked = checked;
     bounded = refl;
   };

@@ -2,9 +2,10 @@
 
 use litmus::{Saver, run_prompt};
 use litmus_text::TextFault;
+use std::fs::File;
+use std::io;
 use std::io::{BufReader, Write};
 use std::rt::Files;
-use std::{fs, io};
 
 /// What is shown where somebody types, while a line is waited for.
 const MARK: &str = "> ";
@@ -17,7 +18,8 @@ struct Disk<'a, R: Files> {
 
 impl<R: Files> Saver for Disk<'_, R> {
     fn save(&mut self, name: &str, text: &[u8]) -> io::Result<()> {
-        fs::write(self.rt, name, text)
+        let mut file = File::create_new(self.rt, name)?;
+        file.write_all(text)
     }
 }
 

@@ -1,5 +1,6 @@
 -- What a session does with a line of a script, and what the machine of a script is.
-use Rattle.std.specs.Prelude.{◌≡◌, ℕ, List, [], ◌∷◌, ◌++◌, codes, true, Option}
+use Rattle.std.specs.Prelude.{◌≡◌, ◌⊎◌, ℕ, ◌-◌, ◌<◌, ◌≤◌, ◌==◌, Bool, List, [], ◌∷◌, ◌++◌, codes, length, slice_get, take}
+use Rattle.std.specs.Prelude.{Option, None, Some, if◌then◌else◌, true, unwrap_or}
 use Rattle.std.specs.Str.Lines.{lines}
 use Rattle.address_map.specs.declared.config.Config.{Config}
 use Rattle.litmus_script.specs.Machine.{IsNewMachine}
@@ -68,3 +69,47 @@ slices_of (sessions.Inverted session) = session.player.machine.slices.items
 abbrev pub script_of : AnySession → List ℕ
 script_of (sessions.Explicit session) = session.script.items
 script_of (sessions.Inverted session) = session.script.items
+
+-- ---- a script that is played anew
+
+-- the session has this script, and its machine is the one that it leaves
+pub record IsOpened (script : List ℕ) (session : AnySession) : Type 0 where
+  pub kept : script_of session ≡ script
+  pub before : Option (List ℕ)
+  pub after : Option (List ℕ)
+  pub machine : IsAfter script (config_of session) (slices_of session) before after
+
+-- whether a text with this last byte has the end of its last line, and the text with that end
+abbrev pub is_end : Option ℕ → Bool
+is_end None = true
+is_end (Some byte) = byte == 10
+
+abbrev pub with_end : List ℕ → List ℕ
+with_end text = if is_end (slice_get text (length text - 1)) then text else text ++ codes "\n"
+
+-- from this byte on, or where none is named from somewhere in its last line, the script has nothing
+abbrev pub HasNothing : Option ℕ → List ℕ → Type 0
+HasNothing None script = script ≡ []
+HasNothing (Some part) script = length script ≤ part
+
+-- The script is played anew without what stands from this byte on, or where none is named without some end. Where
+-- nothing stands there nothing has changed.
+abbrev pub IsTakenBack : Option ℕ → AnySession → AnySession → Type 0
+IsTakenBack part old new =
+    (HasNothing part (script_of old) × (new ≡ old))
+    ⊎ ((first : ℕ) × (unwrap_or part first ≡ first) × (first < length (script_of old))
+    × IsOpened (with_end (take first (script_of old))) new)
+
+-- the last of the parts is left out, if there is one
+abbrev pub IsWithoutLast : List ℕ → Option ℕ → List ℕ → Type 0
+IsWithoutLast parts None left = parts ≡ []
+IsWithoutLast parts (Some part) left = parts ≡ left ++ part ∷ []
+
+-- .. and the script is played anew without it
+abbrev pub IsUndone : List ℕ → List ℕ → AnySession → AnySession → Type 0
+IsUndone parts left old new =
+    (part : Option ℕ) × IsWithoutLast parts part left × IsTakenBack part old new
+
+-- nothing has changed, or the script with one line more is played anew
+abbrev pub IsMadeWith : List ℕ → AnySession → AnySession → Type 0
+IsMadeWith line old new = (new ≡ old) ⊎ IsOpened (with_end (with_end (script_of old) ++ line)) new

@@ -9,7 +9,7 @@ Lines that configure the machine come before them.
   cas C W E N         .. writes N where the value is E
   next, next S        makes the next delivery of the first slice that has one, or of slice S
   undo                takes the last line back, with all that it did
-  save FILE           writes the script so far
+  save FILE           writes the script so far into a new file
   help                prints this
   quit                ends, as the end of the input does
 Replies are handed out as they come.

@@ -1,5 +1,6 @@
 //! The prompt.
-ghost use Rattle.std.specs.Prelude.{◌≡◌, IfOk};
+ghost use Rattle.std.specs.Prelude.{◌≡◌, ◌⊎◌, ◌<◌, ◌-◌, [], IfOk, OnOk, length, slice_get};
+ghost use Rattle.script_prompt.specs.Session.{IsMadeWith, IsTakenBack, IsUndone, is_end, with_end};
 
 use super::asked::Asked;
 use super::help::HELP;
@@ -42,17 +43,29 @@ pub fn run_prompt<R: BufRead, W: Write, S: Saver>(
 }
 
 /// The text, whose last line has its end.
-fn with_end(alloc: Global, text: &[u8]) -> Result<Vec<u8>, TextFault> {
+fn with_end(alloc: Global, text: &[u8]) -> Result<Vec<u8>, TextFault>
+    ensures { IfOk result (λ whole. whole.items ≡ with_end text.now) }
+{
     let mut whole = Vec::new(alloc);
     let Ok(()) = whole.extend_from_slice(text) else {
         return Err(TextFault::NoMemory);
     };
-    if matches!(text.last(), Some(byte) if *byte != b'\n') {
+    if !is_ended(text) {
         let Ok(()) = whole.push(b'\n') else {
             return Err(TextFault::NoMemory);
         };
     }
     Ok(whole)
+}
+
+/// Whether the last line of a text has its end.
+fn is_ended(text: &[u8]) -> bool
+    ensures { result ≡ is_end (slice_get text.now (length text.now - 1)) }
+{
+    match text.last() {
+        Some(byte) => *byte == b'\n',
+        None => true,
+    }
 }
 
 /// Writes the mark, and all that waits to be written.
@@ -131,7 +144,9 @@ impl Prompt {
     }
 
     /// Has the machine that the script so far configures with one more line. That is played anew, where it can be.
-    fn configure<W: Write>(&mut self, line: &[u8], out: &mut W) -> Result<(), TextFault> {
+    fn configure<W: Write>(&mut self, line: &[u8], out: &mut W) -> Result<(), TextFault>
+        ensures { OnOk result (IsMadeWith line.now self.old.session self.new.session) }
+    {
         let mut script = with_end(self.alloc, self.session.script())?;
         let Ok(()) = script.extend_from_slice(line) else {
             return Err(TextFault::NoMemory);
@@ -147,9 +162,20 @@ impl Prompt {
     }
 
     /// Takes back what the last line brought. The script without that is played anew.
-    fn undo<W: Write>(&mut self, out: &mut W) -> Result<(), TextFault> {
+    fn undo<W: Write>(&mut self, out: &mut W) -> Result<(), TextFault>
+        ensures { OnOk result (IsUndone self.old.parts.items self.new.parts.items self.old.session self.new.session) }
+    {
+        let part = self.parts.pop();
+        self.take_back(part, out)
+    }
+
+    /// Takes back the script from this byte on, or else its last line.
+    fn take_back<W: Write>(&mut self, part: Option<usize>, out: &mut W) -> Result<(), TextFault>
+        ensures parts { self.new.parts ≡ self.old.parts }
+        ensures taken { OnOk result (IsTakenBack part self.old.session self.new.session) }
+    {
         let script = self.session.script();
-        let first = match self.parts.pop() {
+        let first = match part {
             Some(part) => part,
             None => last_line(script),
         };
@@ -181,6 +207,9 @@ impl Prompt {
         };
         match saver.save(name, self.session.script()) {
             Ok(()) => written(writeln!(answers, "saved {name}")),
+            Err(error) if error.kind() == io::ErrorKind::AlreadyExists => {
+                written(writeln!(answers, "fault: {name} is there already"))
+            }
             Err(error) if error.kind() == io::ErrorKind::OutOfMemory => Err(TextFault::NoMemory),
             Err(_) => written(writeln!(answers, "fault: cannot write {name}")),
         }
@@ -188,7 +217,9 @@ impl Prompt {
 }
 
 /// Where the last line of a text begins.
-fn last_line(text: &[u8]) -> usize {
+fn last_line(text: &[u8]) -> usize
+    ensures { (result < length text.now) ⊎ (text.now ≡ []) }
+{
     let Some((_, before)) = text.split_last() else {
         return 0;
     };

@@ -127,6 +127,10 @@ function messagesAt(number) {
     return steps[number - 1].waiting.split('\n').filter(it => it !== '' && it !== 'none').map(messageOf);
 }
 
+// copies without a block, and those that aren't told yet how many acknowledgements they await
+const EMPTY = ['IS_D', 'IM_AD', 'II_A'];
+const UNTOLD = ['IM_AD', 'SM_AD'];
+
 // What `show` prints at a step: what each core has of a line with the accesses that wait there, under the line's and the
 // core's number; and the replies and the order of lines.
 function heldAt(number) {
@@ -135,11 +139,13 @@ function heldAt(number) {
     const texts = number === 0 ? [] : steps[number - 1].shown.split('\n');
     let last = [];
     for (const text of texts) {
-        const copy = /^core (\d+) line (\d+) \S+(?: (acks \d+ of \d+))? (block .*)$/.exec(text);
+        const copy = /^core (\d+) line (\d+) (\S+)(?: (acks \d+ of) (\d+))? (block .*)$/.exec(text);
         const target = /^core \d+ (tag \d+ awaits .*) seq \d+ since \d+$/.exec(text);
         if (copy) {
-            last = [copy[4], copy[3]].filter(it => it);
-            held.set(copy[2] + ' ' + copy[1], last);
+            const [, core, line, state, acks, all, block] = copy;
+            last = EMPTY.includes(state) ? [] : [block];
+            if (acks) last.push(acks + ' ' + (UNTOLD.includes(state) ? '?' : all));
+            held.set(line + ' ' + core, last);
         } else if (target) {
             last.push(target[1]);
         } else if (/^core \d+ tag \d+ reply |^slice \d+ ring ./.test(text)) {

@@ -36,8 +36,8 @@ pub fn run_litmus<R: Threads + Wait + Sync, W: Write, P: Progress>(
     ended
 }
 
-/// Runs a litmus test on random schedules, so many rounds or as many as it says, and prints their table with the least
-/// seed of each outcome, or which round was stuck. Answers the exit status.
+/// Runs a litmus test on random schedules, so many rounds or as many as it says, and prints their table with the
+/// seed of the first round that had each outcome, or which round was stuck. Answers the exit status.
 pub fn run_walk<W: Write, P: Progress>(
     alloc: Global,
     input: &[u8],
@@ -49,7 +49,8 @@ pub fn run_walk<W: Write, P: Progress>(
     ensures done { IfOk result (λ status. IsOfTest input.now (λ test.
         PrintsRounds test (bound_of test.misses test.config) (unwrap_or rounds test.rounds) seed status
         (W.contents out.old) (W.contents out.new)
-        ⊎ PrintsStuck (unwrap_or rounds test.rounds) status (W.contents out.old) (W.contents out.new))) }
+        ⊎ PrintsStuck test (bound_of test.misses test.config) (unwrap_or rounds test.rounds) seed status
+        (W.contents out.old) (W.contents out.new))) }
     ensures fault { IfErr result (IsTestNotRun input.now) }
 {
     let test = LitmusTest::read(alloc, input)?;
@@ -67,7 +68,8 @@ pub fn write_walk<W: Write>(
     out: &mut W,
 ) -> Result<u8, TextFault>
     ensures done { IfOk result (λ status. IsOfTest input.now (λ test.
-        PrintsWalk test (bound_of test.misses test.config) status (W.contents out.old) (W.contents out.new))) }
+        PrintsWalk test (bound_of test.misses test.config) seed status
+        (W.contents out.old) (W.contents out.new))) }
     ensures fault { IfErr result (IsTestNotRun input.now) }
 {
     let test = LitmusTest::read(alloc, input)?;

@@ -1,7 +1,15 @@
--- Lists that match go on matching where each has one more.
-use Rattle.std.proofs.Common.{ℕ, ◌+◌, ◌<◌, List, [], ◌∷◌, ◌++◌, length, get_or, take, append_assoc, ap, sym, subst, ◌∙◌}
+-- Lists that match go on matching where each has one more, and what doesn't match.
+use Rattle.std.proofs.Common.{ℕ, zero, suc, ◌+◌, ◌/◌, ◌%◌, ◌<◌, Option, Some, None, arith, List, [], ◌∷◌, ◌++◌, length}
+use Rattle.std.proofs.Common.{get_or, take, append_assoc, ap, sym, subst, ◌∙◌}
 use Rattle.std.proofs.lemmas.List.{append-nil, take_more}
-use Rattle.litmus_rounds.specs.Outcome.{AddsMatch, Match}
+use Rattle.std.proofs.lemmas.List.Elements.{All-contains}
+use Rattle.address_map.specs.declared.address.WordAddr.{WordAddr}
+use Rattle.address_map.specs.declared.config.Config.{Config}
+use Rattle.litmus_outcomes.specs.Sought.{IsOf}
+use Rattle.litmus_outcomes.specs.declared.sought.Sought.{Sought}
+use Rattle.litmus_script.specs.Machine.{IsShownWord, log_at}
+use Rattle.slice_core_plan.specs.Parts.{PartsView}
+use Rattle.litmus_rounds.specs.Outcome.{AddsMatch, HasReply, HasWord, LacksReply, Match}
 
 pub match_push : {X : Type 0} (P : X → ℕ → Type 0) (xs : List X) (values : List ℕ) (x : X) (value : ℕ)
     → Match P xs values
@@ -39,3 +47,25 @@ pub adds_next : {X : Type 0} (P : X → ℕ → Type 0) (xs : List X) (i : ℕ) 
 adds_next P xs i d old new value adds one within =
     subst (λ taken. AddsMatch P taken old (new ++ value ∷ [])) (sym (take_more xs i d within))
     (adds_push P (take i xs) old new (get_or xs i d) value adds one)
+
+-- where lists match, each item has a value
+pub match_at : {X : Type 0} (P : X → ℕ → Type 0) (xs : List X) (values : List ℕ) (i : ℕ) (d : X) → i < length xs
+    → Match P xs values → (value : ℕ) × P (get_or xs i d) value
+match_at P [] values i d below all = absurd (omega (arith, below))
+match_at P (x ∷ xs) [] i d below all = absurd all
+match_at P (x ∷ xs) (value ∷ values) zero d below all = (value, all.0)
+match_at P (x ∷ xs) (value ∷ values) (suc i) d below all =
+    match_at P xs values i d (omega (arith, below)) all.1
+
+-- a request that no entry is of has no reply
+pub no_reply : (slices : List PartsView) (sought : Option Sought) (value : ℕ) → LacksReply slices sought
+    → HasReply slices sought value → ⊥
+no_reply slices None value lacks has = has
+no_reply slices (Some sought) value lacks has =
+    All-contains (λ entry. IsOf sought sought.slice entry → ⊥) (log_at slices sought.slice.0) has.entry lacks has.there
+    has.same
+
+-- a word whose slice isn't quiet has no value
+pub no_word : (config : Config) (slices : List PartsView) (word : WordAddr) (value : ℕ)
+    → IsShownWord slices (word.0 / 8 % config.slices) word None → HasWord config slices word value → ⊥
+no_word config slices word value none has = none.holds (has none.state none.found).0

@@ -1,5 +1,6 @@
 -- A round's outcome is read from the logs of its slices, and from what their words are once they are quiet.
-use Rattle.std.specs.Prelude.{◌≡◌, ℕ, ◌/◌, ◌%◌, List, [], ◌∷◌, ◌++◌, length, map, Contains, Option, Some, None}
+use Rattle.std.specs.Prelude.{◌≡◌, ℕ, ◌/◌, ◌%◌, List, [], ◌∷◌, ◌++◌, length, map, All}
+use Rattle.std.specs.Prelude.{Contains, Option, Some, None}
 use Rattle.std.specs.List.{range_with_len}
 use Rattle.address_map.specs.declared.address.WordAddr.{WordAddr}
 use Rattle.address_map.specs.declared.config.Config.{Config}
@@ -21,6 +22,12 @@ pub record IsReplyOf (slices : List PartsView) (sought : Sought) (value : ℕ) :
 abbrev pub HasReply : List PartsView → Option Sought → ℕ → Type 0
 HasReply slices None reply = ⊥
 HasReply slices (Some sought) reply = IsReplyOf slices sought reply
+
+-- no entry in the log of its slice is of the request, or there is no request
+abbrev pub LacksReply : List PartsView → Option Sought → Type 0
+LacksReply slices None = Unit {0}
+LacksReply slices (Some sought) =
+    All (λ entry. ¬ IsOf sought sought.slice entry) (log_at slices sought.slice.0)
 
 -- the word's slice is quiet, and this is the word's value after the whole log
 abbrev pub HasWord : Config → List PartsView → WordAddr → ℕ → Type 0

@@ -1,6 +1,6 @@
 -- The rounds of a litmus test without threads, and what they print.
-use Rattle.std.specs.Prelude.{◌≡◌, ℕ, ◌<◌, List, length, All, codes, decimal, ◌++◌, count_by, nat_eq, if◌then◌else◌}
-use Rattle.std.specs.Prelude.{Option, Some}
+use Rattle.std.specs.Prelude.{◌≡◌, ◌⊎◌, ℕ, ◌+◌, ◌%◌, ◌^◌, ◌<◌, Bool, true, false, List, length, All, codes, decimal, ◌++◌}
+use Rattle.std.specs.Prelude.{count_by, nat_eq, if◌then◌else◌, slice_get, Option, Some}
 use Rattle.std.specs.Io.KnownBytes.{Appends}
 use Rattle.litmus_outcomes.specs.Forbid.{is_forbidden}
 use Rattle.litmus_outcomes.specs.Table.{IsTableOf, TableView}
@@ -8,25 +8,32 @@ use Rattle.litmus_outcomes.specs.Text.{text_of}
 use Rattle.litmus_rounds.specs.Outcome.{IsOutcome}
 use Rattle.litmus_test.specs.declared.test.LitmusTest.{LitmusTest}
 use Rattle.litmus_walk.specs.Done.{AreDone}
+use Rattle.litmus_walk.specs.Drawn.{IsDrawn, lines_of}
 use Rattle.litmus_walk.specs.Walk.{IsWalkOf, WalkView}
 use Rattle.mshr_file.specs.Miss.{Bound}
 use Rattle.slice_core_plan.specs.View.{IsQuiet}
 
--- the values are the outcome of a walk on a new machine of the test, in which each thread has done all its steps, and
--- after which all slices are quiet
-pub record IsRound (test : LitmusTest) (bound : Bound) (values : List ℕ) : Type 0 where
+-- the values are the outcome of the walk that the seed draws on a new machine of the test, in which each thread has done
+-- all its steps, and after which all slices are quiet
+pub record IsRound (test : LitmusTest) (bound : Bound) (seed : ℕ) (values : List ℕ) : Type 0 where
   pub walk : WalkView
   pub walked : IsWalkOf test bound walk
+  pub drawn : IsDrawn test bound (lines_of test) seed true walk
   pub done : AreDone test.threads.items walk.calls
   pub quiet : All (λ state. IsQuiet state.view) walk.slices
   pub outcome : IsOutcome test walk.slices values
 
--- the table is that of so many rounds
-pub record AreRounds (test : LitmusTest) (bound : Bound) (count : ℕ) (table : TableView) : Type 0 where
+-- the seed of a round, where the first round has this one
+abbrev pub seed_of : ℕ → ℕ → ℕ
+seed_of first round = (first + round) % 2 ^ 64
+
+-- the table is that of so many rounds, of which the first has the seed, and each the next
+pub record AreRounds (test : LitmusTest) (bound : Bound) (seed count : ℕ) (table : TableView) : Type 0 where
   pub rounds : List (List ℕ)
   pub table_of : IsTableOf rounds table
   pub counted : length rounds ≡ count
-  pub each : All (IsRound test bound) rounds
+  pub each : (round : ℕ) (values : List ℕ) → slice_get rounds round ≡ Some values
+      → IsRound test bound (seed_of seed round) values
 
 -- the exit status, where so many rounds had a forbidden outcome
 abbrev pub status_of : ℕ → ℕ
@@ -37,13 +44,25 @@ status_of count = if nat_eq count 0 then 0 else 1
 pub record PrintsRounds (test : LitmusTest) (bound : Bound) (count seed status : ℕ)
     (before after : Option (List ℕ)) : Type 0 where
   pub table : TableView
-  pub rounds : AreRounds test bound count table
+  pub rounds : AreRounds test bound seed count table
   pub printed : Appends before after (text_of test (Some seed) table.rows rounds.rounds)
   pub told : status ≡ status_of (count_by (is_forbidden test) rounds.rounds)
 
--- a round of these is told to be stuck
-pub record PrintsStuck (count status : ℕ) (before after : Option (List ℕ)) : Type 0 where
+-- The walk that the seed draws doesn't come to its end, or has no outcome: a reply or a counter's value is missing.
+pub record IsStuck (test : LitmusTest) (bound : Bound) (seed : ℕ) : Type 0 where
+  pub walk : WalkView
+  pub walked : IsWalkOf test bound walk
+  pub over : Bool
+  pub drawn : IsDrawn test bound (lines_of test) seed over walk
+  pub stuck : (over ≡ false) ⊎ ((values : List ℕ) → ¬ IsOutcome test walk.slices values)
+
+-- one of so many rounds is told to be stuck, which it is, and those before it aren't
+pub record PrintsStuck (test : LitmusTest) (bound : Bound) (count seed status : ℕ)
+    (before after : Option (List ℕ)) : Type 0 where
   pub round : ℕ
   pub one_of : round < count
+  pub table : TableView
+  pub others : AreRounds test bound seed round table
+  pub stuck : IsStuck test bound (seed_of seed round)
   pub printed : Appends before after (codes "stuck round " ++ decimal round ++ codes "\n")
   pub told : status ≡ 1

@@ -1,5 +1,5 @@
-ghost use Rattle.std.specs.Prelude.{◌≡◌, [], IfOk, IfSome, IsTrue};
-ghost use Rattle.litmus_rounds.specs.Outcome.{AddsMatch, HasReply, HasWord, IsOutcome, Match, all_sought};
+ghost use Rattle.std.specs.Prelude.{◌≡◌, ℕ, List, [], IfNone, IfOk, IfSome, IsTrue, false};
+ghost use Rattle.litmus_rounds.specs.Outcome.{AddsMatch, HasReply, HasWord, IsOutcome, LacksReply, Match, all_sought};
 
 use litmus_outcomes::Sought;
 use litmus_test::LitmusTest;
@@ -17,13 +17,16 @@ pub(crate) fn read_outcome<F: MissFile>(
 ) -> Result<bool, AllocError>
     requires config { recorded.now.config ≡ test.now.config }
     requires sought { sought.now ≡ all_sought test.now }
-    ensures { IfOk result (λ read. IsTrue read → IsOutcome test.now recorded.now.slices values.new.items) }
+    ensures read { IfOk result (λ read. IsTrue read → IsOutcome test.now recorded.now.slices values.new.items) }
+    ensures none { IfOk result (λ read. read ≡ false
+        → (values : List ℕ) → ¬ IsOutcome test.now recorded.now.slices values) }
 {
     values.clear();
     if !read_replies(sought, recorded, values)? {
         return Ok(false);
     }
-    read_counters(test, recorded, values)
+    let read = read_counters(test, recorded, values)?;
+    Ok(read)
 }
 
 // The replies that are sought, in order.
@@ -33,7 +36,9 @@ fn read_replies<F: MissFile>(
     values: &mut Vec<u64>,
 ) -> Result<bool, AllocError>
     requires { values.old.items ≡ [] }
-    ensures { IfOk result (λ read. IsTrue read → Match (HasReply recorded.now.slices) sought.now values.new.items) }
+    ensures read { IfOk result (λ read. IsTrue read → Match (HasReply recorded.now.slices) sought.now values.new.items) }
+    ensures none { IfOk result (λ read. read ≡ false
+        → (values : List ℕ) → ¬ Match (HasReply recorded.now.slices) sought.now values) }
 {
     for request in sought {
         let Some(reply) = reply_to(request, recorded) else {
@@ -45,7 +50,8 @@ fn read_replies<F: MissFile>(
 }
 
 fn reply_to<F: MissFile>(request: &Option<Sought>, recorded: &Recorded<F>) -> Option<u64>
-    ensures { IfSome result (HasReply recorded.now.slices request.now) }
+    ensures reply { IfSome result (HasReply recorded.now.slices request.now) }
+    ensures none { IfNone result (LacksReply recorded.now.slices request.now) }
 {
     let Some(request) = request else {
         return None;
@@ -65,9 +71,11 @@ fn read_counters<F: MissFile>(
     values: &mut Vec<u64>,
 ) -> Result<bool, AllocError>
     requires { recorded.now.config ≡ test.now.config }
-    ensures { IfOk result (λ read. IsTrue read
+    ensures read { IfOk result (λ read. IsTrue read
         → AddsMatch (HasWord test.now.config recorded.now.slices) test.now.config.counters
         values.old.items values.new.items) }
+    ensures none { IfOk result (λ read. read ≡ false
+        → (values : List ℕ) → ¬ Match (HasWord test.now.config recorded.now.slices) test.now.config.counters values) }
 {
     for counter in test.config.counters() {
         let Some(value) = recorded.word_now(*counter) else {

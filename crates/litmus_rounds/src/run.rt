@@ -1,17 +1,14 @@
 ghost use Rattle.std.specs.Prelude.{◌≡◌, ◌⊎◌, ℕ, ◌+◌, ◌<◌, ◌^◌, List, [], ◌∷◌, ◌++◌, IfErr, IfNone, IfOk, IfSome};
-ghost use Rattle.std.specs.Prelude.{IsTrue, OnOk, Some, All};
+ghost use Rattle.std.specs.Prelude.{IsTrue, OnOk, Some, false};
 ghost use Rattle.std.specs.Prelude.{codes, decimal};
 ghost use Rattle.std.specs.Fmt.{WritesInCalls};
 ghost use Rattle.std.specs.Io.KnownBytes.{Appends};
 ghost use Rattle.litmus_outcomes.specs.Table.{IsTableOf};
 ghost use Rattle.litmus_outcomes.specs.Text.{text_of};
-ghost use Rattle.litmus_rounds.specs.Outcome.{all_sought};
-ghost use Rattle.litmus_rounds.specs.Run.{AreRounds, IsRound, PrintsRounds, PrintsStuck};
+ghost use Rattle.litmus_rounds.specs.Outcome.{IsOutcome, all_sought};
+ghost use Rattle.litmus_rounds.specs.Run.{AreRounds, IsStuck, PrintsRounds, PrintsStuck, seed_of};
 ghost use Rattle.litmus_script.specs.Machine.{bound_of};
 ghost use Rattle.litmus_script.specs.Play.{IsOfRun};
-ghost use Rattle.litmus_walk.specs.Done.{AreDone};
-ghost use Rattle.litmus_walk.specs.Walk.{IsWalkOf};
-ghost use Rattle.slice_core_plan.specs.View.{IsQuiet};
 
 use super::outcome::read_outcome;
 use litmus_outcomes::{Outcomes, Sought, write_table};
@@ -24,9 +21,9 @@ use std::alloc::{AllocError, Global};
 use std::fmt;
 use std::io::Write;
 
-/// Walks through a litmus test so many times, and prints how often each outcome came, with the least seed that has it:
-/// the first round has the given seed, and each the next. Answers the exit status, which is 1 where a forbidden outcome
-/// came or a round is stuck; then nothing else is printed.
+/// Walks through a litmus test so many times, and prints how often each outcome came, with the seed of the first round
+/// that had it: round 0 has the given seed, and each the next. Answers the exit status, which is 1 where a forbidden
+/// outcome came or a round is stuck; then nothing else is printed but which round is.
 pub fn run_walk<W: Write, P: Progress>(
     alloc: Global,
     test: &LitmusTest<'_>,
@@ -38,7 +35,8 @@ pub fn run_walk<W: Write, P: Progress>(
     ensures printed { IfOk result (λ status.
         PrintsRounds test.now (bound_of test.now.misses test.now.config) rounds seed status
         (W.contents out.old) (W.contents out.new)
-        ⊎ PrintsStuck rounds status (W.contents out.old) (W.contents out.new)) }
+        ⊎ PrintsStuck test.now (bound_of test.now.misses test.now.config) rounds seed status
+        (W.contents out.old) (W.contents out.new)) }
     ensures fault { IfErr result IsOfRun }
 {
     match test.misses {
@@ -61,7 +59,8 @@ fn run_on<F: MissFile, W: Write, P: Progress>(
 ) -> Result<u8, TextFault>
     ensures printed { IfOk result (λ status.
         PrintsRounds test.now (F.bound_by test.now.config) rounds seed status (W.contents out.old) (W.contents out.new)
-        ⊎ PrintsStuck rounds status (W.contents out.old) (W.contents out.new)) }
+        ⊎ PrintsStuck test.now (F.bound_by test.now.config) rounds seed status
+        (W.contents out.old) (W.contents out.new)) }
     ensures fault { IfErr result IsOfRun }
 {
     let mut outcomes = Outcomes::new(alloc);
@@ -131,8 +130,10 @@ fn walk_rounds<F: MissFile, P: Progress>(
 ) -> Result<Option<u64>, AllocError>
     requires { IsTableOf [] outcomes.old }
     ensures done { IfOk result (λ stuck. IfNone stuck
-        (AreRounds test.now (F.bound_by test.now.config) rounds outcomes.new)) }
-    ensures stuck { IfOk result (λ stuck. IfSome stuck (λ round. round < rounds)) }
+        (AreRounds test.now (F.bound_by test.now.config) seed rounds outcomes.new)) }
+    ensures stuck { IfOk result (λ stuck. IfSome stuck (λ round. (round < rounds)
+        × AreRounds test.now (F.bound_by test.now.config) seed round outcomes.new
+        × IsStuck test.now (F.bound_by test.now.config) (seed_of seed round))) }
 {
     let lines = named_lines(alloc, test)?;
     let sought = Sought::all(alloc, test)?;
@@ -161,13 +162,14 @@ fn add_outcome<F: MissFile>(
 ) -> Result<bool, AllocError>
     requires fits { outcomes.old.rounds + 1 < 2 ^ 64 }
     requires sought { sought.now ≡ all_sought test.now }
-    requires walked { IsWalkOf test.now (F.bound_by test.now.config) walked.now.recorded }
-    requires done { AreDone test.now.threads.items walked.now.recorded.calls }
-    requires quiet { All (λ state. IsQuiet state.view) walked.now.recorded.slices }
-    ensures { IfOk result (λ added. IsTrue added → (outcome : List ℕ)
-        × IsRound test.now (F.bound_by test.now.config) outcome
+    requires config { walked.now.recorded.config ≡ test.now.config }
+    ensures added { IfOk result (λ added. IsTrue added → (outcome : List ℕ)
+        × IsOutcome test.now walked.now.recorded.slices outcome
         × ((rounds : List (List ℕ)) → IsTableOf rounds outcomes.old
         → IsTableOf (rounds ++ outcome ∷ []) outcomes.new)) }
+    ensures none { IfOk result (λ added. added ≡ false → (values : List ℕ)
+        → ¬ IsOutcome test.now walked.now.recorded.slices values) }
+    ensures kept { IfOk result (λ added. added ≡ false → outcomes.new ≡ outcomes.old) }
 {
     if !read_outcome(test, sought, &walked.recorded, values)? {
         return Ok(false);

@@ -1,16 +1,17 @@
 -- What the threads of a walk have done, call by call.
 use Rattle.std.proofs.Common.{◌≡◌, ℕ, zero, suc, ◌+◌, ◌<◌, ◌∙◌, true, false, inl, inr, List, [], ◌∷◌, ◌++◌, Some, None}
-use Rattle.std.proofs.Common.{ap, append-nil, append_assoc, arith, eq-eqb, get_or, length, refl, subst, sym, take}
+use Rattle.std.proofs.Common.{ap, append-nil, append_assoc, arith, eq-eqb, get_or, length, refl, replicate, subst, sym, take}
 use Rattle.std.specs.Prelude.{IsSomeAnd, slice_get, slice_set}
 use Rattle.std.specs.List.{AllByRecursion}
 use Rattle.std.proofs.Math.Seq.{take-length}
 use Rattle.std.proofs.lemmas.Bool.{cases_eq, ne_eqb}
-use Rattle.std.proofs.lemmas.List.{map-append, take_more}
+use Rattle.std.proofs.lemmas.List.{take_more}
 use Rattle.std.proofs.lemmas.Option.{slice_get-get_or}
 use Rattle.litmus_test.specs.declared.test.Action.{Action}
 use Rattle.litmus_test.specs.declared.test.Action.TheVariants as actions
 use Rattle.litmus_test.specs.declared.test.Thread.{Thread}
 use Rattle.litmus_walk.specs.Done.{AreAtEnd, AreDone, GoesOn, HaveDone, asking, deeds_at, deeds_by, deeds_of, steps_of}
+use Rattle.litmus_walk.specs.Drawn.{first_place}
 use Rattle.litmus_walk.specs.declared.place.Place.{Place}
 use Rattle.litmus_walk.specs.declared.place.StepPlace.{StepPlace}
 use Rattle.litmus_walk.specs.declared.recorded.Made.{Made}
@@ -93,17 +94,10 @@ zero-at [] i step zeros is = absurd (subst (λ found. IsSomeAnd found (λ z. z �
 zero-at (first ∷ steps) zero step zeros is = sym (some-is first step is) ∙ zeros.0
 zero-at (first ∷ steps) (suc i) step zeros is = zero-at steps i step zeros.1 is
 
-zeros-more : (steps : List ℕ) → AllByRecursion (λ s. s ≡ 0) steps → (step : ℕ) → step ≡ 0
-    → AllByRecursion (λ s. s ≡ 0) (steps ++ step ∷ [])
-zeros-more [] zeros step is = (is, tt)
-zeros-more (first ∷ steps) zeros step is = (zeros.0, zeros-more steps zeros.1 step is)
-
--- One thread more stands before its first step.
-pub zeros-push : (places : List Place) (place : Place) → AllByRecursion (λ s. s ≡ 0) (steps_of places) → place.step ≡ 0
-    → AllByRecursion (λ s. s ≡ 0) (steps_of (places ++ place ∷ []))
-zeros-push places place zeros is =
-    subst (AllByRecursion (λ s. s ≡ 0)) (sym (map-append (λ (p : Place). p.step) places (place ∷ [])))
-    (zeros-more (steps_of places) zeros place.step is)
+-- Threads that stand before their first step.
+pub first-zeros : (count : ℕ) → AllByRecursion (λ s. s ≡ 0) (steps_of (replicate count first_place))
+first-zeros zero = tt
+first-zeros (suc count) = (refl, first-zeros count)
 
 -- Nothing was done yet.
 pub done-none : (threads : List Thread) (steps : List ℕ) → AllByRecursion (λ s. s ≡ 0) steps → HaveDone threads steps []

@@ -1,2 +1,5 @@
 pub mod DoneLemmas
+pub mod DrawLemmas
+pub mod ListLemmas
+pub mod MoveLemmas
 pub mod WalkLemmas

@@ -1,4 +1,6 @@
-ghost use Rattle.std.specs.Prelude.{◌≡◌, ◌+◌, ◌<◌, ◌^◌, ◌↔◌, All, IfSome, IsTrue, false, replicate};
+ghost use Rattle.std.specs.Prelude.{◌≡◌, ◌+◌, ◌<◌, ◌^◌, IfSome};
+ghost use Rattle.litmus_walk.specs.Drawn.{first_place};
+ghost use Rattle.litmus_walk.specs.Moves.{free_tag, is_settled, with_waiting};
 
 /// A step of a thread. Threads and steps count from 0.
 #[derive(Clone, Copy, Debug, PartialEq, Eq)]
@@ -17,7 +19,7 @@ pub(crate) struct Place {
 impl Place {
     /// Before the first step.
     pub fn first() -> Self
-        ensures { result ≡ record { step = 0; waits = replicate 64 false } }
+        ensures { result ≡ first_place }
     {
         Place {
             step: 0,
@@ -27,7 +29,8 @@ impl Place {
 
     /// The lowest tag under which nothing is waited for.
     pub fn free_tag(&self) -> Option<u8>
-        ensures { IfSome result (λ tag. tag < 64) }
+        ensures tag { result ≡ free_tag self.now }
+        ensures known { IfSome result (λ tag. tag < 64) }
     {
         let tag = self.waits.iter().position(|waits| !*waits)?;
         Some(tag as u8)
@@ -35,9 +38,9 @@ impl Place {
 
     /// Whether no reply is waited for.
     pub fn is_settled(&self) -> bool
-        ensures { IsTrue result ↔ All (λ waits. waits ≡ false) self.now.waits }
+        ensures { result ≡ is_settled self.now }
     {
-        !self.waits.contains(&true)
+        self.waits.iter().all(|waits| !*waits)
     }
 
     /// The step of this number is done.
@@ -50,10 +53,10 @@ impl Place {
 
     /// A reply is waited for under the tag, or no more.
     pub fn set_waiting(&mut self, tag: u8, waits: bool)
-        ensures { self.new.step ≡ self.old.step }
+        ensures { self.new ≡ with_waiting tag waits self.old }
     {
-        if let Some(place) = self.waits.get_mut(tag as usize) {
-            *place = waits;
+        if tag < 64 {
+            self.waits[tag as usize] = waits;
         }
     }
 }

@@ -1,14 +1,16 @@
-ghost use Rattle.std.specs.Prelude.{◌≡◌, ◌↔◌, ◌/◌, ◌%◌, ◌<◌, All, IfOk, IfSome, IsTrue, None, OnOk, Some, true};
+ghost use Rattle.std.specs.Prelude.{◌≡◌, ◌↔◌, ◌/◌, ◌%◌, ◌<◌, [], All, IfOk, IfSome, IsTrue, None, OnOk, Some, true};
+ghost use Rattle.std.specs.Prelude.{unwrap_or};
 ghost use Rattle.address_map.specs.Config.{IsAllowed};
 ghost use Rattle.address_map.specs.Place.{line_of as line_of_word};
 ghost use Rattle.litmus_script.specs.Issued.{IsIssued};
-ghost use Rattle.litmus_script.specs.Machine.{IsAnswered, IsNewMachine, IsQuietWord, log_at};
+ghost use Rattle.litmus_script.specs.Machine.{IsAnswered, IsNewMachine, IsQuietWord, IsShownWord, log_at};
 ghost use Rattle.slice_core.specs.declared.run.Call.TheVariants as of_slice;
 ghost use Rattle.slice_core.specs.declared.run.CallAnswer.TheVariants as answers;
 ghost use Rattle.litmus_text.specs.Command.{HasCore};
 ghost use Rattle.litmus_text.specs.declared.command.Command.TheVariants as commands;
 ghost use Rattle.slice_core_plan.specs.View.{IsQuiet};
 ghost use Rattle.litmus_walk.specs.Done.{is_done};
+ghost use Rattle.litmus_walk.specs.Moves.{waiting_at};
 ghost use Rattle.litmus_walk.specs.Walk.{Makes, made_of};
 
 use super::place::StepPlace;
@@ -149,7 +151,9 @@ impl<F: MissFile> Recorded<F> {
     }
 
     /// The channels of a line in which a message waits.
-    pub fn waiting_at(&self, line: LineAddr) -> Option<LineWaiting<'_>> {
+    pub fn waiting_at(&self, line: LineAddr) -> Option<LineWaiting<'_>>
+        ensures { unwrap_or result [] ≡ waiting_at self.now.config self.now.slices line }
+    {
         self.machine.waiting_at(line)
     }
 
@@ -171,7 +175,8 @@ impl<F: MissFile> Recorded<F> {
     /// The value of a word of the memory, where its slice is quiet.
     pub fn word_now(&self, word: WordAddr) -> Option<u64>
         requires { word.0 / 8 < self.now.config.lines }
-        ensures { IfSome result (IsQuietWord self.now.slices (word.0 / 8 % self.now.config.slices) word) }
+        ensures quiet { IfSome result (IsQuietWord self.now.slices (word.0 / 8 % self.now.config.slices) word) }
+        ensures shown { IsShownWord self.now.slices (word.0 / 8 % self.now.config.slices) word result }
     {
         self.machine.word_now(word)
     }

@@ -1,6 +1,9 @@
-ghost use Rattle.std.specs.Prelude.{◌≡◌, IfOk, IsTrue, OnOk, All};
+ghost use Rattle.std.specs.Prelude.{◌≡◌, [], All, IfNone, IfOk, IfSome, IsTrue, OnOk, Some};
+ghost use Rattle.rand_xoshiro.specs.Xoshiro256.{plus_plus};
 ghost use Rattle.slice_core_plan.specs.View.{IsQuiet};
 ghost use Rattle.litmus_walk.specs.Done.{AreDone, GoesOn, steps_of};
+ghost use Rattle.litmus_walk.specs.Drawn.{Draws, IsDrawn, drawn};
+ghost use Rattle.litmus_walk.specs.Moves.{state_of};
 ghost use Rattle.litmus_walk.specs.Walk.{IsWalkOf, Walks};
 
 use super::moves::Move;
@@ -10,7 +13,8 @@ use address_map::LineAddr;
 use litmus_script::copy_of;
 use litmus_test::LitmusTest;
 use mshr_file::MissFile;
-use rand_core::{Rng, SeedableRng};
+use rand_core::SeedableRng;
+use rand_core::utils::NextWord;
 use rand_xoshiro::Xoshiro256PlusPlus;
 use std::alloc::{AllocError, Global};
 
@@ -36,6 +40,8 @@ pub fn walk<F: MissFile>(
     ensures over { IfOk result (λ walked. IsTrue walked.over
         → All (λ state. IsQuiet state.view) walked.recorded.slices) }
     ensures done { IfOk result (λ walked. IsTrue walked.over → AreDone test.now.threads.items walked.recorded.calls) }
+    ensures drawn { IfOk result (λ walked. IsDrawn test.now (F.bound_by test.now.config) lines.now seed
+        walked.over walked.recorded) }
 {
     let Ok(config) = copy_of(alloc, &test.config) else {
         return Err(AllocError);
@@ -61,28 +67,31 @@ fn walk_on<F: MissFile>(
     ensures done { OnOk result (GoesOn test.now.threads.items (steps_of walker.old.places.items)
         walker.old.recorded.calls
         (steps_of walker.new.places.items) walker.new.recorded.calls) }
+    ensures draws { OnOk result (Draws test.now.threads.items lines.now seed
+        (state_of walker.old.recorded walker.old.places.items walker.old.replies.items)
+        (state_of walker.new.recorded walker.new.places.items walker.new.replies.items)) }
 {
     let mut generator = Xoshiro256PlusPlus::seed_from_u64(seed);
     let mut moves = Vec::new(alloc);
-    for _ in 0..MOST_MOVES {
+    for made in 0..MOST_MOVES {
         walker.list_moves(test, lines, &mut moves)?;
-        let Some(to) = draw(&mut generator, &moves, walker.replies.len()) else {
-            break;
+        let Some(to) = draw(&mut generator, moves.as_slice()) else {
+            return Ok(());
         };
         walker.go(test, to)?;
     }
     Ok(())
 }
 
-// One of the listed moves, or the hand-out of one of the replies that wait behind them, each as likely as the others.
-fn draw(generator: &mut Xoshiro256PlusPlus, moves: &[Move], replies: usize) -> Option<Move> {
-    let count = moves.len().saturating_add(replies);
-    if count == 0 {
+// One of the moves, each as likely as the others, by the generator's next word.
+fn draw(generator: &mut Xoshiro256PlusPlus, moves: &[Move]) -> Option<Move>
+    ensures some { IfSome result (λ to. drawn (plus_plus generator.old).0 moves.now ≡ Some to) }
+    ensures next { IfSome result (λ to. generator.new ≡ (plus_plus generator.old).1) }
+    ensures none { IfNone result (moves.now ≡ []) }
+{
+    if moves.is_empty() {
         return None;
     }
-    let place = (generator.next_u64() % count as u64) as usize;
-    match moves.get(place) {
-        Some(to) => Some(*to),
-        None => Some(Move::Hand(place.saturating_sub(moves.len()))),
-    }
+    let place = (generator.next_word() % moves.len() as u64) as usize;
+    Some(moves[place])
 }

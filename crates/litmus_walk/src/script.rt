@@ -26,7 +26,7 @@ pub fn write_walk<W: io::Write>(
     seed: u64,
     out: &mut W,
 ) -> Result<u8, TextFault>
-    ensures printed { IfOk result (λ status. PrintsWalk test.now (bound_of test.now.misses test.now.config) status
+    ensures printed { IfOk result (λ status. PrintsWalk test.now (bound_of test.now.misses test.now.config) seed status
         (W.contents out.old) (W.contents out.new)) }
     ensures fault { IfErr result IsOfRun }
 {
@@ -42,7 +42,7 @@ fn write_on<F: MissFile, W: io::Write>(
     seed: u64,
     out: &mut W,
 ) -> Result<u8, TextFault>
-    ensures printed { IfOk result (λ status. PrintsWalk test.now (F.bound_by test.now.config) status
+    ensures printed { IfOk result (λ status. PrintsWalk test.now (F.bound_by test.now.config) seed status
         (W.contents out.old) (W.contents out.new)) }
     ensures fault { IfErr result IsOfRun }
 {

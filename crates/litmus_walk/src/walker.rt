@@ -1,11 +1,13 @@
-ghost use Rattle.std.specs.Prelude.{◌≡◌, ◌+◌, ◌<◌, ◌^◌, ◌↔◌, All, IfOk, IfSome, IsTrue, List, OnOk, Some, length};
-ghost use Rattle.std.specs.Prelude.{slice_get, slice_set};
-ghost use Rattle.std.specs.List.{AllByRecursion};
+ghost use Rattle.std.specs.Prelude.{◌≡◌, ◌+◌, ◌<◌, ◌^◌, ◌↔◌, ◌++◌, [], All, IfOk, IfSome, IsTrue, List, OnOk, Some};
+ghost use Rattle.std.specs.Prelude.{drop, filter_map, length, option_and_then, replicate, slice_get, slice_set};
 ghost use Rattle.litmus_test.specs.declared.test.Action.TheVariants as actions;
 ghost use Rattle.litmus_test.specs.declared.test.Thread.{Thread};
 ghost use Rattle.litmus_text.specs.Command.{HasCore};
 ghost use Rattle.slice_core_plan.specs.View.{IsQuiet};
 ghost use Rattle.litmus_walk.specs.Done.{AreAtEnd, GoesOn, steps_of};
+ghost use Rattle.litmus_walk.specs.Drawn.{first_place};
+ghost use Rattle.litmus_walk.specs.Moves.{Accesses, Delivers, Goes, Hands, Steps, changed, free_tag, gone_behind, reply_to};
+ghost use Rattle.litmus_walk.specs.Moves.{state_of, with_waiting};
 ghost use Rattle.litmus_walk.specs.Walk.{Walks};
 
 use super::moves::Move;
@@ -41,12 +43,11 @@ impl<F: MissFile> Walker<F> {
         recorded: Recorded<F>,
     ) -> Result<Self, AllocError>
         ensures recorded { IfOk result (λ walker. walker.recorded ≡ recorded) }
-        ensures places { IfOk result (λ walker. AllByRecursion (λ step. step ≡ 0) (steps_of walker.places.items)) }
+        ensures first { IfOk result (λ walker.
+            walker.places.items ≡ replicate (length test.now.threads.items) first_place) }
+        ensures none { IfOk result (λ walker. walker.replies.items ≡ []) }
     {
-        let mut places = Vec::new(alloc);
-        for _ in &test.threads {
-            places.push(Place::first())?;
-        }
+        let places = vec![in alloc; Place::first(); test.threads.len()]?;
         Ok(Walker {
             recorded,
             places,
@@ -61,6 +62,9 @@ impl<F: MissFile> Walker<F> {
         ensures done { OnOk result (GoesOn test.now.threads.items
             (steps_of self.old.places.items) self.old.recorded.calls
             (steps_of self.new.places.items) self.new.recorded.calls) }
+        ensures goes { OnOk result (Goes test.now.threads.items to
+            (state_of self.old.recorded self.old.places.items self.old.replies.items)
+            (state_of self.new.recorded self.new.places.items self.new.replies.items)) }
     {
         match to {
             Move::Step(thread) => self.step(test, thread),
@@ -75,6 +79,9 @@ impl<F: MissFile> Walker<F> {
         ensures done { OnOk result (GoesOn test.now.threads.items
             (steps_of self.old.places.items) self.old.recorded.calls
             (steps_of self.new.places.items) self.new.recorded.calls) }
+        ensures goes { OnOk result (Steps thread (slice_get test.now.threads.items thread) (slice_get self.old.places.items thread)
+            (state_of self.old.recorded self.old.places.items self.old.replies.items)
+            (state_of self.new.recorded self.new.places.items self.new.replies.items)) }
     {
         let (Some(program), Some(place)) = (test.threads.get(thread), self.places.get(thread))
         else {
@@ -114,6 +121,10 @@ impl<F: MissFile> Walker<F> {
         ensures done { (threads : List Thread) → slice_get threads at.thread ≡ Some program.now
             → OnOk result (GoesOn threads (steps_of self.old.places.items) self.old.recorded.calls
             (steps_of self.new.places.items) self.new.recorded.calls) }
+        ensures goes { OnOk result (Accesses program.now at word op
+            (option_and_then free_tag (slice_get self.old.places.items at.thread))
+            (state_of self.old.recorded self.old.places.items self.old.replies.items)
+            (state_of self.new.recorded self.new.places.items self.new.replies.items)) }
     {
         let Some(tag) = self.free_tag(at.thread) else {
             return Ok(());
@@ -135,7 +146,8 @@ impl<F: MissFile> Walker<F> {
 
     // The lowest tag under which the thread waits for nothing.
     fn free_tag(&self, thread: usize) -> Option<u8>
-        ensures { IfSome result (λ tag. tag < 64) }
+        ensures tag { result ≡ option_and_then free_tag (slice_get self.now.places.items thread) }
+        ensures known { IfSome result (λ tag. tag < 64) }
     {
         self.places.get(thread)?.free_tag()
     }
@@ -146,6 +158,8 @@ impl<F: MissFile> Walker<F> {
         ensures recorded { self.new.recorded ≡ self.old.recorded }
         ensures steps { steps_of self.new.places.items ≡ slice_set (steps_of self.old.places.items)
             at.thread (at.step + 1) }
+        ensures places { self.new.places.items ≡ gone_behind at self.old.places.items }
+        ensures replies { self.new.replies.items ≡ self.old.replies.items }
     {
         if let Some(place) = self.places.get_mut(at.thread) {
             place.go_behind(at.step);
@@ -156,6 +170,8 @@ impl<F: MissFile> Walker<F> {
     fn set_waiting(&mut self, thread: usize, tag: u8, waits: bool)
         ensures recorded { self.new.recorded ≡ self.old.recorded }
         ensures steps { steps_of self.new.places.items ≡ steps_of self.old.places.items }
+        ensures places { self.new.places.items ≡ changed thread (with_waiting tag waits) self.old.places.items }
+        ensures replies { self.new.replies.items ≡ self.old.replies.items }
     {
         if let Some(place) = self.places.get_mut(thread) {
             place.set_waiting(tag, waits);
@@ -168,21 +184,15 @@ impl<F: MissFile> Walker<F> {
         ensures done { OnOk result (GoesOn test.now.threads.items
             (steps_of self.old.places.items) self.old.recorded.calls
             (steps_of self.new.places.items) self.new.recorded.calls) }
+        ensures goes { OnOk result (Delivers test.now.threads.items pick
+            (state_of self.old.recorded self.old.places.items self.old.replies.items)
+            (state_of self.new.recorded self.new.places.items self.new.replies.items)) }
     {
         let slice = self.recorded.slice_of(pick.line());
         let before = self.recorded.log_of(slice).len();
         self.recorded.deliver(pick)?;
-        for entry in behind(self.recorded.log_of(slice), before) {
-            let Some(thread) = test
-                .threads
-                .iter()
-                .position(|thread| thread.core == entry.core)
-            else {
-                continue;
-            };
-            let line = entry.word.line();
-            self.replies.push(Reply { thread, line })?;
-        }
+        let performed = behind(self.recorded.log_of(slice), before);
+        push_replies(&test.threads, performed, &mut self.replies)?;
         Ok(())
     }
 
@@ -192,6 +202,9 @@ impl<F: MissFile> Walker<F> {
         ensures done { OnOk result (GoesOn test.now.threads.items
             (steps_of self.old.places.items) self.old.recorded.calls
             (steps_of self.new.places.items) self.new.recorded.calls) }
+        ensures goes { OnOk result (Hands test.now.threads.items reply (slice_get self.old.replies.items reply)
+            (state_of self.old.recorded self.old.places.items self.old.replies.items)
+            (state_of self.new.recorded self.new.places.items self.new.replies.items)) }
     {
         if reply >= self.replies.len() {
             return Ok(());
@@ -239,10 +252,39 @@ impl<F: MissFile> Walker<F> {
 }
 
 // What was performed behind so many entries.
-fn behind(log: &[Entry], before: usize) -> &[Entry] {
+fn behind(log: &[Entry], before: usize) -> &[Entry]
+    ensures { result.now ≡ drop before log.now }
+{
     if before < log.len() {
         &log[before..]
     } else {
         &[]
     }
+}
+
+// Adds the replies of what was performed.
+fn push_replies(
+    threads: &[Thread],
+    performed: &[Entry],
+    replies: &mut Vec<Reply>,
+) -> Result<(), AllocError>
+    ensures { OnOk result (replies.new.items
+        ≡ replies.old.items ++ filter_map (reply_to threads.now) performed.now) }
+{
+    for entry in performed {
+        let Some(reply) = reply_to(threads, entry) else {
+            continue;
+        };
+        replies.push(reply)?;
+    }
+    Ok(())
+}
+
+// The reply of an access that was performed, where its core has a thread.
+fn reply_to(threads: &[Thread], entry: &Entry) -> Option<Reply>
+    ensures { result ≡ reply_to threads.now entry.now }
+{
+    let thread = threads.iter().position(|thread| thread.core == entry.core)?;
+    let line = entry.word.line();
+    Some(Reply { thread, line })
 }

@@ -1,21 +1,55 @@
-use Rattle.std.proofs.Common.{arith}
+use Rattle.std.proofs.Common.{arith, inl, inr, refl, true, false}
 use Rattle.litmus_rounds.proofs.RoundLemmas.{no_rounds, rounds_push}
 use Rattle.litmus_rounds.proofs.run.walk_rounds.Goals as goal
 
 pub loop-round-init : goal.loop-round-init
-loop-round-init g c = no_rounds _ _ _ c.requires
+loop-round-init g c = no_rounds _ _ _ _ c.requires
 
 pub add_outcome-requires-clause-fits : goal.add_outcome-requires-clause-fits
 add_outcome-requires-clause-fits g c =
     omega (arith, c.loop-round.invariant.counted, c.loop-round.invariant.table_of.count)
 
-pub add_outcome-requires-clause-done : goal.add_outcome-requires-clause-done
-add_outcome-requires-clause-done g c = c.in_ok-walked.ensures.done c.if-not-walked.false
-
-pub add_outcome-requires-clause-quiet : goal.add_outcome-requires-clause-quiet
-add_outcome-requires-clause-quiet g c = c.in_ok-walked.ensures.over c.if-not-walked.false
+pub add_outcome-requires-clause-config : goal.add_outcome-requires-clause-config
+add_outcome-requires-clause-config g c = c.in_ok-walked.ensures.walk.shape
 
 pub loop-round-preserved : goal.loop-round-preserved
 loop-round-preserved g c =
-    let added = c.in_ok-added.ensures c.if-not-added.false in
-    rounds_push _ _ _ _ _ added.0 c.loop-round.invariant added.1 added.2
+    let walked = c.in_ok-walked in
+    let added = c.in_ok-added.ensures.added c.if-not-added.false in
+    let over = c.if-not-walked.false in
+    rounds_push _ _ _ _ _ _ added.0 c.loop-round.invariant (record {
+      walk = walked.walked.recorded;
+      walked = walked.ensures.walk;
+      drawn = rw (c.deref.ensures.value, c.in_ok-lines.ensures, over) at walked.ensures.drawn;
+      done = walked.ensures.done over;
+      quiet = walked.ensures.over over;
+      outcome = added.1;
+    }) added.2
+
+pub returns-then-not-walked-clause-stuck : goal.returns-then-not-walked-clause-stuck
+returns-then-not-walked-clause-stuck g c =
+    let walked = c.in_ok-walked in (
+      c.loop-round-test.true,
+      c.loop-round.invariant,
+      record {
+        walk = walked.walked.recorded;
+        walked = walked.ensures.walk;
+        over = false;
+        drawn = rw (c.deref.ensures.value, c.in_ok-lines.ensures, c.if-not-walked.true) at walked.ensures.drawn;
+        stuck = inl refl;
+      },
+    )
+
+pub returns-then-not-added-clause-stuck : goal.returns-then-not-added-clause-stuck
+returns-then-not-added-clause-stuck g c =
+    let walked = c.in_ok-walked in (
+      c.loop-round-test.true,
+      rw (c.in_ok-added.ensures.kept c.if-not-added.true) c.loop-round.invariant,
+      record {
+        walk = walked.walked.recorded;
+        walked = walked.ensures.walk;
+        over = true;
+        drawn = rw (c.deref.ensures.value, c.in_ok-lines.ensures, c.if-not-walked.false) at walked.ensures.drawn;
+        stuck = inr (c.in_ok-added.ensures.none c.if-not-added.true);
+      },
+    )

@@ -1,0 +1,80 @@
+-- Which walk a seed draws.
+use Rattle.std.specs.Prelude.{◌≡◌, ◌⊎◌, ◌↔◌, ℕ, ◌==◌, ◌%◌, Bool, IsTrue, if◌then◌else◌, List, [], ◌∷◌, ◌++◌, length, All}
+use Rattle.std.specs.Prelude.{replicate, slice_get, Option, Some, false}
+use Rattle.std.specs.List.{list_any}
+use Rattle.address_map.specs.Place.{line_of as line_of_word}
+use Rattle.address_map.specs.declared.address.LineAddr.{LineAddr}
+use Rattle.litmus_test.specs.declared.test.Action.{Action}
+use Rattle.litmus_test.specs.declared.test.Action.TheVariants as actions
+use Rattle.litmus_test.specs.declared.test.LitmusTest.{LitmusTest}
+use Rattle.litmus_test.specs.declared.test.Thread.{Thread}
+use Rattle.litmus_walk.specs.Done.{AreAtEnd, steps_of}
+use Rattle.litmus_walk.specs.Moves.{Goes, WalkState, moves_of}
+use Rattle.litmus_walk.specs.Walk.{IsFresh, WalkView}
+use Rattle.litmus_walk.specs.declared.moves.Move.{Move}
+use Rattle.litmus_walk.specs.declared.place.Place.{Place}
+use Rattle.mshr_file.specs.Miss.{Bound}
+use Rattle.rand_xoshiro.specs.SplitMix64.{splitmix_seed}
+use Rattle.rand_xoshiro.specs.Xoshiro256.{of_seed, plus_plus}
+use Rattle.slice_core_plan.specs.View.{IsQuiet}
+
+-- a line more, where it isn't among them yet
+abbrev pub with_line : List LineAddr → LineAddr → List LineAddr
+with_line lines line = if list_any (λ other. other.0 == line.0) lines then lines else (lines ++ line ∷ [])
+
+abbrev pub with_lines : List LineAddr → List Action → List LineAddr
+with_lines lines [] = lines
+with_lines lines (actions.Access word op ∷ steps) = with_lines (with_line lines (line_of_word word)) steps
+with_lines lines (actions.Evict line ∷ steps) = with_lines (with_line lines line) steps
+with_lines lines (actions.Settle ∷ steps) = with_lines lines steps
+
+-- the lines that the threads name, each once, in the order in which each is named first
+abbrev pub named_lines : List LineAddr → List Thread → List LineAddr
+named_lines lines [] = lines
+named_lines lines (thread ∷ threads) = named_lines (with_lines lines thread.steps.items) threads
+
+abbrev pub lines_of : LitmusTest → List LineAddr
+lines_of test = named_lines [] test.threads.items
+
+-- the move that a word draws, each as likely as the others
+abbrev pub drawn : ℕ → List Move → Option Move
+drawn word moves = slice_get moves (word % length moves)
+
+-- These moves are made, one after another. Each is drawn from those that may come next, by the next word of the
+-- generator that stands there.
+abbrev pub MakesAll : List Thread → List LineAddr → List ℕ → List Move → WalkState → WalkState → Type 0
+MakesAll threads lines generator [] old new = new ≡ old
+MakesAll threads lines generator (to ∷ more) old new =
+    (next : WalkState) × (drawn (plus_plus generator).0 (moves_of threads lines old) ≡ Some to)
+    × Goes threads to old next × MakesAll threads lines (plus_plus generator).1 more next new
+
+-- the moves that the seed draws are made, up to where none may come next, or a million of them
+pub record Draws (threads : List Thread) (lines : List LineAddr) (seed : ℕ) (old new : WalkState) : Type 0 where
+  pub steps : List Move
+  pub made : MakesAll threads lines (of_seed (splitmix_seed 32 seed)) steps old new
+  pub ended : (moves_of threads lines new ≡ []) ⊎ (length steps ≡ 1000000)
+
+-- before the first step of a thread
+abbrev pub first_place : Place
+first_place = record { step = 0; waits = replicate 64 false }
+
+-- a new machine of the test, each thread before its first step, and no reply that waits
+pub record IsNewWalk (test : LitmusTest) (bound : Bound) (state : WalkState) : Type 0 where
+  pub fresh : IsFresh test.config bound state.walk
+  pub first : state.places ≡ replicate (length test.threads.items) first_place
+  pub none : state.replies ≡ []
+
+-- all threads are done, nothing is in flight and each reply is handed out
+abbrev pub IsOver : List Thread → WalkState → Type 0
+IsOver threads state =
+    AreAtEnd threads (steps_of state.places) × All (λ slice. IsQuiet slice.view) state.walk.slices
+
+-- the walk is what the seed draws, where messages are for these lines, and this is whether it came to its end
+pub record IsDrawn (test : LitmusTest) (bound : Bound) (lines : List LineAddr) (seed : ℕ) (over : Bool)
+    (walk : WalkView) : Type 0 where
+  pub start : WalkState
+  pub new : IsNewWalk test bound start
+  pub end : WalkState
+  pub draws : Draws test.threads.items lines seed start end
+  pub is : walk ≡ end.walk
+  pub ends : IsTrue over ↔ IsOver test.threads.items end

@@ -2,7 +2,7 @@
 -- is seen.
 use Rattle.std.specs.Prelude.{◌≡◌, ◌⊎◌, ℕ, ◌*◌, ◌-◌, ◌^◌, ◌+◌, ◌%◌, ◌==◌, ◌||◌, nat_lt, not, Bool, true, false}
 use Rattle.std.specs.Prelude.{if◌then◌else◌, List, [], ◌∷◌, ◌++◌, length, map, filter, min, position, replicate}
-use Rattle.std.specs.Prelude.{slice_get, slice_set, codes, decimal, All, Contains, Option, None, Some}
+use Rattle.std.specs.Prelude.{slice_get, slice_set, codes, decimal, All, Option, None, Some}
 use Rattle.std.specs.Io.KnownBytes.{Appends}
 use Rattle.std.specs.List.{flat_map, range_with_len}
 use Rattle.std.specs.Str.Lines.{lines}
@@ -24,6 +24,8 @@ use Rattle.mshr_file.specs.Miss.{Bound}
 use Rattle.program_text.specs.Fault.{IsFault}
 use Rattle.program_text.specs.declared.programs.Access.{Access}
 use Rattle.program_text.specs.declared.programs.CoreProgram.{CoreProgram}
+use Rattle.rand_xoshiro.specs.SplitMix64.{splitmix_seed}
+use Rattle.rand_xoshiro.specs.Xoshiro256.{of_seed, plus_plus}
 use Rattle.slice_core.specs.Facts.{copy_at, front_at}
 use Rattle.slice_core.specs.declared.run.Call.TheVariants as calls
 use Rattle.slice_core.specs.declared.run.CallAnswer.TheVariants as answers
@@ -263,17 +265,22 @@ Makes config programs (moves.Ask number) old new =
     Asks config number (next_of config.cores programs old.places number) old new
 Makes config programs (moves.Deliver pick) old new = Delivers config programs pick old new
 
--- these moves are made, one after another, each one of those that may come next
-abbrev pub MakesAll : Config → List CoreProgram → List Move → RunState → RunState → Type 0
-MakesAll config programs [] old new = new ≡ old
-MakesAll config programs (to ∷ more) old new =
-    (next : RunState) × Contains (moves_of config programs old) to × Makes config programs to old next
-    × MakesAll config programs more next new
+-- the move that a word draws, each as likely as the others
+abbrev pub drawn : ℕ → List Move → Option Move
+drawn word moves = slice_get moves (word % length moves)
 
--- Some moves are made, up to where none may come next, or 2^64 - 1 of them.
-pub record Runs (config : Config) (programs : List CoreProgram) (old new : RunState) : Type 0 where
+-- These moves are made, one after another. Each is drawn from those that may come next, by the next word of the
+-- generator that stands there.
+abbrev pub MakesAll : Config → List CoreProgram → List ℕ → List Move → RunState → RunState → Type 0
+MakesAll config programs generator [] old new = new ≡ old
+MakesAll config programs generator (to ∷ more) old new =
+    (next : RunState) × (drawn (plus_plus generator).0 (moves_of config programs old) ≡ Some to)
+    × Makes config programs to old next × MakesAll config programs (plus_plus generator).1 more next new
+
+-- The moves that the seed draws are made, up to where none may come next, or 2^64 - 1 of them.
+pub record Runs (config : Config) (programs : List CoreProgram) (seed : ℕ) (old new : RunState) : Type 0 where
   pub steps : List Move
-  pub made : MakesAll config programs steps old new
+  pub made : MakesAll config programs (of_seed (splitmix_seed 32 seed)) steps old new
   pub ended : (moves_of config programs new ≡ []) ⊎ (length steps ≡ 2 ^ 64 - 1)
 
 -- a program before its first access
@@ -346,13 +353,13 @@ pub record PrintsEnd (config : Config) (programs : List CoreProgram) (form : For
       × Appends before after (text_of form (tally_after (new_tally config.cores config.lines) run.history.counted) seed)
   pub stuck : ¬ IsOver programs run → (status ≡ 1) × Appends before after (text_of_stuck seed)
 
--- The programs are run on a new machine, and what the run's end prints is written.
+-- The programs are run on a new machine by the moves that the seed draws, and what the run's end prints is written.
 pub record IsProgramsRun (config : Config) (bound : Bound) (programs : List CoreProgram) (form : Form) (seed status : ℕ)
     (before after : Option (List ℕ)) : Type 0 where
   pub start : RunState
   pub new : IsNewRun config bound programs start
   pub end : RunState
-  pub runs : Runs config programs start end
+  pub runs : Runs config programs seed start end
   pub prints : PrintsEnd config programs form seed status end before after
 
 -- Why no programs were run: the text is at fault, there was no memory, or the report couldn't be written.

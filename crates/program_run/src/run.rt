@@ -1,11 +1,12 @@
-ghost use Rattle.std.specs.Prelude.{◌≡◌, ◌++◌, [], Contains, IfErr, IfNone, IfOk, IfSome, OnOk, codes, decimal};
+ghost use Rattle.std.specs.Prelude.{◌≡◌, ◌++◌, [], IfErr, IfNone, IfOk, IfSome, OnOk, Some, codes, decimal};
 ghost use Rattle.std.specs.Fmt.{WritesInCalls};
 ghost use Rattle.std.specs.Io.KnownBytes.{Appends};
 ghost use Rattle.litmus_script.specs.Machine.{bound_of};
 ghost use Rattle.program_text.specs.Fault.{IsProgramText, programs_of, settings_of};
 ghost use Rattle.program_text.specs.declared.programs.Programs.{Programs};
 ghost use Rattle.litmus_script.specs.Play.{IsOfRun};
-ghost use Rattle.program_run.specs.Run.{IsProgramNotRun, IsProgramsRun, Leads, Runs, text_of, text_of_stuck};
+ghost use Rattle.rand_xoshiro.specs.Xoshiro256.{plus_plus};
+ghost use Rattle.program_run.specs.Run.{IsProgramNotRun, IsProgramsRun, Leads, Runs, drawn, text_of, text_of_stuck};
 
 use super::json::write_json;
 use super::moves::Move;
@@ -16,7 +17,8 @@ use litmus_script::Answers;
 use litmus_text::{MissKind, TextFault};
 use mshr_file::{ExplicitFile, InvertedFile, MissFile};
 use program_text::Programs;
-use rand_core::{Rng, SeedableRng};
+use rand_core::SeedableRng;
+use rand_core::utils::NextWord;
 use rand_xoshiro::Xoshiro256PlusPlus;
 use std::alloc::{AllocError, Global};
 use std::fmt;
@@ -100,7 +102,7 @@ fn run<F: MissFile>(
     seed: u64,
     runner: &mut Runner<F>,
 ) -> Result<(), AllocError>
-    ensures { OnOk result (Leads (Runs runner.old.config programs.now.cores.items) runner.old runner.new) }
+    ensures { OnOk result (Leads (Runs runner.old.config programs.now.cores.items seed) runner.old runner.new) }
 {
     let mut generator = Xoshiro256PlusPlus::seed_from_u64(seed);
     let mut moves = Vec::new(alloc);
@@ -114,15 +116,16 @@ fn run<F: MissFile>(
     Ok(())
 }
 
-// One of the moves, each as likely as the others.
+// One of the moves, each as likely as the others, by the generator's next word.
 fn draw(generator: &mut Xoshiro256PlusPlus, moves: &[Move]) -> Option<Move>
-    ensures some { IfSome result (Contains moves.now) }
+    ensures some { IfSome result (λ to. drawn (plus_plus generator.old).0 moves.now ≡ Some to) }
+    ensures next { IfSome result (λ to. generator.new ≡ (plus_plus generator.old).1) }
     ensures none { IfNone result (moves.now ≡ []) }
 {
     if moves.is_empty() {
         return None;
     }
-    let place = (generator.next_u64() % moves.len() as u64) as usize;
+    let place = (generator.next_word() % moves.len() as u64) as usize;
     Some(moves[place])
 }
 

@@ -1,7 +1,11 @@
+use Rattle.rand_xoshiro.specs.SplitMix64.{splitmix_seed}
+use Rattle.rand_xoshiro.specs.Xoshiro256.{of_seed}
 use Rattle.program_run.specs.Run.{Leads}
 use Rattle.program_run.proofs.RunLemmas.{HasMade}
 use Rattle.program_run.proofs.run.run.Given as goal
 
--- so many moves were made
+-- so many moves were made, a word of the generator for each
 abbrev pub invariant-loop-made : goal.invariant-loop-made
-invariant-loop-made g l = Leads (HasMade l.fn.runner.config l.programs.cores.items l.made) l.fn.runner l.runner
+invariant-loop-made g l =
+    Leads (HasMade l.fn.runner.config l.programs.cores.items (of_seed (splitmix_seed 32 l.seed)) l.generator l.made)
+    l.fn.runner l.runner

@@ -1,5 +1,5 @@
 -- Cores that are dealt out to threads one after the other.
-use Rattle.std.proofs.Common.{◌≡◌, Bool, true, false, List, [], ◌∷◌, ◌++◌, ◌∙◌, Option, None, Some, ap, append-nil}
+use Rattle.std.proofs.Common.{◌≡◌, ℕ, Bool, true, false, List, [], ◌∷◌, ◌++◌, ◌∙◌, Option, None, Some, ap, append-nil}
 use Rattle.std.proofs.Common.{subst, sym}
 use Rattle.std.specs.Prelude.{Err, IfOk, IsOkAnd, Ok, Result, cond, filter, is_some, map, not}
 use Rattle.std.specs.Option.{option_map_or}
@@ -9,10 +9,9 @@ use Rattle.core_thread_system.specs.Core.{CoreView, SetView, core_of}
 use Rattle.core_thread_system.specs.declared.program.Step.{Step}
 use Rattle.litmus_test.specs.declared.test.Action.{Action}
 use Rattle.litmus_test.specs.declared.test.Thread.{Thread}
-use Rattle.litmus_threads.specs.Crew.{AreDealt, has_thread}
-use Rattle.litmus_threads.specs.Program.{IsProgramOf}
-use Rattle.litmus_threads.specs.Threads.{steps_at, thread_at}
-use Rattle.litmus_threads.proofs.Replies.{zip-push}
+use Rattle.litmus_threads.specs.Crew.{AreDealt, has_thread, program_for}
+use Rattle.litmus_threads.specs.Program.{generator_of, program_of}
+use Rattle.litmus_threads.specs.Threads.{thread_at}
 
 -- a core that passes a test goes behind those that did
 passes : (test : CoreView → Bool) (cores : List CoreView) (v : CoreView) → test v ≡ true
@@ -30,32 +29,33 @@ fails test cores v so =
     ∙ append-nil (filter test cores)
 
 -- one core more that has a thread
-pub thread-dealt : (threads : List Thread) (cores working : List CoreView) (programs : List (List Step))
+pub thread-dealt : (threads : List Thread) (seed round : ℕ) (cores working : List CoreView) (programs : List (List Step))
     (idle : List CoreView) (v : CoreView) (thread : Thread) (program : List Step)
     → Some thread ≡ thread_at threads v.core
-    → IsProgramOf thread.steps.items program → AreDealt threads cores working programs idle
-    → AreDealt threads (cores ++ v ∷ []) (working ++ v ∷ []) (programs ++ program ∷ []) idle
-thread-dealt threads cores working programs idle v thread program found its dealt =
+    → program ≡ program_of (generator_of seed round v.core) thread.steps.items
+    → AreDealt threads seed round cores working programs idle
+    → AreDealt threads seed round (cores ++ v ∷ []) (working ++ v ∷ []) (programs ++ program ∷ []) idle
+thread-dealt threads seed round cores working programs idle v thread program found its dealt =
     let has : has_thread threads v ≡ true = ap is_some (sym found) in
     record {
       working_are =
           ap (λ (ws : List CoreView). ws ++ v ∷ []) dealt.working_are
           ∙ sym (passes (has_thread threads) cores v has);
       programs_are =
-          zip-push (λ (w : CoreView) (p : List Step). IsProgramOf (steps_at threads w.core) p)
-          working programs v program
-          dealt.programs_are
-          (subst (λ (t : Option Thread). IsProgramOf (option_map_or (λ thread. thread.steps.items) t []) program) found
-          its);
+          ap (λ (ps : List (List Step)). ps ++ program ∷ []) dealt.programs_are
+          ∙ ap (λ (p : List Step). map (program_for threads seed round) working ++ p ∷ [])
+          (its ∙ ap (λ (t : Option Thread). program_of (generator_of seed round v.core)
+          (option_map_or (λ thread. thread.steps.items) t [])) found)
+          ∙ sym (map-append (program_for threads seed round) working (v ∷ []));
       idle_are = dealt.idle_are ∙ sym (fails (λ w. not (has_thread threads w)) cores v (ap not has));
     }
 
 -- one core more that has none
-pub idle-dealt : (threads : List Thread) (cores working : List CoreView) (programs : List (List Step))
+pub idle-dealt : (threads : List Thread) (seed round : ℕ) (cores working : List CoreView) (programs : List (List Step))
     (idle : List CoreView) (v : CoreView) → None ≡ thread_at threads v.core
-    → AreDealt threads cores working programs idle → AreDealt threads (cores ++ v ∷ []) working
-    programs (idle ++ v ∷ [])
-idle-dealt threads cores working programs idle v found dealt =
+    → AreDealt threads seed round cores working programs idle
+    → AreDealt threads seed round (cores ++ v ∷ []) working programs (idle ++ v ∷ [])
+idle-dealt threads seed round cores working programs idle v found dealt =
     let has : has_thread threads v ≡ false = ap is_some (sym found) in
     record {
       working_are = dealt.working_are ∙ sym (fails (has_thread threads) cores v has);
@@ -67,26 +67,28 @@ idle-dealt threads cores working programs idle v found dealt =
 
 -- The same, where the program was made and its core put to work.
 pub thread-taken : {P E : Type 0} (made : Result P E) (steps_in : P → List Step) (threads : List Thread)
-    (cores working grown : List CoreView) (programs more : List (List Step)) (idle : List CoreView) (v : CoreView)
+    (seed round : ℕ) (cores working grown : List CoreView) (programs more : List (List Step)) (idle : List CoreView) (v : CoreView)
     (thread : Thread) (shown : List Action)
     → IsOkAnd made (λ program. (grown ≡ working ++ v ∷ []) × (more ≡ programs ++ steps_in program ∷ []))
     → Some thread ≡ thread_at threads v.core → shown ≡ thread.steps.items
-    → IfOk made (λ program. IsProgramOf shown (steps_in program)) → AreDealt threads cores working programs idle
-    → AreDealt threads (cores ++ v ∷ []) grown more idle
-thread-taken (Ok program) steps_in threads cores working grown programs more idle v thread shown put found is its dealt =
-    let own : IsProgramOf thread.steps.items (steps_in program) =
-    subst (λ (steps : List Action). IsProgramOf steps (steps_in program)) is its in
-    subst (λ (ws : List CoreView). AreDealt threads (cores ++ v ∷ []) ws more idle) (sym put.0)
-    (subst (λ (ps : List (List Step)). AreDealt threads (cores ++ v ∷ []) (working ++ v ∷ []) ps idle) (sym put.1)
-    (thread-dealt threads cores working programs idle v thread (steps_in program) found own dealt))
-thread-taken (Err e) steps_in threads cores working grown programs more idle v thread shown put found is its dealt =
+    → IfOk made (λ program. steps_in program ≡ program_of (generator_of seed round v.core) shown)
+    → AreDealt threads seed round cores working programs idle
+    → AreDealt threads seed round (cores ++ v ∷ []) grown more idle
+thread-taken (Ok program) steps_in threads seed round cores working grown programs more idle v thread shown put found is its dealt =
+    let own : steps_in program ≡ program_of (generator_of seed round v.core) thread.steps.items =
+    its ∙ ap (program_of (generator_of seed round v.core)) is in
+    subst (λ (ws : List CoreView). AreDealt threads seed round (cores ++ v ∷ []) ws more idle) (sym put.0)
+    (subst (λ (ps : List (List Step)). AreDealt threads seed round (cores ++ v ∷ []) (working ++ v ∷ []) ps idle)
+    (sym put.1)
+    (thread-dealt threads seed round cores working programs idle v thread (steps_in program) found own dealt))
+thread-taken (Err e) steps_in threads seed round cores working grown programs more idle v thread shown put found is its dealt =
     absurd put
 
 -- The cores of ports, one more.
-pub deal-more : (threads : List Thread) (sets : List SetView) (set : SetView) (v : CoreView) (working : List CoreView)
+pub deal-more : (threads : List Thread) (seed round : ℕ) (sets : List SetView) (set : SetView) (v : CoreView) (working : List CoreView)
     (programs : List (List Step)) (idle : List CoreView) → v ≡ core_of set
-    → AreDealt threads (map core_of sets ++ v ∷ []) working programs idle
-    → AreDealt threads (map core_of (sets ++ set ∷ [])) working programs idle
-deal-more threads sets set v working programs idle is dealt =
-    subst (λ (cores : List CoreView). AreDealt threads cores working programs idle)
+    → AreDealt threads seed round (map core_of sets ++ v ∷ []) working programs idle
+    → AreDealt threads seed round (map core_of (sets ++ set ∷ [])) working programs idle
+deal-more threads seed round sets set v working programs idle is dealt =
+    subst (λ (cores : List CoreView). AreDealt threads seed round cores working programs idle)
     (ap (λ (w : CoreView). map core_of sets ++ w ∷ []) is ∙ sym (map-append core_of sets (set ∷ []))) dealt

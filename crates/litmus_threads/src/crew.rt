@@ -1,9 +1,11 @@
 ghost use Rattle.std.specs.Prelude.{◌≡◌, ◌∷◌, [], ◌++◌, List, IfOk, IsOkAnd, OnOk, map};
 ghost use Rattle.core_thread_system.specs.Core.{CoreView, core_of};
 ghost use Rattle.litmus_threads.specs.Crew.{AreDealt};
+ghost use Rattle.litmus_threads.specs.Program.{generator_of};
 
 use super::program::program_of;
 use super::threads::thread_at;
+use address_map::CoreId;
 use core_thread::Job;
 use core_thread_system::{All, Core, Outcome, PortSet, Step, System, SystemKeys};
 use litmus_test::Thread;
@@ -21,15 +23,16 @@ pub(crate) struct Crew<'a, F: MissFile, M: SystemKeys> {
 }
 
 impl<'a, F: MissFile, M: SystemKeys> Crew<'a, F, M> {
-    /// Gives each core that has a thread a job with a program of the thread.
+    /// Gives each core that has a thread a job with a program of the thread, for this round.
     pub(crate) fn deal(
         alloc: Global,
         system: &'a System<F, All<M>>,
         sets: Vec<PortSet<All<M>>>,
         threads: &[Thread],
         seed: u64,
+        round: u64,
     ) -> Result<Crew<'a, F, M>, AllocError>
-        ensures { IfOk result (λ crew. AreDealt threads.now (map core_of sets.items)
+        ensures { IfOk result (λ crew. AreDealt threads.now seed round (map core_of sets.items)
             (map (λ job. job.core) crew.jobs.items) (map (λ job. job.program.items) crew.jobs.items) crew.idle.items) }
     {
         let mut crew = Crew {
@@ -37,29 +40,30 @@ impl<'a, F: MissFile, M: SystemKeys> Crew<'a, F, M> {
             idle: Vec::new(alloc),
         };
         for set in sets {
-            crew.take(alloc, Core::new(system, set), threads, seed)?;
+            crew.take(alloc, Core::new(system, set), threads, seed, round)?;
         }
         Ok(crew)
     }
 
-    // Takes one more core. Its turns are drawn from the seed and its number.
+    // Takes one more core. Its turns are drawn from the seed, the round and its number.
     fn take(
         &mut self,
         alloc: Global,
         core: Core<'a, F, All<M>>,
         threads: &[Thread],
         seed: u64,
+        round: u64,
     ) -> Result<(), AllocError>
         ensures { OnOk result ((cores : List CoreView) →
-            AreDealt threads.now cores (map (λ job. job.core) self.old.jobs.items)
+            AreDealt threads.now seed round cores (map (λ job. job.core) self.old.jobs.items)
             (map (λ job. job.program.items) self.old.jobs.items) self.old.idle.items →
-            AreDealt threads.now (cores ++ core.entry ∷ []) (map (λ job. job.core) self.new.jobs.items)
+            AreDealt threads.now seed round (cores ++ core.entry ∷ []) (map (λ job. job.core) self.new.jobs.items)
             (map (λ job. job.program.items) self.new.jobs.items) self.new.idle.items) }
     {
-        match thread_at(threads, core.core()) {
+        let number = core.core();
+        match thread_at(threads, number) {
             Some(thread) => {
-                let seed = seed.wrapping_add(u64::from(core.core().0));
-                let mut words = Xoshiro256PlusPlus::seed_from_u64(seed);
+                let mut words = generator_of(seed, round, number);
                 let program = program_of(alloc, &thread.steps, &mut words);
                 put_to_work(&mut self.jobs, core, program)?;
             }
@@ -90,6 +94,16 @@ impl<'a, F: MissFile, M: SystemKeys> Crew<'a, F, M> {
         }
         Ok(cores)
     }
+}
+
+// The generator of a core's turns in a round: there are at most 64 cores, so each has a seed of its own in each.
+fn generator_of(seed: u64, round: u64, core: CoreId) -> Xoshiro256PlusPlus
+    ensures { result ≡ generator_of seed round core }
+{
+    let seed = seed
+        .wrapping_add(round.wrapping_mul(64))
+        .wrapping_add(u64::from(core.0));
+    Xoshiro256PlusPlus::seed_from_u64(seed)
 }
 
 // Appends a job with this program, if there was memory for one. Otherwise the core is dropped in one call: at a `?` it

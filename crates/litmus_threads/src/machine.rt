@@ -90,8 +90,7 @@ fn on_system<F: MissFile + Send, M: SystemKeys + Send + Sync, R: Threads + Wait 
     ensures { IfOk result (λ found. IfSome found (λ values.
         IsFoundOn M.setup test.now.threads.items plan.now.soughts.items values.items)) }
 {
-    let seed = plan.seed.wrapping_add(round.wrapping_mul(64));
-    let mut crew = Crew::deal(plan.alloc, system, sets, &test.threads, seed)?;
+    let mut crew = Crew::deal(plan.alloc, system, sets, &test.threads, plan.seed, round)?;
     let started = run_all(rt, system, &mut crew.jobs, plan.movers, &Open, plan.limit);
     let ended = crew.has_ended();
     let cores = crew.cores()?;

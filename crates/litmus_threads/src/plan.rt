@@ -27,7 +27,8 @@ impl Plan {
         seed: u64,
         limit: u64,
     ) -> Result<Plan, AllocError>
-        ensures { IfOk result (λ plan. plan.soughts.items ≡ soughts_of test.now) }
+        ensures soughts { IfOk result (λ plan. plan.soughts.items ≡ soughts_of test.now) }
+        ensures movers { IfOk result (λ plan. plan.movers.count ≡ test.now.movers) }
     {
         let soughts = Sought::all(alloc, test)?;
         let Some(movers) = Movers::new(test.movers) else {

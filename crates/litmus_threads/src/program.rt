@@ -1,9 +1,9 @@
 ghost use Rattle.std.specs.Prelude.{◌≡◌, IfOk};
-ghost use Rattle.litmus_threads.specs.Program.{IsProgramOf, step_of};
+ghost use Rattle.litmus_threads.specs.Program.{program_of, step_of};
 
 use core_thread_system::Step;
 use litmus_test::Action;
-use rand_core::Rng;
+use rand_core::utils::NextWord;
 use rand_xoshiro::Xoshiro256PlusPlus;
 use std::alloc::{AllocError, Global};
 
@@ -14,11 +14,11 @@ pub(crate) fn program_of(
     steps: &[Action],
     words: &mut Xoshiro256PlusPlus,
 ) -> Result<Vec<Step>, AllocError>
-    ensures { IfOk result (λ program. IsProgramOf steps.now program.items) }
+    ensures { IfOk result (λ program. program.items ≡ program_of words.old steps.now) }
 {
     let mut program = Vec::new(alloc);
     for step in steps {
-        program.push(Step::Turns((words.next_u64() % 4) as u8))?;
+        program.push(Step::Turns((words.next_word() % 4) as u8))?;
         program.push(step_of(*step))?;
     }
     Ok(program)

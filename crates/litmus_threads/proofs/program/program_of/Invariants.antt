@@ -1,6 +1,7 @@
-use Rattle.std.proofs.Common.{take}
-use Rattle.litmus_threads.specs.Program.{IsProgramOf}
+use Rattle.std.proofs.Common.{◌≡◌, ◌++◌, drop}
+use Rattle.litmus_threads.specs.Program.{program_of}
 use Rattle.litmus_threads.proofs.program.program_of.Given as goal
 
+-- the program so far, and that of the steps which are left
 abbrev pub invariant-loop-step : goal.invariant-loop-step
-invariant-loop-step l = IsProgramOf (take l.step-index l.steps) l.program.items
+invariant-loop-step l = program_of l.fn.words l.steps ≡ l.program.items ++ program_of l.words (drop l.step-index l.steps)

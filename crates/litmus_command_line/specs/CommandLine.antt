@@ -62,7 +62,11 @@ number_rule name = record (new_rule name) {
   parser = Some (parsers.Unsigned 0 18446744073709551615);
 }
 
--- such an option, which has this value where it is given none
+-- .. from 1 on
+abbrev pub positive_rule : Text → Rule
+positive_rule name = record (number_rule name) { parser = Some (parsers.Unsigned 1 18446744073709551615) }
+
+-- an option that takes a number, which has this value where it is given none
 abbrev pub number_rule_or : Text → Text → Rule
 number_rule_or name value = record (number_rule name) { defaults = value ∷ [] }
 
@@ -78,7 +82,7 @@ abbrev pub walk_app : App
 walk_app =
     with_rule
     (with_rule
-    (with_rule (with_rule (new_app (codes "walk")) file_rule) (number_rule (codes "rounds")))
+    (with_rule (with_rule (new_app (codes "walk")) file_rule) (positive_rule (codes "rounds")))
     (number_rule_or (codes "seed") (codes "1")))
     (flag_rule (codes "script"))
 

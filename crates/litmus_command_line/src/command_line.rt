@@ -6,12 +6,13 @@ ghost use Rattle.litmus_command_line.specs.CommandLine.{answering_app, file_rule
 ghost use Rattle.litmus_command_line.specs.CommandLine.{script_app, test_app, top_app, word_of};
 ghost use Rattle.litmus_command_line.specs.CommandLine.{IsNumberOf, IsNumberIfGiven, litmus_app, number_rule};
 ghost use Rattle.litmus_command_line.specs.CommandLine.{IsExport, IsOpenExport, number_rule_or, run_app, try_app};
-ghost use Rattle.litmus_command_line.specs.CommandLine.{walk_app, word_of_number};
+ghost use Rattle.litmus_command_line.specs.CommandLine.{positive_rule, walk_app, word_of_number};
 ghost use Rattle.std.specs.Option.{option_map};
 ghost use Rattle.clap.specs.Words.{app_of, found_of, rows_of, rule_of, first_of, subcommand_rows_of};
 
 use super::export::ModelCores;
 use super::table::Table;
+use clap::builder::ValueParser;
 use clap::error::ErrorKind;
 use clap::{Arg, ArgAction, ArgMatches, Command, Error, value_parser};
 use std::alloc::{AllocError, Global};
@@ -427,7 +428,7 @@ fn walk<'a>(alloc: Global) -> Result<Command<'a>, AllocError>
         .about("Runs a litmus test on random schedules, without threads, and counts its outcomes")
         .after_help(help::WALK)
         .arg(file(alloc, "The litmus test; - is standard input"))?
-        .arg(number(
+        .arg(positive_number(
             alloc,
             "rounds",
             "How many rounds, and not as many as the test says",
@@ -555,6 +556,14 @@ fn number<'a>(alloc: Global, name: &'a str, help: &'a str) -> Arg<'a>
         .value_name("N")
         .help(help)
         .value_parser(value_parser!(u64))
+}
+
+/// .. from 1 on.
+fn positive_number<'a>(alloc: Global, name: &'a str, help: &'a str) -> Arg<'a>
+    ensures rule { rule_of result ≡ positive_rule name.entry.now }
+    ensures plain { result.global ≡ false }
+{
+    number(alloc, name, help).value_parser(ValueParser::unsigned(1, u64::MAX))
 }
 
 /// An option with a number, which is this one where none is given.

@@ -8,8 +8,8 @@ pub returns-clause-reads : goal.returns-clause-reads
 returns-clause-reads c =
     let named : app_of c.after_help.result ≡ new_app (codes "walk") = search rules in
     let file = c.in_ok-arg.ensures.shape c.file.ensures.plain ∙ ap₂ with_rule named c.file.ensures.rule in
-    let rounds = c.in_ok-arg-2.ensures.shape c.number.ensures.plain
-    ∙ ap₂ with_rule file c.number.ensures.rule in
+    let rounds = c.in_ok-arg-2.ensures.shape c.positive_number.ensures.plain
+    ∙ ap₂ with_rule file c.positive_number.ensures.rule in
     let seed = c.in_ok-arg-3.ensures.shape c.number_or.ensures.plain
     ∙ ap₂ with_rule rounds c.number_or.ensures.rule in
     IfOk-weaker c.arg-4.result _ _
@@ -20,7 +20,7 @@ pub returns-clause-plain : goal.returns-clause-plain
 returns-clause-plain c =
     let none : (fields_of c.after_help.result).has_globals ≡ false = search rules in
     let file = c.in_ok-arg.ensures.globals ∙ ap₂ (λ a b. a || b) none c.file.ensures.plain in
-    let rounds = c.in_ok-arg-2.ensures.globals ∙ ap₂ (λ a b. a || b) file c.number.ensures.plain in
+    let rounds = c.in_ok-arg-2.ensures.globals ∙ ap₂ (λ a b. a || b) file c.positive_number.ensures.plain in
     let seed = c.in_ok-arg-3.ensures.globals ∙ ap₂ (λ a b. a || b) rounds c.number_or.ensures.plain in
     IfOk-weaker c.arg-4.result _ _
     (λ made adds. adds.globals ∙ ap₂ (λ a b. a || b) seed c.flag.ensures.plain)

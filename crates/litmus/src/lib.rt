@@ -8,13 +8,15 @@
 //! - [`run_prompt`] answers a script's lines one by one, and gives a [`Saver`] the script so far.
 //! - [`run_test`] tests a script against the answers that it wants.
 //! - [`run_litmus`] runs a litmus test over threads, and [`run_walk`] on random schedules without any; each counts the
-//!   outcomes, and tells a [`Progress`] how far it is. [`write_walk`] prints a round of such a schedule as a script.
+//!   outcomes, and tells a [`Progress`] how far it is, which with [`Silent`] nobody sees. [`write_walk`] prints a round
+//!   of such a schedule as a script.
 //! - [`run_programs`] runs programs on a random schedule, and reports what each core and each line met.
-//! - [`run_check`] judges a trace, and writes what it comes to.
+//! - [`check_trace`] judges a trace, and answers its [`Verdict`]; [`run_check`] writes what that comes to.
 //! - [`run_table`] prints a table of the protocol with its legend, and [`run_export`] the protocol of one line as a
 //!   model.
 //!
-//! Running, drawing, reading and walking are crates of their own.
+//! Running, drawing, reading and walking are crates of their own. What is wrong with a text, or why it can't be run or
+//! what comes of it can't be written, is a [`TextFault`].
 #![tactic(auto)]
 
 pub use check::run_check;
@@ -22,7 +24,8 @@ pub use export::run_export;
 pub use litmus_chart::run_chart;
 pub use litmus_command_line::{CommandLine, ModelCores, Table, read_line};
 pub use litmus_script::run_script;
-pub use litmus_test::Progress;
+pub use litmus_test::{Progress, Silent};
+pub use litmus_text::TextFault;
 pub use murphi_trace::run_trace;
 pub use program_run::{Form, run_programs};
 pub use script_beside::run_beside;
@@ -33,6 +36,7 @@ pub use script_test::run_test;
 pub use script_waves::run_waves;
 pub use table::run_table;
 pub use tests::{run_litmus, run_walk, write_walk};
+pub use trace_check::{Reason, Verdict, check_trace};
 
 mod check;
 mod export;

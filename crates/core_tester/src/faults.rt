@@ -7,7 +7,7 @@ use mshr_file::MissFile;
 use slice_core_answer::Evicted;
 use std::sync::Wait;
 
-/// The first core stores to a line of each slice, and gives that of slice 1 up. Answers whether all was done.
+/// The first core stores to a line of the first slice and one of the last, and gives the latter up. Answers whether all was done.
 pub fn stores_and_leaves<F: MissFile, M: SystemKeys, R: Wait>(
     rt: &R,
     jobs: &mut [Job<'_, F, All<M>>],
@@ -17,15 +17,15 @@ pub fn stores_and_leaves<F: MissFile, M: SystemKeys, R: Wait>(
     };
     let program = [
         Step::Access(WordAddr(0), Op::Store(7)),
-        Step::Access(WordAddr(8), Op::Store(8)),
+        Step::Access(WordAddr(24), Op::Store(8)),
         Step::Settle,
-        Step::Evict(LineAddr(1)),
+        Step::Evict(LineAddr(3)),
     ];
     job.core.run(rt, &program, &Open, LIMIT) == Outcome::Finished
 }
 
 /// Whether an audit of the first two of three cores lacks the third, and one of all finds the first one's line on its
-/// way, in slice 1; once a line of slice 0 is on its way too, one finds that. Each gives back what it was given.
+/// way, in slice 3; once a line of slice 0 is on its way too, one finds that. Each gives back what it was given.
 pub fn faults_come<'a, F: MissFile, M: SystemKeys, R: AllocGlobal + Wait>(
     rt: &R,
     system: &System<F, All<M>>,
@@ -35,7 +35,7 @@ pub fn faults_come<'a, F: MissFile, M: SystemKeys, R: AllocGlobal + Wait>(
     let third = cores.pop();
     let (lacks, mut cores) = fails(rt, system, cores, AuditError::Missing(CoreId(2)), 2);
     let back = put_back(&mut cores, third);
-    let (second, mut cores) = fails(rt, system, cores, AuditError::NotQuiet(SliceId(1)), 3);
+    let (second, mut cores) = fails(rt, system, cores, AuditError::NotQuiet(SliceId(3)), 3);
     let leaves = first_leaves(rt, &mut cores);
     let (first, cores) = fails(rt, system, cores, AuditError::NotQuiet(SliceId(0)), 3);
     (lacks && back && second && leaves && first, cores)

@@ -1,12 +1,13 @@
 ghost use Rattle.std.specs.Prelude.{◌≡◌};
 ghost use Rattle.receipt_shares.specs.Names.{AreLedgersOf};
 
-use super::adding::{LIMIT, all_add};
+use super::adding::{LIMIT, Work, all_add};
 use super::faults::{faults_come, stores_and_leaves};
 use super::found::is_found;
+use super::gates::gates_are_told;
 use super::meeting::{both_meet, other_slice_answers};
 use super::moving::messages_move;
-use super::programs::{large_sum, programs_end};
+use super::programs::{large_sum, programs_end, tags_are_taken, thousands_are_made};
 use super::row::Row;
 use super::turns::{rounds_count, turns_count};
 use super::want::{add_in_want, is_found_again};
@@ -118,12 +119,16 @@ fn run<
     match row {
         Row::Programs => Ok(programs_end(rt, jobs)),
         Row::LargeSum => Ok(large_sum(rt, jobs)),
-        Row::FourThreads => all_add(rt, system, jobs, 1000),
-        Row::ManyThreads => all_add(rt, system, jobs, 10),
+        Row::Tags => Ok(tags_are_taken(rt, jobs)),
+        Row::ManyRequests => Ok(thousands_are_made(rt, jobs)),
+        Row::FourThreads => all_add(rt, system, jobs, Work::Counters, 2000),
+        Row::ManyThreads => all_add(rt, system, jobs, Work::Counters, 20),
+        Row::OwnWords => all_add(rt, system, jobs, Work::OwnWords, 2400),
         Row::Faults => Ok(stores_and_leaves(rt, jobs)),
         Row::TwoSlices => Ok(other_slice_answers(rt, system, jobs)),
         Row::TwoCores => both_meet(rt, system, jobs),
-        Row::Turns => Ok(turns_count(rt, jobs)),
+        Row::Gates => Ok(gates_are_told(rt, system, jobs)),
+        Row::Turns => Ok(turns_count(rt, system, jobs)),
         Row::Movers => messages_move(rt, system, jobs),
         Row::InWant => add_in_want(rt, system, jobs),
     }

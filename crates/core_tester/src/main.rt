@@ -3,7 +3,7 @@
 //!
 //! It prints a line for each of these, or the first difference, and then it ends with status 1.
 //!
-//! `core_tester again` lets four threads add to two counters a hundred times instead, and 64 threads four times, and
+//! `core_tester again` lets four threads add to four counters a hundred times instead, and 64 threads four times, and
 //! prints one line: that all came out as wanted, or which run was the first that didn't (tests/runs).
 //!
 //! `core_tester memory` tries one small row in one setting, and says whether a request, a thread or the audit wanted
@@ -22,12 +22,14 @@ mod again;
 mod faults;
 mod flags;
 mod found;
+mod gates;
 mod machine;
 mod meeting;
 mod moving;
 mod programs;
 mod row;
 mod setting;
+mod sight;
 mod turns;
 mod want;
 

@@ -47,7 +47,7 @@ impl<F: MissFile> Question<F> for UntilAnswered<'_> {
     }
 }
 
-/// While one core looks at slice 0, another asks slice 1. Answers whether it was answered before the look ended.
+/// While one core looks at slice 0, another asks slice 3. Answers whether it was answered before the look ended.
 pub fn other_slice_answers<
     F: MissFile + Send,
     M: SystemKeys + Send + Sync,
@@ -89,7 +89,7 @@ fn looks<F: MissFile, M: SystemKeys, R: Wait>(
     core.inspect(rt, SliceId(0), UntilAnswered { flags })
 }
 
-/// Asks for the counter of slice 1 once the look has begun.
+/// Asks for the counter of slice 3 once the look has begun.
 fn asks<F: MissFile, M: SystemKeys, R: Wait>(
     rt: &R,
     core: &mut Core<'_, F, All<M>>,
@@ -100,7 +100,7 @@ fn asks<F: MissFile, M: SystemKeys, R: Wait>(
     }
     let request = Request {
         op: Op::Load,
-        word: COUNTERS[1],
+        word: COUNTERS[3],
         tag: 0,
     };
     let answer = core.issue(rt, request);

@@ -1,102 +1,96 @@
-use super::row::COUNTERS;
-use address_map::{CoreId, Op};
+use super::row::{COUNTERS, SLICES};
+use super::sight::{taken, with_more};
+use address_map::{LineAddr, Op, WordAddr};
 use core_thread::Job;
-use core_thread_system::{All, Core, Gate, Open, Outcome, Step, System, SystemKeys};
+use core_thread_system::{All, Core, Open, Outcome, Step, System, SystemKeys};
 use drain::{Drain, drain};
 use mshr_file::MissFile;
 use std::sync::Wait;
-use std::sync::atomic::Ordering::SeqCst;
-use std::sync::atomic::{AtomicBool, AtomicUsize};
 
-/// One core's runs make exactly the turns that they are allowed and tell their gate of each request; at the end a miss
-/// is left on its way. Answers whether each run ended as wanted.
+/// A run of one step, and what it comes to.
+#[derive(Clone, Copy)]
+struct OneStep {
+    step: Step,
+    /// How many turns it may make.
+    limit: u64,
+    outcome: Outcome,
+    /// The core's tags in flight behind it: bit t for tag t.
+    tags: u64,
+    /// How many messages the slice has taken by then.
+    taken: u64,
+}
+
+const fn once(step: Step, limit: u64, outcome: Outcome, tags: u64, taken: u64) -> OneStep {
+    OneStep {
+        step,
+        limit,
+        outcome,
+        tags,
+        taken,
+    }
+}
+
+/// A miss, a request that joins it and one that hits, and the eviction of their line. A turn collects a reply before it
+/// moves a message: the first moves the request, the second the data, the third and the fourth collect. Nothing but
+/// turns moves anything.
+const fn steps(line: LineAddr) -> [OneStep; 14] {
+    let load = Step::Access(WordAddr(8 * (line.0 % 16)), Op::Load);
+    let evict = Step::Evict(line);
+    [
+        once(load, 0, Outcome::Finished, 0b01, 0),
+        once(load, 0, Outcome::Finished, 0b11, 0),
+        once(evict, 0, Outcome::Finished, 0b11, 0),
+        once(Step::Settle, 0, Outcome::Limit(0), 0b11, 0),
+        once(Step::Settle, 3, Outcome::Limit(0), 0b10, 2),
+        once(load, 0, Outcome::Finished, 0b10, 2),
+        once(Step::Settle, 1, Outcome::Finished, 0, 2),
+        once(evict, 0, Outcome::Finished, 0, 2),
+        once(Step::Turns(1), 0, Outcome::Limit(0), 0, 2),
+        once(Step::Turns(1), 1, Outcome::Finished, 0, 3),
+        once(Step::Turns(1), 1, Outcome::Finished, 0, 4),
+        once(Step::Turns(255), 254, Outcome::Limit(0), 0, 4),
+        once(Step::Turns(255), 255, Outcome::Finished, 0, 4),
+        once(Step::Settle, 0, Outcome::Finished, 0, 4),
+    ]
+}
+
+/// In each slice one core makes these runs of a line that is no counter's; at the end a miss in the last slice is left
+/// on its way. Answers whether each run came to what was wanted.
 pub fn turns_count<F: MissFile, M: SystemKeys, R: Wait>(
     rt: &R,
+    system: &System<F, All<M>>,
     jobs: &mut [Job<'_, F, All<M>>],
 ) -> bool {
     let Some(job) = jobs.first_mut() else {
         return false;
     };
-    let core = &mut job.core;
-    let counted = miss_takes_three(rt, core) && so_many_are_made(rt, core);
-    let told = is_told(rt, core);
-    counted && told && left_on_its_way(rt, core)
-}
-
-/// A miss takes three turns: the first moves the request, the second the data, and the third collects the reply, before
-/// it moves anything.
-fn miss_takes_three<F: MissFile, M: SystemKeys, R: Wait>(
-    rt: &R,
-    core: &mut Core<'_, F, All<M>>,
-) -> bool {
-    let program = [Step::Access(COUNTERS[0], Op::Load), Step::Settle];
-    core.run(rt, &program, &Open, 2) == Outcome::Limit(1)
-        && core.run(rt, &[Step::Settle], &Open, 0) == Outcome::Limit(0)
-        && core.run(rt, &[Step::Settle], &Open, 1) == Outcome::Finished
-        && core.tags_in_flight() == 0
-}
-
-/// A step of three turns needs three.
-fn so_many_are_made<F: MissFile, M: SystemKeys, R: Wait>(
-    rt: &R,
-    core: &mut Core<'_, F, All<M>>,
-) -> bool {
-    core.run(rt, &[Step::Turns(3)], &Open, 2) == Outcome::Limit(0)
-        && core.run(rt, &[Step::Turns(3)], &Open, 3) == Outcome::Finished
-}
-
-/// What a gate was told of a core's requests.
-#[derive(Drop)]
-struct Told {
-    before: AtomicUsize,
-    after: AtomicUsize,
-    /// Whether a request had another number than the one that came next, or was told of out of turn.
-    wrong: AtomicBool,
-}
-
-impl Gate for Told {
-    fn before<R: Wait>(&self, _rt: &R, core: CoreId, call: u64) {
-        let earlier = self.before.fetch_add(1, SeqCst);
-        if core != CoreId(0) || call != next(earlier) || self.after.load(SeqCst) != earlier {
-            self.wrong.store(true, SeqCst);
+    for slice in 0..SLICES {
+        if !come_to(rt, system, &mut job.core, slice) {
+            return false;
         }
     }
+    let miss = [Step::Access(COUNTERS[3], Op::Add(1))];
+    job.core.run(rt, &miss, &Open, 0) == Outcome::Finished
+}
 
-    fn after<R: Wait>(&self, _rt: &R, core: CoreId, call: u64) {
-        let earlier = self.after.fetch_add(1, SeqCst);
-        if core != CoreId(0) || call != next(earlier) || self.before.load(SeqCst) as u64 != call {
-            self.wrong.store(true, SeqCst);
+/// Whether the runs come to what is wanted in a slice, and no message is taken in another.
+fn come_to<F: MissFile, M: SystemKeys, R: Wait>(
+    rt: &R,
+    system: &System<F, All<M>>,
+    core: &mut Core<'_, F, All<M>>,
+    slice: usize,
+) -> bool {
+    let before = taken(rt, system);
+    for step in steps(LineAddr(8 + (slice % SLICES) as u64)) {
+        let outcome = core.run(rt, &[step.step], &Open, step.limit);
+        if outcome != step.outcome
+            || core.tags_in_flight() != step.tags
+            || taken(rt, system) != with_more(before, slice, step.taken)
+        {
+            return false;
         }
     }
-}
-
-/// The number of the request behind so many.
-fn next(earlier: usize) -> u64 {
-    (earlier as u64).saturating_add(1)
-}
-
-/// Whether a gate is told of each of three requests, before and after, with its number.
-fn is_told<F: MissFile, M: SystemKeys, R: Wait>(rt: &R, core: &mut Core<'_, F, All<M>>) -> bool {
-    let add = Step::Access(COUNTERS[0], Op::Add(1));
-    let told = Told {
-        before: AtomicUsize::new(0),
-        after: AtomicUsize::new(0),
-        wrong: AtomicBool::new(false),
-    };
-    let ended = core.run(rt, &[add, add, add, Step::Settle], &told, 100);
-    ended == Outcome::Finished
-        && told.before.load(SeqCst) == 3
-        && told.after.load(SeqCst) == 3
-        && !told.wrong.load(SeqCst)
-}
-
-/// A miss in slice 1 is left on its way.
-fn left_on_its_way<F: MissFile, M: SystemKeys, R: Wait>(
-    rt: &R,
-    core: &mut Core<'_, F, All<M>>,
-) -> bool {
-    let miss = [Step::Access(COUNTERS[1], Op::Add(1))];
-    core.run(rt, &miss, &Open, 0) == Outcome::Finished
+    true
 }
 
 /// Whether a drain makes the rounds that it is allowed: three for a miss, and none where nothing is on its way.

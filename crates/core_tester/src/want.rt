@@ -1,4 +1,4 @@
-use super::adding::{LIMIT, push_all};
+use super::adding::{LIMIT, Work, push_all};
 use super::found::is_found;
 use super::row::Row;
 use core_thread::{Job, Movers, RunError, run_all};
@@ -10,25 +10,35 @@ use std::alloc::AllocError;
 use std::sync::Wait;
 use std::thread::Threads;
 
-/// Each core adds one more than its number ten times to each counter, in a thread of its own, beside a mover. Where
-/// memory or a thread is wanting it says which, and lets the cores do what is left, one after the other. Answers
-/// whether all finished.
+/// Each core adds one more than its number ten times to each counter. Before that the jobs are run with nothing to do:
+/// what came of that says nothing of a job that isn't run the next time. Answers whether all finished.
 pub fn add_in_want<
     F: MissFile + Send,
     M: SystemKeys + Send + Sync,
     R: Print + Threads + Wait + Sync,
 >(rt: &R, system: &System<F, All<M>>, jobs: &mut [Job<'_, F, All<M>>]) -> Result<bool, AllocError> {
-    push_all(jobs, 10)?;
+    let idle = finish_in_want(rt, system, &mut *jobs);
+    push_all(jobs, Work::Counters, 40)?;
+    Ok(idle && finish_in_want(rt, system, jobs))
+}
+
+/// Runs each job in a thread of its own, beside a mover. Where memory or a thread is wanting it says which, and lets the
+/// cores do what is left, one after the other. Answers whether all finished.
+fn finish_in_want<
+    F: MissFile + Send,
+    M: SystemKeys + Send + Sync,
+    R: Print + Threads + Wait + Sync,
+>(rt: &R, system: &System<F, All<M>>, jobs: &mut [Job<'_, F, All<M>>]) -> bool {
     let Some(movers) = Movers::new(1) else {
-        return Ok(false);
+        return false;
     };
     let wanting = match run_all(rt, system, &mut *jobs, movers, &Open, LIMIT) {
         Err(RunError::Start) => "a thread isn't started",
-        Ok(()) if jobs.iter().all(|job| job.outcome == Outcome::Finished) => return Ok(true),
+        Ok(()) if jobs.iter().all(|job| job.outcome == Outcome::Finished) => return true,
         Ok(()) => "a request is refused",
     };
     let said = println!(rt; "{wanting}").is_ok();
-    Ok(said && finish_all(rt, jobs))
+    said && finish_all(rt, jobs)
 }
 
 /// Does what is left of each job. Answers whether all are finished then.

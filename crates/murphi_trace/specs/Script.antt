@@ -1,5 +1,5 @@
 -- The script of a run.
-use Rattle.std.specs.Prelude.{ℕ, zero, suc, ◌+◌, ◌%◌, ◌==◌, max, Bool, true, false, List, [], ◌∷◌, ◌++◌, Option, None}
+use Rattle.std.specs.Prelude.{◌≡◌, ℕ, zero, suc, ◌+◌, ◌%◌, ◌==◌, max, Bool, true, false, List, [], ◌∷◌, ◌++◌, Option, None}
 use Rattle.std.specs.Prelude.{Some, codes, is_some, option_and_then, option_map}
 use Rattle.std.specs.List.{count_by, filter_map, flat_map, list_any}
 use Rattle.std.specs.Str.Lines.{lines}
@@ -12,6 +12,9 @@ use Rattle.litmus_text.specs.declared.command.Command.TheVariants as commands
 use Rattle.litmus_text.specs.declared.config_line.ConfigLine.{ConfigLine}
 use Rattle.litmus_text.specs.declared.config_line.ConfigLine.TheVariants as config_lines
 use Rattle.litmus_text.specs.declared.field.Count.TheVariants as counts
+use Rattle.litmus_text.specs.declared.fault.LineFault.TheVariants as line_faults
+use Rattle.litmus_text.specs.declared.fault.TextFault.{TextFault}
+use Rattle.litmus_text.specs.declared.fault.TextFault.TheVariants as faults
 use Rattle.script_text.specs.Line.{line_of_parts}
 use Rattle.script_text.specs.Settings.{text_of_lines}
 use Rattle.murphi_trace.specs.declared.rule.Rule.{Rule}
@@ -107,3 +110,15 @@ script_of trace =
     text_of_lines (machine_lines (greatest_core (steps_in (lines trace)) + 1)
     (list_any names_data_e (fired_in (lines trace))))
     ++ text_of_steps [] (steps_in (lines trace))
+
+-- some line of the text tells of a rule that fired
+abbrev pub is_trace : List ℕ → Bool
+is_trace text = list_any (λ line. is_some (fired_by line)) (lines text)
+
+-- why a text isn't written as a script: it is no trace, and nothing is written; or the output can't be written
+abbrev pub IsTraceFault : List ℕ → Option (List ℕ) → Option (List ℕ) → TextFault → Type 0
+IsTraceFault text before after (faults.Line number fault) =
+    (is_trace text ≡ false) × (number ≡ 1) × (fault ≡ line_faults.NotATrace) × (after ≡ before)
+IsTraceFault text before after (faults.Config error) = ⊥
+IsTraceFault text before after faults.NoMemory = ⊥
+IsTraceFault text before after faults.CannotWrite = is_trace text ≡ true

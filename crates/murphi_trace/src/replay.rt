@@ -1,5 +1,6 @@
 //! A trace as a script.
 ghost use Rattle.std.specs.Prelude.{◌≡◌, ℕ, ◌+◌, ◌<◌, [], ◌∷◌, ◌++◌, IfErr, IfOk, List, OnOk, option_map};
+ghost use Rattle.std.specs.Prelude.{true};
 ghost use Rattle.std.specs.Io.KnownBytes.{Appends};
 ghost use Rattle.std.specs.List.{list_any};
 ghost use Rattle.std.specs.Str.Lines.{lines};
@@ -9,7 +10,8 @@ ghost use Rattle.murphi_trace.specs.Fired.{fired_by, fired_in, name_and_cores};
 ghost use Rattle.murphi_trace.specs.Replay.{AreTags, IsAccess, core_told, data_e_told, last_tag, rules_with};
 ghost use Rattle.murphi_trace.specs.Replay.{text_of_told};
 ghost use Rattle.murphi_trace.specs.Rule.{last_core};
-ghost use Rattle.murphi_trace.specs.Script.{access_of, accesses_of, commands_of, greatest_core, hand_before};
+ghost use Rattle.murphi_trace.specs.Script.{IsTraceFault, access_of, accesses_of, commands_of, greatest_core};
+ghost use Rattle.murphi_trace.specs.Script.{hand_before, is_trace};
 ghost use Rattle.murphi_trace.specs.Script.{names_data_e, script_of, step_by, steps_in, text_of_commands};
 ghost use Rattle.murphi_trace.specs.Script.{text_of_steps};
 
@@ -18,7 +20,7 @@ use super::output::{put_command, put_comment, put_machine};
 use super::rule::{LINE, Rule};
 use super::tag::next_tag;
 use address_map::{CoreId, Op, Request, SliceId, WordAddr};
-use litmus_text::{Command, Lines, TextFault};
+use litmus_text::{Command, LineFault, Lines, TextFault};
 use std::fmt;
 use std::io::Write;
 
@@ -32,16 +34,32 @@ const SLICE: SliceId = SliceId(0);
 
 /// Writes the run that a trace tells of as a script: for each rule its name as a comment, and the commands that do the
 /// same. The machine has the cores that take part, and the exclusive state where a message of it comes up. All else of
-/// a trace is passed over. Answers the exit status.
+/// a trace is passed over, but a text in which nothing else stands is no trace. Answers the exit status.
 pub fn run_trace<W: Write>(trace: &[u8], out: &mut W) -> Result<u8, TextFault>
     ensures status { IfOk result (λ status. status ≡ 0) }
+    ensures trace { OnOk result (is_trace trace.now ≡ true) }
     ensures printed { OnOk result (Appends (W.contents out.old) (W.contents out.new) (script_of trace.now)) }
-    ensures fault { IfErr result (λ fault. fault ≡ TextFault.CannotWrite) }
+    ensures fault { IfErr result (IsTraceFault trace.now (W.contents out.old) (W.contents out.new)) }
 {
+    if !is_trace(trace) {
+        return Err(LineFault::NotATrace.at(1));
+    }
     match write_script(trace, out) {
         Ok(()) => Ok(0),
         Err(_) => Err(TextFault::CannotWrite),
     }
+}
+
+/// Whether some line tells of a rule that fired.
+fn is_trace(trace: &[u8]) -> bool
+    ensures { result ≡ is_trace trace.now }
+{
+    for line in Lines::of(trace) {
+        if Fired::told_by(line).is_some() {
+            return true;
+        }
+    }
+    false
 }
 
 fn write_script<W: Write>(trace: &[u8], out: &mut W) -> fmt::Result

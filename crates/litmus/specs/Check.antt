@@ -6,7 +6,7 @@ use Rattle.litmus_script.specs.Play.{IsOfRun}
 use Rattle.litmus_text.specs.Fault.{IsAtLine}
 use Rattle.litmus_text.specs.Statement.{statements_from}
 use Rattle.litmus_text.specs.declared.fault.TextFault.{TextFault}
-use Rattle.trace_check.specs.Trace.{IsFaultAt, IsJudged, IsNoTrace}
+use Rattle.trace_check.specs.Trace.{IsFaultAt, IsFaultOfTrace, IsJudged, IsNoTrace, IsOfLine}
 use Rattle.trace_check.specs.declared.verdict.Reason.{Reason}
 use Rattle.trace_check.specs.declared.verdict.Reason.TheVariants as reasons
 use Rattle.trace_check.specs.declared.verdict.Verdict.{Verdict}
@@ -35,8 +35,10 @@ pub record IsChecked (text : List ℕ) (before after : Option (List ℕ)) (statu
   pub printed : Appends before after (text_of_verdict verdict)
   pub is : status ≡ status_of verdict
 
--- Why a trace wasn't judged: there was no memory, its verdict couldn't be written, or the text is no trace, which the
--- first line at fault tells.
+-- Why a trace wasn't judged: there was no memory, its verdict couldn't be written, or the text is no trace. Then the
+-- fault names the first line at fault and says what is wrong with it.
 abbrev pub IsNotChecked : List ℕ → TextFault → Type 0
 IsNotChecked text fault =
-    IsOfRun fault ⊎ (IsNoTrace text × IsAtLine (IsFaultAt (statements_from 0 (lines text))) fault)
+    IsOfRun fault
+    ⊎ (IsNoTrace text × IsAtLine (IsFaultAt (statements_from 0 (lines text))) fault
+    × IsOfLine (IsFaultOfTrace (statements_from 0 (lines text))) fault)

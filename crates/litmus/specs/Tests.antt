@@ -2,6 +2,7 @@
 use Rattle.std.specs.Prelude.{ℕ, ◌⊎◌, List}
 use Rattle.std.specs.Str.Lines.{lines}
 use Rattle.litmus_script.specs.Play.{IsOfRun}
+use Rattle.litmus_test.specs.Fault.{IsFault}
 use Rattle.litmus_test.specs.Text.{IsFaultAt, IsLitmusTest, Said, said_by}
 use Rattle.litmus_test.specs.declared.test.LitmusTest.{LitmusTest}
 use Rattle.litmus_text.specs.Fault.{IsAtLine}
@@ -14,9 +15,10 @@ pub record IsOfTest (text : List ℕ) (holds : LitmusTest → Type 0) : Type 0 w
   pub written : IsLitmusTest text (said_by test)
   pub is : holds test
 
--- Why nothing was done with it: there was no memory, the output couldn't be written, or the text writes no test, which
--- the first line at fault tells.
+-- Why nothing was done with it: there was no memory, the output couldn't be written, or the text writes no test. Then the
+-- fault names the first line at fault and says what is wrong with it, or which field of the configuration is refused.
 abbrev pub IsTestNotRun : List ℕ → TextFault → Type 0
 IsTestNotRun text fault =
     IsOfRun fault
-    ⊎ (((whole : Said) → ¬ IsLitmusTest text whole) × IsAtLine (IsFaultAt (statements_from 0 (lines text))) fault)
+    ⊎ (((whole : Said) → ¬ IsLitmusTest text whole) × IsAtLine (IsFaultAt (statements_from 0 (lines text))) fault
+    × IsFault (statements_from 0 (lines text)) fault)

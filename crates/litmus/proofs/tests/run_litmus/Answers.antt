@@ -1,7 +1,8 @@
 use Rattle.std.specs.Prelude.{IfOk}
 use Rattle.std.specs.Io.KnownBytes.{Appends}
-use Rattle.std.proofs.lemmas.Result.{IfOk-weaker}
+use Rattle.std.proofs.lemmas.Result.{err_from_is_err_and, IfOk-weaker}
 use Rattle.litmus_threads.specs.Run.{IsEndOf}
+use Rattle.litmus.proofs.Faults.{not-run}
 use Rattle.litmus.proofs.tests.run_litmus.Goals as goal
 
 pub returns-clause-done : goal.returns-clause-done
@@ -15,3 +16,9 @@ returns-clause-done g c =
       written = read.ensures.written;
       is = ends;
     }) told
+
+pub returns-in_err-test-clause-fault : goal.returns-in_err-test-clause-fault
+returns-in_err-test-clause-fault g c =
+    let p = err_from_is_err_and c.from_residual.result c.from_residual.ensures.1 in
+    rw (p.1, p.2)
+    (not-run c.args.input.now _ c.in_err-test.ensures.refused c.in_err-test.ensures.line c.in_err-test.ensures.fault)

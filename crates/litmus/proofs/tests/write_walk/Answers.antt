@@ -1,4 +1,5 @@
-use Rattle.std.proofs.lemmas.Result.{IfOk-weaker}
+use Rattle.std.proofs.lemmas.Result.{err_from_is_err_and, IfOk-weaker}
+use Rattle.litmus.proofs.Faults.{not-run}
 use Rattle.litmus.proofs.tests.write_walk.Goals as goal
 
 pub returns-clause-done : goal.returns-clause-done
@@ -9,3 +10,9 @@ returns-clause-done g c =
       written = read.ensures.written;
       is = ends;
     }) c.write_walk-ended.ensures.printed
+
+pub returns-in_err-test-clause-fault : goal.returns-in_err-test-clause-fault
+returns-in_err-test-clause-fault g c =
+    let p = err_from_is_err_and c.from_residual.result c.from_residual.ensures.1 in
+    rw (p.1, p.2)
+    (not-run c.args.input.now _ c.in_err-test.ensures.refused c.in_err-test.ensures.line c.in_err-test.ensures.fault)

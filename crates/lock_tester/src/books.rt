@@ -3,13 +3,14 @@ ghost use Rattle.receipt_ledger.specs.Booked.{IsTied};
 ghost use Rattle.receipt_shares.specs.Names.{AreLedgersOf};
 
 use super::setting::{COUNTERS, configure, one_core};
-use address_map::{Checked, CoreId, LineAddr, Op, Request, SliceId};
+use super::twins::beside::Beside;
+use super::twins::call::{SliceCall, Told};
+use address_map::{Checked, CoreId, LineAddr, Op, Request, SliceId, WordAddr};
 use mshr_file::ExplicitFile;
 use receipt_ledger::{Alone, Answer, Book, LearnError, Port, Receipt};
 use receipt_shares::{Blanks, SliceNames};
 use slice_core::SliceState;
-use slice_core_answer::Delivered;
-use slice_core_log::Entry;
+use slice_core_answer::{Delivered, Refused};
 use slice_queues_message::Pick;
 use std::alloc::{AllocError, Global};
 use std::marker::Brand;
@@ -26,8 +27,9 @@ type State = SliceState<ExplicitFile>;
 /// whether each was answered so.
 pub fn books_answer(alloc: Global) -> Result<bool, AllocError> {
     let sums = sums_answered(alloc)?;
-    let learns = learns_answered(alloc)?;
-    Ok(sums && learns)
+    let learns = two_answered(alloc, Shown::Learns)?;
+    let ahead = two_answered(alloc, Shown::Ahead)?;
+    Ok(sums && learns && ahead)
 }
 
 fn sums_answered(alloc: Global) -> Result<bool, AllocError> {
@@ -41,7 +43,16 @@ fn sums_answered(alloc: Global) -> Result<bool, AllocError> {
     named_sums::<Brand>(alloc, &config, blanks)
 }
 
-fn learns_answered(alloc: Global) -> Result<bool, AllocError> {
+/// What a book with two ports shows.
+#[derive(Clone, Copy)]
+enum Shown {
+    /// A port learns of another one's receipt.
+    Learns,
+    /// A port that saw more than the state has is refused.
+    Ahead,
+}
+
+fn two_answered(alloc: Global, shown: Shown) -> Result<bool, AllocError> {
     let Some(config) = configure(alloc, false)? else {
         return Ok(false);
     };
@@ -49,7 +60,7 @@ fn learns_answered(alloc: Global) -> Result<bool, AllocError> {
         return Ok(false);
     }
     let blanks = Blanks::new(2);
-    named_learns::<Brand>(alloc, &config, blanks)
+    named_two::<Brand>(alloc, &config, blanks, shown)
 }
 
 fn named_sums<N: SliceNames>(
@@ -111,10 +122,11 @@ fn settled<N: SliceNames>(
     values.first().copied()
 }
 
-fn named_learns<N: SliceNames>(
+fn named_two<N: SliceNames>(
     alloc: Global,
     config: &Checked,
     blanks: Blanks,
+    shown: Shown,
 ) -> Result<bool, AllocError>
     requires slices { 0 < config.now.slices }
     requires setup { config.now ≡ N.setup }
@@ -128,7 +140,59 @@ fn named_learns<N: SliceNames>(
         SliceId(0),
         blanks,
     )?;
-    Ok(told_and_read(&mut state, &mut book, &mut ports))
+    match shown {
+        Shown::Learns => Ok(told_and_read(&mut state, &mut book, &mut ports)),
+        Shown::Ahead => meets_a_later_state(alloc, config, &mut state, &mut book, &mut ports),
+    }
+}
+
+fn meets_a_later_state<N: SliceNames>(
+    alloc: Global,
+    config: &Checked,
+    state: &mut State,
+    book: &mut Book<N>,
+    ports: &mut [Port<N>],
+) -> Result<bool, AllocError>
+    requires slices { 0 < config.now.slices }
+    requires tied { IsTied N.setup N.number book.old state.old }
+{
+    let mut later = Beside::build(alloc, config, SliceId(0))?;
+    Ok(is_ahead(state, &mut later, book, ports))
+}
+
+/// Whether a port that learns of the second entry of a later state is refused by one whose log is empty, by its length,
+/// and nothing has changed: another port is served.
+fn is_ahead<N: SliceNames>(
+    state: &mut State,
+    later: &mut Beside<ExplicitFile>,
+    book: &mut Book<N>,
+    ports: &mut [Port<N>],
+) -> bool
+    requires { IsTied N.setup N.number book.old state.old }
+{
+    let [adder, reader] = ports else {
+        return false;
+    };
+    match second_receipt(later) {
+        Some(receipt) => {
+            let learnt = book.learn(later.state(), reader, &receipt) == Ok(());
+            let refused = book.accept(state, reader, load(0)) == Err(Refused::Ahead(0));
+            let same = reader.seen() == 2 && reader.accepted() == 0;
+            learnt && refused && same && adds(state, book, adder).is_some()
+        }
+        None => false,
+    }
+}
+
+/// The receipt of the second of two adds in a state without a book: the second hits.
+fn second_receipt(later: &mut Beside<ExplicitFile>) -> Option<Receipt> {
+    let _ = later.issue(ADDER, add(0, 5));
+    let _ = later.make(SliceCall::Deliver(Pick::Req(LINE, ADDER)));
+    let _ = later.make(SliceCall::Deliver(Pick::Data(LINE, ADDER)));
+    match later.issue(ADDER, add(1, 5)) {
+        Told::Issued(Ok(Answer::Done(receipt))) => Some(receipt),
+        _ => None,
+    }
 }
 
 /// Whether the second port learns of what the first one added, and nothing else, and then reads it.
@@ -189,7 +253,7 @@ fn reads<N: SliceNames>(state: &mut State, book: &mut Book<N>, port: &mut Port<N
     pending && asked && forwarded && filled && right && seen && port.seen() == 2
 }
 
-/// Whether a receipt of another reply, number or slice is unknown, and the port has then seen no more.
+/// Whether a receipt of which a part was changed is unknown, and the port has then seen no more.
 fn learns_nothing_made_up<N: SliceNames>(
     book: &Book<N>,
     state: &State,
@@ -204,26 +268,29 @@ fn learns_nothing_made_up<N: SliceNames>(
     port.seen() == 2
 }
 
-/// The receipt with another reply, with another number and of another slice.
-pub fn made_up(receipt: &Receipt) -> [Receipt; 3] {
-    let replied = Entry {
-        reply: 6,
-        ..receipt.entry
-    };
-    [
-        Receipt {
-            entry: replied,
-            ..*receipt
-        },
-        Receipt {
-            number: 9,
-            ..*receipt
-        },
-        Receipt {
-            slice: SliceId(1),
-            ..*receipt
-        },
-    ]
+/// The receipt with each of its parts changed in turn.
+pub fn made_up(receipt: &Receipt) -> [Receipt; 9] {
+    let mut made_up = [*receipt; 9];
+    for (part, receipt) in made_up.iter_mut().enumerate() {
+        change(receipt, part);
+    }
+    made_up
+}
+
+/// Changes the part of this number.
+pub fn change(receipt: &mut Receipt, part: usize) {
+    let entry = &mut receipt.entry;
+    match part {
+        0 => entry.op = Op::Add(77),
+        1 => entry.word = WordAddr(entry.word.0 ^ 1),
+        2 => entry.seq ^= 1,
+        3 => entry.reply ^= 1,
+        4 => entry.since ^= 1,
+        5 => entry.core = CoreId(entry.core.0 ^ 1),
+        6 => entry.tag ^= 1,
+        7 => receipt.number = receipt.number.wrapping_add(1),
+        _ => receipt.slice = SliceId(receipt.slice.0 ^ 1),
+    }
 }
 
 /// Whether a delivery moves a message.

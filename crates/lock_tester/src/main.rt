@@ -1,7 +1,8 @@
 //! Lets two threads share one slice, many times over. Each asks for words through its core's port, collects replies and
 //! delivers messages until all that it asked for is handed out. Then the slice is settled with both ports: there is a
 //! receipt of each request, and each counter is what was added to it. Before that come calls whose answers were worked
-//! out by hand, behind the lock and on a slice's book alone.
+//! out by hand, behind the lock and on a slice's book alone. Behind it come such calls of two threads: each while the
+//! other looks at the slice, and both at once on a line each.
 //!
 //! Then two cores share a machine of two slices, in one thread: both add to a counter of each slice and take turns
 //! until all replies are handed out, and then each slice is settled with both cores. On another such machine one adds,
@@ -30,6 +31,7 @@ mod memory;
 mod round;
 mod setting;
 mod system;
+mod together;
 mod twins;
 mod work;
 mod worked;
@@ -39,6 +41,7 @@ use memory::ask_again;
 use round::one_round;
 use setting::configure;
 use system::SHARED;
+use together::TOGETHER;
 use twins::test_twins;
 use worked::WORKED;
 
@@ -46,7 +49,7 @@ use worked::WORKED;
 const ROUNDS: u32 = 100;
 
 /// Seeds of the calls on twins, where the command line names no other number.
-const SEEDS: u64 = 2;
+const SEEDS: u64 = 4;
 
 fn main(rt: HostRuntime) -> ExitCode {
     match run(&rt) {
@@ -80,6 +83,7 @@ fn test_all<R: AllocGlobal + Print + Threads + Wait + Sync>(rt: &R) -> io::Resul
         test_worked(rt)?
             && test_books(rt)?
             && test_settings(rt)?
+            && test_together(rt)?
             && test_systems(rt)?
             && test_twins(rt, SEEDS)?,
     )
@@ -165,6 +169,23 @@ fn test_rounds<F: MissFile + Send, R: AllocGlobal + Threads + Wait + Sync>(
         }
     }
     Ok(ROUNDS)
+}
+
+/// Lets two threads make calls whose answers are known. Answers whether each was answered so.
+fn test_together<R: AllocGlobal + Print + Threads + Wait + Sync>(rt: &R) -> io::Result<bool> {
+    for together in TOGETHER {
+        let is_right = together.test(rt)?;
+        let said = if is_right {
+            "as wanted"
+        } else {
+            "not as wanted"
+        };
+        println!(rt; "{together}: {said}")?;
+        if !is_right {
+            return Ok(false);
+        }
+    }
+    Ok(true)
 }
 
 /// Answers whether two cores got what was wanted of a machine of two slices.

@@ -48,22 +48,22 @@ fn named_round<
         || work(rt, &slice, &mut second),
     );
     drain(rt, &slice);
-    Ok(is_settled(rt, &slice, first, second))
+    Ok(is_settled(rt, &slice, first, second, total()))
 }
 
-/// Whether the slice settles with both ports, each with a receipt of each request, and each counter as it has to be.
-fn is_settled<F: MissFile, N: SliceNames, R: Wait>(
+/// Whether the slice settles with both ports, each with a receipt of each request, and each counter has this value.
+pub fn is_settled<F: MissFile, N: SliceNames, R: Wait>(
     rt: &R,
     slice: &Slice<F, N>,
     first: Port<N>,
     second: Port<N>,
+    wanted: u64,
 ) -> bool
     requires { N.setup.cores ≡ 2 }
 {
     let mut ports = [Alone { port: first }, Alone { port: second }];
     match slice.settle::<R, Alone<Port<N>>, 0>(rt, &mut ports) {
-        Ok(values) => values.len() == COUNTERS.len()
-            && values.iter().all(|value| *value == total()),
+        Ok(values) => values.len() == COUNTERS.len() && values.iter().all(|value| *value == wanted),
         Err(_) => false,
     }
 }

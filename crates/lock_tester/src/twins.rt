@@ -6,8 +6,8 @@ use mshr_file::{ExplicitFile, InvertedFile};
 use std::io;
 use std::sync::Wait;
 
-mod beside;
-mod call;
+pub mod beside;
+pub mod call;
 mod compare;
 mod cores;
 mod draw;

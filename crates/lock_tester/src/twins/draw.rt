@@ -1,5 +1,6 @@
 ghost use Rattle.std.specs.Prelude.{◌<◌};
 
+use super::super::books::change;
 use super::call::{Call, CoreCall, SliceCall};
 use super::setting::{CORES, LINES, Run, SLICES, Through};
 use address_map::{CoreId, LineAddr, Op, Request, SliceId, WordAddr};
@@ -56,8 +57,8 @@ impl Draw {
     fn core_call(&mut self, receipts: &[Receipt]) -> Call {
         let core = self.core();
         let call = match self.below(20) {
-            0..=9 => CoreCall::Issue(self.request()),
-            10 | 11 => CoreCall::Evict(self.line()),
+            0..=8 => CoreCall::Issue(self.request()),
+            9..=11 => CoreCall::Evict(self.line()),
             12 => CoreCall::Learn(self.receipt(receipts)),
             13 | 14 if self.through == Through::Cores => CoreCall::Turn,
             _ => CoreCall::Collect,
@@ -106,7 +107,7 @@ impl Draw {
     fn line(&mut self) -> LineAddr {
         let any = self.below(8) == 0;
         LineAddr(match self.through {
-            Through::Slice if !any => 2 * self.below(LINES / 2),
+            Through::Slice if !any => u64::from(SLICES) * self.below(LINES / u64::from(SLICES)),
             _ if any => self.below(LINES + LINES / 2),
             _ => self.below(LINES),
         })
@@ -163,19 +164,16 @@ impl Draw {
         }
     }
 
-    /// One of the receipts, half of the time changed in its reply, its number or its slice. Before there is any, one
-    /// that is made up.
+    /// One of the receipts, half of the time with a part changed. Before there is any, one that is made up.
     fn receipt(&mut self, receipts: &[Receipt]) -> Receipt {
         let place = self.below((receipts.len() as u64).max(1));
         let mut receipt = match receipts.get(place as usize) {
             Some(receipt) => *receipt,
             None => NEVER_GIVEN,
         };
-        match self.below(6) {
-            0 => receipt.entry.reply = receipt.entry.reply.wrapping_add(1),
-            1 => receipt.number = receipt.number.wrapping_add(1),
-            2 => receipt.slice = SliceId(receipt.slice.0 ^ 1),
-            _ => {}
+        let part = self.below(18);
+        if part < 9 {
+            change(&mut receipt, part as usize);
         }
         receipt
     }

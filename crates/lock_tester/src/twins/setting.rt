@@ -5,13 +5,13 @@ use std::alloc::{AllocError, Global};
 pub const CORES: u8 = 3;
 
 /// How many slices the machine has.
-pub const SLICES: u8 = 2;
+pub const SLICES: u8 = 4;
 
 /// How many lines the memory has.
-pub const LINES: u64 = 8;
+pub const LINES: u64 = 16;
 
-/// The words that are only read and added to: the first of some lines of both slices.
-const COUNTERS: [WordAddr; 4] = [WordAddr(0), WordAddr(8), WordAddr(16), WordAddr(24)];
+/// How many words are only read and added to: the first of each of the first lines, two of each slice.
+const COUNTERS: u64 = 8;
 
 /// Through what the cores share it.
 #[derive(Clone, Copy, Debug, PartialEq)]
@@ -45,8 +45,8 @@ impl Run {
     /// A machine so small that all that can be in the way is. Seeds differ in what there is least of.
     pub fn configure(self, alloc: Global) -> Result<Config, AllocError> {
         let mut config = Config::new(alloc);
-        for word in COUNTERS {
-            config.counters.push(word)?;
+        for line in 0..COUNTERS {
+            config.counters.push(WordAddr(8 * line))?;
         }
         config.init.push(WordAddr(1), 3)?;
         config.cores = u64::from(CORES);

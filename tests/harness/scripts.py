@@ -1,0 +1,44 @@
+"""Takes scripts apart, as docs/TEXTS.md has their lines."""
+import re
+from functools import cache
+
+from .cases import all_cases
+from .processes import ROOT, read
+
+COMMANDS = "issue evict deliver pump hand word state waiting show stats log".split()
+FIELDS = "cores slices lines sets ways mshrs targets writebacks policy misses exclusive init counter".split()
+
+
+def first_word(line: str) -> str:
+    return re.match(r"[ \t]*([^ \t\r]*)", line)[1]
+
+
+def is_command(line: str) -> bool:
+    return first_word(line) in COMMANDS
+
+
+def split(script: str) -> tuple[list[str], list[str]]:
+    """Returns the lines that configure the machine, and those that are commands."""
+    lines = [line for line in script.split("\n") if line.split() and not line.startswith("#")]
+    return [line for line in lines if not is_command(line)], [line for line in lines if is_command(line)]
+
+
+def examples() -> list[str]:
+    """Returns the names of the examples that are scripts, and of the one that is a trace."""
+    return sorted(path.stem for path in (ROOT / "examples").glob("*.txt"))
+
+
+def is_trace(text: str) -> bool:
+    return any(line.startswith("lockup-trace") for line in text.split("\n"))
+
+
+def example(name: str) -> str:
+    return read(ROOT / f"examples/{name}.txt")
+
+
+@cache
+def files_of_cases(kind: str) -> dict[str, str]:
+    """Returns the files {kind} of all cases, by the names of these. Those that bash prints aren't
+    among them."""
+    parts = {name: case.files.get(kind) for name, case in all_cases().items()}
+    return {name: part.text() for name, part in parts.items() if part and part.how != "by bash"}

@@ -1,0 +1,122 @@
+"""What tools/install and tools/release put where: an installed program is found by name through a
+link, man pages and completions have each subcommand and option of the program's help, and the
+program of the archive runs in an empty root with a C library alone (where the test may change its
+root)."""
+import hashlib
+import os
+import re
+import shutil
+import tarfile
+import tempfile
+from contextlib import contextmanager
+from pathlib import Path
+from typing import Iterator
+
+from harness import ROOT, is_sanitized, lockup, needs, program, read, run, same, seconds
+
+FIRST_ADD = "examples/first_add"
+COMPLETIONS = ("bash-completion/completions/lockup", "zsh/site-functions/_lockup",
+               "fish/vendor_completions.d/lockup.fish")
+
+
+@contextmanager
+def tree() -> Iterator[tuple[Path, Path]]:
+    """Makes a copy of what the two scripts read, with the program in its place. Returns its top,
+    and the folder for it."""
+    with tempfile.TemporaryDirectory(prefix="lockup install ") as room:
+        top = Path(room, "top")
+        (top / "crates/lockup/out").mkdir(parents=True)
+        for path in ROOT.iterdir():
+            if path.is_file():
+                shutil.copy(path, top)
+        for name in ("tools", "docs", "examples"):
+            shutil.copytree(ROOT / name, top / name)
+        shutil.copy(program(), top / "crates/lockup/out/lockup")
+        yield top, Path(room)
+
+
+def options_of(command: str) -> list[str]:
+    told = lockup(command, "--help").out
+    rows = told.partition("\nOptions:\n")[2].partition("\n\n")[0]
+    options = [re.split(r"  +", row.strip())[0] for row in rows.split("\n")]
+    return re.findall(r"(?<![\w-])(--[\w-]+)", "\n".join(options))
+
+
+def check_pages(prefix: Path) -> None:
+    """Each subcommand and option stands in its man page and in the completions."""
+    rows = lockup("--help").out.split("Commands:\n")[1].split("\n\n")[0].split("\n")
+    completions = [prefix / "share" / it for it in COMPLETIONS]
+    for command in [row.split()[0] for row in rows if row.split()[0] != "help"]:
+        page = read(prefix / f"share/man/man1/lockup-{command}.1").replace("\\-", "-")
+        for file in completions:
+            same(f"{command} in {file}", True, re.search(rf"\b{command}\b", read(file)) is not None)
+        for option in options_of(command):
+            same(f"{option} of {command} in its page", True, option in page)
+            for file in completions:
+                word = f"-l {option[2:]}" if file.suffix == ".fish" else option
+                same(f"{option} of {command} in {file}", True, word in read(file))
+
+
+def check_tree(prefix: Path) -> None:
+    """Looks at an installed tree."""
+    check_pages(prefix)
+    asked = (f'. "{prefix / "share" / COMPLETIONS[0]}"; COMP_WORDS=(lockup table dir); COMP_CWORD=2; _lockup; '
+             'echo "${COMPREPLY[@]}"')
+    same("bash completes", "directory\n", run(["bash", "-c", asked]).out)
+    if shutil.which("man"):
+        same("man has no complaint", "", run(["man", "--warnings", "-l", prefix / "share/man/man1/lockup.1"]).err)
+    for name in ("README.md", "LICENSE", "docs/TEXTS.md", f"{FIRST_ADD}.txt"):
+        same(f"{name} is installed", True, (prefix / "share/doc/lockup" / name).is_file())
+
+
+def check_empty_root(prefix: Path, root: Path) -> None:
+    """Runs the program in a root that has nothing else but the C library."""
+    (root / "bin").mkdir(parents=True)
+    shutil.copy(prefix / "bin/lockup", root / "bin/lockup")
+    shutil.copy(prefix / "share/doc/lockup" / f"{FIRST_ADD}.txt", root)
+    for library in re.findall(r"(/\S+) \(0x", run(["ldd", program()]).out):
+        os.makedirs(f"{root}{os.path.dirname(library)}", exist_ok=True)
+        shutil.copy(library, f"{root}{library}")
+    ran = run(["chroot", root, "/bin/lockup", "script", "/first_add.txt"])
+    same("in an empty root", (0, read(ROOT / f"{FIRST_ADD}.out"), ""), tuple(ran))
+
+
+@seconds(10)
+def test_install() -> None:
+    with tree() as (top, room):
+        same("a wrong word", 2, run([top / "tools/install", "--nowhere"]).status)
+        same("install", 0, run([top / "tools/install", "--prefix", room / "a prefix"]).status)
+        check_tree(room / "a prefix")
+        (room / "links").mkdir()
+        (room / "links/lockup").symlink_to(room / "a prefix/bin/lockup")
+        words = ["/usr/bin/env", f"PATH={room / 'links'}", "lockup", "script", "first_add.txt"]
+        ran = run(words, cwd=ROOT / "examples")
+        same("by name through a link", (0, read(ROOT / f"{FIRST_ADD}.out")), (ran.status, ran.out))
+
+
+@seconds(10)
+def test_release() -> None:
+    needs("rt")
+    with tree() as (top, room):
+        ran = run([top / "tools/release", room / "dist"])
+        same("release", 0, ran.status)
+        archive = Path(ran.err.split("\n")[-2])
+        checksum = hashlib.sha256(archive.read_bytes()).hexdigest()
+        same("checksum", checksum, read(f"{archive}.sha256").split()[0])
+        with tarfile.open(archive) as it:
+            it.extractall(room / "unpacked", filter="data")
+        unpacked = next((room / "unpacked").iterdir())
+        check_tree(unpacked)
+        kit = run(["rt", "version"]).out.split("\n")[0]
+        same("RELEASE has the kit's line", True, kit in read(unpacked / "RELEASE"))
+        # AddressSanitizer wants to read its own program in /proc
+        if os.geteuid() == 0 and not is_sanitized(program()):
+            check_empty_root(unpacked, room / "root")
+
+
+def test_nothing_to_install() -> None:
+    with tree() as (top, room):
+        (top / "crates/lockup/out/lockup").unlink()
+        same("install", 1, run([top / "tools/install", "--prefix", room / "a prefix"]).status)
+        if shutil.which("rt"):
+            same("release", 1, run([top / "tools/release", room / "dist"]).status)

@@ -1,0 +1,42 @@
+"""Watches a long run as somebody at a terminal does: standard error is a pseudo-terminal, which is
+told how far it is.
+
+Behind each 500 rounds but the last stands how many of them are done, on one line. Where nobody
+watches nothing is said.
+"""
+import os
+import pty
+import subprocess
+import tempfile
+
+from harness import each, lockup, program, same, write
+
+TEST = "lockup-litmus 1\nrounds 1500\nthread 0\nload 0 a\n"
+TOLD = b"500 of 1500 rounds\r1000 of 1500 rounds\r"
+
+
+def watched(*words: str) -> tuple[int, bytes]:
+    """Returns the status of a run, and what a terminal is told."""
+    ours, theirs = pty.openpty()
+    ran = subprocess.Popen([program(), *words], stdin=subprocess.DEVNULL, stdout=subprocess.DEVNULL, stderr=theirs)
+    os.close(theirs)
+    told = b""
+    while True:
+        try:
+            some = os.read(ours, 4096)
+        except OSError:
+            break
+        if not some:
+            break
+        told += some
+    os.close(ours)
+    return ran.wait(), told
+
+
+@each(lambda: ["walk", "litmus"])
+def test_rounds(verb: str) -> None:
+    with tempfile.TemporaryDirectory() as room:
+        test = str(write(f"{room}/test", TEST))
+        same("watched", (0, TOLD), watched(verb, test))
+        alone = lockup(verb, test)
+        same("unwatched", (0, ""), (alone.status, alone.err))

@@ -22,7 +22,8 @@ def options_of(words: list[str]) -> argparse.Namespace:
     parser.add_argument("--jobs", type=int, default=processors(), help="tests at a time (default: one a processor)")
     parser.add_argument("--list", action="store_true", help="print the names of the tests alone")
     parser.add_argument("--times", action="store_true", help="print how long each test took")
-    parser.add_argument("names", nargs="*", metavar="NAME", help="with --cases: only tests whose names contain a NAME")
+    parser.add_argument("names", nargs="*", metavar="NAME",
+                        help="with --cases: only tests whose names contain a NAME")
     options = parser.parse_args(words)
     options.cases = options.cases or options.list or options.program is not None
     if options.names and not options.cases:

@@ -111,7 +111,8 @@ def all_tags() -> Rows:
 
 
 FILLED = [("registers", full_registers, ""), ("registers under fifo", full_registers, "policy fifo"),
-          ("set and buffer", full_set_and_buffer, ""), ("set and buffer under fifo", full_set_and_buffer, "policy fifo"),
+          ("set and buffer", full_set_and_buffer, ""),
+          ("set and buffer under fifo", full_set_and_buffer, "policy fifo"),
           ("sharers", all_share, ""), ("sharers under fifo", all_share, "policy fifo"),
           ("tags", all_tags, "misses inverted")]
 

@@ -31,7 +31,8 @@ def refuse_each(came: Counter) -> None:
         elif (ran.status, ran.out) in CAME:
             came[CAME[ran.status, ran.out]] += 1
         else:
-            raise Different(f"with allocation {refused} refused: status {ran.status}, it printed:\n{ran.out}{ran.err}")
+            raise Different(f"with allocation {refused} refused: status {ran.status}, "
+                            f"and it printed:\n{ran.out}{ran.err}")
 
 
 @seconds(10)

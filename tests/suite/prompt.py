@@ -19,7 +19,8 @@ def test_a_script_to_begin_with() -> None:
     """Its last line has no line feed. What is saved is the script so far."""
     with tempfile.TemporaryDirectory() as room:
         write(f"{room}/begin", "# two cores\ncores 2\n\nissue 0 0 load 8")
-        lines = "next\nlaunch 0\nstate 1\nsave so_far\nsave no_such_folder/so_far\nundo\nundo\nundo\nsave begun\nnext\n"
+        lines = ["next", "launch 0", "state 1", "save so_far", "save no_such_folder/so_far",
+                 "undo", "undo", "undo", "save begun", "next"]
         wanted = READ_MISS + """\
 deliver req 1 0
 moved   dir 0 (I, GetS): to S, sharers 0; sends Data(0) to core 0
@@ -33,7 +34,8 @@ undone: issue 0 0 load 8
 saved begun
 nothing   no message waits
 """
-        same("answers", (0, wanted, ""), tuple(answers(room, lines, "begin")))
+        asked = "".join(f"{line}\n" for line in lines)
+        same("answers", (0, wanted, ""), tuple(answers(room, asked, "begin")))
         saved = "# two cores\ncores 2\n\nissue 0 0 load 8\ndeliver req 1 0\nstate 1\n"
         same("the script so far", saved, read(f"{room}/so_far"))
         same("the script without what was undone", "# two cores\ncores 2\n\n", read(f"{room}/begun"))

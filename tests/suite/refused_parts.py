@@ -29,7 +29,7 @@ def counts(report: str, names: str) -> tuple[int, int]:
 @seconds(200)
 def test_parts() -> None:
     needs("rt")
-    ran = run(["rt", "try", "--test", "--fail-alloc", "4"], cwd=ROOT / "crates/part_tests")
+    ran = run(["rt", "try", "--test", "--fail-alloc", "4"], cwd=ROOT / "crates/part_tests", timeout=None)
     report = ran.out + ran.err
     for part, allocations in PARTS.items():
         tests = [f"{part}::allocation_{number}_is_the_fourth" for number in range(1, allocations + 1)]

@@ -45,7 +45,8 @@ def commands() -> Iterator[tuple]:
 def test_command(_: str, command: str, lines: list[str]) -> None:
     ran = run(["bash", "-c", command.replace("./lockup", str(program()))])
     printed = ran.out + ran.err
-    want(is_shown(lines, printed.splitlines()), f"$ {command}\nprints\n{printed}and this is shown:\n" + "\n".join(lines))
+    shown = "".join(f"{line}\n" for line in lines)
+    want(is_shown(lines, printed.splitlines()), f"$ {command}\nprints\n{printed}and this is shown:\n{shown}")
 
 
 def test_there_are_commands() -> None:

@@ -23,6 +23,7 @@ def test_movers(_: str, line: str, movers: int) -> None:
     is_plain()
     with tempfile.TemporaryDirectory() as room:
         told = f"{room}/told"
-        ran = lockup("litmus", write(f"{room}/test.txt", TEST.format(line)), env=preloaded("started_threads", TOLD=told))
+        test = write(f"{room}/test.txt", TEST.format(line))
+        ran = lockup("litmus", test, env=preloaded("started_threads", TOLD=told))
         same("status and error", (0, ""), (ran.status, ran.err))
         same("threads", ROUNDS * (THREADS + movers), len(read(told)))

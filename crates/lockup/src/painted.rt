@@ -3,11 +3,13 @@
 use arrayvec::ArrayVec;
 use std::io::{self, Write};
 
-/// The words that are colored, with the code of each one's color.
-static COLORS: [(&[u8], &[u8]); 2] = [
-    (b"moved", b"\x1b[32mmoved\x1b[0m"),
-    (b"blocked", b"\x1b[33mblocked\x1b[0m"),
-];
+/// The words that are colored.
+const MOVED: &[u8] = b"moved";
+
+const BLOCKED: &[u8] = b"blocked";
+
+/// What ends a color.
+const PLAIN: &[u8] = b"\x1b[0m";
 
 /// As long as the longest word that is colored.
 const LONGEST: usize = 7;
@@ -48,13 +50,12 @@ impl<W: Write> Painted<W> {
 
     /// Writes the word that ends here, colored where it is one of these.
     fn end_word(&mut self) -> io::Result<()> {
-        let mut text = self.word.as_slice();
-        for (word, colored) in &COLORS {
-            if *word == text {
-                text = *colored;
-            }
+        let color = color_of(self.word.as_slice());
+        self.out.write_all(color)?;
+        self.out.write_all(self.word.as_slice())?;
+        if !color.is_empty() {
+            self.out.write_all(PLAIN)?;
         }
-        self.out.write_all(text)?;
         self.word.clear();
         self.is_plain = false;
         Ok(())
@@ -66,6 +67,17 @@ impl<W: Write> Painted<W> {
         self.word.clear();
         self.is_plain = true;
         Ok(())
+    }
+}
+
+/// Returns what begins a word's color: nothing where it has none.
+fn color_of(word: &[u8]) -> &'static [u8] {
+    if word == MOVED {
+        b"\x1b[32m"
+    } else if word == BLOCKED {
+        b"\x1b[33m"
+    } else {
+        b""
     }
 }
 

@@ -1,5 +1,5 @@
 """What the program does at a terminal and with names of files: colors where answers are explained,
-on a terminal alone and not where NO_COLOR is set; names with blanks, and names that aren't UTF-8."""
+on a terminal alone and not where NO_COLOR is set; a prompt's mark; names with blanks, and names that aren't UTF-8."""
 import os
 import pty
 import tempfile
@@ -12,13 +12,14 @@ SCRIPT = "issue 0 0 load 0\nissue 1 0 store 0 1\ndeliver req 0 0\ndeliver req 0 
 MOVED, BLOCKED, ERROR = "\x1b[32mmoved\x1b[0m", "\x1b[33mblocked\x1b[0m", "\x1b[1;31mlockup:\x1b[0m"
 
 
-def at_terminal(*words: str, **env: str) -> tuple[str, int]:
-    """Returns what the program writes to a terminal, and its status."""
+def at_terminal(*words: str, typed: bytes = b"", **env: str) -> tuple[str, int]:
+    """Returns what a terminal shows of the program and of what is typed, and the program's status."""
     child, terminal = pty.fork()
     if child == 0:
         os.environ.pop("NO_COLOR", None)
         os.environ.update(env)
         os.execv(program(), ["lockup", *words])
+    os.write(terminal, typed)
     told = b""
     while True:
         try:
@@ -50,6 +51,12 @@ def test_colors() -> None:
         same("NO_COLOR", [0, 0, 0, 0], counts(at_terminal("script", "--explain", script, NO_COLOR="1")[0]))
         same("an empty NO_COLOR", [2, 1, 1, 8], counts(at_terminal("script", "--explain", script, NO_COLOR="")[0]))
         same("answers alone", [0, 0, 1, 2], counts(at_terminal("script", script)[0]))
+
+
+def test_a_prompt_has_a_mark() -> None:
+    told, status = at_terminal("try", typed=b"load 0 0\nnext\nquit\n")
+    same("a mark before each line that is read", (3, 0), (told.count("> "), status))
+    same("into a pipe", 0, lockup("try", text="load 0 0\nnext\nquit\n").out.count("> "))
 
 
 def test_a_name_with_a_blank() -> None:

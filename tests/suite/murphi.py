@@ -57,6 +57,12 @@ def test_whole(_: str, wanted: str, *words: str) -> None:
     judge(model(*words), wanted)
 
 
+def test_only_a_closed_model_wants_misses_completed() -> None:
+    for words in (["2"], ["3", "--exclusive"]):
+        same(f"open: {words}", 0, model(*words).count("liveness "))
+        same(f"closed: {words}", 1, model(*words, "--closed").count("liveness "))
+
+
 def in_lines(old: str, new: str) -> Edit:
     """Replaces what a pattern finds, once in each line."""
     return lambda text: "".join(re.sub(old, new, line, count=1, flags=re.S) for line in text.splitlines(keepends=True))

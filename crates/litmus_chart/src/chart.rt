@@ -17,7 +17,7 @@ use litmus_script::{
 };
 use litmus_text::{Command, MissKind, Settings, Statement, TextFault};
 use mshr_file::{ExplicitFile, InvertedFile, MissFile};
-use slice_core::{Class, Delivered, DeliveredNext, NextPick, Pick};
+use slice_core::{Class, Delivered, DeliveredNext, Pick};
 use std::alloc::Global;
 use std::fmt;
 use std::io::Write;
@@ -149,7 +149,7 @@ impl<F: MissFile> Deliverer for Chart<F> {
         slice: usize,
         out: &mut W,
     ) -> Result<DeliveredNext, TextFault> {
-        let NextPick::Move(pick) = self.machine.slices[slice].next(Class::Any) else {
+        let DeliveredNext::Moved(pick) = self.machine.slices[slice].next(Class::Any) else {
             return self.machine.deliver_next(slice, out);
         };
         let flight = Flight::of(&self.machine, pick);

@@ -8,7 +8,7 @@ use Rattle.address_map.specs.declared.config.Config.{Config}
 use Rattle.litmus_outcomes.specs.Sought.{IsOf}
 use Rattle.litmus_outcomes.specs.declared.sought.Sought.{Sought}
 use Rattle.litmus_script.specs.Machine.{IsShownWord, log_at}
-use Rattle.slice_core_plan.specs.Parts.{PartsView}
+use Rattle.slice_core_plan.specs.Calls.{PartsView}
 use Rattle.litmus_rounds.specs.Outcome.{AddsMatch, HasReply, HasWord, LacksReply, Match}
 
 pub match_push : {X : Type 0} (P : X → ℕ → Type 0) (xs : List X) (values : List ℕ) (x : X) (value : ℕ)

@@ -9,7 +9,7 @@ use Rattle.litmus_outcomes.specs.declared.sought.Sought.{Sought}
 use Rattle.litmus_script.specs.Machine.{IsQuietWord, log_at}
 use Rattle.litmus_test.specs.declared.test.LitmusTest.{LitmusTest}
 use Rattle.slice_core_log.specs.declared.entry.Entry.{Entry}
-use Rattle.slice_core_plan.specs.Parts.{PartsView}
+use Rattle.slice_core_plan.specs.Calls.{PartsView}
 
 -- the request is an entry in the log of its slice, and this is its reply
 pub record IsReplyOf (slices : List PartsView) (sought : Sought) (value : ℕ) : Type 0 where

@@ -7,15 +7,15 @@ use Rattle.address_map.specs.declared.request.Request.{Request}
 use Rattle.slice_core.specs.declared.run.Call.TheVariants as calls
 use Rattle.slice_core.specs.declared.run.CallAnswer.TheVariants as answers
 use Rattle.slice_core_answer.specs.declared.answer.Delivered.{Delivered}
-use Rattle.slice_core_answer.specs.declared.answer.DeliveredNext.{DeliveredNext}
 use Rattle.slice_core_answer.specs.declared.answer.Evicted.{Evicted}
 use Rattle.slice_core_answer.specs.declared.answer.Issue.{Issue}
 use Rattle.slice_core_answer.specs.declared.answer.Refused.{Refused}
 use Rattle.slice_core_log.specs.declared.entry.Numbered.{Numbered}
-use Rattle.slice_core_plan.specs.Parts.{PartsView, AfterDeliverNext, AfterDelivery, AfterEvict, AfterHand, AfterIssue}
+use Rattle.slice_core_plan.specs.Calls.{PartsView, AfterDeliverNext, AfterDelivery, AfterEvict, AfterHand, AfterIssue}
 use Rattle.slice_queues_message.specs.declared.channel.Class.{Class}
 use Rattle.slice_queues_message.specs.declared.channel.Pick.{Pick}
 use Rattle.litmus_script.specs.Machine.{Answers}
+use Rattle.slice_core_answer.specs.declared.answer.Delivery.{Delivery}
 
 -- .. an access, whose answer is known
 pub issued : (old new : PartsView) (core : CoreId) (request : Request) (answer known : Result Issue Refused)
@@ -33,7 +33,7 @@ pub delivered : (old new : PartsView) (pick : Pick) (answer : Delivered)
     → AfterDelivery old pick answer new → Answers (calls.Deliver pick) (answers.Deliver answer) old new
 delivered old new pick answer after = record { made = after }
 
-pub delivered_next : (old new : PartsView) (class : Class) (answer : DeliveredNext)
+pub delivered_next : (old new : PartsView) (class : Class) (answer : Delivery Pick)
     → AfterDeliverNext old class answer new → Answers (calls.DeliverNext class) (answers.DeliverNext answer) old new
 delivered_next old new class answer after = record { made = after }
 

@@ -6,17 +6,18 @@ use Rattle.std.proofs.lemmas.Nat.{div-add-mod', mod_below}
 use Rattle.std.proofs.Math.Nat.{div-mul-le_self, mul-le-mul_right}
 use Rattle.std.specs.Prelude.{◌&&◌, ◌||◌, cond}
 use Rattle.std.specs.List.{list_all, list_any}
-use Rattle.slice_core_answer.specs.declared.answer.DeliveredNext.{DeliveredNext}
-use Rattle.slice_core_answer.specs.declared.answer.DeliveredNext.TheVariants as deliveries
 use Rattle.litmus_script.specs.Pump.{AreRounds, ComesTo, Delivers, IsRound, Moves, MovesTimes, Pumps, is_moved}
 use Rattle.litmus_script.specs.Pump.{is_nothing, round_after, round_of}
 use Rattle.litmus_script.specs.declared.answers.Pumped.{Pumped}
 use Rattle.litmus_script.specs.declared.answers.Pumped.TheVariants as pumps
 use Rattle.litmus_script.specs.declared.pump.Round.{Round}
 use Rattle.litmus_script.specs.declared.pump.Round.TheVariants as rounds
+use Rattle.slice_core_answer.specs.declared.answer.Delivery.TheVariants as deliveries
+use Rattle.slice_core_answer.specs.declared.answer.Delivery.{Delivery}
+use Rattle.slice_queues_message.specs.declared.channel.Pick.{Pick}
 
 -- what a round comes to with one answer more
-round_by : (moved empty : Bool) (answer : DeliveredNext)
+round_by : (moved empty : Bool) (answer : Delivery Pick)
     → (let round : Round = cond moved rounds.Moved (cond empty rounds.Empty rounds.Stuck) in
     round_after round answer ≡ cond (moved || (is_moved answer || false)) rounds.Moved
     (cond (empty && (is_nothing answer && true)) rounds.Empty rounds.Stuck))
@@ -33,7 +34,7 @@ round_by false false deliveries.Nothing = refl
 round_by false false deliveries.Blocked = refl
 round_by false false (deliveries.Broken cell) = refl
 
-round_more : (given : List DeliveredNext) (answer : DeliveredNext)
+round_more : (given : List (Delivery Pick)) (answer : Delivery Pick)
     → round_after (round_of given) answer ≡ round_of (given ++ answer ∷ [])
 round_more given answer =
     rw (list_any-append is_moved given (answer ∷ []), list_all-append is_nothing given (answer ∷ []))
@@ -65,9 +66,9 @@ within slices calls before few =
     let more : before + 1 ≤ calls / slices = omega (arith, few) in
     omega (arith, mul-le-mul_right slices more, div-mul-le_self calls slices)
 
-module _ {D : Type 0} (tells : D → ℕ → DeliveredNext → Option (List ℕ) → Option (List ℕ) → D → Type 0) where
+module _ {D : Type 0} (tells : D → ℕ → Delivery Pick → Option (List ℕ) → Option (List ℕ) → D → Type 0) where
   -- one more slice is asked
-  pub delivers_more : (slice next : ℕ) (given : List DeliveredNext) (answer : DeliveredNext) (a b c : D)
+  pub delivers_more : (slice next : ℕ) (given : List (Delivery Pick)) (answer : Delivery Pick) (a b c : D)
       (x y z : Option (List ℕ))
       → next ≡ slice + length given → Delivers tells slice given a b x y → tells b next answer y z c
       → Delivers tells slice (given ++ answer ∷ []) a c x z
@@ -88,7 +89,7 @@ module _ {D : Type 0} (tells : D → ℕ → DeliveredNext → Option (List ℕ)
   comes_to_nothing now text = record { given = []; made = record { whole = refl; made = (refl, refl) }; came = refl }
 
   -- a round over one slice more
-  pub comes_to_more : (n : ℕ) (round after : Round) (answer : DeliveredNext) (a b c : D) (x y z : Option (List ℕ))
+  pub comes_to_more : (n : ℕ) (round after : Round) (answer : Delivery Pick) (a b c : D) (x y z : Option (List ℕ))
       → ComesTo tells n round a b x y → tells b n answer y z c → after ≡ round_after round answer
       → ComesTo tells (n + 1) after a c x z
   comes_to_more n round after answer a b c x y z so_far one is = record {
@@ -169,11 +170,11 @@ module _ {D : Type 0} (tells : D → ℕ → DeliveredNext → Option (List ℕ)
 
 -- What a pump does to a machine shows as what it does to the machine's view, where this is so of each delivery.
 module _ {D V : Type 0} (view : D → V) (Inv : D → Type 0)
-    (tells : D → ℕ → DeliveredNext → Option (List ℕ) → Option (List ℕ) → D → Type 0)
-    (shows : V → ℕ → DeliveredNext → Option (List ℕ) → Option (List ℕ) → V → Type 0)
-    (step : (old new : D) (slice : ℕ) (answer : DeliveredNext) (before after : Option (List ℕ)) → Inv old
+    (tells : D → ℕ → Delivery Pick → Option (List ℕ) → Option (List ℕ) → D → Type 0)
+    (shows : V → ℕ → Delivery Pick → Option (List ℕ) → Option (List ℕ) → V → Type 0)
+    (step : (old new : D) (slice : ℕ) (answer : Delivery Pick) (before after : Option (List ℕ)) → Inv old
     → tells old slice answer before after new → Inv new × shows (view old) slice answer before after (view new)) where
-  delivers_shown : (slice : ℕ) (given : List DeliveredNext) (old new : D) (before after : Option (List ℕ)) → Inv old
+  delivers_shown : (slice : ℕ) (given : List (Delivery Pick)) (old new : D) (before after : Option (List ℕ)) → Inv old
       → Delivers tells slice given old new before after
       → Inv new × Delivers shows slice given (view old) (view new) before after
   delivers_shown slice [] old new before after inv none = (subst Inv (sym none.0) inv, (ap view none.0, none.1))

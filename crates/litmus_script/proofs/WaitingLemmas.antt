@@ -14,14 +14,15 @@ use Rattle.litmus_text.specs.declared.command.Command.TheVariants.{Deliver}
 use Rattle.script_text.specs.Line.{text_of_parts}
 use Rattle.slice_core.specs.Facts.{front_at}
 use Rattle.slice_core_answer.specs.declared.answer.Cell.{Cell}
-use Rattle.slice_core_plan.specs.Parts.{PartsView}
+use Rattle.slice_core_plan.specs.Calls.{PartsView}
 use Rattle.slice_core_plan.specs.Plan.{planned_at}
 use Rattle.slice_core_plan.specs.View.{View}
-use Rattle.slice_core_plan.specs.declared.decide.Plan.{Plan}
-use Rattle.slice_core_plan.specs.declared.decide.Plan.TheVariants as plans
 use Rattle.slice_queues_message.specs.Pick.{channel_of}
 use Rattle.slice_queues_message.specs.declared.channel.Pick.{Pick}
 use Rattle.slice_queues_message.specs.declared.message.Message.{Message}
+use Rattle.slice_core_answer.specs.declared.answer.Delivery.TheVariants as deliveries
+use Rattle.slice_core_answer.specs.declared.answer.Delivery.{Delivery}
+use Rattle.slice_core_plan.specs.declared.transition.Transition.{Transition}
 
 -- the lines of a slice, and then those of the slices behind it
 pub lines_of_slices : (state : PartsView) (more : List PartsView) → lines_of (in_flight (state ∷ more)) ≡
@@ -36,17 +37,13 @@ text_of_some [] some = absurd (some refl)
 text_of_some (flight ∷ more) some = refl
 
 -- what a delivery does that can be made
-pub moves : (plan : Plan) (state : List ℕ) → plan ≢ plans.Nothing → plan ≢ plans.Blocked
-    → ((cell : Cell) → plan ≢ plans.Broken cell)
+pub moves : (plan : Delivery Transition) (state : List ℕ) → plan ≢ deliveries.Nothing → plan ≢ deliveries.Blocked
+    → ((cell : Cell) → plan ≢ deliveries.Broken cell)
     → codes "moves" ≡ text_of_plan plan state
-moves plans.Nothing state nothing blocked broken = absurd (nothing refl)
-moves plans.Blocked state nothing blocked broken = absurd (blocked refl)
-moves (plans.Broken cell) state nothing blocked broken = absurd (broken cell refl)
-moves (plans.Directory step) state nothing blocked broken = refl
-moves (plans.Home entry owner sharers) state nothing blocked broken = refl
-moves (plans.Forwarded next sends requester) state nothing blocked broken = refl
-moves (plans.Fill place next) state nothing blocked broken = refl
-moves (plans.Acknowledge place next) state nothing blocked broken = refl
+moves deliveries.Nothing state nothing blocked broken = absurd (nothing refl)
+moves deliveries.Blocked state nothing blocked broken = absurd (blocked refl)
+moves (deliveries.Broken cell) state nothing blocked broken = absurd (broken cell refl)
+moves (deliveries.Moved step) state nothing blocked broken = refl
 
 module _ {W : Type 0} (took : W → List ℕ → W → Type 0) (v : View) where
   -- the line of the next message, and then those behind it
@@ -60,7 +57,7 @@ module _ {W : Type 0} (took : W → List ℕ → W → Type 0) (v : View) where
       (subst (λ (q : Pick). WritesInCalls took old (text_at v q) mid) is one) rest
 
   -- the words of a message in front of a channel, and then what a delivery would do
-  pub whole_line : (pick : Pick) (local : Option Local) (message : Message) (plan : Plan)
+  pub whole_line : (pick : Pick) (local : Option Local) (message : Message) (plan : Delivery Transition)
       → Some message ≡ front_at v local (channel_of pick) → plan ≡ planned_at v pick → (old mid new : W)
       → WritesInCalls took old
       (text_of_parts (parts_of (Deliver pick)) ++ (codes "   " ++ (text_of_message message ++ codes "   "))) mid
@@ -81,6 +78,6 @@ module _ {W : Type 0} (took : W → List ℕ → W → Type 0) (v : View) where
       let written = subst (λ (text : List ℕ). WritesInCalls took old text new) (sym pieces)
       (writes_in_calls_append took old _ mid _ new words (rest at refl)) in
       subst (λ (m : Option Message). WritesInCalls took old (text_in_front v pick (Some at) m) new) front
-      (subst (λ (p : Plan). WritesInCalls took old (((deliver ++ codes "   " ++ name ++ codes "   ")
+      (subst (λ (p : Delivery Transition). WritesInCalls took old (((deliver ++ codes "   " ++ name ++ codes "   ")
       ++ text_of_plan p (receiver_state v at (channel_of pick))) ++ codes "\n") new)
       planned written)

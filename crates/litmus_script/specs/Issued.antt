@@ -10,7 +10,7 @@ use Rattle.slice_core_answer.specs.declared.answer.Issue.TheVariants as of_slice
 use Rattle.slice_core_answer.specs.declared.answer.Refused.{Refused}
 use Rattle.slice_core_answer.specs.declared.answer.Refused.TheVariants as refusals
 use Rattle.slice_core_log.specs.declared.entry.Entry.{Entry}
-use Rattle.slice_core_plan.specs.Parts.{PartsView}
+use Rattle.slice_core_plan.specs.Calls.{PartsView}
 use Rattle.litmus_script.specs.Machine.{Answers, OneSlice}
 use Rattle.litmus_script.specs.declared.answers.Issued.{Issued}
 use Rattle.litmus_script.specs.declared.answers.Issued.TheVariants as issues

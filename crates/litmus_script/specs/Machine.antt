@@ -16,7 +16,7 @@ use Rattle.slice_core.specs.declared.run.CallAnswer.{CallAnswer}
 use Rattle.slice_core_answer.specs.Stats.{StatsView}
 use Rattle.slice_core_log.specs.Log.{initially, value}
 use Rattle.slice_core_log.specs.declared.entry.Entry.{Entry}
-use Rattle.slice_core_plan.specs.Parts.{PartsView, IsNew}
+use Rattle.slice_core_plan.specs.Calls.{PartsView, IsNew}
 use Rattle.slice_core_plan.specs.View.{View, IsQuiet}
 use Rattle.slice_core_steps.specs.declared.line_view.LineView.{LineView}
 use Rattle.slice_queues_message.specs.Pick.{channel_of, line_of}

@@ -19,7 +19,7 @@ use Rattle.slice_core_answer.specs.Text.{text_of_evicted}
 use Rattle.slice_core_answer.specs.declared.answer.Delivered.{Delivered}
 use Rattle.slice_core_answer.specs.declared.answer.Evicted.{Evicted}
 use Rattle.slice_core_log.specs.declared.entry.Numbered.{Numbered}
-use Rattle.slice_core_plan.specs.Parts.{PartsView}
+use Rattle.slice_core_plan.specs.Calls.{PartsView}
 use Rattle.slice_core_steps.specs.declared.line_view.LineView.{LineView}
 use Rattle.slice_queues_message.specs.Pick.{line_of}
 use Rattle.slice_text.specs.Line.{text_of_line}

@@ -10,11 +10,9 @@ use Rattle.litmus_text.specs.declared.command.Command.TheVariants as commands
 use Rattle.script_text.specs.Line.{text_of_parts}
 use Rattle.slice_core.specs.Facts.{front_at}
 use Rattle.slice_core_answer.specs.Text.{text_of_cell}
-use Rattle.slice_core_plan.specs.Parts.{PartsView}
+use Rattle.slice_core_plan.specs.Calls.{PartsView}
 use Rattle.slice_core_plan.specs.Plan.{planned_at}
 use Rattle.slice_core_plan.specs.View.{View, entry_at, side_at}
-use Rattle.slice_core_plan.specs.declared.decide.Plan.{Plan}
-use Rattle.slice_core_plan.specs.declared.decide.Plan.TheVariants as plans
 use Rattle.slice_core_side.specs.Side.{state_of}
 use Rattle.slice_queues.specs.Waiting.{lines_waiting}
 use Rattle.slice_queues_message.specs.Pick.{channel_of, line_of}
@@ -23,6 +21,9 @@ use Rattle.slice_queues_message.specs.declared.channel.Channel.TheVariants as ch
 use Rattle.slice_queues_message.specs.declared.channel.Pick.{Pick}
 use Rattle.slice_queues_message.specs.declared.message.Message.{Message}
 use Rattle.step_text.specs.Message.{text_of_message}
+use Rattle.slice_core_answer.specs.declared.answer.Delivery.TheVariants as deliveries
+use Rattle.slice_core_answer.specs.declared.answer.Delivery.{Delivery}
+use Rattle.slice_core_plan.specs.declared.transition.Transition.{Transition}
 
 -- in which state the directory's entry, or the core's copy, is that a channel's messages come to
 abbrev pub receiver_state : View → Local → Channel → List ℕ
@@ -33,14 +34,14 @@ receiver_state v local (channels.Ack to from) = name_of_copy (state_of (side_at 
 receiver_state v local channels.Home = name_of_entry (entry_at v local).state
 
 -- what a delivery would do, where the receiver is in this state
-abbrev pub text_of_plan : Plan → List ℕ → List ℕ
-text_of_plan plans.Nothing state = codes "nothing"
-text_of_plan plans.Blocked state = codes "blocked: " ++ state
-text_of_plan (plans.Broken cell) state = codes "broken " ++ text_of_cell cell
+abbrev pub text_of_plan : Delivery Transition → List ℕ → List ℕ
+text_of_plan deliveries.Nothing state = codes "nothing"
+text_of_plan deliveries.Blocked state = codes "blocked: " ++ state
+text_of_plan (deliveries.Broken cell) state = codes "broken " ++ text_of_cell cell
 text_of_plan plan state = codes "moves"
 
 -- a message in front of its channel: the command that delivers it, its name, and what that would do
-abbrev pub text_of_flight : Pick → Message → Plan → List ℕ → List ℕ
+abbrev pub text_of_flight : Pick → Message → Delivery Transition → List ℕ → List ℕ
 text_of_flight pick message plan state =
     text_of_parts (parts_of (commands.Deliver pick)) ++ codes "   " ++ text_of_message message ++ codes "   "
     ++ text_of_plan plan state ++ codes "\n"

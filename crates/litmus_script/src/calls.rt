@@ -6,7 +6,7 @@ ghost use Rattle.address_map.specs.Place.{line_of};
 ghost use Rattle.slice_core.specs.Facts.{IsSameSlice, ShowsLine};
 ghost use Rattle.slice_core.specs.declared.run.Call.TheVariants as of_slice;
 ghost use Rattle.slice_core.specs.declared.run.CallAnswer.TheVariants as answers;
-ghost use Rattle.slice_core_plan.specs.Parts.{IsNew};
+ghost use Rattle.slice_core_plan.specs.Calls.{IsNew};
 ghost use Rattle.slice_queues_message.specs.declared.channel.Class.TheVariants as classes;
 ghost use Rattle.litmus_script.specs.Issued.{Issues, LacksMemory};
 ghost use Rattle.litmus_script.specs.Machine.{Answers, IsSliceOf, ShowsWord};

@@ -1,7 +1,8 @@
 ghost use Rattle.std.specs.Prelude.{◌≡◌, ℕ, ◌<◌, List, Option, IfErr, IfOk};
 ghost use Rattle.address_map.specs.declared.config.Config.{Config};
 ghost use Rattle.litmus_script.specs.Play.{IsOfRun};
-ghost use Rattle.slice_core_answer.specs.declared.answer.DeliveredNext.{DeliveredNext};
+ghost use Rattle.slice_core_answer.specs.declared.answer.Delivery.{Delivery};
+ghost use Rattle.slice_queues_message.specs.declared.channel.Pick.{Pick};
 
 use litmus_text::TextFault;
 use slice_core::DeliveredNext;
@@ -13,7 +14,7 @@ pub trait Deliverer: Sized + Drop {
 
     /// What the next delivery of the slice with this number does, by its answer: from a deliverer, and what was written
     /// before, to those behind it.
-    ghost delivers: { Self → ℕ → DeliveredNext → Option (List ℕ) → Option (List ℕ) → Self → Type 0 };
+    ghost delivers: { Self → ℕ → Delivery Pick → Option (List ℕ) → Option (List ℕ) → Self → Type 0 };
 
     /// How many slices the machine has.
     fn slices(&self) -> usize

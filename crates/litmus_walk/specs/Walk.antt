@@ -15,7 +15,7 @@ use Rattle.litmus_walk.specs.declared.place.StepPlace.{StepPlace}
 use Rattle.litmus_walk.specs.declared.recorded.Made.{Made}
 use Rattle.mshr_file.specs.Miss.{Bound}
 use Rattle.slice_core.specs.declared.run.Call.TheVariants as calls
-use Rattle.slice_core_plan.specs.Parts.{PartsView}
+use Rattle.slice_core_plan.specs.Calls.{PartsView}
 use Rattle.slice_queues_message.specs.Pick.{line_of}
 
 -- The command is a call of one slice, which answered it, and the others are as they were. A walk makes no others.

@@ -5,7 +5,7 @@ use Rattle.litmus_script.specs.Issued.{IsIssued}
 use Rattle.litmus_script.specs.declared.answers.Issued.{Issued}
 use Rattle.program_text.specs.declared.programs.Access.{Access}
 use Rattle.program_text.specs.declared.programs.CoreProgram.{CoreProgram}
-use Rattle.slice_core_plan.specs.declared.decide.Decision.{Decision}
+use Rattle.slice_core_plan.specs.declared.decision.Decision.{Decision}
 use Rattle.program_run.specs.History.{History, HasSeen}
 use Rattle.program_run.specs.Run.{Accesses, AfterAnswer, Asks, Leads, Makes, RunnerView, decided, makes_room, next_of}
 use Rattle.program_run.specs.Run.{request_of, run_of, slice_of}

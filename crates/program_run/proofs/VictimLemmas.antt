@@ -8,7 +8,7 @@ use Rattle.address_map.specs.declared.address.CoreId.{CoreId}
 use Rattle.address_map.specs.declared.address.LineAddr.{LineAddr}
 use Rattle.address_map.specs.declared.config.Config.{Config}
 use Rattle.miss_cause.specs.Cause.{fate_of}
-use Rattle.slice_core_plan.specs.Parts.{PartsView}
+use Rattle.slice_core_plan.specs.Calls.{PartsView}
 use Rattle.program_run.specs.History.{History, has_line, is_held}
 use Rattle.program_run.specs.Run.{HasLeft, IsVictim, is_leaving_in}
 

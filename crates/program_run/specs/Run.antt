@@ -33,12 +33,10 @@ use Rattle.slice_core_answer.specs.declared.answer.Delivered.{Delivered}
 use Rattle.slice_core_answer.specs.declared.answer.Delivered.TheVariants as delivered
 use Rattle.slice_core_log.specs.declared.entry.Entry.{Entry}
 use Rattle.slice_core_plan.specs.Decision.{decision_of}
-use Rattle.slice_core_plan.specs.Parts.{PartsView, next_pick}
+use Rattle.slice_core_plan.specs.Calls.{PartsView, next_pick}
 use Rattle.slice_core_plan.specs.View.{IsQuiet}
-use Rattle.slice_core_plan.specs.declared.decide.Decision.{Decision}
-use Rattle.slice_core_plan.specs.declared.decide.Decision.TheVariants as decisions
-use Rattle.slice_core_plan.specs.declared.decide.NextPick.{NextPick}
-use Rattle.slice_core_plan.specs.declared.decide.NextPick.TheVariants as next_picks
+use Rattle.slice_core_plan.specs.declared.decision.Decision.{Decision}
+use Rattle.slice_core_plan.specs.declared.decision.Decision.TheVariants as decisions
 use Rattle.slice_core_side.specs.declared.access.Access.TheVariants as accesses
 use Rattle.slice_core_side.specs.declared.access.Way.TheVariants as ways
 use Rattle.slice_core_side.specs.declared.copy.CacheCopy.{CacheCopy}
@@ -57,6 +55,8 @@ use Rattle.program_run.specs.declared.moves.Move.{Move}
 use Rattle.program_run.specs.declared.moves.Move.TheVariants as moves
 use Rattle.program_run.specs.declared.moves.Place.{Place}
 use Rattle.program_run.specs.declared.observer.Observer.{Observer}
+use Rattle.slice_core_answer.specs.declared.answer.Delivery.TheVariants as deliveries
+use Rattle.slice_core_answer.specs.declared.answer.Delivery.{Delivery}
 
 -- the states of the machine's slices, where each program stands, and what was seen
 pub record RunState : Type 0 where
@@ -122,8 +122,8 @@ asks_of config programs slices places =
     map moves.Ask (filter (may_ask config programs slices places) (range_with_len 0 (length programs)))
 
 -- the delivery that is next, where one can be made
-abbrev pub delivery_of : NextPick → List Move
-delivery_of (next_picks.Move pick) = moves.Deliver pick ∷ []
+abbrev pub delivery_of : Delivery Pick → List Move
+delivery_of (deliveries.Moved pick) = moves.Deliver pick ∷ []
 delivery_of next = []
 
 -- the next delivery of each slice

@@ -1,7 +1,7 @@
 ghost use Rattle.std.specs.Prelude.{◌≡◌, ◌++◌, ◌<◌, ◌+◌, map, filter, length, slice_get, IfSome, OnOk, Some};
 ghost use Rattle.std.specs.List.{flat_map, range_with_len};
 ghost use Rattle.litmus_text.specs.Command.{HasCore};
-ghost use Rattle.slice_core_plan.specs.Parts.{next_pick};
+ghost use Rattle.slice_core_plan.specs.Calls.{next_pick};
 ghost use Rattle.slice_queues_message.specs.declared.channel.Class.TheVariants as classes;
 ghost use Rattle.program_run.specs.Run.{asks_of, decided, deliveries_of, is_taken, may_be_asked, next_by, next_of};
 ghost use Rattle.program_run.specs.Run.{request_of};
@@ -10,7 +10,7 @@ use address_map::{CoreId, Request};
 use litmus_script::Machine;
 use mshr_file::MissFile;
 use program_text::{Access, CoreProgram};
-use slice_core::{Access as Asked, Class, Decision, NextPick, Pick, SliceState};
+use slice_core::{Access as Asked, Class, Decision, DeliveredNext, Pick, SliceState};
 use std::alloc::AllocError;
 
 /// What may come next.
@@ -71,7 +71,7 @@ fn list_deliveries<F: MissFile>(
     ensures { OnOk result (moves.new.items ≡ moves.old.items ++ deliveries_of slices.now) }
 {
     for slice in slices {
-        let NextPick::Move(pick) = slice.next(Class::Any) else {
+        let DeliveredNext::Moved(pick) = slice.next(Class::Any) else {
             continue;
         };
         moves.push(Move::Deliver(pick))?;

@@ -13,10 +13,10 @@ use Rattle.slice_core_answer.specs.declared.answer.Issue.TheVariants as issues
 use Rattle.slice_core_answer.specs.declared.answer.Refused.{Refused}
 use Rattle.slice_core_answer.specs.declared.answer.Refused.TheVariants as refusals
 use Rattle.slice_core_plan.specs.Decision.{decision_at, decision_of, is_counter, overwrites}
-use Rattle.slice_core_plan.specs.Parts.{PartsView, AfterAccepting, AfterAccess, AfterIssue, IsAccepted, LacksMemory}
+use Rattle.slice_core_plan.specs.Calls.{PartsView, AfterAccepting, AfterAccess, AfterIssue, IsAccepted, LacksMemory}
 use Rattle.slice_core_plan.specs.View.{View, side_at}
-use Rattle.slice_core_plan.specs.declared.decide.Decision.{Decision}
-use Rattle.slice_core_plan.specs.declared.decide.Decision.TheVariants as decisions
+use Rattle.slice_core_plan.specs.declared.decision.Decision.{Decision}
+use Rattle.slice_core_plan.specs.declared.decision.Decision.TheVariants as decisions
 use Rattle.slice_core_side.specs.Access.{access_of}
 use Rattle.slice_core_side.specs.Side.{tag_at}
 use Rattle.slice_core_side.specs.Tags.{is_free}

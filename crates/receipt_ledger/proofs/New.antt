@@ -14,7 +14,7 @@ use Rattle.slice_core_side.specs.declared.copy.CacheCopy.{CacheCopy}
 use Rattle.receipt_shares.specs.Totals.{nothing}
 use Rattle.slice_core_machine.specs.Machine.{IsSame, new_machine}
 use Rattle.slice_core_machine.specs.Shows.{shown}
-use Rattle.slice_core_plan.specs.Parts.{IsNew, PartsView}
+use Rattle.slice_core_plan.specs.Calls.{IsNew, PartsView}
 
 map-replicate : {X Y : Type 0} (f : X → Y) (n : ℕ) (x : X) → map f (replicate n x) ≡ replicate n (f x)
 map-replicate f zero x = refl

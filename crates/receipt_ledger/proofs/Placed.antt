@@ -19,10 +19,10 @@ use Rattle.receipt_ledger.specs.Booked.{stores_to}
 use Rattle.slice_core_answer.specs.declared.answer.Issue.{Issue}
 use Rattle.slice_core_answer.specs.declared.answer.Refused.{Refused}
 use Rattle.slice_core_answer.specs.declared.answer.Refused.TheVariants as refusals
-use Rattle.slice_core_plan.specs.Parts.{PartsView, AfterAccess, AfterIssue}
+use Rattle.slice_core_plan.specs.Calls.{PartsView, AfterAccess, AfterIssue}
 use Rattle.slice_core_plan.specs.View.{side_at}
-use Rattle.slice_core_plan.specs.declared.decide.Decision.{Decision}
-use Rattle.slice_core_plan.specs.declared.decide.Decision.TheVariants as decisions
+use Rattle.slice_core_plan.specs.declared.decision.Decision.{Decision}
+use Rattle.slice_core_plan.specs.declared.decision.Decision.TheVariants as decisions
 use Rattle.slice_core_side.specs.Access.{access_of}
 use Rattle.slice_core_side.specs.Side.{tag_at}
 use Rattle.slice_core_side.specs.Tags.{is_free}

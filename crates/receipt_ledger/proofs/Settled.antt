@@ -33,7 +33,7 @@ use Rattle.receipt_shares.specs.Totals.{Totals, together, totals}
 use Rattle.slice_core_log.specs.Log.{IsLegal, IsOrdered, initially, named, value}
 use Rattle.slice_core_log.specs.declared.entry.Entry.{Entry}
 use Rattle.slice_core_machine.specs.Machine.{Asked}
-use Rattle.slice_core_plan.specs.Parts.{PartsView}
+use Rattle.slice_core_plan.specs.Calls.{PartsView}
 use Rattle.slice_core_plan.specs.View.{View, IsQuiet}
 
 -- Ports hold together what was accepted and handed out through all of them.

@@ -24,7 +24,7 @@ use Rattle.slice_core_log.specs.declared.entry.Entry.{Entry}
 use Rattle.slice_core_machine.specs.Machine.{Asked, accept, after, entry_for, hand, perform}
 use Rattle.slice_core_machine.specs.Shows.{Leads, Performs, issue_steps, next_of, shown}
 use Rattle.slice_core_log.specs.declared.entry.Numbered.{Numbered}
-use Rattle.slice_core_plan.specs.Parts.{AfterHand, AfterIssue, PartsView}
+use Rattle.slice_core_plan.specs.Calls.{AfterHand, AfterIssue, PartsView}
 use Rattle.slice_core.specs.Shape.{shape_of}
 use Rattle.slice_core_plan.specs.View.{View, no_side}
 use Rattle.slice_core_side.specs.Side.{SideView}

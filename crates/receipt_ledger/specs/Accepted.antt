@@ -4,7 +4,7 @@ use Rattle.address_map.specs.declared.config.Config.{Config}
 use Rattle.receipt_ledger.specs.Booked.{IsTied}
 use Rattle.receipt_shares.specs.Totals.{Totals}
 use Rattle.slice_core.specs.Facts.{Holds}
-use Rattle.slice_core_plan.specs.Parts.{PartsView}
+use Rattle.slice_core_plan.specs.Calls.{PartsView}
 use Rattle.slice_core_side.specs.Side.{SideView}
 
 -- the requests that were accepted, of all cores

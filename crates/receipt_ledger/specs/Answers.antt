@@ -21,7 +21,7 @@ use Rattle.slice_core_answer.specs.declared.answer.Refused.TheVariants as refusa
 use Rattle.slice_core_log.specs.declared.entry.Entry.{Entry}
 use Rattle.slice_core_log.specs.declared.entry.Numbered.{Numbered}
 use Rattle.slice_core_machine.specs.Machine.{Asked, Step, accept, hand, perform}
-use Rattle.slice_core_plan.specs.Parts.{PartsView, AfterHand, AfterIssue}
+use Rattle.slice_core_plan.specs.Calls.{PartsView, AfterHand, AfterIssue}
 
 -- The receipt is of the port's slice, and of a request that the port's core made.
 pub record IsReceiptOf (p : PortView) (r : Receipt) : Type 0 where

@@ -12,7 +12,7 @@ use Rattle.slice_core_log.specs.declared.entry.Entry.{Entry}
 use Rattle.slice_core_machine.specs.Machine.{Asked, Machine}
 use Rattle.slice_core_machine.specs.Shows.{shown}
 use Rattle.slice_core_plan.specs.Decision.{overwrites}
-use Rattle.slice_core_plan.specs.Parts.{PartsView}
+use Rattle.slice_core_plan.specs.Calls.{PartsView}
 
 -- whether the access stores to one of the counters
 abbrev pub stores_to : List WordAddr → Op → WordAddr → Bool

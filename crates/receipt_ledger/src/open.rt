@@ -5,7 +5,7 @@ ghost use Rattle.receipt_shares.specs.Names.{AreLedgersOf};
 ghost use Rattle.receipt_shares.specs.Totals.{nothing};
 ghost use Rattle.slice_core_machine.specs.Machine.{IsSame, new_machine};
 ghost use Rattle.slice_core_machine.specs.Shows.{shown};
-ghost use Rattle.slice_core_plan.specs.Parts.{IsNew};
+ghost use Rattle.slice_core_plan.specs.Calls.{IsNew};
 
 use super::book::Book;
 use super::port::Port;

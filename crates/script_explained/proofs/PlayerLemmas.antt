@@ -9,7 +9,7 @@ use Rattle.litmus_text.specs.declared.command.Command.TheVariants as commands
 use Rattle.script_explained.specs.Delivery.{ExplainsDelivery}
 use Rattle.script_explained.specs.Explains.{IsExplained}
 use Rattle.script_explained.specs.Issue.{ExplainsIssue}
-use Rattle.slice_core_plan.specs.Parts.{PartsView}
+use Rattle.slice_core_plan.specs.Calls.{PartsView}
 use Rattle.slice_queues_message.specs.Pick.{line_of}
 use Rattle.slice_queues_message.specs.declared.channel.Pick.{Pick}
 

@@ -14,12 +14,9 @@ use Rattle.script_text.specs.Line.{text_of_parts}
 use Rattle.slice_core.specs.declared.run.Call.TheVariants as calls
 use Rattle.slice_core.specs.declared.run.CallAnswer.TheVariants as answers
 use Rattle.slice_core_answer.specs.declared.answer.Delivered.{Delivered}
-use Rattle.slice_core_answer.specs.declared.answer.DeliveredNext.{DeliveredNext}
-use Rattle.slice_core_answer.specs.declared.answer.DeliveredNext.TheVariants as deliveries
-use Rattle.slice_core_plan.specs.Parts.{PartsView, core_of}
+use Rattle.slice_core_plan.specs.Calls.{PartsView, core_of}
 use Rattle.slice_core_plan.specs.Plan.{planned_at}
 use Rattle.slice_core_plan.specs.View.{View}
-use Rattle.slice_core_plan.specs.declared.decide.Plan.{Plan}
 use Rattle.slice_queues_message.specs.Pick.{channel_of, line_of}
 use Rattle.slice_queues_message.specs.declared.channel.Class.TheVariants as classes
 use Rattle.slice_queues_message.specs.declared.channel.Pick.{Pick}
@@ -29,8 +26,11 @@ use Rattle.step_text.specs.declared.case.Case.{Case}
 use Rattle.step_text.specs.declared.case.Event.TheVariants as events
 use Rattle.step_text.specs.declared.case.Who.{Who}
 use Rattle.step_text.specs.declared.case.Who.TheVariants as whos
-use Rattle.step_text.specs.declared.delivery.Delivery.{Delivery}
+use Rattle.step_text.specs.declared.delivery.ExplainedDelivery.{ExplainedDelivery}
 use Rattle.step_text.specs.declared.deeds.Done.{Done}
+use Rattle.slice_core_answer.specs.declared.answer.Delivery.TheVariants as deliveries
+use Rattle.slice_core_answer.specs.declared.answer.Delivery.{Delivery}
+use Rattle.slice_core_plan.specs.declared.transition.Transition.{Transition}
 
 -- who takes the message in front of a channel of the slice with this number
 abbrev pub who_takes : ℕ → View → Pick → Who
@@ -57,18 +57,18 @@ done_at first v pick =
     }
 
 -- the delivery of the message that met a case; none where no message waits
-abbrev pub delivery_at : ℕ → Pick → Plan → Done → Option Case → Option Delivery
+abbrev pub delivery_at : ℕ → Pick → Delivery Transition → Done → Option Case → Option ExplainedDelivery
 delivery_at slice pick plan done case =
     option_map (λ met. record { slice = slice; core = core_of (channel_of pick); case = met; plan = plan; done = done })
     case
 
 -- .. from the one state to the other
-abbrev pub delivery_of : ℕ → Pick → View → View → Option Delivery
+abbrev pub delivery_of : ℕ → Pick → View → View → Option ExplainedDelivery
 delivery_of slice pick old new =
     delivery_at slice pick (planned_at old pick) (done_at (length old.log) new pick) (case_at slice old pick)
 
 -- what is said of it
-abbrev pub told_of_delivery : Option Delivery → List ℕ
+abbrev pub told_of_delivery : Option ExplainedDelivery → List ℕ
 told_of_delivery None = codes "no message waits"
 told_of_delivery (Some delivery) = text_of_delivery delivery
 
@@ -83,17 +83,17 @@ pub record ExplainsDelivery (slice : ℕ) (pick : Pick) (before after : Option (
 -- ---- a delivery that a pump makes
 
 -- the command that makes it, and what is said of it
-abbrev pub text_of_made : Pick → Option Delivery → List ℕ
+abbrev pub text_of_made : Pick → Option ExplainedDelivery → List ℕ
 text_of_made pick delivery =
     text_of_parts (parts_of (commands.Deliver pick)) ++ codes "   " ++ told_of_delivery delivery ++ codes "\n"
 
 -- what is said of the next delivery of a slice, by its answer: nothing where none was made
-abbrev pub text_of_next : ℕ → DeliveredNext → View → View → List ℕ
+abbrev pub text_of_next : ℕ → Delivery Pick → View → View → List ℕ
 text_of_next slice (deliveries.Moved pick) old new = text_of_made pick (delivery_of slice pick old new)
 text_of_next slice answer old new = []
 
 -- a state of a slice made its next delivery, where one could be made, and what there is to say of it was written
-pub record ExplainsNext (slice : ℕ) (answer : DeliveredNext) (before after : Option (List ℕ))
+pub record ExplainsNext (slice : ℕ) (answer : Delivery Pick) (before after : Option (List ℕ))
     (old new : PartsView) : Type 0 where
   pub answered : Answers (calls.DeliverNext classes.Any) (answers.DeliverNext answer) old new
   pub written : Appends before after (text_of_next slice answer old.view new.view)

@@ -12,7 +12,7 @@ use Rattle.script_explained.specs.Delivery.{ExplainsDelivery, ExplainsNext}
 use Rattle.script_explained.specs.Hand.{ExplainsHand}
 use Rattle.script_explained.specs.Issue.{ExplainsEviction, ExplainsIssue}
 use Rattle.script_explained.specs.Unrest.{ExplainsWord}
-use Rattle.slice_core_plan.specs.Parts.{PartsView}
+use Rattle.slice_core_plan.specs.Calls.{PartsView}
 use Rattle.slice_queues_message.specs.Pick.{line_of}
 
 -- of each delivery of a pump stand the command that makes it, and what happened

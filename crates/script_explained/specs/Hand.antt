@@ -7,7 +7,7 @@ use Rattle.litmus_script.specs.Prints.{Adds}
 use Rattle.slice_core.specs.declared.run.Call.TheVariants as calls
 use Rattle.slice_core.specs.declared.run.CallAnswer.TheVariants as answers
 use Rattle.slice_core_log.specs.declared.entry.Numbered.{Numbered}
-use Rattle.slice_core_plan.specs.Parts.{PartsView}
+use Rattle.slice_core_plan.specs.Calls.{PartsView}
 use Rattle.step_text.specs.Performed.{text_of_performed}
 
 abbrev pub told_of_hand : CoreId → Option Numbered → List ℕ

@@ -21,7 +21,7 @@ use Rattle.slice_core_answer.specs.Text.{text_of_evicted}
 use Rattle.slice_core_answer.specs.declared.answer.Evicted.{Evicted}
 use Rattle.slice_core_answer.specs.declared.answer.Evicted.TheVariants as evictions
 use Rattle.slice_core_plan.specs.Decision.{decision_of}
-use Rattle.slice_core_plan.specs.Parts.{PartsView}
+use Rattle.slice_core_plan.specs.Calls.{PartsView}
 use Rattle.slice_core_plan.specs.View.{View}
 use Rattle.slice_queues_message.specs.declared.channel.Pick.TheVariants as picks
 use Rattle.step_text.specs.Issue.{event_of, text_of_eviction, text_of_issue}

@@ -7,8 +7,8 @@ ghost use Rattle.litmus_script.specs.Play.{IsOfRun};
 ghost use Rattle.script_explained.specs.Delivery.{ExplainsDelivery, ExplainsNext, case_at, delivery_at, done_at};
 ghost use Rattle.script_explained.specs.Delivery.{text_of_made, told_of_delivery, who_takes};
 ghost use Rattle.slice_core.specs.Facts.{IsSameSlice};
-ghost use Rattle.slice_core_plan.specs.Parts.{core_of, next_pick};
-ghost use Rattle.slice_core_plan.specs.declared.decide.NextPick.TheVariants as next_picks;
+ghost use Rattle.slice_core_plan.specs.Calls.{core_of, next_pick};
+ghost use Rattle.slice_core_answer.specs.declared.answer.Delivery.TheVariants as deliveries;
 ghost use Rattle.slice_queues_message.specs.Pick.{channel_of};
 ghost use Rattle.slice_queues_message.specs.declared.channel.Class.TheVariants as classes;
 
@@ -17,11 +17,11 @@ use address_map::CoreId;
 use litmus_script::{Answers, written};
 use litmus_text::TextFault;
 use mshr_file::MissFile;
-use script_text::Delivery as Command;
-use slice_core::{Class, Delivered, DeliveredNext, NextPick, Pick, Plan, SliceState};
+use script_text::Delivery;
+use slice_core::{Class, Delivered, DeliveredNext, Pick, Plan, SliceState};
 use std::fmt;
 use std::io::Write;
-use step_text::{Case, Delivery, Done, Event, Who};
+use step_text::{Case, Done, Event, ExplainedDelivery, Who};
 
 /// Delivers the message in front of a channel of the slice with this number, and writes what became of it and why.
 pub(crate) fn deliver<F: MissFile, W: Write>(
@@ -58,7 +58,7 @@ pub(crate) fn deliver_next<F: MissFile, W: Write>(
     ensures fault { IfErr result IsOfRun }
 {
     match state.next(Class::Any) {
-        NextPick::Move(pick) => deliver_picked(state, slice, pick, out),
+        DeliveredNext::Moved(pick) => deliver_picked(state, slice, pick, out),
         _ => Ok(state.deliver_next(Class::Any)),
     }
 }
@@ -70,7 +70,7 @@ fn deliver_picked<F: MissFile, W: Write>(
     pick: Pick,
     out: &mut W,
 ) -> Result<DeliveredNext, TextFault>
-    requires { next_pick state.old classes.Any ≡ next_picks.Move pick }
+    requires { next_pick state.old classes.Any ≡ deliveries.Moved pick }
     ensures same { IsSameSlice state.old state.new }
     ensures told { IfOk result (λ answer. ExplainsNext slice answer (W.contents out.old)
         (W.contents out.new) state.old state.new) }
@@ -87,7 +87,7 @@ fn deliver_picked<F: MissFile, W: Write>(
 }
 
 /// Writes the command that makes a delivery, and what there is to say of it.
-fn tell_made<W: Write>(pick: Pick, told: Option<Delivery>, out: &mut W) -> Result<(), TextFault>
+fn tell_made<W: Write>(pick: Pick, told: Option<ExplainedDelivery>, out: &mut W) -> Result<(), TextFault>
     ensures told { OnOk result (Appends (W.contents out.old) (W.contents out.new) (text_of_made pick told)) }
     ensures fault { IfErr result IsOfRun }
 {
@@ -95,10 +95,10 @@ fn tell_made<W: Write>(pick: Pick, told: Option<Delivery>, out: &mut W) -> Resul
     written(write_made(pick, told, &mut answers))
 }
 
-fn write_made<W: fmt::Write>(pick: Pick, told: Option<Delivery>, out: &mut W) -> fmt::Result
+fn write_made<W: fmt::Write>(pick: Pick, told: Option<ExplainedDelivery>, out: &mut W) -> fmt::Result
     ensures { OnOk result (WritesInCalls W.write_str_gives out.old (text_of_made pick told) out.new) }
 {
-    let command = Command(pick);
+    let command = Delivery(pick);
     match told {
         Some(told) => writeln!(out, "{command}   {told}"),
         None => writeln!(out, "{command}   no message waits"),
@@ -106,11 +106,11 @@ fn write_made<W: fmt::Write>(pick: Pick, told: Option<Delivery>, out: &mut W) ->
 }
 
 /// The delivery of the message that met a case, if one did.
-fn told(slice: usize, pick: Pick, case: Option<Case>, plan: Plan, done: Done) -> Option<Delivery>
+fn told(slice: usize, pick: Pick, case: Option<Case>, plan: Plan, done: Done) -> Option<ExplainedDelivery>
     ensures { result ≡ delivery_at slice pick plan done case }
 {
     let case = case?;
-    Some(Delivery {
+    Some(ExplainedDelivery {
         slice,
         core: core(pick),
         case,
@@ -140,7 +140,7 @@ impl fmt::Display for Answer {
 }
 
 /// Writes the answer to a delivery, and what there is to say of it.
-fn write<W: fmt::Write>(delivered: Delivered, told: Option<Delivery>, out: &mut W) -> fmt::Result
+fn write<W: fmt::Write>(delivered: Delivered, told: Option<ExplainedDelivery>, out: &mut W) -> fmt::Result
     ensures { OnOk result (WritesLine W.write_str_gives out.old
         (text_of_delivered delivered ++ codes "   " ++ told_of_delivery told) out.new) }
 {

@@ -6,7 +6,7 @@ use Rattle.litmus_script.specs.Play.{PlaysAll, PlaysUpTo}
 use Rattle.litmus_text.specs.declared.fault.TextFault.{TextFault}
 use Rattle.script_page.specs.Page.{Steps}
 use Rattle.script_page.specs.Step.{Shown}
-use Rattle.slice_core_plan.specs.Parts.{PartsView}
+use Rattle.slice_core_plan.specs.Calls.{PartsView}
 
 pub on_ok_from : {A E P : Type 0} (r : Result A E) → (IsOk r → P) → OnOk r P
 on_ok_from (Ok x) holds = holds refl

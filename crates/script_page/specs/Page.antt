@@ -13,7 +13,7 @@ use Rattle.protocol_tables.specs.Directory.{table_of as directory_table}
 use Rattle.script_page.specs.Json.{json_of}
 use Rattle.script_page.specs.Step.{IsStep, Shown}
 use Rattle.script_page.specs.declared.frame.TheConstants.{HEAD, TAIL}
-use Rattle.slice_core_plan.specs.Parts.{PartsView}
+use Rattle.slice_core_plan.specs.Calls.{PartsView}
 
 -- what stands before the steps: the script itself, and the protocol's tables
 abbrev pub text_of_begin : List ℕ → List ℕ

@@ -10,7 +10,7 @@ use Rattle.litmus_text.specs.declared.command.Command.{Command}
 use Rattle.litmus_text.specs.declared.command.Command.TheVariants as commands
 use Rattle.script_explained.specs.Explains.{IsExplained}
 use Rattle.script_page.specs.Json.{json_of}
-use Rattle.slice_core_plan.specs.Parts.{PartsView}
+use Rattle.slice_core_plan.specs.Calls.{PartsView}
 use Rattle.slice_queues_message.specs.Pick.{line_of}
 
 -- the line that a command is about, if it is about one

@@ -11,7 +11,7 @@ ghost use Rattle.protocol_tables.specs.Cache.{table_of as cache_table};
 ghost use Rattle.protocol_tables.specs.Directory.{table_of as directory_table};
 ghost use Rattle.script_page.specs.Page.{HasSteps, IsPage, IsPageFault, IsPageOf, PageStopsAt, text_of_begin};
 ghost use Rattle.script_page.specs.Page.{text_of_end};
-ghost use Rattle.slice_core_plan.specs.Parts.{PartsView};
+ghost use Rattle.slice_core_plan.specs.Calls.{PartsView};
 
 use super::frame::{HEAD, TAIL};
 use super::json::write_json;

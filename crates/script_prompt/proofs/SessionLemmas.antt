@@ -9,7 +9,7 @@ use Rattle.litmus_script.specs.declared.script.Script.{Script}
 use Rattle.litmus_text.specs.Settings.{default_settings}
 use Rattle.litmus_text.specs.Statement.{kept_words, statements_from}
 use Rattle.litmus_text.specs.declared.command.Command.{Command}
-use Rattle.slice_core_plan.specs.Parts.{PartsView}
+use Rattle.slice_core_plan.specs.Calls.{PartsView}
 use Rattle.script_prompt.specs.Session.{IsAfter, IsContinued, IsPlayedTo, PlaysLine, PlaysLines}
 
 -- a script that was read, whose commands are played

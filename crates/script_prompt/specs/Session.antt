@@ -11,7 +11,7 @@ use Rattle.litmus_text.specs.Statement.{kept_words, statements_from}
 use Rattle.litmus_text.specs.declared.command.Command.{Command}
 use Rattle.mshr_file.specs.Miss.{Bound}
 use Rattle.script_explained.specs.Explains.{Explainingly, IsExplained}
-use Rattle.slice_core_plan.specs.Parts.{PartsView}
+use Rattle.slice_core_plan.specs.Calls.{PartsView}
 use Rattle.script_prompt.specs.declared.kinds.AnySession.{AnySession}
 use Rattle.script_prompt.specs.declared.kinds.AnySession.TheVariants as sessions
 

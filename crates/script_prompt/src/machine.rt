@@ -9,7 +9,7 @@ ghost use Rattle.script_prompt.specs.Tag.{IsLowestFree, is_busy};
 use address_map::{CoreId, Op, Request, SliceId, WordAddr};
 use litmus_script::Machine;
 use mshr_file::MissFile;
-use slice_core::{Class, Decision, NextPick, Refused, SliceState};
+use slice_core::{Class, Decision, DeliveredNext, Refused, SliceState};
 
 /// How many tags a core has in a slice.
 const TAGS: u8 = 64;
@@ -55,22 +55,22 @@ const fn is_busy(decision: Decision) -> bool
 }
 
 /// The next delivery of the slice, or else that of the first slice that has one.
-pub(crate) fn next<F: MissFile>(machine: &Machine<F>, slice: Option<SliceId>) -> NextPick
+pub(crate) fn next<F: MissFile>(machine: &Machine<F>, slice: Option<SliceId>) -> DeliveredNext
     ensures { result ≡ next_of machine.now.slices.items slice }
 {
     match slice {
         Some(slice) => match machine.slices.get(slice.0 as usize) {
             Some(state) => state.next(Class::Any),
-            None => NextPick::Nothing,
+            None => DeliveredNext::Nothing,
         },
         None => next_of_all(machine.slices.as_slice()),
     }
 }
 
-fn next_of_all<F: MissFile>(slices: &[SliceState<F>]) -> NextPick
+fn next_of_all<F: MissFile>(slices: &[SliceState<F>]) -> DeliveredNext
     ensures { result ≡ next_of_all slices.now }
 {
-    let mut found = NextPick::Nothing;
+    let mut found = DeliveredNext::Nothing;
     for state in slices {
         found = or_next(found, state.next(Class::Any));
     }
@@ -78,12 +78,12 @@ fn next_of_all<F: MissFile>(slices: &[SliceState<F>]) -> NextPick
 }
 
 /// The next delivery where slices with the first one are followed by a slice with the other.
-const fn or_next(first: NextPick, other: NextPick) -> NextPick
+const fn or_next(first: DeliveredNext, other: DeliveredNext) -> DeliveredNext
     ensures { result ≡ or_next first other }
 {
     match (first, other) {
-        (NextPick::Nothing, other) => other,
-        (NextPick::Blocked | NextPick::Broken(_), NextPick::Move(pick)) => NextPick::Move(pick),
+        (DeliveredNext::Nothing, other) => other,
+        (DeliveredNext::Blocked | DeliveredNext::Broken(_), DeliveredNext::Moved(pick)) => DeliveredNext::Moved(pick),
         (first, _) => first,
     }
 }

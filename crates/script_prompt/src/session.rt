@@ -16,7 +16,7 @@ use litmus_text::{Command, Statement, Statements, TextFault, parse_command};
 use mshr_file::MissFile;
 use script_explained::Explained;
 use script_text::write_command;
-use slice_core::NextPick;
+use slice_core::DeliveredNext;
 use std::alloc::AllocError;
 use std::fmt::Write as _;
 use std::io::Write;
@@ -171,15 +171,15 @@ impl<F: MissFile> Session<F> {
             self.new.player.machine.slices.items self.old.script.items self.new.script.items) }
     {
         let next = machine::next(&self.player.machine, slice);
-        if let NextPick::Move(pick) = next {
+        if let DeliveredNext::Moved(pick) = next {
             let before = self.performed()?;
             self.play_own(Command::Deliver(pick), out)?;
             return self.hand_out(&before, out);
         }
         let mut answers = Answers { out };
         written(match next {
-            NextPick::Broken(cell) => writeln!(answers, "broken {cell}"),
-            NextPick::Nothing => writeln!(answers, "nothing   no message waits"),
+            DeliveredNext::Broken(cell) => writeln!(answers, "broken {cell}"),
+            DeliveredNext::Nothing => writeln!(answers, "nothing   no message waits"),
             _ => writeln!(
                 answers,
                 "blocked   each message that waits has to wait for another"

@@ -10,7 +10,7 @@ use Rattle.litmus_script.specs.Prints.{IsPrinted}
 use Rattle.litmus_script.specs.Script.{IsScript, IsStoppedOn, commands_of}
 use Rattle.litmus_script.specs.declared.script.Script.{Script}
 use Rattle.mshr_file.specs.Miss.{Bound}
-use Rattle.slice_core_plan.specs.Parts.{PartsView}
+use Rattle.slice_core_plan.specs.Calls.{PartsView}
 use Rattle.script_test.specs.Answers.{Answer, Answering, AreAnswered, AreAnswers}
 
 module _ {P : Type 0} (slices : P → List PartsView) (config_in : P → Config) (texts : P → List (List ℕ))

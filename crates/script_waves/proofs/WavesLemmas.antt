@@ -15,7 +15,7 @@ use Rattle.script_waves.specs.Values.{name_of_channel, names_of, text_behind, te
 use Rattle.script_waves.specs.Values.{text_of_place, text_of_states, text_of_waiting}
 use Rattle.script_waves.specs.Waves.{Shown, Ticks, begun}
 use Rattle.slice_core.specs.Facts.{AreWaitingAt, ShowsLine}
-use Rattle.slice_core_plan.specs.Parts.{PartsView}
+use Rattle.slice_core_plan.specs.Calls.{PartsView}
 use Rattle.slice_core_plan.specs.View.{View, channels_at, entry_at}
 use Rattle.slice_core_side.specs.Side.{state_of}
 use Rattle.slice_core_steps.specs.declared.line_view.LineView.{LineView}

@@ -12,7 +12,7 @@ use Rattle.directory_table.specs.Name.{name_of as name_of_dir}
 use Rattle.directory_table.specs.declared.state.DirState.{DirState}
 use Rattle.script_waves.specs.Signals.{code_of}
 use Rattle.script_waves.specs.declared.signal.Signal.TheVariants as signals
-use Rattle.slice_core_plan.specs.Parts.{PartsView}
+use Rattle.slice_core_plan.specs.Calls.{PartsView}
 use Rattle.slice_core_plan.specs.View.{View, channels_at, entry_at}
 use Rattle.slice_core_side.specs.Side.{state_of}
 use Rattle.slice_queues.specs.Waiting.{line_waiting}

@@ -13,7 +13,7 @@ use Rattle.mshr_file.specs.Miss.{Bound}
 use Rattle.script_page.specs.Step.{Names, line_named}
 use Rattle.script_waves.specs.Signals.{text_of_header}
 use Rattle.script_waves.specs.Values.{text_of_command, text_of_lines, text_of_time}
-use Rattle.slice_core_plan.specs.Parts.{PartsView}
+use Rattle.slice_core_plan.specs.Calls.{PartsView}
 
 -- what is known of a run: the machine's slices, the lines that were named, and how many commands were played
 pub record Shown : Type 0 where

@@ -13,7 +13,7 @@ use Rattle.address_map.specs.declared.config.Config.{Config}
 use Rattle.mshr_file.specs.Miss.{Bound}
 use Rattle.slice_core_answer.specs.Stats.{StatsView, accepted_of, counts_of, no_counts}
 use Rattle.slice_core_log.proofs.Pushes.{IsOrdered-nil}
-use Rattle.slice_core_plan.specs.Parts.{PartsView, IsNew}
+use Rattle.slice_core_plan.specs.Calls.{PartsView, IsNew}
 use Rattle.slice_core_plan.specs.View.{channels_at, no_side, side_at, IsShaped}
 use Rattle.slice_core_side.specs.Side.{SideView, new_side}
 use Rattle.slice_core_standing.proofs.Begins.{account-begins}

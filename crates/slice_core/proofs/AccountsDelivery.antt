@@ -12,18 +12,14 @@ use Rattle.cache_table.specs.declared.state.CopyState.{CopyState}
 use Rattle.mshr_file.specs.Miss.{targets_of}
 use Rattle.slice_core_answer.specs.Stats.{after_message}
 use Rattle.slice_core_answer.specs.declared.answer.Delivered.{Delivered}
-use Rattle.slice_core_answer.specs.declared.answer.DeliveredNext.{DeliveredNext}
-use Rattle.slice_core_answer.specs.declared.answer.DeliveredNext.TheVariants as delivered_next
 use Rattle.slice_core_answer.specs.declared.answer.Delivered.TheVariants as delivered
-use Rattle.slice_core_plan.specs.Parts.{PartsView, core_of, filled_by, AfterDeliverNext, AfterDelivery, AfterPlan}
-use Rattle.slice_core_plan.specs.Parts.{Settles, local_in, IsDone, Moves}
+use Rattle.slice_core_plan.specs.Calls.{PartsView, core_of, filled_by, AfterDeliverNext, AfterDelivery, AfterPlan}
+use Rattle.slice_core_plan.specs.Calls.{Settles, local_in, IsDone, Moves}
 use Rattle.slice_core_plan.specs.Plan.{plan_of, planned_in}
 use Rattle.slice_core_plan.specs.Sends.{cache_sent, directory_sent}
 use Rattle.slice_core_plan.specs.Steps.{asked_by, after_directory, after_forwarded, after_home, after_settling}
 use Rattle.slice_core_plan.specs.View.{View, channels_at, entry_at, first_word, side_at, with_entry, with_side}
 use Rattle.slice_core_plan.specs.View.{IsShaped}
-use Rattle.slice_core_plan.specs.declared.decide.Plan.{Plan}
-use Rattle.slice_core_plan.specs.declared.decide.Plan.TheVariants as plans
 use Rattle.slice_core_side.specs.Copy.{is_gone, no_copy}
 use Rattle.slice_core_side.specs.Perform.{asks_to_write, entries_of, performed_in, tags_after}
 use Rattle.slice_core_side.specs.Side.{SideView, array_copy, copy_of}
@@ -43,6 +39,11 @@ use Rattle.slice_queues_message.specs.declared.channel.Channel.{Channel}
 use Rattle.slice_queues_message.specs.declared.channel.Channel.TheVariants as channels
 use Rattle.slice_queues_message.specs.declared.channel.Class.{Class}
 use Rattle.slice_queues_message.specs.declared.channel.Pick.{Pick}
+use Rattle.slice_core_answer.specs.declared.answer.Delivery.TheVariants as deliveries
+use Rattle.slice_core_answer.specs.declared.answer.Delivery.{Delivery}
+use Rattle.slice_core_plan.specs.Plan.{ack_move, fill_move, forwarded_move}
+use Rattle.slice_core_plan.specs.declared.transition.Transition.TheVariants as transitions
+use Rattle.slice_core_plan.specs.declared.transition.Transition.{Transition}
 
 -- ---- a copy that goes on
 
@@ -129,7 +130,7 @@ module _ (old : PartsView) (local : Local) (channel : Channel) (new : PartsView)
 -- ---- the plans
 
 -- What was planned is carried out.
-keeps-plan : (plan : Plan) (old : PartsView) (local : Local) (channel : Channel) (answer : Delivered)
+keeps-plan : (plan : Delivery Transition) (old : PartsView) (local : Local) (channel : Channel) (answer : Delivered)
     (new : PartsView)
     → IsSound old → plan_of old.view local channel ≡ plan → AfterPlan plan old local channel answer new → Keeps new
 keeps-plan plan old local channel answer new sound = by plan
@@ -137,23 +138,23 @@ keeps-plan plan old local channel answer new sound = by plan
     keeps : Keeps old
     keeps = keeps-from_sound old sound
 
-    known : (other : Plan) → plan_of old.view local channel ≡ other → is_for_copy other ≡ true
+    known : (other : Delivery Transition) → plan_of old.view local channel ≡ other → is_for_copy other ≡ true
         → (core_of channel).0 < length old.view.sides
     known other is copies =
         planned-core old.view local sound.counted.shaped channel (ap is_for_copy is ∙ copies)
 
-    held : (other : Plan) (place : ℕ) → plan_of old.view local channel ≡ other → place_in other ≡ Some place
+    held : (other : Delivery Transition) (place : ℕ) → plan_of old.view local channel ≡ other → place_in other ≡ Some place
         → IsSome (array_at (side_at old.view (core_of channel)).array local)
     held other place is found =
         held-at_place (side_at old.view (core_of channel)) local place
         (planned-place old.view local channel place (ap place_in is ∙ found))
 
-    by : (other : Plan) → plan_of old.view local channel ≡ other → AfterPlan other old local channel answer new
+    by : (other : Delivery Transition) → plan_of old.view local channel ≡ other → AfterPlan other old local channel answer new
         → Keeps new
-    by plans.Nothing is after = subst Keeps (sym after.1) keeps
-    by plans.Blocked is after = subst Keeps (sym after.1) keeps
-    by (plans.Broken cell) is after = subst Keeps (sym after.1) keeps
-    by (plans.Directory step) is after =
+    by deliveries.Nothing is after = subst Keeps (sym after.1) keeps
+    by deliveries.Blocked is after = subst Keeps (sym after.1) keeps
+    by (deliveries.Broken cell) is after = subst Keeps (sym after.1) keeps
+    by (deliveries.Moved (transitions.Directory step)) is after =
         let core = core_of channel in
         let entry = entry_at old.view local in
         let line = after_take (channels_at old.view local) (channels.Req core) in
@@ -161,25 +162,25 @@ keeps-plan plan old local channel answer new sound = by plan
         (shaped-channels (with_entry old.view local _) local (directory_sent line core entry.home step.sends)
         (cores-directory line core entry.home step.sends ∙ cores-taken (channels_at old.view local) (channels.Req core))
         (shaped-entry old.view local _ sound.counted.shaped)) after.1
-    by (plans.Home state owner sharers) is after =
-        moved old local channel new keeps (after_home old.view local state owner sharers) refl refl refl
+    by (deliveries.Moved (transitions.Home step)) is after =
+        moved old local channel new keeps (after_home old.view local step.state step.owner step.sharers) refl refl refl
         (shaped-channels (with_entry old.view local _) local (after_take (channels_at old.view local) channels.Home)
         (cores-taken (channels_at old.view local) channels.Home)
         (shaped-entry old.view local _ sound.counted.shaped)) after.1
-    by (plans.Forwarded next sent requester) is after =
-        forwarded old local channel new keeps (core_of channel) requester next sent
-        (known (plans.Forwarded next sent requester) is refl) after.1
-    by (plans.Fill place next) is after =
+    by (deliveries.Moved (transitions.Forwarded step)) is after =
+        forwarded old local channel new keeps (core_of channel) step.requester step.next step.sends
+        (known (forwarded_move step.next step.sends step.requester) is refl) after.1
+    by (deliveries.Moved (transitions.Fill step)) is after =
         let core = core_of channel in
-        let there = known (plans.Fill place next) is refl in
+        let there = known (fill_move step.place step.next) is refl in
         settled old local channel new keeps core
-        (filled_by (array_copy (side_at old.view core) local) (core_at (channels_at old.view local) core.0).data next)
-        there (sound.links.kept core there).array (held (plans.Fill place next) place is refl) after.1
-    by (plans.Acknowledge place next) is after =
+        (filled_by (array_copy (side_at old.view core) local) (core_at (channels_at old.view local) core.0).data step.next)
+        there (sound.links.kept core there).array (held (fill_move step.place step.next) step.place is refl) after.1
+    by (deliveries.Moved (transitions.Acknowledge step)) is after =
         let core = core_of channel in
-        let there = known (plans.Acknowledge place next) is refl in
-        settled old local channel new keeps core (acknowledged (array_copy (side_at old.view core) local) next) there
-        (sound.links.kept core there).array (held (plans.Acknowledge place next) place is refl) after.1
+        let there = known (ack_move step.place step.next) is refl in
+        settled old local channel new keeps core (acknowledged (array_copy (side_at old.view core) local) step.next) there
+        (sound.links.kept core there).array (held (ack_move step.place step.next) step.place is refl) after.1
 
 -- ---- the calls
 
@@ -200,13 +201,13 @@ module _ (old : PartsView) (sound : IsSound old) (new : PartsView) where
   pub keeps-delivery : (pick : Pick) (answer : Delivered) → AfterDelivery old pick answer new → Keeps new
   keeps-delivery pick answer after = placed pick answer (local_at old.view.lines (line_of pick).0) after
 
-  pub keeps-done : (answer : DeliveredNext) → IsDone old answer new → Keeps new
-  keeps-done (delivered_next.Moved pick) done = keeps-delivery pick delivered.Moved done
-  keeps-done delivered_next.Nothing done = keeps-same done
-  keeps-done delivered_next.Blocked done = keeps-same done
-  keeps-done (delivered_next.Broken cell) done = keeps-same done
+  pub keeps-done : (answer : Delivery Pick) → IsDone old answer new → Keeps new
+  keeps-done (deliveries.Moved pick) done = keeps-delivery pick delivered.Moved done
+  keeps-done deliveries.Nothing done = keeps-same done
+  keeps-done deliveries.Blocked done = keeps-same done
+  keeps-done (deliveries.Broken cell) done = keeps-same done
 
-pub keeps-deliver_next : (old : PartsView) → IsSound old → (new : PartsView) (class : Class) (answer : DeliveredNext)
+pub keeps-deliver_next : (old : PartsView) → IsSound old → (new : PartsView) (class : Class) (answer : Delivery Pick)
     → AfterDeliverNext old class answer new → Keeps new
 keeps-deliver_next old sound new class answer after =
     subst Keeps (sym after.turns) (keeps-ring _ _ (keeps-done old sound after.done answer after.made))

@@ -7,7 +7,7 @@ use Rattle.address_map.specs.declared.address.Local.{Local}
 use Rattle.slice_core_answer.specs.Stats.{after_eviction}
 use Rattle.slice_core_answer.specs.declared.answer.Evicted.{Evicted}
 use Rattle.slice_core_answer.specs.declared.answer.Evicted.TheVariants as evictions
-use Rattle.slice_core_plan.specs.Parts.{PartsView, AfterEvict}
+use Rattle.slice_core_plan.specs.Calls.{PartsView, AfterEvict}
 use Rattle.slice_core_plan.specs.Steps.{after_evict}
 use Rattle.slice_core_plan.specs.View.{side_at}
 use Rattle.slice_core_side.specs.Access.{evicted_of}

@@ -8,7 +8,7 @@ use Rattle.address_map.specs.declared.address.CoreId.{CoreId}
 use Rattle.slice_core_log.specs.Log.{IsOrdered}
 use Rattle.slice_core_log.specs.declared.entry.Entry.{Entry}
 use Rattle.slice_core_log.specs.declared.entry.Numbered.{Numbered}
-use Rattle.slice_core_plan.specs.Parts.{PartsView, AfterHand}
+use Rattle.slice_core_plan.specs.Calls.{PartsView, AfterHand}
 use Rattle.slice_core_plan.specs.View.{View, no_side, side_at}
 use Rattle.slice_core_side.specs.Side.{SideView}
 use Rattle.slice_core_standing.proofs.Grown.{no_entry-standings}

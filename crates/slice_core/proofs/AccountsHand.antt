@@ -2,7 +2,7 @@
 use Rattle.std.proofs.Common.{◌<◌, length, Option, Some, None, refl, sym, subst}
 use Rattle.address_map.specs.declared.address.CoreId.{CoreId}
 use Rattle.slice_core_log.specs.declared.entry.Numbered.{Numbered}
-use Rattle.slice_core_plan.specs.Parts.{PartsView, AfterHand}
+use Rattle.slice_core_plan.specs.Calls.{PartsView, AfterHand}
 use Rattle.slice_core_plan.specs.View.{side_at}
 use Rattle.slice_core_side.specs.Steps as sides
 use Rattle.slice_core.proofs.AccountsKept.{Keeps, keeps-handed}

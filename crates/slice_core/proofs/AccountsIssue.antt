@@ -13,13 +13,13 @@ use Rattle.slice_core_answer.specs.Stats.{after_eviction, after_hit as hit_count
 use Rattle.slice_core_answer.specs.declared.answer.Issue.{Issue}
 use Rattle.slice_core_answer.specs.declared.answer.Refused.{Refused}
 use Rattle.slice_core_plan.specs.Decision.{decision_of}
-use Rattle.slice_core_plan.specs.Parts.{PartsView, opened_stats, target_for, AfterAccepting, AfterAccess, AfterIssue}
-use Rattle.slice_core_plan.specs.Parts.{IsAccepted, LacksMemory}
+use Rattle.slice_core_plan.specs.Calls.{PartsView, opened_stats, target_for, AfterAccepting, AfterAccess, AfterIssue}
+use Rattle.slice_core_plan.specs.Calls.{IsAccepted, LacksMemory}
 use Rattle.slice_core_plan.specs.Steps.{after_hit, after_join, after_open, after_opening, after_request, is_held}
 use Rattle.slice_core_plan.specs.Steps.{request_of, with_way}
 use Rattle.slice_core_plan.specs.View.{channels_at, side_at, with_side}
-use Rattle.slice_core_plan.specs.declared.decide.Decision.{Decision}
-use Rattle.slice_core_plan.specs.declared.decide.Decision.TheVariants as decisions
+use Rattle.slice_core_plan.specs.declared.decision.Decision.{Decision}
+use Rattle.slice_core_plan.specs.declared.decision.Decision.TheVariants as decisions
 use Rattle.slice_core_side.specs.Side.{SideView, array_copy, tag_at}
 use Rattle.slice_core_side.specs.Steps as sides
 use Rattle.slice_core_side.specs.declared.access.Access.{Access}

@@ -11,7 +11,7 @@ use Rattle.address_map.specs.declared.block.Block.{Block}
 use Rattle.mshr_file.specs.Miss.{has_miss, AddsTarget, IsMissFile, TakesTargets}
 use Rattle.slice_core_answer.specs.Stats.{StatsView, accepted_of, counts_of}
 use Rattle.slice_core_log.specs.declared.entry.Entry.{Entry}
-use Rattle.slice_core_plan.specs.Parts.{PartsView}
+use Rattle.slice_core_plan.specs.Calls.{PartsView}
 use Rattle.slice_core_plan.specs.View.{View, side_at, with_side, IsShaped}
 use Rattle.slice_core_side.specs.Copy.{performed_on}
 use Rattle.slice_core_side.specs.Perform.{entries_of, tags_after}

@@ -6,19 +6,15 @@ use Rattle.address_map.specs.declared.address.Local.{Local}
 use Rattle.address_map.specs.declared.address.WordAddr.{WordAddr}
 use Rattle.slice_core_answer.specs.declared.answer.Cell.{Cell}
 use Rattle.slice_core_answer.specs.declared.answer.Delivered.{Delivered}
-use Rattle.slice_core_answer.specs.declared.answer.DeliveredNext.{DeliveredNext}
-use Rattle.slice_core_answer.specs.declared.answer.DeliveredNext.TheVariants as delivered_next
 use Rattle.slice_core_coherence.proofs.KeptByCalls.{located}
 use Rattle.slice_core_coherence.specs.Whole.{IsAddressed, IsWhole}
 use Rattle.slice_core_coherence.proofs.Bounded as bounds
 use Rattle.slice_core_coherence.proofs.Consequences.{one_writer}
 use Rattle.slice_core_coherence.proofs.Unbroken.{whole_is_unbroken}
 use Rattle.slice_core_coherence.specs.Coherent.{HasBoundedChannels, HasOneWriter, NothingIsBroken}
-use Rattle.slice_core_plan.specs.Parts.{PartsView, AfterDeliverNext, AfterDelivery, AfterPlan, local_in}
+use Rattle.slice_core_plan.specs.Calls.{PartsView, AfterDeliverNext, AfterDelivery, AfterPlan, local_in}
 use Rattle.slice_core_plan.specs.Plan.{plan_of, planned_in}
 use Rattle.slice_core_plan.specs.View.{IsQuiet, first_word}
-use Rattle.slice_core_plan.specs.declared.decide.Plan.{Plan}
-use Rattle.slice_core_plan.specs.declared.decide.Plan.TheVariants as plans
 use Rattle.slice_core.proofs.AccountsCan.{can-deliver}
 use Rattle.slice_core.proofs.AccountsFacts as facts
 use Rattle.slice_core.specs.Facts.{Holds, IsReached, IsNotBroken, IsNotBrokenNext, ShowsLast, ShowsWord}
@@ -32,6 +28,9 @@ use Rattle.slice_queues_message.specs.Pick.{channel_of, line_of}
 use Rattle.slice_queues_message.specs.declared.channel.Channel.{Channel}
 use Rattle.slice_queues_message.specs.declared.channel.Class.{Class}
 use Rattle.slice_queues_message.specs.declared.channel.Pick.{Pick}
+use Rattle.slice_core_answer.specs.declared.answer.Delivery.TheVariants as deliveries
+use Rattle.slice_core_answer.specs.declared.answer.Delivery.{Delivery}
+use Rattle.slice_core_plan.specs.declared.transition.Transition.{Transition}
 
 -- What a sound slice is at its outside.
 pub whole : (p : PartsView) → IsSound p → IsWhole p.view
@@ -108,16 +107,12 @@ shows_last p sound quiet word (Some local) shown is shows =
 
 -- ---- answers
 
-planned : (plan : Plan) (old : PartsView) (local : Local) (channel : Channel) (answer : Delivered) (new : PartsView)
-    → ((cell : Cell) → plan ≢ plans.Broken cell) → AfterPlan plan old local channel answer new → IsNotBroken answer
-planned plans.Nothing old local channel answer new fine after = rw after.0 tt
-planned plans.Blocked old local channel answer new fine after = rw after.0 tt
-planned (plans.Broken cell) old local channel answer new fine after = absurd (fine cell refl)
-planned (plans.Directory step) old local channel answer new fine after = rw after.0 tt
-planned (plans.Home state owner sharers) old local channel answer new fine after = rw after.0 tt
-planned (plans.Forwarded next sent requester) old local channel answer new fine after = rw after.0 tt
-planned (plans.Fill place next) old local channel answer new fine after = rw after.0 tt
-planned (plans.Acknowledge place next) old local channel answer new fine after = rw after.0 tt
+planned : (plan : Delivery Transition) (old : PartsView) (local : Local) (channel : Channel) (answer : Delivered) (new : PartsView)
+    → ((cell : Cell) → plan ≢ deliveries.Broken cell) → AfterPlan plan old local channel answer new → IsNotBroken answer
+planned deliveries.Nothing old local channel answer new fine after = rw after.0 tt
+planned deliveries.Blocked old local channel answer new fine after = rw after.0 tt
+planned (deliveries.Broken cell) old local channel answer new fine after = absurd (fine cell refl)
+planned (deliveries.Moved step) old local channel answer new fine after = rw after.0 tt
 
 module _ (old : PartsView) (sound : IsSound old) (new : PartsView) where
   -- what a delivery answers and leaves, by the line's place
@@ -137,10 +132,10 @@ module _ (old : PartsView) (sound : IsSound old) (new : PartsView) where
   unbroken_delivery pick answer after = placed pick answer (local_at old.view.lines (line_of pick).0) refl after
 
   -- Nor is one of the next message of a class.
-  pub unbroken_next : (class : Class) (answer : DeliveredNext) → AfterDeliverNext old class answer new
+  pub unbroken_next : (class : Class) (answer : Delivery Pick) → AfterDeliverNext old class answer new
       → IsNotBrokenNext answer
-  unbroken_next class (delivered_next.Moved pick) after = tt
-  unbroken_next class delivered_next.Nothing after = tt
-  unbroken_next class delivered_next.Blocked after = tt
-  unbroken_next class (delivered_next.Broken cell) after =
+  unbroken_next class (deliveries.Moved pick) after = tt
+  unbroken_next class deliveries.Nothing after = tt
+  unbroken_next class deliveries.Blocked after = tt
+  unbroken_next class (deliveries.Broken cell) after =
       let some = after.found.1 in absurd (unbroken old sound some.0 some.1 cell some.2 some.4)

@@ -8,7 +8,7 @@ use Rattle.slice_core_answer.specs.Stats.{accepted_of, after_eviction, after_hit
 use Rattle.slice_core_answer.specs.Stats.{after_secondary, after_stall, counted, counts_of, no_counts, with_counts}
 use Rattle.slice_core_answer.specs.declared.answer.Stall.{Stall}
 use Rattle.slice_core_answer.specs.declared.stats.CoreStats.{CoreStats}
-use Rattle.slice_core_plan.specs.Parts.{PartsView}
+use Rattle.slice_core_plan.specs.Calls.{PartsView}
 use Rattle.slice_core_plan.specs.View.{no_side, side_at}
 use Rattle.slice_core_side.specs.Side.{SideView}
 use Rattle.slice_core_standing.specs.Standing.{is_of, waiting}

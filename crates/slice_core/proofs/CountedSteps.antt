@@ -9,7 +9,7 @@ use Rattle.address_map.specs.declared.address.Local.{Local}
 use Rattle.directory_table.specs.declared.state.DirEntry.{DirEntry}
 use Rattle.slice_core_answer.specs.Stats.{StatsView, accepted_of, counts_of}
 use Rattle.slice_core_log.specs.declared.entry.Entry.{Entry}
-use Rattle.slice_core_plan.specs.Parts.{PartsView}
+use Rattle.slice_core_plan.specs.Calls.{PartsView}
 use Rattle.slice_core_plan.specs.View.{View, channels_at, no_side, side_at, with_channels, with_entry, with_side}
 use Rattle.slice_core_plan.specs.View.{IsShaped}
 use Rattle.slice_core_side.specs.Side.{SideView}

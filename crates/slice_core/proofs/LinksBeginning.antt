@@ -16,7 +16,7 @@ use Rattle.cache_table.specs.declared.state.CopyState.TheVariants as states
 use Rattle.directory_table.specs.declared.state.DirEntry.{DirEntry}
 use Rattle.mshr_file.specs.Miss.{has_miss, Bound}
 use Rattle.slice_core_plan.specs.Initial.{AreInitialEntries, AreNewSides}
-use Rattle.slice_core_plan.specs.Parts.{IsNew, PartsView}
+use Rattle.slice_core_plan.specs.Calls.{IsNew, PartsView}
 use Rattle.slice_core_plan.specs.View.{View, channels_at, side_at}
 use Rattle.slice_core_side.proofs.Found.{copy_of-new, kept-new}
 use Rattle.slice_core_side.specs.Copy.{found_in}

@@ -19,8 +19,6 @@ use Rattle.slice_core_plan.specs.Sends.{directory_room, directory_sent}
 use Rattle.slice_core_plan.specs.Steps.{after_directory, after_home, block_in}
 use Rattle.slice_core_plan.specs.View.{View, channels_at, entry_at, no_entry, side_at, with_channels, with_entry}
 use Rattle.slice_core_plan.specs.View.{IsShaped}
-use Rattle.slice_core_plan.specs.declared.decide.Plan.{Plan}
-use Rattle.slice_core_plan.specs.declared.decide.Plan.TheVariants as plans
 use Rattle.slice_core_side.specs.Side.{state_of}
 use Rattle.slice_core.proofs.LinksFrame.{placed, same_local}
 use Rattle.slice_core.proofs.LinksRequests.{asked, asked-directory_sent, asked-taken, asked-taken_other}
@@ -30,6 +28,11 @@ use Rattle.slice_queues.specs.Line.{LineChannels, after_take, core_at, empty_lin
 use Rattle.slice_queues_message.specs.declared.channel.Channel.TheVariants as channels
 use Rattle.slice_queues_message.specs.declared.message.RequestMessage.{RequestMessage}
 use Rattle.slice_queues_message.specs.declared.message.RequestMessage.TheVariants as requests
+use Rattle.slice_core_answer.specs.declared.answer.Delivery.TheVariants as deliveries
+use Rattle.slice_core_answer.specs.declared.answer.Delivery.{Delivery}
+use Rattle.slice_core_plan.specs.Plan.{directory_move, home_move}
+use Rattle.slice_core_plan.specs.declared.transition.Transition.TheVariants as transitions
+use Rattle.slice_core_plan.specs.declared.transition.Transition.{Transition}
 
 -- ---- owners
 
@@ -117,9 +120,9 @@ cell-owner P false states.S_D owner sharers (events.PutM core) was asks = was
 cell-owner P false states.S_D owner sharers events.DataHome was asks = was
 
 -- the owner that a plan leaves, if it leaves one, is a core
-abbrev pub IsOwnedPlan : View → Plan → Type 0
-IsOwnedPlan v (plans.Directory step) = IfSome step.owner (λ core. core.0 < length v.sides)
-IsOwnedPlan v (plans.Home state owner sharers) = IfSome owner (λ core. core.0 < length v.sides)
+abbrev pub IsOwnedPlan : View → Delivery Transition → Type 0
+IsOwnedPlan v (deliveries.Moved (transitions.Directory step)) = IfSome step.owner (λ core. core.0 < length v.sides)
+IsOwnedPlan v (deliveries.Moved (transitions.Home step)) = IfSome step.owner (λ core. core.0 < length v.sides)
 IsOwnedPlan v plan = Unit {0}
 
 module _ (v : View) (local : Local) (links : HasLinks v) (within : local.0 < v.lines.lines) where
@@ -162,7 +165,7 @@ module _ (v : View) (local : Local) (links : HasLinks v) (within : local.0 < v.l
       row rows.NoEntry owned = tt
 
       by : (waits : Bool) → IsOwnedPlan v
-          (if waits then by_home_row (dir_row_of v.exclusive (entry_at v local) events.DataHome) else plans.Nothing)
+          (if waits then by_home_row (dir_row_of v.exclusive (entry_at v local) events.DataHome) else deliveries.Nothing)
       by true =
           row (dir_row_of v.exclusive (entry_at v local) events.DataHome)
           (cell-owner (λ owner. owner.0 < length v.sides) v.exclusive (entry_at v local).state (entry_at v local).owner
@@ -200,7 +203,7 @@ links_entry v local entry line shaped links within owned sent = record {
 module _ (v : View) (local : Local) (shaped : IsShaped v) (links : HasLinks v) (within : local.0 < v.lines.lines) where
   -- A request that the directory takes keeps the links: nothing is asked for the core's copy then.
   pub links_directory : (core : CoreId) (step : DirStep) → core.0 < length v.sides →
-      plan_of v local (channels.Req core) ≡ plans.Directory step → HasLinks (after_directory v local core step)
+      plan_of v local (channels.Req core) ≡ directory_move step → HasLinks (after_directory v local core step)
   links_directory core step there is =
       let entry = entry_at v local in
       let line = channels_at v local in
@@ -225,7 +228,7 @@ module _ (v : View) (local : Local) (shaped : IsShaped v) (links : HasLinks v) (
 
   -- A block that comes home keeps the links.
   pub links_home : (state : DirState) (owner : Option CoreId) (sharers : ℕ) →
-      plan_of v local channels.Home ≡ plans.Home state owner sharers →
+      plan_of v local channels.Home ≡ home_move state owner sharers →
       HasLinks (after_home v local state owner sharers)
   links_home state owner sharers is =
       let entry = entry_at v local in

@@ -17,8 +17,6 @@ use Rattle.slice_core_plan.specs.Sends.{cache_room, cache_sent}
 use Rattle.slice_core_plan.specs.Steps.{after_forwarded}
 use Rattle.slice_core_plan.specs.View.{View, channels_at, side_at, IsShaped}
 use Rattle.slice_core_plan.specs.Within.{HasCopy}
-use Rattle.slice_core_plan.specs.declared.decide.Plan.{Plan}
-use Rattle.slice_core_plan.specs.declared.decide.Plan.TheVariants as plans
 use Rattle.slice_core_side.proofs.Found.{advanced_copy, advanced_leaving, changes-advance, moved_to}
 use Rattle.slice_core_side.proofs.Lines.{FitsIn}
 use Rattle.slice_core_side.specs.Copy.{found_in, is_gone}
@@ -36,13 +34,18 @@ use Rattle.slice_queues_message.specs.declared.channel.Channel.TheVariants as ch
 use Rattle.slice_queues_message.specs.declared.message.ForwardedMessage.{ForwardedMessage}
 use Rattle.writeback_buffer.specs.Buffer.{held_at as buffer_at, in_state, with_state, without_line}
 use Rattle.writeback_buffer.specs.declared.entry.Leaving.{Leaving}
+use Rattle.slice_core_answer.specs.declared.answer.Delivery.TheVariants as deliveries
+use Rattle.slice_core_answer.specs.declared.answer.Delivery.{Delivery}
+use Rattle.slice_core_plan.specs.Plan.{forwarded_move}
+use Rattle.slice_core_plan.specs.declared.transition.Transition.TheVariants as transitions
+use Rattle.slice_core_plan.specs.declared.transition.Transition.{Transition}
 
 -- ---- the row
 
 -- what is known of a plan for a forwarded message by its row
-abbrev pub IsAnswer : View → Local → CoreId → Plan → Type 0
-IsAnswer v local core (plans.Forwarded next sent requester) =
-    GoesOn (state_of (side_at v core) local) next (asked (channels_at v local) core.0)
+abbrev pub IsAnswer : View → Local → CoreId → Delivery Transition → Type 0
+IsAnswer v local core (deliveries.Moved (transitions.Forwarded step)) =
+    GoesOn (state_of (side_at v core) local) step.next (asked (channels_at v local) core.0)
 IsAnswer v local core plan = Unit {0}
 
 answer-planned : (v : View) (local : Local) (core : CoreId) →
@@ -123,7 +126,7 @@ misses_on side local next = by (is_some (array_at side.array local)) (is_gone ne
 pub links_forwarded : (v : View) (local : Local) (core : CoreId) (next : CopyState) (sent : CacheSends)
     (requester : CoreId) →
     IsShaped v → HasLinks v → core.0 < length v.sides → local.0 < v.lines.lines →
-    plan_of v local (channels.Fwd core) ≡ plans.Forwarded next sent requester → HasCopy (side_at v core) local →
+    plan_of v local (channels.Fwd core) ≡ forwarded_move next sent requester → HasCopy (side_at v core) local →
     HasLinks (after_forwarded v local core next sent requester)
 links_forwarded v local core next sent requester shaped links there within is stands =
     let side = side_at v core in

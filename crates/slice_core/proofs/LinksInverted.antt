@@ -23,10 +23,10 @@ use Rattle.slice_core_answer.specs.declared.answer.Refused.{Refused}
 use Rattle.slice_core_answer.specs.declared.answer.Stall.{Stall}
 use Rattle.slice_core_answer.specs.declared.answer.Stall.TheVariants as stalls
 use Rattle.slice_core_plan.specs.Decision.{decision_of}
-use Rattle.slice_core_plan.specs.Parts.{PartsView, AfterAccepting, AfterAccess, AfterIssue, IsAccepted, LacksMemory}
+use Rattle.slice_core_plan.specs.Calls.{PartsView, AfterAccepting, AfterAccess, AfterIssue, IsAccepted, LacksMemory}
 use Rattle.slice_core_plan.specs.View.{side_at}
-use Rattle.slice_core_plan.specs.declared.decide.Decision.{Decision}
-use Rattle.slice_core_plan.specs.declared.decide.Decision.TheVariants as decisions
+use Rattle.slice_core_plan.specs.declared.decision.Decision.{Decision}
+use Rattle.slice_core_plan.specs.declared.decision.Decision.TheVariants as decisions
 use Rattle.slice_core_side.specs.Access.{absent_by, access_of, alone_of, by_admission, event_of, has_entry, has_victim}
 use Rattle.slice_core_side.specs.Access.{has_way, held_by, in_way}
 use Rattle.slice_core_side.specs.Copy.{found_in}

@@ -20,12 +20,10 @@ use Rattle.cache_table.specs.declared.state.CopyState.{CopyState}
 use Rattle.cache_table.specs.declared.state.CopyState.TheVariants as states
 use Rattle.mshr_file.specs.Miss.{is_waited, targets_of, TakesTargets}
 use Rattle.mshr_file.specs.declared.registers.Register.{Register}
-use Rattle.slice_core_plan.specs.Parts.{filled_by}
+use Rattle.slice_core_plan.specs.Calls.{filled_by}
 use Rattle.slice_core_plan.specs.Plan.{event_of_data, plan_of, stands_at}
 use Rattle.slice_core_plan.specs.Steps.{after_settling, asked_by}
 use Rattle.slice_core_plan.specs.View.{View, channels_at, side_at, IsShaped}
-use Rattle.slice_core_plan.specs.declared.decide.Plan.{Plan}
-use Rattle.slice_core_plan.specs.declared.decide.Plan.TheVariants as plans
 use Rattle.slice_core_side.proofs.Found.{changes-change, changes-settle, kept-after_change}
 use Rattle.slice_core_side.proofs.Lines.{ChangesLine}
 use Rattle.slice_core_side.specs.Copy.{found_in, no_copy}
@@ -51,6 +49,11 @@ use Rattle.target_list.specs.Target.{is_load}
 use Rattle.target_list.specs.declared.target.Target.{Target}
 use Rattle.writeback_buffer.specs.Buffer.{held_at as buffer_at}
 use Rattle.writeback_buffer.specs.declared.entry.Leaving.{Leaving}
+use Rattle.slice_core_answer.specs.declared.answer.Delivery.TheVariants as deliveries
+use Rattle.slice_core_answer.specs.declared.answer.Delivery.{Delivery}
+use Rattle.slice_core_plan.specs.Plan.{ack_move, fill_move}
+use Rattle.slice_core_plan.specs.declared.transition.Transition.TheVariants as transitions
+use Rattle.slice_core_plan.specs.declared.transition.Transition.{Transition}
 
 -- ---- the copy
 
@@ -163,15 +166,15 @@ module _ (v : View) (local : Local) (core : CoreId) (shaped : IsShaped v) (links
 -- ---- the rows
 
 -- what is known of a plan for data by its row: the copy waited for them, and its request was taken
-abbrev pub IsFilling : View → Local → CoreId → Plan → Type 0
-IsFilling v local core (plans.Fill place next) =
-    ComesTo (state_of (side_at v core) local) next None × (asked (channels_at v local) core.0 ≡ None)
+abbrev pub IsFilling : View → Local → CoreId → Delivery Transition → Type 0
+IsFilling v local core (deliveries.Moved (transitions.Fill step)) =
+    ComesTo (state_of (side_at v core) local) step.next None × (asked (channels_at v local) core.0 ≡ None)
 IsFilling v local core plan = Unit {0}
 
 -- and of one for an acknowledgement
-abbrev pub IsCounting : View → Local → CoreId → Plan → Type 0
-IsCounting v local core (plans.Acknowledge place next) =
-    ComesTo (state_of (side_at v core) local) next (asked (channels_at v local) core.0)
+abbrev pub IsCounting : View → Local → CoreId → Delivery Transition → Type 0
+IsCounting v local core (deliveries.Moved (transitions.Acknowledge step)) =
+    ComesTo (state_of (side_at v core) local) step.next (asked (channels_at v local) core.0)
 IsCounting v local core plan = Unit {0}
 
 module _ (v : View) (local : Local) (core : CoreId) where
@@ -248,7 +251,7 @@ module _ (v : View) (local : Local) (core : CoreId) (shaped : IsShaped v) (links
     (there : core.0 < length v.sides) (within : local.0 < v.lines.lines) where
   -- Data that a core takes keep the links.
   pub links_fill : (place : ℕ) (next : CopyState) (copy : CacheCopy) (misses : List Register) →
-      plan_of v local (channels.Data core) ≡ plans.Fill place next → copy.state ≡ next →
+      plan_of v local (channels.Data core) ≡ fill_move place next → copy.state ≡ next →
       TakesTargets (side_at v core).misses misses local.0
       (performed_in copy.state (targets_of (side_at v core).misses local.0)) →
       HasLinks (after_settling v local core (channels.Data core) copy misses)
@@ -264,7 +267,7 @@ module _ (v : View) (local : Local) (core : CoreId) (shaped : IsShaped v) (links
 
   -- An acknowledgement that a core takes keeps the links.
   pub links_acknowledge : (from : CoreId) (place : ℕ) (next : CopyState) (copy : CacheCopy) (misses : List Register) →
-      plan_of v local (channels.Ack core from) ≡ plans.Acknowledge place next → copy.state ≡ next →
+      plan_of v local (channels.Ack core from) ≡ ack_move place next → copy.state ≡ next →
       TakesTargets (side_at v core).misses misses local.0
       (performed_in copy.state (targets_of (side_at v core).misses local.0)) →
       HasLinks (after_settling v local core (channels.Ack core from) copy misses)

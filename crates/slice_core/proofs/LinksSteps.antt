@@ -2,7 +2,7 @@
 use Rattle.std.proofs.Common.{refl}
 use Rattle.slice_core_coherence.proofs.Steps.{KeepsAccesses, KeepsMessages}
 use Rattle.slice_core_coherence.specs.Whole.{IsWhole}
-use Rattle.slice_core_plan.specs.Parts.{filled_by}
+use Rattle.slice_core_plan.specs.Calls.{filled_by}
 use Rattle.slice_core_plan.specs.View.{channels_at, side_at}
 use Rattle.slice_core_side.specs.Side.{array_copy}
 use Rattle.slice_core_side.specs.Steps.{acknowledged}

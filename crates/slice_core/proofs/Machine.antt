@@ -6,7 +6,6 @@ use Rattle.slice_core.proofs.Coherent.{whole}
 use Rattle.slice_core.proofs.SameSlice.{same-deliver, same-issue, same-next}
 use Rattle.slice_core.specs.Sound.{IsSound}
 use Rattle.slice_core_answer.specs.declared.answer.Delivered.{Delivered}
-use Rattle.slice_core_answer.specs.declared.answer.DeliveredNext.{DeliveredNext}
 use Rattle.slice_core_answer.specs.declared.answer.Issue.{Issue}
 use Rattle.slice_core_answer.specs.declared.answer.Refused.{Refused}
 use Rattle.slice_core_log.specs.Log.{IsLegal, initially}
@@ -15,9 +14,10 @@ use Rattle.slice_core_machine.proofs.Delivered.{deliver_next_performs, delivery_
 use Rattle.slice_core_machine.proofs.Handed.{hand_leads}
 use Rattle.slice_core_machine.proofs.Issued.{issue_leads}
 use Rattle.slice_core_machine.specs.Shows.{IsAccounted, Leads, Performs, hand_steps, issue_steps, next_of}
-use Rattle.slice_core_plan.specs.Parts.{AfterDeliverNext, AfterDelivery, AfterHand, AfterIssue, PartsView}
+use Rattle.slice_core_plan.specs.Calls.{AfterDeliverNext, AfterDelivery, AfterHand, AfterIssue, PartsView}
 use Rattle.slice_queues_message.specs.declared.channel.Class.{Class}
 use Rattle.slice_queues_message.specs.declared.channel.Pick.{Pick}
+use Rattle.slice_core_answer.specs.declared.answer.Delivery.{Delivery}
 
 -- A sound slice has each core's requests accounted for.
 accounted : (p : PartsView) → IsSound p → IsAccounted p.view
@@ -46,7 +46,7 @@ module _ (old : PartsView) (sound : IsSound old) (new : PartsView) where
       delivery_performs old new (accounted old sound) (whole old sound)
       (legal old new (same-deliver old pick answer new after).init left) pick answer after
 
-  pub machine-next : (class : Class) (answer : DeliveredNext) → IsSound new → AfterDeliverNext old class answer new
+  pub machine-next : (class : Class) (answer : Delivery Pick) → IsSound new → AfterDeliverNext old class answer new
       → Performs old.view new.view
   machine-next class answer left after =
       deliver_next_performs old new (accounted old sound) (whole old sound)

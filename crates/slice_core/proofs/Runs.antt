@@ -11,7 +11,7 @@ use Rattle.slice_core_machine.proofs.Kept.{leads-same, same-view}
 use Rattle.slice_core_machine.proofs.Runs.{leads-on}
 use Rattle.slice_core_machine.specs.Machine.{Step}
 use Rattle.slice_core_machine.specs.Shows.{Leads}
-use Rattle.slice_core_plan.specs.Parts.{PartsView}
+use Rattle.slice_core_plan.specs.Calls.{PartsView}
 
 -- No call is an empty run, and one call with its steps is a run.
 pub no_run : (old : PartsView) → IsOneRun old [] [] old

@@ -17,8 +17,6 @@ use Rattle.slice_core.proofs.Shapes.{shape-advance, shape-evict, shape-hit, shap
 use Rattle.slice_core.proofs.Shapes.{shapes-kept}
 use Rattle.slice_core_answer.specs.Stats.{StatsView, after_eviction}
 use Rattle.slice_core_answer.specs.declared.answer.Delivered.{Delivered}
-use Rattle.slice_core_answer.specs.declared.answer.DeliveredNext.{DeliveredNext}
-use Rattle.slice_core_answer.specs.declared.answer.DeliveredNext.TheVariants as delivered_next
 use Rattle.slice_core_answer.specs.declared.answer.Delivered.TheVariants as delivered
 use Rattle.slice_core_answer.specs.declared.answer.Evicted.{Evicted}
 use Rattle.slice_core_answer.specs.declared.answer.Evicted.TheVariants as evictions
@@ -35,22 +33,24 @@ use Rattle.slice_core_side.specs.declared.access.Way.{Way}
 use Rattle.slice_core_side.specs.declared.access.Way.TheVariants as ways
 use Rattle.slice_core_side.specs.declared.copy.CacheCopy.{CacheCopy}
 use Rattle.slice_core_plan.specs.Decision.{decision_of}
-use Rattle.slice_core_plan.specs.Parts.{PartsView, AfterAccepting, AfterAccess, AfterDeliverNext, AfterDelivery}
-use Rattle.slice_core_plan.specs.Parts.{AfterEvict, AfterHand, AfterIssue, AfterPlan, IsAccepted, LacksMemory, Settles}
-use Rattle.slice_core_plan.specs.Parts.{core_of, opened_stats, local_in, IsDone}
+use Rattle.slice_core_plan.specs.Calls.{PartsView, AfterAccepting, AfterAccess, AfterDeliverNext, AfterDelivery}
+use Rattle.slice_core_plan.specs.Calls.{AfterEvict, AfterHand, AfterIssue, AfterPlan, IsAccepted, LacksMemory, Settles}
+use Rattle.slice_core_plan.specs.Calls.{core_of, opened_stats, local_in, IsDone}
 use Rattle.slice_core_plan.specs.Plan.{plan_of, planned_in}
 use Rattle.slice_core_plan.specs.Steps.{after_evict, after_open, is_held, with_way}
 use Rattle.slice_core_plan.specs.View.{side_at, with_side}
-use Rattle.slice_core_plan.specs.declared.decide.Decision.{Decision}
-use Rattle.slice_core_plan.specs.declared.decide.Decision.TheVariants as decisions
-use Rattle.slice_core_plan.specs.declared.decide.Plan.{Plan}
-use Rattle.slice_core_plan.specs.declared.decide.Plan.TheVariants as plans
+use Rattle.slice_core_plan.specs.declared.decision.Decision.{Decision}
+use Rattle.slice_core_plan.specs.declared.decision.Decision.TheVariants as decisions
 use Rattle.slice_queues.specs.Line.{LineChannels}
 use Rattle.slice_queues.specs.Ring.{with_listed}
 use Rattle.slice_queues_message.specs.Pick.{channel_of, line_of}
 use Rattle.slice_queues_message.specs.declared.channel.Channel.{Channel}
 use Rattle.slice_queues_message.specs.declared.channel.Class.{Class}
 use Rattle.slice_queues_message.specs.declared.channel.Pick.{Pick}
+use Rattle.slice_core_answer.specs.declared.answer.Delivery.TheVariants as deliveries
+use Rattle.slice_core_answer.specs.declared.answer.Delivery.{Delivery}
+use Rattle.slice_core_plan.specs.declared.transition.Transition.TheVariants as transitions
+use Rattle.slice_core_plan.specs.declared.transition.Transition.{Transition}
 
 -- What changes nothing leaves the slice that it was, and so do two changes one after the other that both leave it.
 pub same-is : (old new : PartsView) → new ≡ old → IsSameSlice old new
@@ -241,23 +241,23 @@ settled old local core channel copy new after =
     (part-changed old core _ _ _ _ _ _
     (shape-settle (side_at old.view core) local copy (length old.view.log) after.0) refl)
 
-planned : (plan : Plan) (old : PartsView) (local : Local) (channel : Channel) (answer : Delivered) (new : PartsView)
+planned : (plan : Delivery Transition) (old : PartsView) (local : Local) (channel : Channel) (answer : Delivered) (new : PartsView)
     → AfterPlan plan old local channel answer new → IsSameSlice old new
-planned plans.Nothing old local channel answer new after = same-is old new after.1
-planned plans.Blocked old local channel answer new after = same-is old new after.1
-planned (plans.Broken cell) old local channel answer new after = same-is old new after.1
-planned (plans.Directory step) old local channel answer new after =
+planned deliveries.Nothing old local channel answer new after = same-is old new after.1
+planned deliveries.Blocked old local channel answer new after = same-is old new after.1
+planned (deliveries.Broken cell) old local channel answer new after = same-is old new after.1
+planned (deliveries.Moved (transitions.Directory step)) old local channel answer new after =
     subst (IsSameSlice old) (sym after.1)
     (lines-changed old _ _ _ _ _ refl)
-planned (plans.Home state owner sharers) old local channel answer new after =
+planned (deliveries.Moved (transitions.Home step)) old local channel answer new after =
     subst (IsSameSlice old) (sym after.1)
     (lines-changed old _ _ _ _ _ refl)
-planned (plans.Forwarded next sent requester) old local channel answer new after =
+planned (deliveries.Moved (transitions.Forwarded step)) old local channel answer new after =
     subst (IsSameSlice old) (sym after.1)
     (part-changed old (core_of channel) _ _ _ _ _ _
-    (shape-advance (side_at old.view (core_of channel)) local next) refl)
-planned (plans.Fill place next) old local channel answer new after = settled old local _ channel _ new after.1
-planned (plans.Acknowledge place next) old local channel answer new after = settled old local _ channel _ new after.1
+    (shape-advance (side_at old.view (core_of channel)) local step.next) refl)
+planned (deliveries.Moved (transitions.Fill step)) old local channel answer new after = settled old local _ channel _ new after.1
+planned (deliveries.Moved (transitions.Acknowledge step)) old local channel answer new after = settled old local _ channel _ new after.1
 
 module _ (old : PartsView) (pick : Pick) (answer : Delivered) (new : PartsView) where
   -- what a delivery answers and leaves, by the line's place
@@ -273,13 +273,13 @@ module _ (old : PartsView) (pick : Pick) (answer : Delivered) (new : PartsView) 
   pub same-deliver : AfterDelivery old pick answer new → IsSameSlice old new
   same-deliver after = found (local_at old.view.lines (line_of pick).0) after
 
-same-done : (old : PartsView) (answer : DeliveredNext) (new : PartsView) → IsDone old answer new → IsSameSlice old new
-same-done old (delivered_next.Moved pick) new done = same-deliver old pick delivered.Moved new done
-same-done old delivered_next.Nothing new done = same-is old new done
-same-done old delivered_next.Blocked new done = same-is old new done
-same-done old (delivered_next.Broken cell) new done = same-is old new done
+same-done : (old : PartsView) (answer : Delivery Pick) (new : PartsView) → IsDone old answer new → IsSameSlice old new
+same-done old (deliveries.Moved pick) new done = same-deliver old pick delivered.Moved new done
+same-done old deliveries.Nothing new done = same-is old new done
+same-done old deliveries.Blocked new done = same-is old new done
+same-done old (deliveries.Broken cell) new done = same-is old new done
 
-pub same-next : (old : PartsView) (class : Class) (answer : DeliveredNext) (new : PartsView)
+pub same-next : (old : PartsView) (class : Class) (answer : Delivery Pick) (new : PartsView)
     → AfterDeliverNext old class answer new → IsSameSlice old new
 same-next old class answer new after =
     subst (IsSameSlice old) (sym after.turns)

@@ -1,10 +1,9 @@
 -- The whole invariant holds after a delivery.
 use Rattle.slice_core_answer.specs.declared.answer.Delivered.{Delivered}
-use Rattle.slice_core_answer.specs.declared.answer.DeliveredNext.{DeliveredNext}
 use Rattle.slice_core_coherence.proofs.BlocksDeliveries.{faithful_deliver_next, faithful_delivery}
 use Rattle.slice_core_coherence.proofs.KeptByDeliveries.{deliver_next_keeps, delivery_keeps}
 use Rattle.slice_core_coherence.specs.Whole.{IsWhole}
-use Rattle.slice_core_plan.specs.Parts.{PartsView, AfterDeliverNext, AfterDelivery}
+use Rattle.slice_core_plan.specs.Calls.{PartsView, AfterDeliverNext, AfterDelivery}
 use Rattle.slice_core.proofs.AccountsDelivery.{keeps-deliver_next, keeps-delivery}
 use Rattle.slice_core.proofs.AccountsKept.{sound-from_keeps}
 use Rattle.slice_core.proofs.Coherent.{addressed, whole}
@@ -12,6 +11,7 @@ use Rattle.slice_core.proofs.LinksSteps.{links_messages}
 use Rattle.slice_core.specs.Sound.{HasLinks, IsSound}
 use Rattle.slice_queues_message.specs.declared.channel.Class.{Class}
 use Rattle.slice_queues_message.specs.declared.channel.Pick.{Pick}
+use Rattle.slice_core_answer.specs.declared.answer.Delivery.{Delivery}
 
 module _ (old : PartsView) (sound : IsSound old) (new : PartsView) where
   -- A delivery of a chosen message keeps the invariant.
@@ -23,7 +23,7 @@ module _ (old : PartsView) (sound : IsSound old) (new : PartsView) where
       (faithful_delivery old new known (addressed old sound) sound.faithful pick answer after)
 
   -- So does one of the next message of a class.
-  pub sound-deliver_next : (class : Class) (answer : DeliveredNext) → AfterDeliverNext old class answer new
+  pub sound-deliver_next : (class : Class) (answer : Delivery Pick) → AfterDeliverNext old class answer new
       → IsSound new
   sound-deliver_next class answer after =
       let known = whole old sound in

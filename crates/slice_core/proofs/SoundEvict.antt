@@ -7,7 +7,7 @@ use Rattle.slice_core_coherence.proofs.BlocksCalls.{faithful_evicted, faithful_h
 use Rattle.slice_core_coherence.proofs.KeptByCalls.{evicted_keeps, handed_keeps}
 use Rattle.slice_core_coherence.specs.Whole.{IsWhole}
 use Rattle.slice_core_log.specs.declared.entry.Numbered.{Numbered}
-use Rattle.slice_core_plan.specs.Parts.{PartsView, AfterEvict, AfterHand}
+use Rattle.slice_core_plan.specs.Calls.{PartsView, AfterEvict, AfterHand}
 use Rattle.slice_core.proofs.AccountsEvict.{keeps-evict}
 use Rattle.slice_core.proofs.AccountsHand.{keeps-hand}
 use Rattle.slice_core.proofs.AccountsKept.{keeps-from_sound, sound-from_keeps}

@@ -12,8 +12,6 @@ use Rattle.slice_core.specs.Shape.{shape_of}
 use Rattle.slice_core_answer.specs.Stats.{accepted_of, counts_of}
 use Rattle.slice_core_answer.specs.declared.answer.Delivered.{Delivered}
 use Rattle.slice_core_answer.specs.declared.answer.Delivered.TheVariants as delivered
-use Rattle.slice_core_answer.specs.declared.answer.DeliveredNext.{DeliveredNext}
-use Rattle.slice_core_answer.specs.declared.answer.DeliveredNext.TheVariants as delivered_next
 use Rattle.slice_core_answer.specs.declared.answer.Issue.{Issue}
 use Rattle.slice_core_answer.specs.declared.answer.Issue.TheVariants as issues
 use Rattle.slice_core_answer.specs.declared.answer.Refused.{Refused}
@@ -29,7 +27,7 @@ use Rattle.slice_core_side.specs.Side.{copy_of, state_of, tag_at}
 use Rattle.slice_core_side.specs.declared.copy.CacheCopy.{CacheCopy}
 use Rattle.slice_core_side.specs.declared.tags.TagState.TheVariants as tags
 use Rattle.slice_core_standing.specs.Standing.{is_open, standings}
-use Rattle.slice_core_plan.specs.Parts.{PartsView}
+use Rattle.slice_core_plan.specs.Calls.{PartsView}
 use Rattle.slice_core_plan.specs.View.{View, channels_at, entry_at, side_at, word_now}
 use Rattle.slice_core_steps.specs.declared.line_view.LineView.{LineView}
 use Rattle.slice_queues.specs.Line.{messages_at}
@@ -39,6 +37,8 @@ use Rattle.slice_queues_message.specs.declared.channel.Channel.{Channel}
 use Rattle.slice_queues_message.specs.declared.channel.Pick.{Pick}
 use Rattle.slice_queues_message.specs.declared.message.Message.{Message}
 use Rattle.target_list.specs.declared.target.Target.{Target}
+use Rattle.slice_core_answer.specs.declared.answer.Delivery.TheVariants as deliveries
+use Rattle.slice_core_answer.specs.declared.answer.Delivery.{Delivery}
 
 -- Each request that a core had accepted stands in exactly one place, and nothing else stands there. It is a target of
 -- a miss register, or an entry of the log: a reply, as long as a tag names its number, and handed out otherwise.
@@ -189,6 +189,6 @@ abbrev pub IsNotBroken : Delivered → Type 0
 IsNotBroken (delivered.Broken cell) = ⊥
 IsNotBroken _ = Unit {0}
 
-abbrev pub IsNotBrokenNext : DeliveredNext → Type 0
-IsNotBrokenNext (delivered_next.Broken cell) = ⊥
+abbrev pub IsNotBrokenNext : Delivery Pick → Type 0
+IsNotBrokenNext (deliveries.Broken cell) = ⊥
 IsNotBrokenNext _ = Unit {0}

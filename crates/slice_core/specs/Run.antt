@@ -7,7 +7,7 @@ use Rattle.slice_core.specs.declared.run.CallAnswer.{CallAnswer}
 use Rattle.slice_core.specs.declared.run.CallAnswer.TheVariants as answers
 use Rattle.slice_core_machine.specs.Machine.{Step, perform}
 use Rattle.slice_core_machine.specs.Shows.{Leads, Performs, hand_steps, issue_steps, next_of}
-use Rattle.slice_core_plan.specs.Parts.{PartsView, AfterDeliverNext, AfterDelivery, AfterEvict, AfterHand, AfterIssue}
+use Rattle.slice_core_plan.specs.Calls.{PartsView, AfterDeliverNext, AfterDelivery, AfterEvict, AfterHand, AfterIssue}
 use Rattle.slice_core_plan.specs.View.{View}
 
 -- the core that the call names, where it names one, is one of so many

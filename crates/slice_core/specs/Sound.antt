@@ -14,7 +14,7 @@ use Rattle.slice_core_side.specs.Side.{state_of}
 use Rattle.slice_core_standing.specs.Standing.{HasNoEntry, IsAccount, waiting}
 use Rattle.slice_core.specs.Facts.{CountsAccepted}
 use Rattle.slice_core_coherence.specs.Newest.{IsFaithful}
-use Rattle.slice_core_plan.specs.Parts.{PartsView}
+use Rattle.slice_core_plan.specs.Calls.{PartsView}
 use Rattle.slice_core_plan.specs.View.{View, channels_at, side_at, IsOwned, IsShaped}
 use Rattle.slice_queues.specs.Line.{core_at}
 use Rattle.slice_queues_message.specs.declared.message.RequestMessage.{RequestMessage}

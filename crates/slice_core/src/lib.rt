@@ -24,10 +24,10 @@ pub use cache_table::{CacheSends, CopyState};
 pub use directory_table::{DirSends, DirState};
 pub use run::{Call, CallAnswer};
 pub use slice_core_answer::{
-    Cell, Delivered, DeliveredNext, Evicted, Issue, Refused, Stall, Stats,
+    Cell, Delivered, DeliveredNext, Delivery, Evicted, Issue, Refused, Stall, Stats,
 };
 pub use slice_core_log::{Entry, Numbered};
-pub use slice_core_plan::{Decision, NextPick, Plan};
+pub use slice_core_plan::{CopyStep, Decision, ForwardedStep, HomeStep, Plan, Transition};
 pub use slice_core_side::{Access, Ask, CacheCopy, TagState, Way};
 pub use slice_core_steps::LineView;
 pub use slice_queues::{LineWaiting, Picks};

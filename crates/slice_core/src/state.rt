@@ -9,11 +9,11 @@ ghost use Rattle.slice_core.specs.Run.{AfterCall, HasCore, HasCores, IsOneRun, I
 ghost use Rattle.slice_core_machine.specs.Machine.{IsSame, new_machine};
 ghost use Rattle.slice_core_machine.specs.Shows.{Leads, Performs, hand_steps, issue_steps, next_of, shown};
 ghost use Rattle.slice_core_plan.specs.Decision.{decision_of};
-ghost use Rattle.slice_core_plan.specs.Parts.{PartsView, AfterDeliverNext, AfterDelivery, AfterEvict, AfterHand};
-ghost use Rattle.slice_core_plan.specs.Parts.{AfterIssue, IsNew, IsNextPick, next_pick};
+ghost use Rattle.slice_core_plan.specs.Calls.{PartsView, AfterDeliverNext, AfterDelivery, AfterEvict, AfterHand};
+ghost use Rattle.slice_core_plan.specs.Calls.{AfterIssue, IsNew, IsNextPick, next_pick};
 ghost use Rattle.slice_core_plan.specs.Plan.{planned_at};
 ghost use Rattle.slice_core_plan.specs.Turn.{ServesInTurn};
-ghost use Rattle.slice_core_plan.specs.Slice.{ring_lines};
+ghost use Rattle.slice_core_plan.specs.Parts.{ring_lines};
 ghost use Rattle.slice_core_plan.specs.View.{View, IsQuiet, side_at};
 ghost use Rattle.slice_core_side.specs.Side.{tag_at};
 ghost use Rattle.slice_queues.specs.Waiting.{lines_waiting};
@@ -25,7 +25,7 @@ use arrayvec::ArrayVec;
 use mshr_file::{MissFile, Target};
 use slice_core_answer::{Delivered, DeliveredNext, Evicted, Issue, Refused, Stats};
 use slice_core_log::{Entry, Numbered};
-use slice_core_plan::{Decision, NextPick, Plan};
+use slice_core_plan::{Decision, Plan};
 use slice_core_side::{CacheCopy, TagState};
 use slice_core_steps::{LineView, Parts};
 use slice_queues::{LineWaiting, Picks};
@@ -40,7 +40,7 @@ pub struct SliceState<F: MissFile> {
 }
 
 impl<F: MissFile> Model for SliceState<F> {
-    ghost use Rattle.slice_core_plan.specs.Parts.{PartsView};
+    ghost use Rattle.slice_core_plan.specs.Calls.{PartsView};
 
     ghost Value = { PartsView };
 
@@ -275,7 +275,7 @@ impl<F: MissFile> SliceState<F> {
     }
 
     /// The pick of the class that [`SliceState::deliver_next`] would deliver, or why it would deliver none.
-    pub fn next(&self, class: Class) -> NextPick
+    pub fn next(&self, class: Class) -> DeliveredNext
         ensures next { result ≡ next_pick self.now class }
         ensures found { IsNextPick self.now.view class result }
     {

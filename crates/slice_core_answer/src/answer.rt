@@ -1,4 +1,5 @@
-ghost use Rattle.std.specs.Prelude.{Some};
+ghost use Rattle.std.specs.Prelude.{◌≡◌, Some};
+ghost use Rattle.slice_core_answer.specs.Delivery.{better_of, delivered_with, delivery_with, IfMoved, IsMappedBy};
 
 use slice_queues_message::Pick;
 use std::fmt;
@@ -146,15 +147,73 @@ pub enum Delivered {
     Broken(Cell),
 }
 
-/// What became of a delivery that the slice was to choose. All but `Moved` change nothing.
+impl Delivered {
+    /// The delivery that was made, told by this value where a message was moved.
+    pub const fn with<T: Copy>(self, value: T) -> Delivery<T>
+        ensures { result ≡ delivered_with value self }
+    {
+        match self {
+            Delivered::Moved => Delivery::Moved(value),
+            Delivered::Blocked => Delivery::Blocked,
+            Delivered::Nothing => Delivery::Nothing,
+            Delivered::Broken(cell) => Delivery::Broken(cell),
+        }
+    }
+}
+
+/// What comes of a delivery that is planned, or that the slice was to choose. All but `Moved` change nothing.
 #[derive(Clone, Copy, Debug, PartialEq, Eq)]
-pub enum DeliveredNext {
-    /// The front message of this channel was taken, and its row was done.
-    Moved(Pick),
+pub enum Delivery<T> {
+    /// A front message is taken, and its row is done: of this pick, or by this step.
+    Moved(T),
     /// Messages wait, and the row of each one that is in front is blocked.
     Blocked,
     /// No message waits.
     Nothing,
     /// No message can be moved, and one that is in front can't be taken.
     Broken(Cell),
+}
+
+/// What became of a delivery that the slice was to choose.
+pub type DeliveredNext = Delivery<Pick>;
+
+impl<T: Copy> Delivery<T> {
+    /// The same delivery, told by another value where a message is moved.
+    pub const fn with<U: Copy>(self, value: U) -> Delivery<U>
+        ensures { result ≡ delivery_with value self }
+    {
+        match self {
+            Delivery::Moved(_) => Delivery::Moved(value),
+            Delivery::Blocked => Delivery::Blocked,
+            Delivery::Nothing => Delivery::Nothing,
+            Delivery::Broken(cell) => Delivery::Broken(cell),
+        }
+    }
+
+    /// The same delivery, told by what this makes of the value where a message is moved.
+    pub fn map<U, F: FnOnce(T) -> U>(self, f: F) -> Delivery<U>
+        requires { IfMoved self (F.pre f) }
+        ensures { IsMappedBy (F.post f) self result }
+    {
+        match self {
+            Delivery::Moved(value) => Delivery::Moved(f(value)),
+            Delivery::Blocked => Delivery::Blocked,
+            Delivery::Nothing => Delivery::Nothing,
+            Delivery::Broken(cell) => Delivery::Broken(cell),
+        }
+    }
+
+    /// The better of two: what is moved, else what is broken, else what is blocked.
+    pub const fn or(self, other: Self) -> Self
+        ensures { result ≡ better_of self other }
+    {
+        match (self, other) {
+            (Delivery::Moved(_), _) => self,
+            (_, Delivery::Moved(_)) => other,
+            (Delivery::Broken(_), _) => self,
+            (_, Delivery::Broken(_)) => other,
+            (Delivery::Blocked, _) => self,
+            (Delivery::Nothing, _) => other,
+        }
+    }
 }

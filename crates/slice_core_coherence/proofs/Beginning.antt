@@ -15,7 +15,7 @@ use Rattle.directory_table.specs.declared.state.DirEntry.{DirEntry}
 use Rattle.mshr_file.specs.Miss.{Bound}
 use Rattle.slice_core_coherence.specs.Stands.{AreReached, LineStands, PartStands, Stands, copies_at}
 use Rattle.slice_core_plan.specs.Initial.{AreInitialEntries, AreNewSides, unowned}
-use Rattle.slice_core_plan.specs.Parts.{IsNew, PartsView}
+use Rattle.slice_core_plan.specs.Calls.{IsNew, PartsView}
 use Rattle.slice_core_plan.specs.View.{View, channels_at}
 use Rattle.slice_core_protocol.specs.Machine.{beginning, first, idle}
 use Rattle.slice_core_side.proofs.Found.{copy_of-new}

@@ -21,7 +21,7 @@ use Rattle.slice_core_log.proofs.Values.{value-nil}
 use Rattle.slice_core_log.specs.Log.{IsLegal, initially}
 use Rattle.address_map.specs.Place.{is_of_slice}
 use Rattle.slice_core_plan.specs.Initial.{IsInitialBlock, unowned}
-use Rattle.slice_core_plan.specs.Parts.{IsNew, PartsView}
+use Rattle.slice_core_plan.specs.Calls.{IsNew, PartsView}
 use Rattle.slice_core_plan.specs.View.{channels_at}
 use Rattle.slice_core_protocol.specs.Machine.{first}
 use Rattle.slice_core_protocol.specs.Values.{Blocks, beginning_with}

@@ -23,7 +23,7 @@ use Rattle.slice_core_coherence.specs.Newest.{IsFaithful}
 use Rattle.slice_core_coherence.specs.Whole.{IsAddressed, IsWhole}
 use Rattle.slice_core_log.specs.Log.{IsLegal, initially}
 use Rattle.slice_core_log.specs.declared.entry.Numbered.{Numbered}
-use Rattle.slice_core_plan.specs.Parts.{PartsView, AfterEvict, AfterHand, AfterIssue}
+use Rattle.slice_core_plan.specs.Calls.{PartsView, AfterEvict, AfterHand, AfterIssue}
 use Rattle.slice_core_plan.specs.Steps.{after_open}
 use Rattle.slice_core_plan.specs.View.{View}
 use Rattle.slice_core_side.specs.declared.access.Ask.{Ask}

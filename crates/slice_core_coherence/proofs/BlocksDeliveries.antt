@@ -1,7 +1,6 @@
 -- A message that is taken leaves the slice's lines reached, blocks and all, and the log legal.
 use Rattle.std.proofs.Common.{arith}
 use Rattle.slice_core_answer.specs.declared.answer.Delivered.{Delivered}
-use Rattle.slice_core_answer.specs.declared.answer.DeliveredNext.{DeliveredNext}
 use Rattle.slice_core_coherence.proofs.BlocksCalls.{Known}
 use Rattle.slice_core_coherence.proofs.BlocksDirectory.{directory_keeps}
 use Rattle.slice_core_coherence.proofs.BlocksForwarded.{forwarded_keeps}
@@ -11,9 +10,10 @@ use Rattle.slice_core_coherence.proofs.KeptByDeliveries.{deliver_next_keeps, del
 use Rattle.slice_core_coherence.proofs.Steps.{KeepsMessages}
 use Rattle.slice_core_coherence.specs.Newest.{IsFaithful}
 use Rattle.slice_core_coherence.specs.Whole.{IsAddressed, IsWhole}
-use Rattle.slice_core_plan.specs.Parts.{PartsView, AfterDeliverNext, AfterDelivery}
+use Rattle.slice_core_plan.specs.Calls.{PartsView, AfterDeliverNext, AfterDelivery}
 use Rattle.slice_queues_message.specs.declared.channel.Class.{Class}
 use Rattle.slice_queues_message.specs.declared.channel.Pick.{Pick}
+use Rattle.slice_core_answer.specs.declared.answer.Delivery.{Delivery}
 
 messages_keep : KeepsMessages Known IsFaithful
 messages_keep = record {
@@ -55,6 +55,6 @@ faithful_delivery old new whole addressed all pick answer =
 
 -- So does one of the next message of a class.
 pub faithful_deliver_next : (old new : PartsView) → IsWhole old.view → IsAddressed old.view → IsFaithful old.view
-    → (class : Class) (answer : DeliveredNext) → AfterDeliverNext old class answer new → IsFaithful new.view
+    → (class : Class) (answer : Delivery Pick) → AfterDeliverNext old class answer new → IsFaithful new.view
 faithful_deliver_next old new whole addressed all class answer =
     deliver_next_keeps Known IsFaithful messages_keep old new whole (whole, addressed) all class answer

@@ -23,7 +23,6 @@ use Rattle.slice_core_plan.specs.Plan.{event_of_request, plan_of}
 use Rattle.slice_core_plan.specs.Sends.{directory_sent}
 use Rattle.slice_core_plan.specs.Steps.{after_directory, block_in}
 use Rattle.slice_core_plan.specs.View.{View, IsShaped, channels_at, entry_at, first_word}
-use Rattle.slice_core_plan.specs.declared.decide.Plan.TheVariants as plans
 use Rattle.slice_core_protocol.proofs.ValueSteps.{without_blocks}
 use Rattle.slice_core_protocol.specs.Line.{Line}
 use Rattle.slice_core_protocol.specs.Machine.{Reached}
@@ -39,6 +38,7 @@ use Rattle.slice_queues_message.specs.declared.message.ForwardedMessage.TheVaria
 use Rattle.slice_queues_message.specs.declared.message.Message.TheVariants as messages
 use Rattle.slice_queues_message.specs.declared.message.RequestMessage.{RequestMessage}
 use Rattle.slice_queues_message.specs.declared.message.RequestMessage.TheVariants as requests
+use Rattle.slice_core_plan.specs.Plan.{directory_move}
 
 -- ---- each answer
 
@@ -125,7 +125,7 @@ home_copy core (requests.PutM block) true home blocks same put = put
 
 module _ (v : View) (local : Local) (shaped : IsShaped v) (inside : local.0 < v.lines.lines)
     (most : length v.sides ≤ 64) (core : CoreId) (within : core.0 < length v.sides) (step : DirStep)
-    (is : plan_of v local (channels.Req core) ≡ plans.Directory step) where
+    (is : plan_of v local (channels.Req core) ≡ directory_move step) where
   abbrev entry_after : DirEntry
   entry_after = record {
     home = if step.writes_home then block_in (entry_at v local).home (core_at (channels_at v local) core.0).request

@@ -29,7 +29,6 @@ use Rattle.slice_core_plan.specs.Sends.{cache_sent}
 use Rattle.slice_core_plan.specs.Steps.{after_forwarded}
 use Rattle.slice_core_plan.specs.View.{View, IsShaped, channels_at, entry_at, first_word, side_at}
 use Rattle.slice_core_plan.specs.Within.{HasCopy}
-use Rattle.slice_core_plan.specs.declared.decide.Plan.TheVariants as plans
 use Rattle.slice_core_protocol.proofs.Each.{each_state, each_state-at, implies-at, not-at}
 use Rattle.slice_core_protocol.proofs.ValueSteps.{without_blocks}
 use Rattle.slice_core_protocol.specs.Fit.{◌implies◌}
@@ -46,6 +45,7 @@ use Rattle.slice_queues_message.specs.declared.message.DataMessage.TheVariants a
 use Rattle.slice_queues_message.specs.declared.message.ForwardedMessage.{ForwardedMessage}
 use Rattle.slice_queues_message.specs.declared.message.ForwardedMessage.TheVariants as forwards
 use Rattle.slice_queues_message.specs.declared.message.Message.TheVariants as messages
+use Rattle.slice_core_plan.specs.Plan.{forwarded_move}
 
 -- ---- the copy
 
@@ -214,7 +214,7 @@ module _ (exclusive : Bool) (cores : ℕ) (init : ℕ → ℕ) (log : List Entry
 pub forwarded_keeps : (v : View) (local : Local) (core : CoreId) (next : CopyState) (sent : CacheSends)
     (requester : CoreId) → 0 < length v.sides → length v.sides ≤ 64 → IsShaped v → IsKept (side_at v core)
     → core.0 < length v.sides → local.0 < v.lines.lines → HasCopy (side_at v core) local
-    → plan_of v local (channels.Fwd core) ≡ plans.Forwarded next sent requester → AreReachedWith v
+    → plan_of v local (channels.Fwd core) ≡ forwarded_move next sent requester → AreReachedWith v
     → AreReachedWith (after_forwarded v local core next sent requester)
 forwarded_keeps v local core next sent requester some most shaped kept there inside has_copy is all =
     by_side_with v local shaped inside all v.log (λ other within apart block values. values)

@@ -22,11 +22,11 @@ use Rattle.slice_core_log.specs.Log.{initially}
 use Rattle.slice_core_plan.specs.Plan.{plan_of}
 use Rattle.slice_core_plan.specs.Steps.{after_home}
 use Rattle.slice_core_plan.specs.View.{View, IsShaped, channels_at, entry_at, first_word}
-use Rattle.slice_core_plan.specs.declared.decide.Plan.TheVariants as plans
 use Rattle.slice_core_protocol.specs.Line.{Line}
 use Rattle.slice_core_protocol.specs.Values.{Blocks, blocks_after, newest_after}
 use Rattle.slice_queues.specs.Line.{after_take}
 use Rattle.slice_queues_message.specs.declared.channel.Channel.TheVariants as channels
+use Rattle.slice_core_plan.specs.Plan.{home_move}
 
 -- The row for a block that comes home writes it to the home copy.
 home_writes : (exclusive : Bool) (state : DirState) (owner : Option CoreId) (sharers : ℕ)
@@ -55,7 +55,7 @@ mail_is None none mail some same = absurd (true≢false (sym some))
 mail_is (Some block) none mail some same = same
 
 module _ (v : View) (local : Local) (shaped : IsShaped v) (inside : local.0 < v.lines.lines) (state : DirState)
-    (owner : Option CoreId) (sharers : ℕ) (is : plan_of v local channels.Home ≡ plans.Home state owner sharers) where
+    (owner : Option CoreId) (sharers : ℕ) (is : plan_of v local channels.Home ≡ home_move state owner sharers) where
   -- The blocks after that step.
   pub home_blocks : (l : Line) (stands : Stands v local l) (blocks : Blocks) (written : Block)
       → BlocksStand (length v.sides) (entry_at v local) (channels_at v local) (copies_at v local) blocks

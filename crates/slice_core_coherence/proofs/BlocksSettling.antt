@@ -39,11 +39,10 @@ use Rattle.slice_core_coherence.specs.Blocks.{AreReachedWith, HasValues, LineRea
 use Rattle.slice_core_coherence.specs.Stands.{copies_at, named_by}
 use Rattle.slice_core_log.specs.Log.{IsLegal, initially}
 use Rattle.slice_core_log.specs.declared.entry.Entry.{Entry}
-use Rattle.slice_core_plan.specs.Parts.{filled_by}
+use Rattle.slice_core_plan.specs.Calls.{filled_by}
 use Rattle.slice_core_plan.specs.Plan.{plan_of}
 use Rattle.slice_core_plan.specs.Steps.{after_settling, asked_by}
 use Rattle.slice_core_plan.specs.View.{View, IsShaped, channels_at, entry_at, first_word, side_at}
-use Rattle.slice_core_plan.specs.declared.decide.Plan.TheVariants as plans
 use Rattle.slice_core_protocol.proofs.Each.{each_state, each_state-at, if_go, if_go-at, implies-at, not-at}
 use Rattle.slice_core_protocol.proofs.ValueSteps.{without_blocks}
 use Rattle.slice_core_protocol.specs.Fit.{◌implies◌}
@@ -65,6 +64,7 @@ use Rattle.slice_queues_message.specs.declared.message.DataMessage.{DataMessage}
 use Rattle.slice_queues_message.specs.declared.message.DataMessage.TheVariants as replies
 use Rattle.target_list.specs.Target.{is_load}
 use Rattle.target_list.specs.declared.target.Target.{Target}
+use Rattle.slice_core_plan.specs.Plan.{ack_move, fill_move}
 
 -- ---- rows
 
@@ -324,7 +324,7 @@ module _ (v : View) (local : Local) (core : CoreId) (some : 0 < length v.sides) 
 
   -- ---- data
 
-  module _ (place : ℕ) (next : CopyState) (is : plan_of v local (channels.Data core) ≡ plans.Fill place next) where
+  module _ (place : ℕ) (next : CopyState) (is : plan_of v local (channels.Data core) ≡ fill_move place next) where
     abbrev filled_here : CacheCopy
     filled_here = filled_copy v local core some most shaped kept there inside place next is
 
@@ -376,7 +376,7 @@ module _ (v : View) (local : Local) (core : CoreId) (some : 0 < length v.sides) 
   -- ---- acknowledgements
 
   module _ (from : CoreId) (place : ℕ) (next : CopyState)
-      (is : plan_of v local (channels.Ack core from) ≡ plans.Acknowledge place next) where
+      (is : plan_of v local (channels.Ack core from) ≡ ack_move place next) where
     abbrev acknowledged_here : CacheCopy
     acknowledged_here = acknowledged_copy v local core some most shaped kept there inside from place next is
 

@@ -13,7 +13,7 @@ use Rattle.slice_core_coherence.proofs.Steps.{KeepsAccesses}
 use Rattle.slice_core_coherence.specs.Stands.{AreReached}
 use Rattle.slice_core_coherence.specs.Whole.{IsWhole}
 use Rattle.slice_core_log.specs.declared.entry.Numbered.{Numbered}
-use Rattle.slice_core_plan.specs.Parts.{PartsView, AfterEvict, AfterHand, AfterIssue}
+use Rattle.slice_core_plan.specs.Calls.{PartsView, AfterEvict, AfterHand, AfterIssue}
 
 accesses_keep : KeepsAccesses IsWhole AreReached
 accesses_keep = record {

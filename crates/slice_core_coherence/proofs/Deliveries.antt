@@ -1,7 +1,6 @@
 -- A message that is taken leaves the slice's lines reached, whichever it is; and so does a call that takes none.
 use Rattle.std.proofs.Common.{arith}
 use Rattle.slice_core_answer.specs.declared.answer.Delivered.{Delivered}
-use Rattle.slice_core_answer.specs.declared.answer.DeliveredNext.{DeliveredNext}
 use Rattle.slice_core_coherence.proofs.Directory.{reached_directory}
 use Rattle.slice_core_coherence.proofs.Forwarded.{forwarded_reached}
 use Rattle.slice_core_coherence.proofs.Home.{reached_home}
@@ -10,9 +9,10 @@ use Rattle.slice_core_coherence.proofs.Settling.{count_reached, fill_reached}
 use Rattle.slice_core_coherence.proofs.Steps.{KeepsMessages}
 use Rattle.slice_core_coherence.specs.Stands.{AreReached}
 use Rattle.slice_core_coherence.specs.Whole.{IsWhole}
-use Rattle.slice_core_plan.specs.Parts.{PartsView, AfterDeliverNext, AfterDelivery}
+use Rattle.slice_core_plan.specs.Calls.{PartsView, AfterDeliverNext, AfterDelivery}
 use Rattle.slice_queues_message.specs.declared.channel.Class.{Class}
 use Rattle.slice_queues_message.specs.declared.channel.Pick.{Pick}
+use Rattle.slice_core_answer.specs.declared.answer.Delivery.{Delivery}
 
 messages_keep : KeepsMessages IsWhole AreReached
 messages_keep = record {
@@ -39,6 +39,6 @@ reached_delivery old new whole all pick answer =
 
 -- So does one of the next message of a class.
 pub reached_deliver_next : (old new : PartsView) → IsWhole old.view → AreReached old.view → (class : Class)
-    (answer : DeliveredNext) → AfterDeliverNext old class answer new → AreReached new.view
+    (answer : Delivery Pick) → AfterDeliverNext old class answer new → AreReached new.view
 reached_deliver_next old new whole all class answer =
     deliver_next_keeps IsWhole AreReached messages_keep old new whole whole all class answer

@@ -24,7 +24,6 @@ use Rattle.slice_core_plan.specs.Plan.{event_of_request, plan_of}
 use Rattle.slice_core_plan.specs.Sends.{directory_sent}
 use Rattle.slice_core_plan.specs.Steps.{after_directory, block_in}
 use Rattle.slice_core_plan.specs.View.{View, IsShaped, channels_at, entry_at}
-use Rattle.slice_core_plan.specs.declared.decide.Plan.TheVariants as plans
 use Rattle.slice_core_protocol.proofs.Frame.{at_place}
 use Rattle.slice_core_protocol.proofs.Promises.{reached_has_room}
 use Rattle.slice_core_protocol.specs.Fit.{is_counting, is_no_data}
@@ -37,6 +36,7 @@ use Rattle.slice_queues.specs.Line.{LineChannels, after_take, core_at}
 use Rattle.slice_queues_message.specs.declared.channel.Channel.TheVariants as channels
 use Rattle.slice_queues_message.specs.declared.message.RequestMessage.TheVariants as requests
 use Rattle.slice_queues_message.specs.declared.message.RequestMessage.{RequestMessage}
+use Rattle.slice_core_plan.specs.Plan.{directory_move}
 
 -- ---- what the line after the row says of the line before
 
@@ -195,7 +195,7 @@ module _ (exclusive : Bool) (cores : ℕ) (entry : DirEntry) (line : LineChannel
 
 module _ (v : View) (local : Local) (shaped : IsShaped v) (inside : local.0 < v.lines.lines)
     (most : length v.sides ≤ 64) (core : CoreId) (within : core.0 < length v.sides) (step : DirStep)
-    (is : plan_of v local (channels.Req core) ≡ plans.Directory step) where
+    (is : plan_of v local (channels.Req core) ≡ directory_move step) where
   -- The machine's line goes on by one step, and the slice's line is that line then.
   unfoldable pub directory_step : (l : Line) → Reached v.exclusive (length v.sides) l → Stands v local l
       → (moved : Step v.exclusive (length v.sides) l)

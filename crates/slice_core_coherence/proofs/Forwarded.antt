@@ -33,7 +33,6 @@ use Rattle.slice_core_plan.specs.Sends.{cache_sent}
 use Rattle.slice_core_plan.specs.Steps.{after_forwarded}
 use Rattle.slice_core_plan.specs.View.{View, IsShaped, channels_at, entry_at, side_at}
 use Rattle.slice_core_plan.specs.Within.{HasCopy}
-use Rattle.slice_core_plan.specs.declared.decide.Plan.TheVariants as plans
 use Rattle.slice_core_protocol.proofs.Frame.{at_place}
 use Rattle.slice_core_protocol.proofs.Promises.{reached_has_room, reached_has_rows}
 use Rattle.slice_core_protocol.specs.Fit.{is_counting, is_no_data}
@@ -51,6 +50,7 @@ use Rattle.slice_queues_message.specs.declared.message.DataMessage.TheVariants a
 use Rattle.slice_queues_message.specs.declared.message.ForwardedMessage.TheVariants as forwards
 use Rattle.slice_queues_message.specs.declared.message.ForwardedMessage.{ForwardedMessage}
 use Rattle.slice_queues_message.specs.declared.message.Message.TheVariants as messages
+use Rattle.slice_core_plan.specs.Plan.{forwarded_move}
 
 -- ---- the line
 
@@ -313,7 +313,7 @@ module _ (exclusive : Bool) (cores : ℕ) (entry : DirEntry) (queues : LineChann
 module _ (v : View) (local : Local) (core : CoreId) (next : CopyState) (sent : CacheSends) (requester : CoreId)
     (some : 0 < length v.sides) (most : length v.sides ≤ 64) (shaped : IsShaped v) (kept : IsKept (side_at v core))
     (there : core.0 < length v.sides) (inside : local.0 < v.lines.lines) (has_copy : HasCopy (side_at v core) local)
-    (is : plan_of v local (channels.Fwd core) ≡ plans.Forwarded next sent requester) where
+    (is : plan_of v local (channels.Fwd core) ≡ forwarded_move next sent requester) where
   abbrev pub channels_after : LineChannels
   channels_after =
       cache_sent (after_take (channels_at v local) (channels.Fwd core)) core requester

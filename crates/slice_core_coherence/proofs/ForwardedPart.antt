@@ -19,8 +19,6 @@ use Rattle.slice_core_plan.specs.Plan.{asks, by_forwarded_row, event_of_forwarde
 use Rattle.slice_core_plan.specs.Plan.{requester_of}
 use Rattle.slice_core_plan.specs.Sends.{cache_room}
 use Rattle.slice_core_plan.specs.View.{View, channels_at, side_at}
-use Rattle.slice_core_plan.specs.declared.decide.Plan.{Plan}
-use Rattle.slice_core_plan.specs.declared.decide.Plan.TheVariants as plans
 use Rattle.slice_core_answer.specs.declared.answer.Cell.TheVariants as cells
 use Rattle.slice_core_protocol.specs.Line.{Part}
 use Rattle.slice_core_protocol.specs.Machine.{acted, asks_for, change_if, given, stands_ack, taken}
@@ -31,16 +29,21 @@ use Rattle.slice_core_side.specs.declared.copy.CacheCopy.{CacheCopy}
 use Rattle.slice_queues.specs.Line.{CoreChannels, core_at}
 use Rattle.slice_queues_message.specs.declared.message.ForwardedMessage.{ForwardedMessage}
 use Rattle.slice_queues_message.specs.declared.message.ForwardedMessage.TheVariants as forwards
+use Rattle.slice_core_answer.specs.declared.answer.Delivery.TheVariants as deliveries
+use Rattle.slice_core_answer.specs.declared.answer.Delivery.{Delivery}
+use Rattle.slice_core_plan.specs.Plan.{forwarded_move}
+use Rattle.slice_core_plan.specs.declared.transition.Transition.TheVariants as transitions
+use Rattle.slice_core_plan.specs.declared.transition.Transition.{Transition}
 
 -- ---- the row that was planned
 
 -- what is planned by a row that goes on, and for whom
-row_in : Plan → Row
-row_in (plans.Forwarded next sent requester) = rows.Go next sent
+row_in : Delivery Transition → Row
+row_in (deliveries.Moved (transitions.Forwarded step)) = rows.Go step.next step.sends
 row_in _ = rows.Blocked
 
-requester_in : CoreId → Plan → CoreId
-requester_in core (plans.Forwarded next sent requester) = requester
+requester_in : CoreId → Delivery Transition → CoreId
+requester_in core (deliveries.Moved (transitions.Forwarded step)) = step.requester
 requester_in core _ = core
 
 module _ (v : View) (local : Local) (core : CoreId) (next : CopyState) (sent : CacheSends) (requester : CoreId) where
@@ -51,7 +54,7 @@ module _ (v : View) (local : Local) (core : CoreId) (next : CopyState) (sent : C
     pub names : requester_of core message ≡ requester
 
   planned_by : (message : ForwardedMessage) (row : Row)
-      → by_forwarded_row v local core message row ≡ plans.Forwarded next sent requester
+      → by_forwarded_row v local core message row ≡ forwarded_move next sent requester
       → (row ≡ rows.Go next sent) × (requester_of core message ≡ requester)
   unfolding row_in requester_in
   planned_by message rows.NoEntry is = absurd (cc is)
@@ -61,8 +64,8 @@ module _ (v : View) (local : Local) (core : CoreId) (next : CopyState) (sent : C
       (is_put_ack message && asks v local core) is
     where
       by_tests : (room early : Bool)
-          → (if not room then plans.Broken cells.Full else if early then plans.Broken cells.Early
-          else plans.Forwarded n s (requester_of core message)) ≡ plans.Forwarded next sent requester
+          → (if not room then deliveries.Broken cells.Full else if early then deliveries.Broken cells.Early
+          else forwarded_move n s (requester_of core message)) ≡ forwarded_move next sent requester
           → (rows.Go n s ≡ rows.Go next sent) × (requester_of core message ≡ requester)
       by_tests false early is = absurd (cc is)
       by_tests true true is = absurd (cc is)
@@ -70,7 +73,7 @@ module _ (v : View) (local : Local) (core : CoreId) (next : CopyState) (sent : C
 
   pub message_by : (front : Option ForwardedMessage)
       → slice_get (core_at (channels_at v local) core.0).forwarded 0 ≡ front
-      → forwarded_by v local core front ≡ plans.Forwarded next sent requester
+      → forwarded_by v local core front ≡ forwarded_move next sent requester
       → (message : ForwardedMessage) × IsMessage message
   message_by None waits is = absurd (cc is)
   message_by (Some message) waits is =

@@ -19,12 +19,15 @@ use Rattle.slice_core_coherence.specs.Stands.{AreReached, LineStands, Stands, co
 use Rattle.slice_core_plan.specs.Plan.{by_home_row, plan_of}
 use Rattle.slice_core_plan.specs.Steps.{after_home}
 use Rattle.slice_core_plan.specs.View.{View, IsShaped, channels_at, entry_at}
-use Rattle.slice_core_plan.specs.declared.decide.Plan.{Plan}
-use Rattle.slice_core_plan.specs.declared.decide.Plan.TheVariants as plans
 use Rattle.slice_core_protocol.specs.Line.{Line}
 use Rattle.slice_core_protocol.specs.Machine.{Step, after, further, serve}
 use Rattle.slice_queues.specs.Line.{after_take}
 use Rattle.slice_queues_message.specs.declared.channel.Channel.TheVariants as channels
+use Rattle.slice_core_answer.specs.declared.answer.Delivery.TheVariants as deliveries
+use Rattle.slice_core_answer.specs.declared.answer.Delivery.{Delivery}
+use Rattle.slice_core_plan.specs.Plan.{home_move}
+use Rattle.slice_core_plan.specs.declared.transition.Transition.TheVariants as transitions
+use Rattle.slice_core_plan.specs.declared.transition.Transition.{Transition}
 
 -- A block that comes home makes the directory send nothing.
 home_row : (exclusive : Bool) (state : DirState) (owner : Option CoreId) (sharers : ℕ)
@@ -53,18 +56,18 @@ module _ (v : View) (local : Local) (state : DirState) (owner : Option CoreId) (
     pub row : Directory.row_of v.exclusive (entry_at v local) asks.DataHome
         ≡ rows.Go (comes_to state owner sharers writes)
 
-  pub comes_home : plan_of v local channels.Home ≡ plans.Home state owner sharers → ComesHome
+  pub comes_home : plan_of v local channels.Home ≡ home_move state owner sharers → ComesHome
   comes_home is = by (is_some (channels_at v local).home) refl is
     where
       row_now : DirRow
       row_now = Directory.row_of v.exclusive (entry_at v local) asks.DataHome
 
-      entry_in : Plan → DirState × Option CoreId × ℕ
-      entry_in (plans.Home s o sh) = (s, o, sh)
+      entry_in : Delivery Transition → DirState × Option CoreId × ℕ
+      entry_in (deliveries.Moved (transitions.Home step)) = (step.state, step.owner, step.sharers)
       entry_in _ = (state, owner, sharers)
 
       by_row : is_some (channels_at v local).home ≡ true → (row : DirRow) → row_now ≡ row
-          → by_home_row row ≡ plans.Home state owner sharers → ComesHome
+          → by_home_row row ≡ home_move state owner sharers → ComesHome
       by_row waits rows.NoEntry e is = absurd (cc is)
       by_row waits rows.Blocked e is = absurd (cc is)
       by_row waits (rows.Go step) e is =
@@ -80,12 +83,12 @@ module _ (v : View) (local : Local) (state : DirState) (owner : Option CoreId) (
           }
 
       by : (waits : Bool) → is_some (channels_at v local).home ≡ waits
-          → (if waits then by_home_row row_now else plans.Nothing) ≡ plans.Home state owner sharers → ComesHome
+          → (if waits then by_home_row row_now else deliveries.Nothing) ≡ home_move state owner sharers → ComesHome
       by true waits is = by_row waits row_now refl is
       by false waits is = absurd (cc is)
 
 module _ (v : View) (local : Local) (shaped : IsShaped v) (inside : local.0 < v.lines.lines) (state : DirState)
-    (owner : Option CoreId) (sharers : ℕ) (is : plan_of v local channels.Home ≡ plans.Home state owner sharers) where
+    (owner : Option CoreId) (sharers : ℕ) (is : plan_of v local channels.Home ≡ home_move state owner sharers) where
   -- The machine's line goes on by one step, and the slice's line is that line then.
   unfoldable pub home_step : (l : Line) → Stands v local l
       → (step : Step v.exclusive (length v.sides) l)

@@ -23,12 +23,12 @@ use Rattle.slice_core_coherence.proofs.Victims.{has_victim_for}
 use Rattle.slice_core_coherence.specs.Whole.{IsWhole}
 use Rattle.slice_core_log.specs.declared.entry.Numbered.{Numbered}
 use Rattle.slice_core_plan.specs.Decision.{decision_at, decision_of, is_counter, overwrites}
-use Rattle.slice_core_plan.specs.Parts.{PartsView, target_for, AfterAccepting, AfterAccess, AfterEvict, AfterHand}
-use Rattle.slice_core_plan.specs.Parts.{AfterIssue, IsAccepted, LacksMemory}
+use Rattle.slice_core_plan.specs.Calls.{PartsView, target_for, AfterAccepting, AfterAccess, AfterEvict, AfterHand}
+use Rattle.slice_core_plan.specs.Calls.{AfterIssue, IsAccepted, LacksMemory}
 use Rattle.slice_core_plan.specs.Steps.{after_evict}
 use Rattle.slice_core_plan.specs.View.{View, side_at}
-use Rattle.slice_core_plan.specs.declared.decide.Decision.{Decision}
-use Rattle.slice_core_plan.specs.declared.decide.Decision.TheVariants as decisions
+use Rattle.slice_core_plan.specs.declared.decision.Decision.{Decision}
+use Rattle.slice_core_plan.specs.declared.decision.Decision.TheVariants as decisions
 use Rattle.slice_core_side.proofs.Evictions.{can_leave}
 use Rattle.slice_core_side.specs.Access.{access_of, evicted_of}
 use Rattle.slice_core_side.specs.Copy.{may_leave}

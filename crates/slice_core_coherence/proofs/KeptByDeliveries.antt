@@ -9,22 +9,23 @@ use Rattle.directory_table.specs.declared.row.DirStep.{DirStep}
 use Rattle.directory_table.specs.declared.state.DirState.{DirState}
 use Rattle.slice_core_answer.specs.declared.answer.Delivered.{Delivered}
 use Rattle.slice_core_answer.specs.declared.answer.Delivered.TheVariants as delivered
-use Rattle.slice_core_answer.specs.declared.answer.DeliveredNext.{DeliveredNext}
-use Rattle.slice_core_answer.specs.declared.answer.DeliveredNext.TheVariants as delivered_next
 use Rattle.slice_core_coherence.proofs.KeptByCalls.{located}
 use Rattle.slice_core_coherence.proofs.Planned.{IsFor, is_for}
 use Rattle.slice_core_coherence.proofs.Steps.{KeepsMessages}
 use Rattle.slice_core_coherence.specs.Whole.{IsWhole}
-use Rattle.slice_core_plan.specs.Parts.{AfterDeliverNext, AfterDelivery, AfterPlan, IsDone, PartsView, local_in}
+use Rattle.slice_core_plan.specs.Calls.{AfterDeliverNext, AfterDelivery, AfterPlan, IsDone, PartsView, local_in}
 use Rattle.slice_core_plan.specs.Plan.{plan_of, planned_in}
 use Rattle.slice_core_plan.specs.View.{View}
-use Rattle.slice_core_plan.specs.declared.decide.Plan.{Plan}
-use Rattle.slice_core_plan.specs.declared.decide.Plan.TheVariants as plans
 use Rattle.slice_queues_message.specs.Pick.{channel_of, line_of}
 use Rattle.slice_queues_message.specs.declared.channel.Channel.{Channel}
 use Rattle.slice_queues_message.specs.declared.channel.Channel.TheVariants as channels
 use Rattle.slice_queues_message.specs.declared.channel.Class.{Class}
 use Rattle.slice_queues_message.specs.declared.channel.Pick.{Pick}
+use Rattle.slice_core_answer.specs.declared.answer.Delivery.TheVariants as deliveries
+use Rattle.slice_core_answer.specs.declared.answer.Delivery.{Delivery}
+use Rattle.slice_core_plan.specs.Plan.{ack_move, directory_move, fill_move, forwarded_move, home_move}
+use Rattle.slice_core_plan.specs.declared.transition.Transition.TheVariants as transitions
+use Rattle.slice_core_plan.specs.declared.transition.Transition.{Transition}
 
 module _ (Whole Fact : View → Type 0) (steps : KeepsMessages Whole Fact) (old : PartsView) (local : Local)
     (answer : Delivered) (new : PartsView) (whole : IsWhole old.view) (more : Whole old.view)
@@ -33,12 +34,12 @@ module _ (Whole Fact : View → Type 0) (steps : KeepsMessages Whole Fact) (old 
   seen : (view : View) (after : PartsView) → new ≡ after → after.view ≡ view → Fact view → Fact new.view
   seen view after is same reached = subst Fact (sym (ap (λ (p : PartsView). p.view) is ∙ same)) reached
 
-  planned : (channel : Channel) (plan : Plan) → plan_of old.view local channel ≡ plan
+  planned : (channel : Channel) (plan : Delivery Transition) → plan_of old.view local channel ≡ plan
       → IsFor old.view channel local plan
   planned = is_for old.view local whole.shaped inside
 
-  taken_request : (step : DirStep) (channel : Channel) → plan_of old.view local channel ≡ plans.Directory step
-      → AfterPlan (plans.Directory step) old local channel answer new → Fact new.view
+  taken_request : (step : DirStep) (channel : Channel) → plan_of old.view local channel ≡ directory_move step
+      → AfterPlan (directory_move step) old local channel answer new → Fact new.view
   taken_request step (channels.Req core) is after =
       seen _ _ after.1 refl
       (steps.directory old.view local core step more inside (planned (channels.Req core) _ is) is all)
@@ -48,8 +49,8 @@ module _ (Whole Fact : View → Type 0) (steps : KeepsMessages Whole Fact) (old 
   taken_request step channels.Home is after = absurd (planned channels.Home _ is)
 
   taken_home : (state : DirState) (owner : Option CoreId) (sharers : ℕ) (channel : Channel)
-      → plan_of old.view local channel ≡ plans.Home state owner sharers
-      → AfterPlan (plans.Home state owner sharers) old local channel answer new → Fact new.view
+      → plan_of old.view local channel ≡ home_move state owner sharers
+      → AfterPlan (home_move state owner sharers) old local channel answer new → Fact new.view
   taken_home state owner sharers channels.Home is after =
       seen _ _ after.1 refl (steps.home old.view local state owner sharers more inside is all)
   taken_home state owner sharers (channels.Req core) is after = absurd (planned (channels.Req core) _ is)
@@ -58,8 +59,8 @@ module _ (Whole Fact : View → Type 0) (steps : KeepsMessages Whole Fact) (old 
   taken_home state owner sharers (channels.Ack to from) is after = absurd (planned (channels.Ack to from) _ is)
 
   taken_forwarded : (next : CopyState) (sent : CacheSends) (requester : CoreId) (channel : Channel)
-      → plan_of old.view local channel ≡ plans.Forwarded next sent requester
-      → AfterPlan (plans.Forwarded next sent requester) old local channel answer new → Fact new.view
+      → plan_of old.view local channel ≡ forwarded_move next sent requester
+      → AfterPlan (forwarded_move next sent requester) old local channel answer new → Fact new.view
   taken_forwarded next sent requester (channels.Fwd core) is after =
       let for = planned (channels.Fwd core) _ is in
       seen _ _ after.1 refl
@@ -70,8 +71,8 @@ module _ (Whole Fact : View → Type 0) (steps : KeepsMessages Whole Fact) (old 
   taken_forwarded next sent requester channels.Home is after = absurd (planned channels.Home _ is)
 
   taken_data : (place : ℕ) (next : CopyState) (channel : Channel)
-      → plan_of old.view local channel ≡ plans.Fill place next
-      → AfterPlan (plans.Fill place next) old local channel answer new → Fact new.view
+      → plan_of old.view local channel ≡ fill_move place next
+      → AfterPlan (fill_move place next) old local channel answer new → Fact new.view
   taken_data place next (channels.Data core) is after =
       let there = planned (channels.Data core) _ is in
       seen _ _ after.1.3 refl
@@ -82,8 +83,8 @@ module _ (Whole Fact : View → Type 0) (steps : KeepsMessages Whole Fact) (old 
   taken_data place next channels.Home is after = absurd (planned channels.Home _ is)
 
   taken_ack : (place : ℕ) (next : CopyState) (channel : Channel)
-      → plan_of old.view local channel ≡ plans.Acknowledge place next
-      → AfterPlan (plans.Acknowledge place next) old local channel answer new → Fact new.view
+      → plan_of old.view local channel ≡ ack_move place next
+      → AfterPlan (ack_move place next) old local channel answer new → Fact new.view
   taken_ack place next (channels.Ack to from) is after =
       let there = planned (channels.Ack to from) _ is in
       seen _ _ after.1.3 refl
@@ -94,17 +95,17 @@ module _ (Whole Fact : View → Type 0) (steps : KeepsMessages Whole Fact) (old 
   taken_ack place next channels.Home is after = absurd (planned channels.Home _ is)
 
   -- What is planned at a channel keeps the fact.
-  pub planned_keeps : (plan : Plan) (channel : Channel) → plan_of old.view local channel ≡ plan
+  pub planned_keeps : (plan : Delivery Transition) (channel : Channel) → plan_of old.view local channel ≡ plan
       → AfterPlan plan old local channel answer new → Fact new.view
-  planned_keeps plans.Nothing channel is after = seen _ _ after.1 refl all
-  planned_keeps plans.Blocked channel is after = seen _ _ after.1 refl all
-  planned_keeps (plans.Broken cell) channel is after = seen _ _ after.1 refl all
-  planned_keeps (plans.Directory step) channel is after = taken_request step channel is after
-  planned_keeps (plans.Home state owner sharers) channel is after = taken_home state owner sharers channel is after
-  planned_keeps (plans.Forwarded next sent requester) channel is after =
-      taken_forwarded next sent requester channel is after
-  planned_keeps (plans.Fill place next) channel is after = taken_data place next channel is after
-  planned_keeps (plans.Acknowledge place next) channel is after = taken_ack place next channel is after
+  planned_keeps deliveries.Nothing channel is after = seen _ _ after.1 refl all
+  planned_keeps deliveries.Blocked channel is after = seen _ _ after.1 refl all
+  planned_keeps (deliveries.Broken cell) channel is after = seen _ _ after.1 refl all
+  planned_keeps (deliveries.Moved (transitions.Directory step)) channel is after = taken_request step channel is after
+  planned_keeps (deliveries.Moved (transitions.Home step)) channel is after = taken_home step.state step.owner step.sharers channel is after
+  planned_keeps (deliveries.Moved (transitions.Forwarded step)) channel is after =
+      taken_forwarded step.next step.sends step.requester channel is after
+  planned_keeps (deliveries.Moved (transitions.Fill step)) channel is after = taken_data step.place step.next channel is after
+  planned_keeps (deliveries.Moved (transitions.Acknowledge step)) channel is after = taken_ack step.place step.next channel is after
 
 -- ---- the calls
 
@@ -131,15 +132,15 @@ module _ (Whole Fact : View → Type 0) (steps : KeepsMessages Whole Fact) (old 
   delivery_keeps pick answer after = at_place pick answer (local_at old.view.lines (line_of pick).0) refl after
 
   -- So does what is done of the next message of a class, ..
-  pub done_keeps : (answer : DeliveredNext) → IsDone old answer new → Fact new.view
-  done_keeps (delivered_next.Moved pick) done = delivery_keeps pick delivered.Moved done
-  done_keeps delivered_next.Nothing done = unchanged done
-  done_keeps delivered_next.Blocked done = unchanged done
-  done_keeps (delivered_next.Broken cell) done = unchanged done
+  pub done_keeps : (answer : Delivery Pick) → IsDone old answer new → Fact new.view
+  done_keeps (deliveries.Moved pick) done = delivery_keeps pick delivered.Moved done
+  done_keeps deliveries.Nothing done = unchanged done
+  done_keeps deliveries.Blocked done = unchanged done
+  done_keeps (deliveries.Broken cell) done = unchanged done
 
 -- .. and the turn of the ring behind it.
 pub deliver_next_keeps : (Whole Fact : View → Type 0) (steps : KeepsMessages Whole Fact) (old new : PartsView)
-    → IsWhole old.view → Whole old.view → Fact old.view → (class : Class) (answer : DeliveredNext)
+    → IsWhole old.view → Whole old.view → Fact old.view → (class : Class) (answer : Delivery Pick)
     → AfterDeliverNext old class answer new → Fact new.view
 deliver_next_keeps Whole Fact steps old new whole more all class answer after =
     subst (λ (p : PartsView). Fact p.view) (sym after.turns)

@@ -5,36 +5,31 @@ use Rattle.address_map.specs.declared.address.Local.{Local}
 use Rattle.slice_core_answer.specs.declared.answer.Cell.{Cell}
 use Rattle.slice_core_answer.specs.declared.answer.Delivered.{Delivered}
 use Rattle.slice_core_answer.specs.declared.answer.Delivered.TheVariants as delivered
-use Rattle.slice_core_answer.specs.declared.answer.DeliveredNext.{DeliveredNext}
-use Rattle.slice_core_answer.specs.declared.answer.DeliveredNext.TheVariants as delivered_next
 use Rattle.slice_core_coherence.proofs.KeptByCalls.{located}
 use Rattle.slice_core_coherence.specs.Coherent.{NothingIsBroken}
-use Rattle.slice_core_plan.specs.Parts.{AfterDeliverNext, AfterDelivery, AfterPlan, PartsView, local_in}
+use Rattle.slice_core_plan.specs.Calls.{AfterDeliverNext, AfterDelivery, AfterPlan, PartsView, local_in}
 use Rattle.slice_core_plan.specs.Plan.{plan_of, planned_in}
-use Rattle.slice_core_plan.specs.declared.decide.Plan.{Plan}
-use Rattle.slice_core_plan.specs.declared.decide.Plan.TheVariants as plans
 use Rattle.slice_queues_message.specs.Pick.{channel_of, line_of}
 use Rattle.slice_queues_message.specs.declared.channel.Channel.{Channel}
 use Rattle.slice_queues_message.specs.declared.channel.Class.{Class}
 use Rattle.slice_queues_message.specs.declared.channel.Pick.{Pick}
+use Rattle.slice_core_answer.specs.declared.answer.Delivery.TheVariants as deliveries
+use Rattle.slice_core_answer.specs.declared.answer.Delivery.{Delivery}
+use Rattle.slice_core_plan.specs.declared.transition.Transition.{Transition}
 
 module _ (old new : PartsView) (unbroken : NothingIsBroken old.view) (cell : Cell) where
-  by_plan : (local : Local) (channel : Channel) (answer : Delivered) (plan : Plan) → plan ≢ plans.Broken cell
+  by_plan : (local : Local) (channel : Channel) (answer : Delivered) (plan : Delivery Transition) → plan ≢ deliveries.Broken cell
       → AfterPlan plan old local channel answer new → answer ≢ delivered.Broken cell
-  by_plan local channel answer plans.Nothing whole after is = absurd (cc (sym after.0 ∙ is))
-  by_plan local channel answer plans.Blocked whole after is = absurd (cc (sym after.0 ∙ is))
-  by_plan local channel answer (plans.Broken other) whole after is =
-      whole (ap (λ d. plans.Broken (cell_in d)) (sym after.0 ∙ is))
+  by_plan local channel answer deliveries.Nothing whole after is = absurd (cc (sym after.0 ∙ is))
+  by_plan local channel answer deliveries.Blocked whole after is = absurd (cc (sym after.0 ∙ is))
+  by_plan local channel answer (deliveries.Broken other) whole after is =
+      whole (ap (λ d. deliveries.Broken (cell_in d)) (sym after.0 ∙ is))
     where
       cell_in : Delivered → Cell
       cell_in (delivered.Broken c) = c
       cell_in _ = cell
-  by_plan local channel answer (plans.Directory step) whole after is =
+  by_plan local channel answer (deliveries.Moved step) whole after is =
       absurd (cc (sym after.0 ∙ is))
-  by_plan local channel answer (plans.Home state owner sharers) whole after is = absurd (cc (sym after.0 ∙ is))
-  by_plan local channel answer (plans.Forwarded next sent requester) whole after is = absurd (cc (sym after.0 ∙ is))
-  by_plan local channel answer (plans.Fill place next) whole after is = absurd (cc (sym after.0 ∙ is))
-  by_plan local channel answer (plans.Acknowledge place next) whole after is = absurd (cc (sym after.0 ∙ is))
 
   -- A delivery that was picked is not broken.
   pub delivery_unbroken : (pick : Pick) (answer : Delivered) → AfterDelivery old pick answer new
@@ -53,10 +48,10 @@ module _ (old new : PartsView) (unbroken : NothingIsBroken old.view) (cell : Cel
           (unbroken local (channel_of pick) cell (located old.view.lines (line_of pick).0 local found)) after is
 
   -- Nor is the next of a class.
-  pub next_unbroken : (class : Class) (answer : DeliveredNext) → AfterDeliverNext old class answer new
-      → answer ≢ delivered_next.Broken cell
-  next_unbroken class (delivered_next.Moved pick) after is = absurd (cc is)
-  next_unbroken class delivered_next.Nothing after is = absurd (cc is)
-  next_unbroken class delivered_next.Blocked after is = absurd (cc is)
-  next_unbroken class (delivered_next.Broken other) after is =
+  pub next_unbroken : (class : Class) (answer : Delivery Pick) → AfterDeliverNext old class answer new
+      → answer ≢ deliveries.Broken cell
+  next_unbroken class (deliveries.Moved pick) after is = absurd (cc is)
+  next_unbroken class deliveries.Nothing after is = absurd (cc is)
+  next_unbroken class deliveries.Blocked after is = absurd (cc is)
+  next_unbroken class (deliveries.Broken other) after is =
       let some = after.found.1 in unbroken some.0 some.1 other some.2 some.4

@@ -28,8 +28,6 @@ use Rattle.slice_core_plan.specs.Plan.{stands_at}
 use Rattle.slice_core_plan.specs.Sends.{cache_room, directory_room}
 use Rattle.slice_core_plan.specs.View.{View, IsShaped, channels_at, entry_at, side_at}
 use Rattle.slice_core_plan.specs.Within.{HasCopy}
-use Rattle.slice_core_plan.specs.declared.decide.Plan.{Plan}
-use Rattle.slice_core_plan.specs.declared.decide.Plan.TheVariants as plans
 use Rattle.slice_core_side.specs.Copy.{found_in}
 use Rattle.slice_core_side.specs.Side.{copy_of}
 use Rattle.slice_core_side.specs.declared.copy.CacheCopy.{CacheCopy}
@@ -42,18 +40,23 @@ use Rattle.slice_queues_message.specs.declared.message.ForwardedMessage.TheVaria
 use Rattle.slice_queues_message.specs.declared.message.RequestMessage.{RequestMessage}
 use Rattle.writeback_buffer.specs.Buffer.{held_at as buffer_at}
 use Rattle.writeback_buffer.specs.declared.entry.Leaving.{Leaving}
+use Rattle.slice_core_answer.specs.declared.answer.Delivery.TheVariants as deliveries
+use Rattle.slice_core_answer.specs.declared.answer.Delivery.{Delivery}
+use Rattle.slice_core_plan.specs.Plan.{directory_move, forwarded_move}
+use Rattle.slice_core_plan.specs.declared.transition.Transition.TheVariants as transitions
+use Rattle.slice_core_plan.specs.declared.transition.Transition.{Transition}
 
 -- What is known of a plan at a channel.
-abbrev pub IsFor : View → Channel → Local → Plan → Type 0
-IsFor v channel local plans.Nothing = Unit {0}
-IsFor v channel local plans.Blocked = Unit {0}
-IsFor v channel local (plans.Broken cell) = Unit {0}
-IsFor v (channels.Req core) local (plans.Directory step) = core.0 < length v.sides
-IsFor v channels.Home local (plans.Home state owner sharers) = Unit {0}
-IsFor v (channels.Fwd core) local (plans.Forwarded next sent requester) =
+abbrev pub IsFor : View → Channel → Local → Delivery Transition → Type 0
+IsFor v channel local deliveries.Nothing = Unit {0}
+IsFor v channel local deliveries.Blocked = Unit {0}
+IsFor v channel local (deliveries.Broken cell) = Unit {0}
+IsFor v (channels.Req core) local (deliveries.Moved (transitions.Directory step)) = core.0 < length v.sides
+IsFor v channels.Home local (deliveries.Moved (transitions.Home step)) = Unit {0}
+IsFor v (channels.Fwd core) local (deliveries.Moved (transitions.Forwarded step)) =
     (core.0 < length v.sides) × HasCopy (side_at v core) local
-IsFor v (channels.Data core) local (plans.Fill place next) = core.0 < length v.sides
-IsFor v (channels.Ack to from) local (plans.Acknowledge place next) = to.0 < length v.sides
+IsFor v (channels.Data core) local (deliveries.Moved (transitions.Fill step)) = core.0 < length v.sides
+IsFor v (channels.Ack to from) local (deliveries.Moved (transitions.Acknowledge step)) = to.0 < length v.sides
 IsFor v channel local plan = ⊥
 
 -- The core has a copy, or the table has no row for the message.
@@ -74,7 +77,7 @@ module _ (v : View) (local : Local) (shaped : IsShaped v) (inside : local.0 < v.
       get_or_past (channels_at v local).cores core no_messages (rw (shaped.cores local inside) past)
 
   -- What is known of a core that is there, and where it has no message, is known of each.
-  by_core : (core : CoreId) (plan : CoreChannels → Plan) (channel : Channel)
+  by_core : (core : CoreId) (plan : CoreChannels → Delivery Transition) (channel : Channel)
       → IsFor v channel local (plan no_messages)
       → (core.0 < length v.sides → IsFor v channel local (plan (core_at (channels_at v local) core.0)))
       → IsFor v channel local (plan (core_at (channels_at v local) core.0))
@@ -90,7 +93,7 @@ module _ (v : View) (local : Local) (shaped : IsShaped v) (inside : local.0 < v.
       (λ there. by there (core_at (channels_at v local) core.0).request)
     where
       room : core.0 < length v.sides → (b : Bool) (step : DirStep)
-          → IsFor v (channels.Req core) local (if b then plans.Directory step else plans.Broken cells.Full)
+          → IsFor v (channels.Req core) local (if b then directory_move step else deliveries.Broken cells.Full)
       room there true step = there
       room there false step = tt
 
@@ -108,7 +111,7 @@ module _ (v : View) (local : Local) (shaped : IsShaped v) (inside : local.0 < v.
   for_home : IsFor v channels.Home local (home_plan v local)
   for_home = by (is_some (channels_at v local).home) (dir_row_of v.exclusive (entry_at v local) dir_events.DataHome)
     where
-      by : (waits : Bool) (r : DirRow) → IsFor v channels.Home local (if waits then by_home_row r else plans.Nothing)
+      by : (waits : Bool) (r : DirRow) → IsFor v channels.Home local (if waits then by_home_row r else deliveries.Nothing)
       by true dir_rows.NoEntry = tt
       by true dir_rows.Blocked = tt
       by true (dir_rows.Go step) = tt
@@ -121,8 +124,8 @@ module _ (v : View) (local : Local) (shaped : IsShaped v) (inside : local.0 < v.
     where
       tests : core.0 < length v.sides → HasCopy (side_at v core) local → (full early : Bool) (next : CopyState)
           (sent : CacheSends) (requester : CoreId)
-          → IsFor v (channels.Fwd core) local (if full then plans.Broken cells.Full
-          else if early then plans.Broken cells.Early else plans.Forwarded next sent requester)
+          → IsFor v (channels.Fwd core) local (if full then deliveries.Broken cells.Full
+          else if early then deliveries.Broken cells.Early else forwarded_move next sent requester)
       tests there copy true early next sent requester = tt
       tests there copy false true next sent requester = tt
       tests there copy false false next sent requester = (there, copy)
@@ -157,7 +160,7 @@ module _ (v : View) (local : Local) (shaped : IsShaped v) (inside : local.0 < v.
 
       early : core.0 < length v.sides → (b : Bool) (next : CopyState)
           → IsFor v (channels.Data core) local
-          (if b then plans.Broken cells.Early else fill_at (stands_at v local core) next)
+          (if b then deliveries.Broken cells.Early else fill_at (stands_at v local core) next)
       early there true next = tt
       early there false next = filled there (stands_at v local core) next
 
@@ -180,10 +183,10 @@ module _ (v : View) (local : Local) (shaped : IsShaped v) (inside : local.0 < v.
 
   for_ack : (to from : CoreId) → IsFor v (channels.Ack to from) local (ack_plan v local to from)
   for_ack to from =
-      by_core to (λ m. if has m.acks from.0 then by_ack_row v local to (ack_row to) else plans.Nothing)
+      by_core to (λ m. if has m.acks from.0 then by_ack_row v local to (ack_row to) else deliveries.Nothing)
       (channels.Ack to from)
       (subst (λ b. IsFor v (channels.Ack to from) local (if b then by_ack_row v local to (ack_row to) else
-      plans.Nothing))
+      deliveries.Nothing))
       (sym (has-zero from.0)) tt)
       (λ there. by there (has (core_at (channels_at v local) to.0).acks from.0) (ack_row to))
     where
@@ -193,7 +196,7 @@ module _ (v : View) (local : Local) (shaped : IsShaped v) (inside : local.0 < v.
       counted there (Some place) next = there
 
       by : to.0 < length v.sides → (waits : Bool) (r : Row)
-          → IsFor v (channels.Ack to from) local (if waits then by_ack_row v local to r else plans.Nothing)
+          → IsFor v (channels.Ack to from) local (if waits then by_ack_row v local to r else deliveries.Nothing)
       by there true rows.NoEntry = tt
       by there true rows.Blocked = tt
       by there true (rows.Go next sent) = counted there (stands_at v local to) next
@@ -206,5 +209,5 @@ module _ (v : View) (local : Local) (shaped : IsShaped v) (inside : local.0 < v.
   for_planned (channels.Ack to from) = for_ack to from
   for_planned channels.Home = for_home
 
-  pub is_for : (channel : Channel) (plan : Plan) → plan_of v local channel ≡ plan → IsFor v channel local plan
-  is_for channel plan is = subst (λ (p : Plan). IsFor v channel local p) is (for_planned channel)
+  pub is_for : (channel : Channel) (plan : Delivery Transition) → plan_of v local channel ≡ plan → IsFor v channel local plan
+  is_for channel plan is = subst (λ (p : Delivery Transition). IsFor v channel local p) is (for_planned channel)

@@ -27,7 +27,6 @@ use Rattle.slice_core_coherence.specs.Stands.{queued_put_ack}
 use Rattle.slice_core_plan.proofs.RoomLaws.{takes-from}
 use Rattle.slice_core_plan.specs.Plan.{by_directory_row, event_of_request}
 use Rattle.slice_core_plan.specs.Sends.{directory_room, takes, takes_invalidations}
-use Rattle.slice_core_plan.specs.declared.decide.Plan.TheVariants as plans
 use Rattle.slice_core_protocol.proofs.Promises.{reached_has_room, reached_has_rows}
 use Rattle.slice_core_protocol.proofs.Steps.{reached_coherent}
 use Rattle.slice_core_protocol.specs.Fit.{is_no_data, is_no_forward, is_no_request}
@@ -42,6 +41,8 @@ use Rattle.slice_queues_message.specs.declared.message.DataMessage.TheVariants a
 use Rattle.slice_queues_message.specs.declared.message.Message.TheVariants as messages
 use Rattle.slice_queues_message.specs.declared.message.RequestMessage.{RequestMessage}
 use Rattle.slice_queues_message.specs.declared.message.RequestMessage.TheVariants as requests
+use Rattle.slice_core_answer.specs.declared.answer.Delivery.TheVariants as deliveries
+use Rattle.slice_core_plan.specs.Plan.{directory_move}
 
 -- ---- room
 
@@ -161,7 +162,7 @@ module _ (exclusive : Bool) (cores : ℕ) (entry : DirEntry) (line : LineChannel
   pub request_row : (core : CoreId) (message : RequestMessage) → core.0 < cores
       → (core_at line core.0).request ≡ Some message → (cell : Cell)
       → by_directory_row line core (Directory.row_of exclusive entry (event_of_request core message))
-      ≢ plans.Broken cell
+      ≢ deliveries.Broken cell
   request_row core message below waits cell is =
       by (Directory.row_of exclusive entry event) refl is
     where
@@ -181,13 +182,13 @@ module _ (exclusive : Bool) (cores : ℕ) (entry : DirEntry) (line : LineChannel
           (within_here cores core message below) asked)
 
       by : (row : DirRow) → Directory.row_of exclusive entry event ≡ row
-          → by_directory_row line core row ≡ plans.Broken cell → ⊥
+          → by_directory_row line core row ≡ deliveries.Broken cell → ⊥
       by rows.NoEntry known is = true≢false (sym (has_row rows.NoEntry known))
       by rows.Blocked known is = absurd (cc is)
       by (rows.Go step) known is =
           let room = room_for core below step.sends (sharer_within event step (same ∙ known))
           (room_here cores l core message step.sends ((reached_has_room exclusive cores l some most reached).serve event
           entry.home step (within_here cores core message below) asked (same ∙ known))) in
-          let moves : plans.Directory step ≡ plans.Broken cell =
-          ap (λ b. if b then plans.Directory step else plans.Broken cells.Full) (sym room) ∙ is in
+          let moves : directory_move step ≡ deliveries.Broken cell =
+          ap (λ b. if b then directory_move step else deliveries.Broken cells.Full) (sym room) ∙ is in
           absurd (cc moves)

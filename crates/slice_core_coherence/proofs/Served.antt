@@ -29,8 +29,6 @@ use Rattle.slice_core_coherence.specs.Stands.{EntryStands, PartStands, kind_of_r
 use Rattle.slice_core_plan.specs.Plan.{by_directory_row, event_of_request, request_by}
 use Rattle.slice_core_plan.specs.Sends.{directory_room, directory_sent}
 use Rattle.slice_core_plan.specs.View.{View, channels_at, entry_at}
-use Rattle.slice_core_plan.specs.declared.decide.Plan.{Plan}
-use Rattle.slice_core_plan.specs.declared.decide.Plan.TheVariants as plans
 use Rattle.slice_core_protocol.proofs.Frame.{at_place}
 use Rattle.slice_core_protocol.specs.Fit.{is_counting, is_get_m, is_get_s, is_no_forward, is_put_m, is_put_s}
 use Rattle.slice_core_protocol.specs.Line.{Forward, Line, Part, fwd_get_m, fwd_get_s}
@@ -48,23 +46,28 @@ use Rattle.slice_queues_message.specs.declared.message.ForwardedMessage.TheVaria
 use Rattle.slice_queues_message.specs.declared.message.Message.TheVariants as messages
 use Rattle.slice_queues_message.specs.declared.message.RequestMessage.{RequestMessage}
 use Rattle.slice_queues_message.specs.declared.message.RequestMessage.TheVariants as requests
+use Rattle.slice_core_answer.specs.declared.answer.Delivery.TheVariants as deliveries
+use Rattle.slice_core_answer.specs.declared.answer.Delivery.{Delivery}
+use Rattle.slice_core_plan.specs.Plan.{directory_move}
+use Rattle.slice_core_plan.specs.declared.transition.Transition.TheVariants as transitions
+use Rattle.slice_core_plan.specs.declared.transition.Transition.{Transition}
 
 -- ---- the row that was planned
 
 -- what is planned by a row that goes on
-row_in : Plan → DirRow
-row_in (plans.Directory step) = rows.Go step
+row_in : Delivery Transition → DirRow
+row_in (deliveries.Moved (transitions.Directory step)) = rows.Go step
 row_in _ = rows.Blocked
 
 module _ (step : DirStep) where
   planned_by : (line : LineChannels) (core : CoreId) (row : DirRow)
-      → by_directory_row line core row ≡ plans.Directory step → row ≡ rows.Go step
+      → by_directory_row line core row ≡ directory_move step → row ≡ rows.Go step
   unfolding row_in
   planned_by line core rows.NoEntry is = absurd (cc is)
   planned_by line core rows.Blocked is = absurd (cc is)
   planned_by line core (rows.Go other) is = by_room (directory_room line core other.sends) is
     where
-      by_room : (room : Bool) → (if room then plans.Directory other else plans.Broken cells.Full) ≡ plans.Directory step
+      by_room : (room : Bool) → (if room then directory_move other else deliveries.Broken cells.Full) ≡ directory_move step
           → rows.Go other ≡ rows.Go step
       by_room true is = ap row_in is
       by_room false is = absurd (cc is)
@@ -77,7 +80,7 @@ module _ (step : DirStep) where
 
   pub served : (v : View) (local : Local) (core : CoreId) (request : Option RequestMessage)
       → (core_at (channels_at v local) core.0).request ≡ request
-      → request_by v local core request ≡ plans.Directory step → Served v local core
+      → request_by v local core request ≡ directory_move step → Served v local core
   served v local core None waits is = absurd (cc is)
   served v local core (Some message) waits is = record {
     message = message;

@@ -28,13 +28,11 @@ use Rattle.slice_core_coherence.proofs.Rows.{IsTaken, ack-taken}
 use Rattle.slice_core_coherence.proofs.SettlingLine.{count_stands, count_turn, data_event, data_row-taken, fill_stands}
 use Rattle.slice_core_coherence.proofs.SettlingLine.{fill_turn, settles}
 use Rattle.slice_core_coherence.specs.Stands.{AreReached, LineStands, Stands, copies_at, named_by}
-use Rattle.slice_core_plan.specs.Parts.{filled_by}
+use Rattle.slice_core_plan.specs.Calls.{filled_by}
 use Rattle.slice_core_plan.specs.Plan.{acknowledge_at, asks, by_ack_row, by_data_row, data_by, event_of_data, fill_at}
 use Rattle.slice_core_plan.specs.Plan.{plan_of, stands_at}
 use Rattle.slice_core_plan.specs.Steps.{after_settling, asked_by}
 use Rattle.slice_core_plan.specs.View.{View, IsShaped, channels_at, entry_at, first_word, side_at}
-use Rattle.slice_core_plan.specs.declared.decide.Plan.TheVariants as plans
-use Rattle.slice_core_plan.specs.declared.decide.Plan.{Plan}
 use Rattle.slice_core_protocol.proofs.Each.{each_state, each_state-at, not-at}
 use Rattle.slice_core_protocol.specs.Line.{Line}
 use Rattle.slice_core_protocol.specs.Machine.{Reached, after, after_ack, further}
@@ -55,13 +53,18 @@ use Rattle.slice_queues_message.specs.declared.message.DataMessage.{DataMessage}
 use Rattle.target_list.specs.Target.{is_load}
 use Rattle.writeback_buffer.specs.Buffer.{held_at as buffer_at}
 use Rattle.writeback_buffer.specs.declared.entry.Leaving.{Leaving}
+use Rattle.slice_core_answer.specs.declared.answer.Delivery.TheVariants as deliveries
+use Rattle.slice_core_answer.specs.declared.answer.Delivery.{Delivery}
+use Rattle.slice_core_plan.specs.Plan.{ack_move, fill_move}
+use Rattle.slice_core_plan.specs.declared.transition.Transition.TheVariants as transitions
+use Rattle.slice_core_plan.specs.declared.transition.Transition.{Transition}
 
 -- ---- the plan
 
 -- the state to which what is planned takes the copy
-next_in : CopyState → Plan → CopyState
-next_in state (plans.Fill place next) = next
-next_in state (plans.Acknowledge place next) = next
+next_in : CopyState → Delivery Transition → CopyState
+next_in state (deliveries.Moved (transitions.Fill step)) = step.next
+next_in state (deliveries.Moved (transitions.Acknowledge step)) = step.next
 next_in state _ = state
 
 module _ (v : View) (local : Local) (core : CoreId) (place : ℕ) (next : CopyState) where
@@ -69,7 +72,7 @@ module _ (v : View) (local : Local) (core : CoreId) (place : ℕ) (next : CopySt
   abbrev pub HasRow : CacheEvent → Type 0
   HasRow event = (sent : CacheSends) × (row_of (state_of (side_at v core) local) event ≡ rows.Go next sent)
 
-  data_row_planned : (row : Row) → by_data_row v local core row ≡ plans.Fill place next
+  data_row_planned : (row : Row) → by_data_row v local core row ≡ fill_move place next
       → (sent : CacheSends) × (row ≡ rows.Go next sent)
   unfolding next_in
   data_row_planned rows.NoEntry is = absurd (cc is)
@@ -77,14 +80,14 @@ module _ (v : View) (local : Local) (core : CoreId) (place : ℕ) (next : CopySt
   data_row_planned (rows.Go n s) is = by (asks v local core) (stands_at v local core) is
     where
       by : (early : Bool) (stands : Option ℕ)
-          → (if early then plans.Broken cells.Early else fill_at stands n) ≡ plans.Fill place next
+          → (if early then deliveries.Broken cells.Early else fill_at stands n) ≡ fill_move place next
           → (sent : CacheSends) × (rows.Go n s ≡ rows.Go next sent)
       by true stands is = absurd (cc is)
       by false None is = absurd (cc is)
       by false (Some at) is = (s, ap (λ state. rows.Go state s) (ap (next_in n) is))
 
   data_planned : (front : Option DataMessage) → (core_at (channels_at v local) core.0).data ≡ front
-      → data_by v local core front ≡ plans.Fill place next
+      → data_by v local core front ≡ fill_move place next
       → (message : DataMessage) × ((core_at (channels_at v local) core.0).data ≡ Some message)
       × HasRow (event_of_data v local core message)
   data_planned None waits is = absurd (cc is)
@@ -92,14 +95,14 @@ module _ (v : View) (local : Local) (core : CoreId) (place : ℕ) (next : CopySt
       let row = row_of (state_of (side_at v core) local) (event_of_data v local core message) in
       (message, waits, data_row_planned row is)
 
-  ack_row_planned : (row : Row) → by_ack_row v local core row ≡ plans.Acknowledge place next
+  ack_row_planned : (row : Row) → by_ack_row v local core row ≡ ack_move place next
       → (sent : CacheSends) × (row ≡ rows.Go next sent)
   unfolding next_in
   ack_row_planned rows.NoEntry is = absurd (cc is)
   ack_row_planned rows.Blocked is = absurd (cc is)
   ack_row_planned (rows.Go n s) is = by (stands_at v local core) is
     where
-      by : (stands : Option ℕ) → acknowledge_at stands n ≡ plans.Acknowledge place next
+      by : (stands : Option ℕ) → acknowledge_at stands n ≡ ack_move place next
           → (sent : CacheSends) × (rows.Go n s ≡ rows.Go next sent)
       by None is = absurd (cc is)
       by (Some at) is = (s, ap (λ state. rows.Go state s) (ap (next_in n) is))
@@ -108,8 +111,8 @@ module _ (v : View) (local : Local) (core : CoreId) (place : ℕ) (next : CopySt
   ack_event = events.InvAck (copy_of (side_at v core) local).wants (copy_of (side_at v core) local).counted
 
   ack_planned : (from : CoreId) (waits : Bool) → has (core_at (channels_at v local) core.0).acks from.0 ≡ waits
-      → (if waits then by_ack_row v local core (row_of (state_of (side_at v core) local) ack_event) else plans.Nothing)
-      ≡ plans.Acknowledge place next
+      → (if waits then by_ack_row v local core (row_of (state_of (side_at v core) local) ack_event) else deliveries.Nothing)
+      ≡ ack_move place next
       → (has (core_at (channels_at v local) core.0).acks from.0 ≡ true) × HasRow ack_event
   ack_planned from false waits is = absurd (cc is)
   ack_planned from true waits is =
@@ -201,7 +204,7 @@ module _ (v : View) (local : Local) (core : CoreId) (some : 0 < length v.sides) 
 
   -- ---- data
 
-  module _ (place : ℕ) (next : CopyState) (is : plan_of v local (channels.Data core) ≡ plans.Fill place next) where
+  module _ (place : ℕ) (next : CopyState) (is : plan_of v local (channels.Data core) ≡ fill_move place next) where
     abbrev pub filled_copy : CacheCopy
     filled_copy =
         filled_by (array_copy (side_at v core) local) (core_at (channels_at v local) core.0).data next
@@ -264,7 +267,7 @@ module _ (v : View) (local : Local) (core : CoreId) (some : 0 < length v.sides) 
   -- ---- acknowledgements
 
   module _ (from : CoreId) (place : ℕ) (next : CopyState)
-      (is : plan_of v local (channels.Ack core from) ≡ plans.Acknowledge place next) where
+      (is : plan_of v local (channels.Ack core from) ≡ ack_move place next) where
     abbrev pub acknowledged_copy : CacheCopy
     acknowledged_copy = acknowledged (array_copy (side_at v core) local) next
 

@@ -17,12 +17,11 @@ use Rattle.mshr_file.specs.declared.registers.Register.{Register}
 use Rattle.mshr_file.specs.Miss.{has_miss, targets_of, AddsTarget, TakesTargets}
 use Rattle.slice_core_coherence.proofs.Accesses.{HasPlaceFor, HasVictimFor, sends_for}
 use Rattle.slice_core_plan.specs.Within.{HasCopy}
-use Rattle.slice_core_plan.specs.Parts.{filled_by}
+use Rattle.slice_core_plan.specs.Calls.{filled_by}
 use Rattle.slice_core_plan.specs.Plan.{plan_of}
 use Rattle.slice_core_plan.specs.Steps.{after_directory, after_evict, after_forwarded, after_hand, after_hit}
 use Rattle.slice_core_plan.specs.Steps.{after_home, after_join, after_open, after_settling}
 use Rattle.slice_core_plan.specs.View.{View, channels_at, side_at}
-use Rattle.slice_core_plan.specs.declared.decide.Plan.TheVariants as plans
 use Rattle.slice_core_side.specs.Access.{CanLeave, event_of}
 use Rattle.slice_core_side.specs.Perform.{performed_in}
 use Rattle.slice_core_side.specs.Side.{array_copy, state_of}
@@ -33,6 +32,7 @@ use Rattle.slice_core_side.specs.declared.copy.CacheCopy.{CacheCopy}
 use Rattle.slice_queues.specs.Line.{core_at}
 use Rattle.slice_queues_message.specs.declared.channel.Channel.TheVariants as channels
 use Rattle.target_list.specs.declared.target.Target.{Target}
+use Rattle.slice_core_plan.specs.Plan.{ack_move, directory_move, fill_move, forwarded_move, home_move}
 
 -- Each access, eviction and reply keeps the fact.
 pub record KeepsAccesses (Whole Fact : View → Type 0) : Type 0 where
@@ -64,24 +64,24 @@ TakesAllowed v local core copy misses =
 pub record KeepsMessages (Whole Fact : View → Type 0) : Type 0 where
   pub directory : (v : View) (local : Local) (core : CoreId) (step : DirStep) → Whole v
       → local.0 < v.lines.lines → core.0 < length v.sides
-      → plan_of v local (channels.Req core) ≡ plans.Directory step → Fact v → Fact (after_directory v local core step)
+      → plan_of v local (channels.Req core) ≡ directory_move step → Fact v → Fact (after_directory v local core step)
   pub home : (v : View) (local : Local) (state : DirState) (owner : Option CoreId) (sharers : ℕ) → Whole v
-      → local.0 < v.lines.lines → plan_of v local channels.Home ≡ plans.Home state owner sharers → Fact v
+      → local.0 < v.lines.lines → plan_of v local channels.Home ≡ home_move state owner sharers → Fact v
       → Fact (after_home v local state owner sharers)
   pub forwarded : (v : View) (local : Local) (core : CoreId) (next : CopyState) (sent : CacheSends)
       (requester : CoreId) → Whole v → local.0 < v.lines.lines → core.0 < length v.sides
-      → HasCopy (side_at v core) local → plan_of v local (channels.Fwd core) ≡ plans.Forwarded next sent requester
+      → HasCopy (side_at v core) local → plan_of v local (channels.Fwd core) ≡ forwarded_move next sent requester
       → Fact v → Fact (after_forwarded v local core next sent requester)
   pub filling : (v : View) (local : Local) (core : CoreId) (place : ℕ) (next : CopyState) (misses : List Register)
       → Whole v → local.0 < v.lines.lines → core.0 < length v.sides
-      → plan_of v local (channels.Data core) ≡ plans.Fill place next
+      → plan_of v local (channels.Data core) ≡ fill_move place next
       → TakesAllowed v local core
       (filled_by (array_copy (side_at v core) local) (core_at (channels_at v local) core.0).data next) misses → Fact v
       → Fact (after_settling v local core (channels.Data core)
       (filled_by (array_copy (side_at v core) local) (core_at (channels_at v local) core.0).data next) misses)
   pub counting : (v : View) (local : Local) (core from : CoreId) (place : ℕ) (next : CopyState)
       (misses : List Register) → Whole v → local.0 < v.lines.lines → core.0 < length v.sides
-      → plan_of v local (channels.Ack core from) ≡ plans.Acknowledge place next
+      → plan_of v local (channels.Ack core from) ≡ ack_move place next
       → TakesAllowed v local core (acknowledged (array_copy (side_at v core) local) next) misses → Fact v
       → Fact (after_settling v local core (channels.Ack core from)
       (acknowledged (array_copy (side_at v core) local) next) misses)

@@ -45,7 +45,6 @@ use Rattle.slice_core_plan.specs.Plan.{data_by, event_of_data, event_of_forwarde
 use Rattle.slice_core_plan.specs.Plan.{plan_of, stands_at, request_by, requester_of}
 use Rattle.slice_core_plan.specs.Sends.{cache_room, takes}
 use Rattle.slice_core_plan.specs.View.{View, IsShaped, channels_at, entry_at, side_at}
-use Rattle.slice_core_plan.specs.declared.decide.Plan.TheVariants as plans
 use Rattle.slice_core_protocol.proofs.Frame.{at_place}
 use Rattle.slice_core_protocol.proofs.Promises.{reached_has_room, reached_has_rows, reached_nothing_early}
 use Rattle.slice_core_protocol.specs.Fit.{is_counting, is_no_data, is_no_request, is_only_data}
@@ -65,6 +64,8 @@ use Rattle.slice_queues_message.specs.declared.message.ForwardedMessage.{Forward
 use Rattle.slice_queues_message.specs.declared.message.RequestMessage.{RequestMessage}
 use Rattle.writeback_buffer.specs.Buffer.{held_at as buffer_at}
 use Rattle.writeback_buffer.specs.declared.entry.Leaving.{Leaving}
+use Rattle.slice_core_answer.specs.declared.answer.Delivery.TheVariants as deliveries
+use Rattle.slice_core_plan.specs.Plan.{ack_move, fill_move, forwarded_move}
 
 -- ---- the slice
 
@@ -128,38 +129,38 @@ module _ (v : View) (local : Local) (shaped : IsShaped v) (inside : local.0 < v.
 
   -- ---- the directory
 
-  request_unbroken : (core : CoreId) → plan_of v local (channels.Req core) ≢ plans.Broken cell
+  request_unbroken : (core : CoreId) → plan_of v local (channels.Req core) ≢ deliveries.Broken cell
   request_unbroken core is =
       elim (cases_lt core.0 (length v.sides)) [
         | inl below ↦ by (core_at (channels_at v local) core.0).request refl below is
         | inr past ↦
             let none = ap (λ (m : CoreChannels). m.request)
             (nobody_at (channels_at v local) core.0 (rw size past)) in
-            let nothing : plans.Nothing ≡ plans.Broken cell = ap (request_by v local core) (sym none) ∙ is in
+            let nothing : deliveries.Nothing ≡ deliveries.Broken cell = ap (request_by v local core) (sym none) ∙ is in
             absurd (cc nothing)
       ]
     where
       by : (request : Option RequestMessage) → (core_at (channels_at v local) core.0).request ≡ request
-          → core.0 < length v.sides → request_by v local core request ≡ plans.Broken cell → ⊥
+          → core.0 < length v.sides → request_by v local core request ≡ deliveries.Broken cell → ⊥
       by None waits below is = absurd (cc is)
       by (Some message) waits below is =
           request_row v.exclusive (length v.sides) (entry_at v local) (channels_at v local) (copies_at v local) size
           (omega (arith, below)) most l reached stands core message below waits cell is
 
-  home_unbroken : 0 < length v.sides → plan_of v local channels.Home ≢ plans.Broken cell
+  home_unbroken : 0 < length v.sides → plan_of v local channels.Home ≢ deliveries.Broken cell
   home_unbroken some is = by_home (is_some (channels_at v local).home) refl is
     where
       row_now : DirRow
       row_now = Directory.row_of v.exclusive (entry_at v local) dir_events.DataHome
 
       by_row : (row : DirRow) → row_now ≡ row → is_directory_entry row ≡ true
-          → by_home_row row ≡ plans.Broken cell → ⊥
+          → by_home_row row ≡ deliveries.Broken cell → ⊥
       by_row rows.NoEntry known entry is = true≢false (sym entry)
       by_row rows.Blocked known entry is = absurd (cc is)
       by_row (rows.Go step) known entry is = absurd (cc is)
 
       by_home : (waits : Bool) → is_some (channels_at v local).home ≡ waits
-          → (if waits then by_home_row row_now else plans.Nothing) ≡ plans.Broken cell → ⊥
+          → (if waits then by_home_row row_now else deliveries.Nothing) ≡ deliveries.Broken cell → ⊥
       by_home false waits is = absurd (cc is)
       by_home true waits is =
           by_row row_now refl
@@ -172,11 +173,11 @@ module _ (v : View) (local : Local) (shaped : IsShaped v) (inside : local.0 < v.
   -- ---- the caches
 
   none_planned : (to from : CoreId) → has (core_at (channels_at v local) to.0).acks from.0 ≡ false
-      → plan_of v local (channels.Ack to from) ≡ plans.Nothing
+      → plan_of v local (channels.Ack to from) ≡ deliveries.Nothing
   none_planned to from none =
       let copy = copy_of (side_at v to) local in
       ap (λ b. if b then by_ack_row v local to (row_of copy.state (events.InvAck copy.wants copy.counted))
-      else plans.Nothing) none
+      else deliveries.Nothing) none
 
   module _ (core : CoreId) (below : core.0 < length v.sides) where
     part : Part
@@ -289,7 +290,7 @@ module _ (v : View) (local : Local) (shaped : IsShaped v) (inside : local.0 < v.
     -- What is planned by a row, where the message has one, finds room and isn't early.
     by_forwarded : (message : ForwardedMessage) → IsFirst message part → (row : Row)
         → row_of copy.state (event_of_forwarded message) ≡ row → is_entry row ≡ true
-        → by_forwarded_row v local core message row ≡ plans.Broken cell → ⊥
+        → by_forwarded_row v local core message row ≡ deliveries.Broken cell → ⊥
     by_forwarded message first lines.NoEntry known entry is = true≢false (sym entry)
     by_forwarded message first lines.Blocked known entry is = absurd (cc is)
     by_forwarded message first (lines.Go next sent) known entry is =
@@ -297,27 +298,27 @@ module _ (v : View) (local : Local) (shaped : IsShaped v) (inside : local.0 < v.
         let room : cache_room (channels_at v local) core (requester_of core message) sent ≡ true =
         ap (λ se. cache_room (channels_at v local) core (requester_of core message) se) sends_it
         ∙ answer_room message next first (known ∙ ap (lines.Go next) sends_it) in
-        let moves : plans.Forwarded next sent (requester_of core message) ≡ plans.Broken cell =
+        let moves : forwarded_move next sent (requester_of core message) ≡ deliveries.Broken cell =
         sym (planned room (not_early message first)) ∙ is in
         absurd (cc moves)
       where
         planned : cache_room (channels_at v local) core (requester_of core message) sent ≡ true
             → (is_put_ack message && asks v local core) ≡ false
             → by_forwarded_row v local core message (lines.Go next sent)
-            ≡ plans.Forwarded next sent (requester_of core message)
+            ≡ forwarded_move next sent (requester_of core message)
         planned room early =
-            ap (λ b. if not b then plans.Broken cells.Full
-            else if is_put_ack message && asks v local core then plans.Broken cells.Early
-            else plans.Forwarded next sent (requester_of core message)) room
-            ∙ ap (λ b. if b then plans.Broken cells.Early
-            else plans.Forwarded next sent (requester_of core message)) early
+            ap (λ b. if not b then deliveries.Broken cells.Full
+            else if is_put_ack message && asks v local core then deliveries.Broken cells.Early
+            else forwarded_move next sent (requester_of core message)) room
+            ∙ ap (λ b. if b then deliveries.Broken cells.Early
+            else forwarded_move next sent (requester_of core message)) early
 
-    forwarded_here : plan_of v local (channels.Fwd core) ≢ plans.Broken cell
+    forwarded_here : plan_of v local (channels.Fwd core) ≢ deliveries.Broken cell
     unfolding mail part copy
     forwarded_here is = by (slice_get (core_at (channels_at v local) core.0).forwarded 0) refl is
       where
         by : (front : Option ForwardedMessage) → slice_get (core_at (channels_at v local) core.0).forwarded 0 ≡ front
-            → forwarded_by v local core front ≡ plans.Broken cell → ⊥
+            → forwarded_by v local core front ≡ deliveries.Broken cell → ⊥
         by None waits is = absurd (cc is)
         by (Some message) waits is =
             let first = first_stands copy mail part message waits standing in
@@ -353,7 +354,7 @@ module _ (v : View) (local : Local) (shaped : IsShaped v) (inside : local.0 < v.
             (waiting core local below inside waits)))
 
     by_data : (event : CacheEvent) (row : Row) → row_of copy.state event ≡ row → is_entry row ≡ true
-        → is_no_data part.look.incoming ≡ false → by_data_row v local core row ≡ plans.Broken cell → ⊥
+        → is_no_data part.look.incoming ≡ false → by_data_row v local core row ≡ deliveries.Broken cell → ⊥
     unfolding part copy
     by_data event lines.NoEntry known entry waits is = true≢false (sym entry)
     by_data event lines.Blocked known entry waits is = absurd (cc is)
@@ -364,17 +365,17 @@ module _ (v : View) (local : Local) (shaped : IsShaped v) (inside : local.0 < v.
         waits) in
         let there = stands_there (ap is_waiting standing.state
         ∙ data_while_waiting v.exclusive (length v.sides) l some_core most reached core.0 below waits) in
-        let moves : plans.Fill there.0 next ≡ plans.Broken cell =
-        sym (ap (λ b. if b then plans.Broken cells.Early else fill_at (stands_at v local core) next) early
+        let moves : fill_move there.0 next ≡ deliveries.Broken cell =
+        sym (ap (λ b. if b then deliveries.Broken cells.Early else fill_at (stands_at v local core) next) early
         ∙ ap (λ place. fill_at place next) there.1) ∙ is in
         absurd (cc moves)
 
-    data_here : plan_of v local (channels.Data core) ≢ plans.Broken cell
+    data_here : plan_of v local (channels.Data core) ≢ deliveries.Broken cell
     unfolding mail part copy
     data_here is = by (core_at (channels_at v local) core.0).data refl is
       where
         by : (message : Option DataMessage) → (core_at (channels_at v local) core.0).data ≡ message
-            → data_by v local core message ≡ plans.Broken cell → ⊥
+            → data_by v local core message ≡ deliveries.Broken cell → ⊥
         by None waits is = absurd (cc is)
         by (Some message) waits is =
             by_data (event_of_data v local core message) (row_of copy.state (event_of_data v local core message)) refl
@@ -401,22 +402,22 @@ module _ (v : View) (local : Local) (shaped : IsShaped v) (inside : local.0 < v.
         ∙ ap (λ s. row_of s (events.InvAck (l.part core.0).wants (l.part core.0).counted)) standing.state)) entry
 
     by_ack : (n k : ℕ) (row : Row) → row_of copy.state (events.InvAck n k) ≡ row → is_entry row ≡ true
-        → by_ack_row v local core row ≡ plans.Broken cell → ⊥
+        → by_ack_row v local core row ≡ deliveries.Broken cell → ⊥
     by_ack n k lines.NoEntry known entry is = true≢false (sym entry)
     by_ack n k lines.Blocked known entry is = absurd (cc is)
     by_ack n k (lines.Go next sent) known entry is =
         let there = stands_there (entry_waits copy.state n k (ap is_entry known ∙ entry)) in
-        let moves : plans.Acknowledge there.0 next ≡ plans.Broken cell =
+        let moves : ack_move there.0 next ≡ deliveries.Broken cell =
         sym (ap (λ place. acknowledge_at place next) there.1) ∙ is in
         absurd (cc moves)
 
-    ack_here : (from : CoreId) → plan_of v local (channels.Ack core from) ≢ plans.Broken cell
+    ack_here : (from : CoreId) → plan_of v local (channels.Ack core from) ≢ deliveries.Broken cell
     unfolding copy
     ack_here from is = by (has (core_at (channels_at v local) core.0).acks from.0) refl is
       where
         by : (waits : Bool) → has (core_at (channels_at v local) core.0).acks from.0 ≡ waits
             → (if waits then by_ack_row v local core (row_of copy.state (events.InvAck copy.wants copy.counted))
-            else plans.Nothing) ≡ plans.Broken cell → ⊥
+            else deliveries.Nothing) ≡ deliveries.Broken cell → ⊥
         by false waits is = absurd (cc is)
         by true waits is =
             by_ack copy.wants copy.counted (row_of copy.state (events.InvAck copy.wants copy.counted)) refl
@@ -427,14 +428,14 @@ module _ (v : View) (local : Local) (shaped : IsShaped v) (inside : local.0 < v.
   nobody : (core : CoreId) → length v.sides ≤ core.0 → core_at (channels_at v local) core.0 ≡ no_messages
   nobody core past = nobody_at (channels_at v local) core.0 (rw size past)
 
-  channel_unbroken : (channel : Channel) → 0 < length v.sides → plan_of v local channel ≢ plans.Broken cell
+  channel_unbroken : (channel : Channel) → 0 < length v.sides → plan_of v local channel ≢ deliveries.Broken cell
   channel_unbroken (channels.Req core) some is = request_unbroken core is
   channel_unbroken channels.Home some is = home_unbroken some is
   channel_unbroken (channels.Fwd core) some is =
       elim (cases_lt core.0 (length v.sides)) [
         | inl below ↦ forwarded_here core below is
         | inr past ↦
-            let nothing : plans.Nothing ≡ plans.Broken cell =
+            let nothing : deliveries.Nothing ≡ deliveries.Broken cell =
             ap (λ (m : CoreChannels). forwarded_by v local core (slice_get m.forwarded 0)) (sym (nobody core past))
             ∙ is in
             absurd (cc nothing)
@@ -443,7 +444,7 @@ module _ (v : View) (local : Local) (shaped : IsShaped v) (inside : local.0 < v.
       elim (cases_lt core.0 (length v.sides)) [
         | inl below ↦ data_here core below is
         | inr past ↦
-            let nothing : plans.Nothing ≡ plans.Broken cell =
+            let nothing : deliveries.Nothing ≡ deliveries.Broken cell =
             ap (λ (m : CoreChannels). data_by v local core m.data) (sym (nobody core past)) ∙ is in
             absurd (cc nothing)
       ]
@@ -453,7 +454,7 @@ module _ (v : View) (local : Local) (shaped : IsShaped v) (inside : local.0 < v.
         | inr past ↦
             let none : has (core_at (channels_at v local) to.0).acks from.0 ≡ false =
             ap (λ (m : CoreChannels). has m.acks from.0) (nobody to past) ∙ has-zero from.0 in
-            let nothing : plans.Nothing ≡ plans.Broken cell = sym (none_planned to from none) ∙ is in
+            let nothing : deliveries.Nothing ≡ deliveries.Broken cell = sym (none_planned to from none) ∙ is in
             absurd (cc nothing)
       ]
 

@@ -8,10 +8,10 @@ use Rattle.mshr_file.specs.Miss.{has_miss}
 use Rattle.slice_core_answer.specs.declared.answer.Cell.{Cell}
 use Rattle.slice_core_plan.specs.Plan.{plan_of}
 use Rattle.slice_core_plan.specs.View.{View, channels_at, side_at}
-use Rattle.slice_core_plan.specs.declared.decide.Plan.TheVariants as plans
 use Rattle.slice_core_side.specs.Side.{state_of}
 use Rattle.slice_queues.specs.Line.{HasChannel, messages_at, room_of}
 use Rattle.slice_queues_message.specs.declared.channel.Channel.{Channel}
+use Rattle.slice_core_answer.specs.declared.answer.Delivery.TheVariants as deliveries
 
 -- Where one core may write a line, no other core may read it.
 abbrev pub HasOneWriter : View → Type 0
@@ -27,7 +27,7 @@ WaitsInArray v = (core : CoreId) (local : Local) → core.0 < length v.sides →
 -- No message of a line is broken: each has a row, or waits; what its row sends has room; and none comes early.
 abbrev pub NothingIsBroken : View → Type 0
 NothingIsBroken v = (local : Local) (channel : Channel) (cell : Cell) → local.0 < v.lines.lines
-    → plan_of v local channel ≢ plans.Broken cell
+    → plan_of v local channel ≢ deliveries.Broken cell
 
 -- A copy waits exactly where its core has a miss register for the line.
 abbrev pub WaitsForMisses : View → Type 0

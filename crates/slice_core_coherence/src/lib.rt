@@ -23,8 +23,8 @@ ghost use Rattle.mshr_file.specs.Miss.{Bound};
 ghost use Rattle.slice_core_answer.specs.declared.answer.Cell.{Cell};
 ghost use Rattle.slice_core_answer.specs.declared.answer.Delivered.TheVariants as delivered;
 ghost use Rattle.slice_core_answer.specs.declared.answer.Delivered.{Delivered};
-ghost use Rattle.slice_core_answer.specs.declared.answer.DeliveredNext.TheVariants as delivered_next;
-ghost use Rattle.slice_core_answer.specs.declared.answer.DeliveredNext.{DeliveredNext};
+ghost use Rattle.slice_core_answer.specs.declared.answer.Delivery.TheVariants as deliveries;
+ghost use Rattle.slice_core_answer.specs.declared.answer.Delivery.{Delivery};
 ghost use Rattle.slice_core_answer.specs.declared.answer.Evicted.{Evicted};
 ghost use Rattle.slice_core_answer.specs.declared.answer.Issue.{Issue};
 ghost use Rattle.slice_core_answer.specs.declared.answer.Refused.{Refused};
@@ -35,8 +35,8 @@ ghost use Rattle.slice_core_coherence.specs.Newest.{HasNewest, IsFaithful};
 ghost use Rattle.slice_core_coherence.specs.Stands.{AreReached};
 ghost use Rattle.slice_core_coherence.specs.Whole.{IsAddressed, IsWhole};
 ghost use Rattle.slice_core_log.specs.declared.entry.Numbered.{Numbered};
-ghost use Rattle.slice_core_plan.specs.Parts.{AfterDeliverNext, AfterDelivery, AfterEvict, AfterHand, AfterIssue};
-ghost use Rattle.slice_core_plan.specs.Parts.{IsNew, PartsView};
+ghost use Rattle.slice_core_plan.specs.Calls.{AfterDeliverNext, AfterDelivery, AfterEvict, AfterHand, AfterIssue};
+ghost use Rattle.slice_core_plan.specs.Calls.{IsNew, PartsView};
 ghost use Rattle.slice_core_plan.specs.View.{IsQuiet, View, newest_block};
 ghost use Rattle.slice_queues_message.specs.declared.channel.Class.{Class};
 ghost use Rattle.slice_queues_message.specs.declared.channel.Pick.{Pick};
@@ -66,7 +66,7 @@ pub fn accesses_keep_lines_reached()
 pub fn deliveries_keep_lines_reached()
     ensures named { (old new : PartsView) (pick : Pick) (answer : Delivered) → IsWhole old.view → AreReached old.view
         → AfterDelivery old pick answer new → AreReached new.view }
-    ensures next { (old new : PartsView) (class : Class) (answer : DeliveredNext) → IsWhole old.view
+    ensures next { (old new : PartsView) (class : Class) (answer : Delivery Pick) → IsWhole old.view
         → AreReached old.view → AfterDeliverNext old class answer new → AreReached new.view }
 {}
 
@@ -86,7 +86,7 @@ pub fn accesses_keep_slice_faithful()
 pub fn deliveries_keep_slice_faithful()
     ensures named { (old new : PartsView) (pick : Pick) (answer : Delivered) → IsWhole old.view
         → IsAddressed old.view → IsFaithful old.view → AfterDelivery old pick answer new → IsFaithful new.view }
-    ensures next { (old new : PartsView) (class : Class) (answer : DeliveredNext) → IsWhole old.view
+    ensures next { (old new : PartsView) (class : Class) (answer : Delivery Pick) → IsWhole old.view
         → IsAddressed old.view → IsFaithful old.view → AfterDeliverNext old class answer new → IsFaithful new.view }
 {}
 
@@ -100,8 +100,8 @@ pub fn no_message_is_broken()
     ensures message { (v : View) → IsWhole v → 0 < length v.sides → AreReached v → NothingIsBroken v }
     ensures named { (old new : PartsView) (pick : Pick) (answer : Delivered) (cell : Cell) → NothingIsBroken old.view
         → AfterDelivery old pick answer new → answer ≢ delivered.Broken cell }
-    ensures next { (old new : PartsView) (class : Class) (answer : DeliveredNext) (cell : Cell)
-        → NothingIsBroken old.view → AfterDeliverNext old class answer new → answer ≢ delivered_next.Broken cell }
+    ensures next { (old new : PartsView) (class : Class) (answer : Delivery Pick) (cell : Cell)
+        → NothingIsBroken old.view → AfterDeliverNext old class answer new → answer ≢ deliveries.Broken cell }
 {}
 
 /// Where each line is one that the machine reaches, no channel has more messages than it takes, and what waits there is

@@ -11,7 +11,7 @@ use Rattle.slice_core_machine.proofs.Kept.{Free_apart}
 use Rattle.slice_core_machine.proofs.Requests.{none-contained}
 use Rattle.slice_core_machine.specs.Machine.{IsSame, new_machine}
 use Rattle.slice_core_machine.specs.Shows.{shown}
-use Rattle.slice_core_plan.specs.Parts.{IsNew, PartsView}
+use Rattle.slice_core_plan.specs.Calls.{IsNew, PartsView}
 use Rattle.slice_core_plan.specs.View.{no_side, side_at}
 use Rattle.slice_core_side.specs.Side.{SideView, new_side, tag_at}
 use Rattle.slice_core_side.specs.declared.tags.TagState.TheVariants as tags

@@ -10,21 +10,17 @@ use Rattle.cache_array.specs.Array.{IsArray, held_at as array_at}
 use Rattle.mshr_file.specs.Miss.{TakesTargets, targets_of}
 use Rattle.slice_core_answer.specs.declared.answer.Delivered.{Delivered}
 use Rattle.slice_core_answer.specs.declared.answer.Delivered.TheVariants as delivered
-use Rattle.slice_core_answer.specs.declared.answer.DeliveredNext.{DeliveredNext}
-use Rattle.slice_core_answer.specs.declared.answer.DeliveredNext.TheVariants as delivered_next
 use Rattle.slice_core_coherence.specs.Whole.{IsWhole}
 use Rattle.slice_core_log.specs.Log.{IsLegal, initially}
 use Rattle.slice_core_machine.proofs.Kept.{ShowsSame, kept-of, leads-same, same-view, side-here, side-there}
 use Rattle.slice_core_machine.proofs.Planned.{held-at_place, is_for_copy, place_in, planned-core, planned-place}
 use Rattle.slice_core_machine.proofs.Settled.{settled_performs}
 use Rattle.slice_core_machine.specs.Shows.{IsAccounted, Performs}
-use Rattle.slice_core_plan.specs.Parts.{AfterDeliverNext, AfterDelivery, AfterPlan, IsDone, PartsView, Settles, core_of}
-use Rattle.slice_core_plan.specs.Parts.{local_in}
+use Rattle.slice_core_plan.specs.Calls.{AfterDeliverNext, AfterDelivery, AfterPlan, IsDone, PartsView, Settles, core_of}
+use Rattle.slice_core_plan.specs.Calls.{local_in}
 use Rattle.slice_core_plan.specs.Plan.{plan_of, planned_in}
 use Rattle.slice_core_plan.specs.Steps.{after_forwarded, after_settling}
 use Rattle.slice_core_plan.specs.View.{View, side_at}
-use Rattle.slice_core_plan.specs.declared.decide.Plan.{Plan}
-use Rattle.slice_core_plan.specs.declared.decide.Plan.TheVariants as plans
 use Rattle.slice_core_side.specs.Copy.{is_gone, no_copy}
 use Rattle.slice_core_side.specs.Perform.{performed_in, tags_after}
 use Rattle.slice_core_side.specs.Side.{SideView, array_copy}
@@ -37,6 +33,11 @@ use Rattle.slice_queues_message.specs.Pick.{channel_of, line_of}
 use Rattle.slice_queues_message.specs.declared.channel.Channel.{Channel}
 use Rattle.slice_queues_message.specs.declared.channel.Class.{Class}
 use Rattle.slice_queues_message.specs.declared.channel.Pick.{Pick}
+use Rattle.slice_core_answer.specs.declared.answer.Delivery.TheVariants as deliveries
+use Rattle.slice_core_answer.specs.declared.answer.Delivery.{Delivery}
+use Rattle.slice_core_plan.specs.Plan.{ack_move, fill_move, forwarded_move}
+use Rattle.slice_core_plan.specs.declared.transition.Transition.TheVariants as transitions
+use Rattle.slice_core_plan.specs.declared.transition.Transition.{Transition}
 
 -- Where the same is shown nothing was performed.
 performs-none : (old new : View) → ShowsSame old new → Performs old new
@@ -130,34 +131,34 @@ module _ (old : PartsView) (local : Local) (channel : Channel) (new : PartsView)
       }
 
   -- A copy that is changed by data or by an acknowledgement stands in its core's array.
-  held : (place : ℕ) (plan : Plan) → plan_of old.view local channel ≡ plan → place_in plan ≡ Some place
+  held : (place : ℕ) (plan : Delivery Transition) → plan_of old.view local channel ≡ plan → place_in plan ≡ Some place
       → IsSome (array_at (side_at old.view (core_of channel)).array local)
   held place plan is stands =
       held-at_place (side_at old.view (core_of channel)) local place
       (planned-place old.view local channel place (ap place_in is ∙ stands))
 
-  there : (plan : Plan) → plan_of old.view local channel ≡ plan → is_for_copy plan ≡ true
+  there : (plan : Delivery Transition) → plan_of old.view local channel ≡ plan → is_for_copy plan ≡ true
       → (core_of channel).0 < length old.view.sides
   there plan is passes = planned-core old.view local whole.shaped channel (ap is_for_copy is ∙ passes)
 
-  pub planned_performs : (plan : Plan) (answer : Delivered) → plan_of old.view local channel ≡ plan
+  pub planned_performs : (plan : Delivery Transition) (answer : Delivered) → plan_of old.view local channel ≡ plan
       → AfterPlan plan old local channel answer new → Performs old.view new.view
-  planned_performs plans.Nothing answer is done = quiet old done.1 (same-view old.view)
-  planned_performs plans.Blocked answer is done = quiet old done.1 (same-view old.view)
-  planned_performs (plans.Broken cell) answer is done = quiet old done.1 (same-view old.view)
-  planned_performs (plans.Directory step) answer is done =
+  planned_performs deliveries.Nothing answer is done = quiet old done.1 (same-view old.view)
+  planned_performs deliveries.Blocked answer is done = quiet old done.1 (same-view old.view)
+  planned_performs (deliveries.Broken cell) answer is done = quiet old done.1 (same-view old.view)
+  planned_performs (deliveries.Moved (transitions.Directory step)) answer is done =
       quiet _ done.1 (record { lines = refl; init = refl; log = refl; misses = λ core. refl; tags = λ core. refl })
-  planned_performs (plans.Home state owner sharers) answer is done =
+  planned_performs (deliveries.Moved (transitions.Home step)) answer is done =
       quiet _ done.1 (record { lines = refl; init = refl; log = refl; misses = λ core. refl; tags = λ core. refl })
-  planned_performs (plans.Forwarded next sent requester) answer is done =
+  planned_performs (deliveries.Moved (transitions.Forwarded step)) answer is done =
       quiet _ done.1
-      (forwarded (core_of channel) requester next sent (there (plans.Forwarded next sent requester) is refl))
-  planned_performs (plans.Fill place next) answer is done =
-      settled (core_of channel) _ (there (plans.Fill place next) is refl) (held place (plans.Fill place next) is refl)
+      (forwarded (core_of channel) step.requester step.next step.sends (there (forwarded_move step.next step.sends step.requester) is refl))
+  planned_performs (deliveries.Moved (transitions.Fill step)) answer is done =
+      settled (core_of channel) _ (there (fill_move step.place step.next) is refl) (held step.place (fill_move step.place step.next) is refl)
       done.1
-  planned_performs (plans.Acknowledge place next) answer is done =
-      settled (core_of channel) _ (there (plans.Acknowledge place next) is refl)
-      (held place (plans.Acknowledge place next) is refl) done.1
+  planned_performs (deliveries.Moved (transitions.Acknowledge step)) answer is done =
+      settled (core_of channel) _ (there (ack_move step.place step.next) is refl)
+      (held step.place (ack_move step.place step.next) is refl) done.1
 
 -- ---- the calls
 
@@ -186,15 +187,15 @@ module _ (old new : PartsView) (accounted : IsAccounted old.view) (whole : IsWho
   delivery_performs pick answer done = at_place pick answer (local_at old.view.lines (line_of pick).0) done
 
   -- So does what is done of the next message of a class, ..
-  pub done_performs : (answer : DeliveredNext) → IsDone old answer new → Performs old.view new.view
-  done_performs (delivered_next.Moved pick) done = delivery_performs pick delivered.Moved done
-  done_performs delivered_next.Nothing done = unchanged done
-  done_performs delivered_next.Blocked done = unchanged done
-  done_performs (delivered_next.Broken cell) done = unchanged done
+  pub done_performs : (answer : Delivery Pick) → IsDone old answer new → Performs old.view new.view
+  done_performs (deliveries.Moved pick) done = delivery_performs pick delivered.Moved done
+  done_performs deliveries.Nothing done = unchanged done
+  done_performs deliveries.Blocked done = unchanged done
+  done_performs (deliveries.Broken cell) done = unchanged done
 
 -- .. and the turn of the ring behind it shows nothing.
 pub deliver_next_performs : (old new : PartsView) → IsAccounted old.view → IsWhole old.view
-    → IsLegal (initially old.view.init) new.view.log → (class : Class) (answer : DeliveredNext)
+    → IsLegal (initially old.view.init) new.view.log → (class : Class) (answer : Delivery Pick)
     → AfterDeliverNext old class answer new → Performs old.view new.view
 deliver_next_performs old new accounted whole legal class answer after =
     let same = after.turns in

@@ -9,7 +9,7 @@ use Rattle.slice_core_answer.specs.declared.answer.Evicted.{Evicted}
 use Rattle.slice_core_answer.specs.declared.answer.Evicted.TheVariants as evictions
 use Rattle.slice_core_machine.proofs.Kept.{kept-of, leads-same, same-view}
 use Rattle.slice_core_machine.specs.Shows.{Leads}
-use Rattle.slice_core_plan.specs.Parts.{PartsView, AfterEvict}
+use Rattle.slice_core_plan.specs.Calls.{PartsView, AfterEvict}
 use Rattle.slice_core_plan.specs.Steps.{after_evict}
 use Rattle.slice_core_plan.specs.View.{side_at}
 use Rattle.slice_core_side.specs.Access.{evicted_of}

@@ -14,7 +14,7 @@ use Rattle.slice_core_machine.proofs.Named.{number_is}
 use Rattle.slice_core_machine.specs.Machine.{Asked, IsSame, after, hand}
 use Rattle.slice_core_machine.specs.Shows.{IsAccounted, Leads, hand_steps, shown}
 use Rattle.slice_core_log.specs.Log.{initially}
-use Rattle.slice_core_plan.specs.Parts.{AfterHand, PartsView}
+use Rattle.slice_core_plan.specs.Calls.{AfterHand, PartsView}
 use Rattle.slice_core_plan.specs.Steps.{after_hand}
 use Rattle.slice_core_plan.specs.View.{View, side_at}
 use Rattle.slice_core_side.specs.Side.{SideView, tag_at}

@@ -23,12 +23,12 @@ use Rattle.slice_core_machine.proofs.Requests.{word_at_offset}
 use Rattle.slice_core_machine.specs.Machine.{Asked, accept, hand, perform}
 use Rattle.slice_core_machine.specs.Shows.{IsAccounted, Leads, asked, issue_steps, next_of}
 use Rattle.slice_core_plan.specs.Decision.{decision_of}
-use Rattle.slice_core_plan.specs.Parts.{PartsView, target_for, AfterAccepting, AfterAccess, AfterIssue, IsAccepted}
-use Rattle.slice_core_plan.specs.Parts.{LacksMemory}
+use Rattle.slice_core_plan.specs.Calls.{PartsView, target_for, AfterAccepting, AfterAccess, AfterIssue, IsAccepted}
+use Rattle.slice_core_plan.specs.Calls.{LacksMemory}
 use Rattle.slice_core_plan.specs.Steps.{after_hit, after_join, after_open, is_held, with_way}
 use Rattle.slice_core_plan.specs.View.{View, first_word, side_at}
-use Rattle.slice_core_plan.specs.declared.decide.Decision.{Decision}
-use Rattle.slice_core_plan.specs.declared.decide.Decision.TheVariants as decisions
+use Rattle.slice_core_plan.specs.declared.decision.Decision.{Decision}
+use Rattle.slice_core_plan.specs.declared.decision.Decision.TheVariants as decisions
 use Rattle.slice_core_side.specs.Side.{SideView, tag_at}
 use Rattle.slice_core_side.specs.Steps as sides
 use Rattle.slice_core_side.specs.declared.access.Access.{Access}

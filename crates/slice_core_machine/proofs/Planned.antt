@@ -26,7 +26,7 @@ use Rattle.directory_table.specs.declared.row.DirEvent.TheVariants as dir_events
 use Rattle.directory_table.specs.declared.row.DirRow.{DirRow}
 use Rattle.directory_table.specs.declared.row.DirRow.TheVariants as dir_rows
 use Rattle.slice_core_answer.specs.declared.answer.Cell.TheVariants as cells
-use Rattle.slice_core_plan.specs.Parts.{core_of}
+use Rattle.slice_core_plan.specs.Calls.{core_of}
 use Rattle.slice_core_plan.specs.Plan.{ack_plan, asks, by_ack_row, by_data_row, by_directory_row, by_forwarded_row}
 use Rattle.slice_core_plan.specs.Plan.{by_home_row, data_by, data_plan, event_of_data, event_of_forwarded}
 use Rattle.slice_core_plan.specs.Plan.{event_of_request, fill_at, acknowledge_at, forwarded_by, forwarded_plan}
@@ -34,8 +34,6 @@ use Rattle.slice_core_plan.specs.Plan.{home_plan, is_put_ack, plan_of, request_b
 use Rattle.slice_core_plan.specs.Plan.{stands_at}
 use Rattle.slice_core_plan.specs.Sends.{cache_room, directory_room}
 use Rattle.slice_core_plan.specs.View.{View, channels_at, entry_at, side_at, IsShaped}
-use Rattle.slice_core_plan.specs.declared.decide.Plan.{Plan}
-use Rattle.slice_core_plan.specs.declared.decide.Plan.TheVariants as plans
 use Rattle.slice_core_side.specs.Copy.{no_copy}
 use Rattle.slice_core_side.specs.Side.{SideView, copy_of}
 use Rattle.slice_core_side.specs.declared.copy.CacheCopy.{CacheCopy}
@@ -45,17 +43,22 @@ use Rattle.slice_queues_message.specs.declared.channel.Channel.TheVariants as ch
 use Rattle.slice_queues_message.specs.declared.message.DataMessage.{DataMessage}
 use Rattle.slice_queues_message.specs.declared.message.ForwardedMessage.{ForwardedMessage}
 use Rattle.slice_queues_message.specs.declared.message.RequestMessage.{RequestMessage}
+use Rattle.slice_core_answer.specs.declared.answer.Delivery.TheVariants as deliveries
+use Rattle.slice_core_answer.specs.declared.answer.Delivery.{Delivery}
+use Rattle.slice_core_plan.specs.Plan.{directory_move, forwarded_move}
+use Rattle.slice_core_plan.specs.declared.transition.Transition.TheVariants as transitions
+use Rattle.slice_core_plan.specs.declared.transition.Transition.{Transition}
 
 -- ---- the core
 
 -- the plan is for a core's own copy
-abbrev pub is_for_copy : Plan → Bool
-is_for_copy (plans.Forwarded next sent requester) = true
-is_for_copy (plans.Fill place next) = true
-is_for_copy (plans.Acknowledge place next) = true
+abbrev pub is_for_copy : Delivery Transition → Bool
+is_for_copy (deliveries.Moved (transitions.Forwarded step)) = true
+is_for_copy (deliveries.Moved (transitions.Fill step)) = true
+is_for_copy (deliveries.Moved (transitions.Acknowledge step)) = true
 is_for_copy plan = false
 
-home-for_none : (waits : Bool) (row : DirRow) → is_for_copy (if waits then by_home_row row else plans.Nothing) ≡ false
+home-for_none : (waits : Bool) (row : DirRow) → is_for_copy (if waits then by_home_row row else deliveries.Nothing) ≡ false
 home-for_none true dir_rows.NoEntry = refl
 home-for_none true dir_rows.Blocked = refl
 home-for_none true (dir_rows.Go step) = refl
@@ -101,9 +104,9 @@ module _ (v : View) (local : Local) (shaped : IsShaped v) where
 -- ---- the line
 
 -- where the plan finds the copy that it changes
-abbrev pub place_in : Plan → Option ℕ
-place_in (plans.Fill place next) = Some place
-place_in (plans.Acknowledge place next) = Some place
+abbrev pub place_in : Delivery Transition → Option ℕ
+place_in (deliveries.Moved (transitions.Fill step)) = Some step.place
+place_in (deliveries.Moved (transitions.Acknowledge step)) = Some step.place
 place_in plan = None
 
 None_apart : {A : Type 0} (x : A) → None ≢ Some x
@@ -113,7 +116,7 @@ module _ (v : View) (local : Local) where
   place-request : (core : CoreId) → place_in (request_plan v local core) ≡ None
   place-request core = by (core_at (channels_at v local) core.0).request
     where
-      room : (b : Bool) (one other : Plan) → place_in one ≡ None → place_in other ≡ None
+      room : (b : Bool) (one other : Delivery Transition) → place_in one ≡ None → place_in other ≡ None
           → place_in (if b then one else other) ≡ None
       room true one other first second = first
       room false one other first second = second
@@ -121,8 +124,8 @@ module _ (v : View) (local : Local) where
       row : (r : DirRow) → place_in (by_directory_row (channels_at v local) core r) ≡ None
       row dir_rows.NoEntry = refl
       row dir_rows.Blocked = refl
-      row (dir_rows.Go step) = room (directory_room (channels_at v local) core step.sends) (plans.Directory step)
-          (plans.Broken cells.Full) refl refl
+      row (dir_rows.Go step) = room (directory_room (channels_at v local) core step.sends) (directory_move step)
+          (deliveries.Broken cells.Full) refl refl
 
       by : (waits : Option RequestMessage) → place_in (request_by v local core waits) ≡ None
       by None = refl
@@ -132,8 +135,8 @@ module _ (v : View) (local : Local) where
   place-forwarded core = by (slice_get (core_at (channels_at v local) core.0).forwarded 0)
     where
       tests : (b c : Bool) (next : CopyState) (sent : CacheSends) (requester : CoreId)
-          → place_in (if b then plans.Broken cells.Full else if c then plans.Broken cells.Early
-          else plans.Forwarded next sent requester) ≡ None
+          → place_in (if b then deliveries.Broken cells.Full else if c then deliveries.Broken cells.Early
+          else forwarded_move next sent requester) ≡ None
       tests true c next sent requester = refl
       tests false true next sent requester = refl
       tests false false next sent requester = refl
@@ -158,7 +161,7 @@ module _ (v : View) (local : Local) where
       filled (Some place) next = refl
 
       early : (b : Bool) (next : CopyState)
-          → place_in (if b then plans.Broken cells.Early else fill_at (stands_at v local core) next) ≡ Some place
+          → place_in (if b then deliveries.Broken cells.Early else fill_at (stands_at v local core) next) ≡ Some place
           → stands_at v local core ≡ Some place
       early true next found = absurd (None_apart place found)
       early false next found = sym (filled (stands_at v local core) next) ∙ found
@@ -184,7 +187,7 @@ module _ (v : View) (local : Local) where
       counted None next = refl
       counted (Some place) next = refl
 
-      by : (waits : Bool) (r : Row) → place_in (if waits then by_ack_row v local to r else plans.Nothing) ≡ Some place
+      by : (waits : Bool) (r : Row) → place_in (if waits then by_ack_row v local to r else deliveries.Nothing) ≡ Some place
           → stands_at v local to ≡ Some place
       by true rows.NoEntry found = absurd (None_apart place found)
       by true rows.Blocked found = absurd (None_apart place found)
@@ -194,7 +197,7 @@ module _ (v : View) (local : Local) where
   place-home : place_in (home_plan v local) ≡ None
   place-home = by (is_some (channels_at v local).home) (dir_row_of v.exclusive (entry_at v local) dir_events.DataHome)
     where
-      by : (waits : Bool) (r : DirRow) → place_in (if waits then by_home_row r else plans.Nothing) ≡ None
+      by : (waits : Bool) (r : DirRow) → place_in (if waits then by_home_row r else deliveries.Nothing) ≡ None
       by true dir_rows.NoEntry = refl
       by true dir_rows.Blocked = refl
       by true (dir_rows.Go step) = refl

@@ -17,7 +17,7 @@ ghost use Rattle.address_map.specs.declared.config.Config.{Config};
 ghost use Rattle.address_map.specs.declared.request.Request.{Request};
 ghost use Rattle.mshr_file.specs.Miss.{Bound};
 ghost use Rattle.slice_core_answer.specs.declared.answer.Delivered.{Delivered};
-ghost use Rattle.slice_core_answer.specs.declared.answer.DeliveredNext.{DeliveredNext};
+ghost use Rattle.slice_core_answer.specs.declared.answer.Delivery.{Delivery};
 ghost use Rattle.slice_core_answer.specs.declared.answer.Evicted.{Evicted};
 ghost use Rattle.slice_core_answer.specs.declared.answer.Issue.{Issue};
 ghost use Rattle.slice_core_answer.specs.declared.answer.Refused.{Refused};
@@ -26,8 +26,8 @@ ghost use Rattle.slice_core_log.specs.Log.{IsLegal, initially};
 ghost use Rattle.slice_core_log.specs.declared.entry.Numbered.{Numbered};
 ghost use Rattle.slice_core_machine.specs.Machine.{IsSame, Step, new_machine};
 ghost use Rattle.slice_core_machine.specs.Shows.{IsAccounted, Leads, Performs, hand_steps, issue_steps, next_of, shown};
-ghost use Rattle.slice_core_plan.specs.Parts.{AfterDeliverNext, AfterDelivery, AfterEvict, AfterHand, AfterIssue};
-ghost use Rattle.slice_core_plan.specs.Parts.{IsNew, PartsView};
+ghost use Rattle.slice_core_plan.specs.Calls.{AfterDeliverNext, AfterDelivery, AfterEvict, AfterHand, AfterIssue};
+ghost use Rattle.slice_core_plan.specs.Calls.{IsNew, PartsView};
 ghost use Rattle.slice_core_plan.specs.View.{View};
 ghost use Rattle.slice_queues_message.specs.declared.channel.Class.{Class};
 ghost use Rattle.slice_queues_message.specs.declared.channel.Pick.{Pick};
@@ -66,7 +66,7 @@ pub fn deliveries_are_steps()
     ensures named { (old new : PartsView) (pick : Pick) (answer : Delivered) → IsAccounted old.view
         → IsWhole old.view → IsLegal (initially old.view.init) new.view.log → AfterDelivery old pick answer new
         → Performs old.view new.view }
-    ensures next { (old new : PartsView) (class : Class) (answer : DeliveredNext) → IsAccounted old.view
+    ensures next { (old new : PartsView) (class : Class) (answer : Delivery Pick) → IsAccounted old.view
         → IsWhole old.view → IsLegal (initially old.view.init) new.view.log → AfterDeliverNext old class answer new
         → Performs old.view new.view }
 {}

@@ -8,81 +8,77 @@ use Rattle.address_map.specs.Locator.{line_at}
 use Rattle.address_map.specs.declared.address.Local.{Local}
 use Rattle.slice_core_answer.specs.declared.answer.Delivered.{Delivered}
 use Rattle.slice_core_answer.specs.declared.answer.Delivered.TheVariants as delivered
-use Rattle.slice_core_answer.specs.declared.answer.DeliveredNext.{DeliveredNext}
-use Rattle.slice_core_answer.specs.declared.answer.DeliveredNext.TheVariants as delivered_next
-use Rattle.slice_core_plan.specs.Next.{next_by, next_or}
-use Rattle.slice_core_plan.specs.Parts.{AfterDeliverNext, AfterPlan, IsDone, IsMove, PartsView, told}
+use Rattle.slice_core_plan.specs.Next.{better_of, next_by}
+use Rattle.slice_core_plan.specs.Calls.{AfterDeliverNext, AfterPlan, IsDone, IsMove, PartsView}
 use Rattle.slice_core_plan.specs.Plan.{plan_of, planned_at}
 use Rattle.slice_core_plan.specs.Ring.{first_of, is_move, looked_at, next_at, next_in, pick_of, turned}
 use Rattle.slice_core_plan.specs.Turn.{CanMove, PassOver, StandsAt, StandsBefore, TakesFrom}
 use Rattle.slice_core_plan.specs.View.{View}
-use Rattle.slice_core_plan.specs.declared.decide.Next.{Next}
-use Rattle.slice_core_plan.specs.declared.decide.Next.TheVariants as nexts
-use Rattle.slice_core_plan.specs.declared.decide.Plan.{Plan}
-use Rattle.slice_core_plan.specs.declared.decide.Plan.TheVariants as plans
 use Rattle.slice_queues.specs.Ring.{is_listed, with_listed}
 use Rattle.slice_queues_message.specs.Pick.{line_of, pick_at}
 use Rattle.slice_queues_message.specs.declared.channel.Channel.{Channel}
 use Rattle.slice_queues_message.specs.declared.channel.Channel.TheVariants as channels
 use Rattle.slice_queues_message.specs.declared.channel.Class.{Class}
+use Rattle.slice_core_answer.specs.declared.answer.Delivery.TheVariants as deliveries
+use Rattle.slice_core_answer.specs.declared.answer.Delivery.{Delivery}
+use Rattle.slice_core_plan.specs.declared.transition.Transition.TheVariants as transitions
+use Rattle.slice_core_plan.specs.declared.transition.Transition.{Transition}
+use Rattle.slice_queues_message.specs.declared.channel.Pick.{Pick}
 
 -- ---- the first that moves
 
 -- where the one doesn't move, what moves is the other
-or-other : (one other : Next) → is_move one ≡ false → is_move (next_or one other) ≡ true → next_or one other ≡ other
-or-other (nexts.Move l c) other still moves = cc
-or-other (nexts.Broken a) (nexts.Move l c) still moves = refl
-or-other (nexts.Broken a) (nexts.Broken b) still moves = cc
-or-other (nexts.Broken a) nexts.Blocked still moves = cc
-or-other (nexts.Broken a) nexts.Nothing still moves = cc
-or-other nexts.Blocked (nexts.Move l c) still moves = refl
-or-other nexts.Blocked (nexts.Broken b) still moves = cc
-or-other nexts.Blocked nexts.Blocked still moves = cc
-or-other nexts.Blocked nexts.Nothing still moves = cc
-or-other nexts.Nothing other still moves = refl
+or-other : (one other : Delivery (Local × Channel)) → is_move one ≡ false → is_move (better_of one other) ≡ true → better_of one other ≡ other
+or-other (deliveries.Moved m) other still moves = cc
+or-other (deliveries.Broken a) (deliveries.Moved m) still moves = refl
+or-other (deliveries.Broken a) (deliveries.Broken b) still moves = cc
+or-other (deliveries.Broken a) deliveries.Blocked still moves = cc
+or-other (deliveries.Broken a) deliveries.Nothing still moves = cc
+or-other deliveries.Blocked (deliveries.Moved m) still moves = refl
+or-other deliveries.Blocked (deliveries.Broken b) still moves = cc
+or-other deliveries.Blocked deliveries.Blocked still moves = cc
+or-other deliveries.Blocked deliveries.Nothing still moves = cc
+or-other deliveries.Nothing other still moves = refl
 
 -- what moves is better than what doesn't, and than all behind it
-or-behind : (one other : Next) → is_move one ≡ false → is_move other ≡ true → next_or one other ≡ other
-or-behind (nexts.Move l c) other still moves = cc
-or-behind (nexts.Broken a) (nexts.Move l c) still moves = refl
-or-behind (nexts.Broken a) (nexts.Broken b) still moves = cc
-or-behind (nexts.Broken a) nexts.Blocked still moves = cc
-or-behind (nexts.Broken a) nexts.Nothing still moves = cc
-or-behind nexts.Blocked (nexts.Move l c) still moves = refl
-or-behind nexts.Blocked (nexts.Broken b) still moves = cc
-or-behind nexts.Blocked nexts.Blocked still moves = cc
-or-behind nexts.Blocked nexts.Nothing still moves = cc
-or-behind nexts.Nothing other still moves = refl
+or-behind : (one other : Delivery (Local × Channel)) → is_move one ≡ false → is_move other ≡ true → better_of one other ≡ other
+or-behind (deliveries.Moved m) other still moves = cc
+or-behind (deliveries.Broken a) (deliveries.Moved m) still moves = refl
+or-behind (deliveries.Broken a) (deliveries.Broken b) still moves = cc
+or-behind (deliveries.Broken a) deliveries.Blocked still moves = cc
+or-behind (deliveries.Broken a) deliveries.Nothing still moves = cc
+or-behind deliveries.Blocked (deliveries.Moved m) still moves = refl
+or-behind deliveries.Blocked (deliveries.Broken b) still moves = cc
+or-behind deliveries.Blocked deliveries.Blocked still moves = cc
+or-behind deliveries.Blocked deliveries.Nothing still moves = cc
+or-behind deliveries.Nothing other still moves = refl
 
-or-front : (one other : Next) → is_move one ≡ true → next_or one other ≡ one
-or-front (nexts.Move l c) other moves = refl
-or-front (nexts.Broken a) other moves = cc
-or-front nexts.Blocked other moves = cc
-or-front nexts.Nothing other moves = cc
+or-front : (one other : Delivery (Local × Channel)) → is_move one ≡ true → better_of one other ≡ one
+or-front (deliveries.Moved m) other moves = refl
+or-front (deliveries.Broken a) other moves = cc
+or-front deliveries.Blocked other moves = cc
+or-front deliveries.Nothing other moves = cc
 
 -- what moves at a channel is planned there
-pub move-planned : (local : Local) (channel : Channel) (plan : Plan) → is_move (next_by local channel plan) ≡ true
-    → (next_by local channel plan ≡ nexts.Move local channel) × IsMove plan
-move-planned local channel plans.Nothing moves = cc
-move-planned local channel plans.Blocked moves = cc
-move-planned local channel (plans.Broken cell) moves = cc
-move-planned local channel (plans.Directory step) moves = (refl, tt)
-move-planned local channel (plans.Home a b c) moves = (refl, tt)
-move-planned local channel (plans.Forwarded a b c) moves = (refl, tt)
-move-planned local channel (plans.Fill a b) moves = (refl, tt)
-move-planned local channel (plans.Acknowledge a b) moves = (refl, tt)
+pub move-planned : (local : Local) (channel : Channel) (plan : Delivery Transition)
+    → is_move (next_by local channel plan) ≡ true
+    → (next_by local channel plan ≡ deliveries.Moved (local, channel)) × IsMove plan
+move-planned local channel deliveries.Nothing moves = cc
+move-planned local channel deliveries.Blocked moves = cc
+move-planned local channel (deliveries.Broken cell) moves = cc
+move-planned local channel (deliveries.Moved step) moves = (refl, tt)
 
 -- what moves of a line is a message of the line
 pub first-channel : (v : View) (local : Local) (names : List Channel) → is_move (first_of v local names) ≡ true
-    → (channel : Channel) × (first_of v local names ≡ nexts.Move local channel) × IsMove (plan_of v local channel)
+    → (channel : Channel) × (first_of v local names ≡ deliveries.Moved (local, channel)) × IsMove (plan_of v local channel)
 first-channel v local [] moves = cc
 first-channel v local (channel ∷ rest) moves =
     by_first (is_move (next_by local channel (plan_of v local channel))) refl (first-channel v local rest)
   where
     by_first : (first : Bool) → is_move (next_by local channel (plan_of v local channel)) ≡ first
         → (is_move (first_of v local rest) ≡ true
-        → (other : Channel) × (first_of v local rest ≡ nexts.Move local other) × IsMove (plan_of v local other))
-        → (other : Channel) × (first_of v local (channel ∷ rest) ≡ nexts.Move local other)
+        → (other : Channel) × (first_of v local rest ≡ deliveries.Moved (local, other)) × IsMove (plan_of v local other))
+        → (other : Channel) × (first_of v local (channel ∷ rest) ≡ deliveries.Moved (local, other))
         × IsMove (plan_of v local other)
     by_first true e later =
         let there = move-planned local channel (plan_of v local channel) e in
@@ -93,28 +89,24 @@ first-channel v local (channel ∷ rest) moves =
         (found.0, same ∙ found.1, found.2)
 
 -- a move is better than what doesn't move
-or-any : (one other : Next) → is_move other ≡ true → is_move (next_or one other) ≡ true
-or-any (nexts.Move l c) other moves = refl
-or-any (nexts.Broken a) (nexts.Move l c) moves = refl
-or-any (nexts.Broken a) (nexts.Broken b) moves = cc
-or-any (nexts.Broken a) nexts.Blocked moves = cc
-or-any (nexts.Broken a) nexts.Nothing moves = cc
-or-any nexts.Blocked (nexts.Move l c) moves = refl
-or-any nexts.Blocked (nexts.Broken b) moves = cc
-or-any nexts.Blocked nexts.Blocked moves = cc
-or-any nexts.Blocked nexts.Nothing moves = cc
-or-any nexts.Nothing other moves = moves
+or-any : (one other : Delivery (Local × Channel)) → is_move other ≡ true → is_move (better_of one other) ≡ true
+or-any (deliveries.Moved m) other moves = refl
+or-any (deliveries.Broken a) (deliveries.Moved m) moves = refl
+or-any (deliveries.Broken a) (deliveries.Broken b) moves = cc
+or-any (deliveries.Broken a) deliveries.Blocked moves = cc
+or-any (deliveries.Broken a) deliveries.Nothing moves = cc
+or-any deliveries.Blocked (deliveries.Moved m) moves = refl
+or-any deliveries.Blocked (deliveries.Broken b) moves = cc
+or-any deliveries.Blocked deliveries.Blocked moves = cc
+or-any deliveries.Blocked deliveries.Nothing moves = cc
+or-any deliveries.Nothing other moves = moves
 
-planned-moves : (local : Local) (channel : Channel) (plan : Plan) → IsMove plan
+planned-moves : (local : Local) (channel : Channel) (plan : Delivery Transition) → IsMove plan
     → is_move (next_by local channel plan) ≡ true
-planned-moves local channel plans.Nothing move = absurd move
-planned-moves local channel plans.Blocked move = absurd move
-planned-moves local channel (plans.Broken cell) move = absurd move
-planned-moves local channel (plans.Directory step) move = refl
-planned-moves local channel (plans.Home a b c) move = refl
-planned-moves local channel (plans.Forwarded a b c) move = refl
-planned-moves local channel (plans.Fill a b) move = refl
-planned-moves local channel (plans.Acknowledge a b) move = refl
+planned-moves local channel deliveries.Nothing move = absurd move
+planned-moves local channel deliveries.Blocked move = absurd move
+planned-moves local channel (deliveries.Broken cell) move = absurd move
+planned-moves local channel (deliveries.Moved step) move = refl
 
 -- where a message at one of these channels can be moved, the first such is next
 some-moves : (v : View) (local : Local) (names : List Channel) (place : ℕ) (channel : Channel)
@@ -141,7 +133,7 @@ reached : (v : View) (class : Class) (ring : List ℕ) (local : Local) (place : 
 reached v class [] local place stands moves = cc
 reached v class (first ∷ rest) local zero stands moves =
     let same : first ≡ local.0 = cc in
-    let P : ℕ → Type 0 = λ n. next_or (next_at v class (record { 0 = n })) (next_in v class rest) ≡
+    let P : ℕ → Type 0 = λ n. better_of (next_at v class (record { 0 = n })) (next_in v class rest) ≡
     next_at v class local in
     inl (subst P (sym same) (or-front (next_at v class local) (next_in v class rest) moves))
 reached v class (first ∷ rest) local (suc place) stands moves =
@@ -153,7 +145,7 @@ reached v class (first ∷ rest) local (suc place) stands moves =
         ⊎ ((if here then 1 else 1 + looked_at v class rest) ≤ suc place)
     by_first true e later = inr (omega arith)
     by_first false e (inl is) =
-        inl (ap (next_or (next_at v class (record { 0 = first }))) is ∙ or-behind _ (next_at v class local) e moves)
+        inl (ap (better_of (next_at v class (record { 0 = first }))) is ∙ or-behind _ (next_at v class local) e moves)
     by_first false e (inr less) = inr (omega (arith, less))
 
 -- one line at least is looked at where there is one
@@ -196,30 +188,30 @@ extends-at : (old new : PartsView) (after : PartsView) → new ≡ after → Ext
     → Extends old.ring new.ring
 extends-at old new after is extends = subst (λ (p : PartsView). Extends old.ring p.ring) (sym is) extends
 
-extends-plan : (plan : Plan) (old new : PartsView) (local : Local) (channel : Channel) (answer : Delivered)
+extends-plan : (plan : Delivery Transition) (old new : PartsView) (local : Local) (channel : Channel) (answer : Delivered)
     → AfterPlan plan old local channel answer new → Extends old.ring new.ring
-extends-plan plans.Nothing old new local channel answer after = extends-at old new _ after.1 (extends-same old.ring)
-extends-plan plans.Blocked old new local channel answer after = extends-at old new _ after.1 (extends-same old.ring)
-extends-plan (plans.Broken cell) old new local channel answer after =
+extends-plan deliveries.Nothing old new local channel answer after = extends-at old new _ after.1 (extends-same old.ring)
+extends-plan deliveries.Blocked old new local channel answer after = extends-at old new _ after.1 (extends-same old.ring)
+extends-plan (deliveries.Broken cell) old new local channel answer after =
     extends-at old new _ after.1 (extends-same old.ring)
-extends-plan (plans.Directory step) old new local channel answer after =
+extends-plan (deliveries.Moved (transitions.Directory step)) old new local channel answer after =
     extends-at old new _ after.1 (extends-listed old.ring local.0)
-extends-plan (plans.Home a b c) old new local channel answer after =
+extends-plan (deliveries.Moved (transitions.Home step)) old new local channel answer after =
     extends-at old new _ after.1 (extends-listed old.ring local.0)
-extends-plan (plans.Forwarded a b c) old new local channel answer after =
+extends-plan (deliveries.Moved (transitions.Forwarded step)) old new local channel answer after =
     extends-at old new _ after.1 (extends-listed old.ring local.0)
-extends-plan (plans.Fill a b) old new local channel answer after =
+extends-plan (deliveries.Moved (transitions.Fill step)) old new local channel answer after =
     extends-at old new _ after.1.3 (extends-listed old.ring local.0)
-extends-plan (plans.Acknowledge a b) old new local channel answer after =
+extends-plan (deliveries.Moved (transitions.Acknowledge step)) old new local channel answer after =
     extends-at old new _ after.1.3 (extends-listed old.ring local.0)
 
 -- what is done of a next delivery leaves each line where it stands
-pub extends-done : (old new : PartsView) (answer : DeliveredNext) → IsDone old answer new → Extends old.ring new.ring
-extends-done old new (delivered_next.Moved pick) done =
+pub extends-done : (old new : PartsView) (answer : Delivery Pick) → IsDone old answer new → Extends old.ring new.ring
+extends-done old new (deliveries.Moved pick) done =
     extends-plan (planned_at old.view pick) old new _ _ delivered.Moved done
-extends-done old new delivered_next.Nothing done = extends-at old new _ done (extends-same old.ring)
-extends-done old new delivered_next.Blocked done = extends-at old new _ done (extends-same old.ring)
-extends-done old new (delivered_next.Broken cell) done = extends-at old new _ done (extends-same old.ring)
+extends-done old new deliveries.Nothing done = extends-at old new _ done (extends-same old.ring)
+extends-done old new deliveries.Blocked done = extends-at old new _ done (extends-same old.ring)
+extends-done old new (deliveries.Broken cell) done = extends-at old new _ done (extends-same old.ring)
 
 pub longer : (old new : List ℕ) → Extends old new → length old ≤ length new
 longer old new extends =
@@ -248,12 +240,12 @@ get-turned ring more behind looked place line few stands =
     ∙ get_or_append_left ring more 0 place within
     ∙ get_or_from_slice_get ring place line 0 stands)
 
-module _ (old : PartsView) (class : Class) (answer : DeliveredNext) (new : PartsView)
+module _ (old : PartsView) (class : Class) (answer : Delivery Pick) (new : PartsView)
     (after : AfterDeliverNext old class answer new) (local : Local) (place : ℕ) (stands : StandsAt old local place)
     (moves : CanMove old.view class local) where
-  took : (given : DeliveredNext) (channel : Channel)
-      → told given ≡ pick_of old.view.lines (nexts.Move local channel) → TakesFrom old.view.lines local given
-  took (delivered_next.Moved pick) channel is =
+  took : (given : Delivery Pick) (channel : Channel)
+      → given ≡ pick_of old.view.lines (deliveries.Moved (local, channel)) → TakesFrom old.view.lines local given
+  took (deliveries.Moved pick) channel is =
       let same : pick ≡ pick_at (line_at old.view.lines local) channel = cc in
       ap line_of same ∙ of_line channel
     where
@@ -264,9 +256,9 @@ module _ (old : PartsView) (class : Class) (answer : DeliveredNext) (new : Parts
       of_line (channels.Data core) = refl
       of_line (channels.Ack to from) = refl
       of_line channels.Home = refl
-  took delivered_next.Nothing channel is = cc
-  took delivered_next.Blocked channel is = cc
-  took (delivered_next.Broken cell) channel is = cc
+  took deliveries.Nothing channel is = cc
+  took deliveries.Blocked channel is = cc
+  took (deliveries.Broken cell) channel is = cc
 
   behind : looked_at old.view class old.ring ≤ place → StandsBefore new local place
   behind few =
@@ -295,7 +287,7 @@ module _ (old : PartsView) (class : Class) (answer : DeliveredNext) (new : Parts
       by (inr few) = inr (behind few)
 
 -- As many next deliveries pass over a line as stand in front of it, and no more.
-pub passed-over : (local : Local) (class : Class) (old : PartsView) (answers : List DeliveredNext) (new : PartsView)
+pub passed-over : (local : Local) (class : Class) (old : PartsView) (answers : List (Delivery Pick)) (new : PartsView)
     (place : ℕ) → StandsAt old local place → PassOver local class old answers new → length answers ≤ place
 passed-over local class old [] new place stands pass = omega arith
 passed-over local class old (answer ∷ answers) new place stands pass =

@@ -14,8 +14,8 @@ use Rattle.slice_core_side.specs.Access.{access_of}
 use Rattle.slice_core_side.specs.Side.{tag_at}
 use Rattle.slice_core_side.specs.Tags.{is_free}
 use Rattle.slice_core_plan.specs.View.{View, side_at}
-use Rattle.slice_core_plan.specs.declared.decide.Decision.{Decision}
-use Rattle.slice_core_plan.specs.declared.decide.Decision.TheVariants as decisions
+use Rattle.slice_core_plan.specs.declared.decision.Decision.{Decision}
+use Rattle.slice_core_plan.specs.declared.decision.Decision.TheVariants as decisions
 
 -- a store or a compare-exchange, which a counter refuses
 abbrev pub overwrites : Op → Bool

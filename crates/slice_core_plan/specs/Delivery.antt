@@ -18,11 +18,9 @@ use Rattle.slice_core_answer.specs.declared.answer.Delivered.TheVariants as deli
 use Rattle.slice_core_answer.specs.declared.answer.Delivered.{Delivered}
 use Rattle.slice_core_plan.specs.Plan.{planned_at}
 use Rattle.slice_core_plan.specs.Sends.{cache_sent, directory_sent}
-use Rattle.slice_core_plan.specs.Slice.{PartsView}
+use Rattle.slice_core_plan.specs.Parts.{PartsView}
 use Rattle.slice_core_plan.specs.View.{View, channels_at, side_at, entry_at, first_word, with_channels, with_entry}
 use Rattle.slice_core_plan.specs.View.{with_side}
-use Rattle.slice_core_plan.specs.declared.decide.Plan.TheVariants as plans
-use Rattle.slice_core_plan.specs.declared.decide.Plan.{Plan}
 use Rattle.slice_core_side.specs.Perform.{performed_in, asks_to_write, entries_of}
 use Rattle.slice_core_side.specs.Side.{array_copy, copy_of}
 use Rattle.slice_core_side.specs.Steps as sides
@@ -39,6 +37,10 @@ use Rattle.slice_queues_message.specs.declared.message.DataMessage.{DataMessage}
 use Rattle.slice_queues_message.specs.declared.message.Message.TheVariants as messages
 use Rattle.slice_queues_message.specs.declared.message.RequestMessage.TheVariants as requests
 use Rattle.slice_queues_message.specs.declared.message.RequestMessage.{RequestMessage}
+use Rattle.slice_core_answer.specs.declared.answer.Delivery.TheVariants as deliveries
+use Rattle.slice_core_answer.specs.declared.answer.Delivery.{Delivery}
+use Rattle.slice_core_plan.specs.declared.transition.Transition.TheVariants as transitions
+use Rattle.slice_core_plan.specs.declared.transition.Transition.{Transition}
 
 -- ---- the directory
 
@@ -137,28 +139,31 @@ core_of (channels.Data core) = core
 core_of (channels.Ack to from) = to
 core_of channels.Home = record { 0 = 0 }
 
+-- What a delivery that moves a message leaves, by what is done with the message.
+abbrev pub AfterMove : Transition → PartsView → Local → Channel → PartsView → Type 0
+AfterMove (transitions.Directory step) old local channel new =
+    Moves old local channel (after_directory old.view local (core_of channel) step) new
+AfterMove (transitions.Home step) old local channel new =
+    Moves old local channel (after_home old.view local step.state step.owner step.sharers) new
+AfterMove (transitions.Forwarded step) old local channel new =
+    Moves old local channel
+    (after_forwarded old.view local (core_of channel) step.next step.sends step.requester) new
+AfterMove (transitions.Fill step) old local channel new =
+    let core = core_of channel in
+    Settles old local core channel
+    (filled_by (array_copy (side_at old.view core) local) (core_at (channels_at old.view local) core.0).data step.next)
+    new
+AfterMove (transitions.Acknowledge step) old local channel new =
+    let core = core_of channel in
+    Settles old local core channel (acknowledged (array_copy (side_at old.view core) local) step.next) new
+
 -- What a delivery at a channel of a line answers and leaves, by what is planned.
-abbrev pub AfterPlan : Plan → PartsView → Local → Channel → Delivered → PartsView → Type 0
-AfterPlan plans.Nothing old local channel answer new = (answer ≡ delivered.Nothing) × (new ≡ old)
-AfterPlan plans.Blocked old local channel answer new = (answer ≡ delivered.Blocked) × (new ≡ old)
-AfterPlan (plans.Broken cell) old local channel answer new = (answer ≡ delivered.Broken cell) × (new ≡ old)
-AfterPlan (plans.Directory step) old local channel answer new =
-    (answer ≡ delivered.Moved)
-    × Moves old local channel (after_directory old.view local (core_of channel) step) new
-AfterPlan (plans.Home state owner sharers) old local channel answer new =
-    (answer ≡ delivered.Moved) × Moves old local channel (after_home old.view local state owner sharers) new
-AfterPlan (plans.Forwarded next sent requester) old local channel answer new =
-    (answer ≡ delivered.Moved)
-    × Moves old local channel (after_forwarded old.view local (core_of channel) next sent requester) new
-AfterPlan (plans.Fill place next) old local channel answer new =
-    let core = core_of channel in
-    (answer ≡ delivered.Moved)
-    × Settles old local core channel
-    (filled_by (array_copy (side_at old.view core) local) (core_at (channels_at old.view local) core.0).data next) new
-AfterPlan (plans.Acknowledge place next) old local channel answer new =
-    let core = core_of channel in
-    (answer ≡ delivered.Moved)
-    × Settles old local core channel (acknowledged (array_copy (side_at old.view core) local) next) new
+abbrev pub AfterPlan : Delivery Transition → PartsView → Local → Channel → Delivered → PartsView → Type 0
+AfterPlan deliveries.Nothing old local channel answer new = (answer ≡ delivered.Nothing) × (new ≡ old)
+AfterPlan deliveries.Blocked old local channel answer new = (answer ≡ delivered.Blocked) × (new ≡ old)
+AfterPlan (deliveries.Broken cell) old local channel answer new = (answer ≡ delivered.Broken cell) × (new ≡ old)
+AfterPlan (deliveries.Moved step) old local channel answer new =
+    (answer ≡ delivered.Moved) × AfterMove step old local channel new
 
 -- the place of a line; where the slice hasn't the line nothing is planned, and nobody looks at the place
 abbrev pub local_in : Option Local → Local

@@ -8,7 +8,7 @@ use Rattle.address_map.specs.declared.address.Local.{Local}
 use Rattle.slice_core_answer.specs.Stats.{after_eviction}
 use Rattle.slice_core_answer.specs.declared.answer.Evicted.TheVariants as evictions
 use Rattle.slice_core_answer.specs.declared.answer.Evicted.{Evicted}
-use Rattle.slice_core_plan.specs.Slice.{PartsView}
+use Rattle.slice_core_plan.specs.Parts.{PartsView}
 use Rattle.slice_core_plan.specs.View.{View, channels_at, side_at, with_channels, with_side}
 use Rattle.slice_core_side.specs.Access.{evicted_of}
 use Rattle.slice_core_side.specs.Side.{array_copy}

@@ -11,7 +11,7 @@ use Rattle.slice_core_answer.specs.Stats.{after_hit as hit_counted}
 use Rattle.slice_core_answer.specs.declared.answer.Issue.TheVariants as issues
 use Rattle.slice_core_answer.specs.declared.answer.Issue.{Issue}
 use Rattle.slice_core_log.specs.Op.{reply_of}
-use Rattle.slice_core_plan.specs.Slice.{PartsView, Accepts}
+use Rattle.slice_core_plan.specs.Parts.{PartsView, Accepts}
 use Rattle.slice_core_plan.specs.View.{View, side_at}
 use Rattle.slice_core_side.specs.Copy.{word_at}
 use Rattle.slice_core_side.specs.Side.{array_copy}

@@ -10,7 +10,7 @@ use Rattle.mshr_file.specs.declared.registers.Register.{Register}
 use Rattle.slice_core_answer.specs.Stats.{after_secondary}
 use Rattle.slice_core_answer.specs.declared.answer.Issue.TheVariants as issues
 use Rattle.slice_core_answer.specs.declared.answer.Issue.{Issue}
-use Rattle.slice_core_plan.specs.Slice.{PartsView, Accepts}
+use Rattle.slice_core_plan.specs.Parts.{PartsView, Accepts}
 use Rattle.slice_core_plan.specs.View.{View, side_at, with_side}
 use Rattle.slice_core_side.specs.Steps as sides
 use Rattle.slice_core_side.specs.Steps.{target_of}

@@ -5,7 +5,7 @@ pub mod Plan
 pub mod Within
 pub mod Next
 pub mod Ring
-pub mod Slice
+pub mod Parts
 pub mod Hit
 pub mod Join
 pub mod Eviction
@@ -13,5 +13,5 @@ pub mod PrimaryMiss
 pub mod Delivery
 pub mod Steps
 pub mod Initial
-pub mod Parts
+pub mod Calls
 pub mod Turn

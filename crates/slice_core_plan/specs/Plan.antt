@@ -25,8 +25,6 @@ use Rattle.slice_core_side.specs.Side.{copy_of}
 use Rattle.slice_core_side.specs.declared.copy.CacheCopy.{CacheCopy}
 use Rattle.slice_core_plan.specs.Sends.{cache_room, directory_room}
 use Rattle.slice_core_plan.specs.View.{View, channels_at, entry_at, side_at}
-use Rattle.slice_core_plan.specs.declared.decide.Plan.{Plan}
-use Rattle.slice_core_plan.specs.declared.decide.Plan.TheVariants as plans
 use Rattle.slice_queues.specs.Line.{LineChannels, core_at}
 use Rattle.slice_queues_message.specs.Pick.{channel_of, line_of}
 use Rattle.slice_queues_message.specs.declared.channel.Channel.{Channel}
@@ -39,6 +37,36 @@ use Rattle.slice_queues_message.specs.declared.message.ForwardedMessage.TheVaria
 use Rattle.slice_queues_message.specs.declared.message.RequestMessage.{RequestMessage}
 use Rattle.slice_queues_message.specs.declared.message.RequestMessage.TheVariants as requests
 use Rattle.target_list.specs.Target.{is_load}
+use Rattle.slice_core_answer.specs.declared.answer.Delivery.TheVariants as deliveries
+use Rattle.slice_core_answer.specs.declared.answer.Delivery.{Delivery}
+use Rattle.slice_core_plan.specs.declared.transition.Transition.TheVariants as transitions
+use Rattle.directory_table.specs.declared.row.DirStep.{DirStep}
+use Rattle.directory_table.specs.declared.state.DirState.{DirState}
+use Rattle.cache_table.specs.declared.row.CacheSends.{CacheSends}
+use Rattle.slice_core_plan.specs.declared.transition.Transition.{Transition}
+
+-- ---- the plans that move a message
+
+-- the directory does its row for a request
+abbrev pub directory_move : DirStep → Delivery Transition
+directory_move step = deliveries.Moved (transitions.Directory step)
+
+-- the block comes home, and the entry is this
+abbrev pub home_move : DirState → Option CoreId → ℕ → Delivery Transition
+home_move state owner sharers =
+    deliveries.Moved (transitions.Home (record { state = state; owner = owner; sharers = sharers }))
+
+-- a core does its row for a forwarded message
+abbrev pub forwarded_move : CopyState → CacheSends → CoreId → Delivery Transition
+forwarded_move next sends requester =
+    deliveries.Moved (transitions.Forwarded (record { next = next; sends = sends; requester = requester }))
+
+-- a core takes its data, or counts an acknowledgement, for the copy in this place of its set
+abbrev pub fill_move : ℕ → CopyState → Delivery Transition
+fill_move place next = deliveries.Moved (transitions.Fill (record { place = place; next = next }))
+
+abbrev pub ack_move : ℕ → CopyState → Delivery Transition
+ack_move place next = deliveries.Moved (transitions.Acknowledge (record { place = place; next = next }))
 
 -- ---- the directory
 
@@ -50,32 +78,32 @@ event_of_request core requests.PutS = dir_events.PutS core
 event_of_request core (requests.PutM block) = dir_events.PutM core
 
 -- what follows from the directory's row for a core's request
-abbrev pub by_directory_row : LineChannels → CoreId → DirRow → Plan
-by_directory_row line core dir_rows.NoEntry = plans.Broken cells.Entry
-by_directory_row line core dir_rows.Blocked = plans.Blocked
+abbrev pub by_directory_row : LineChannels → CoreId → DirRow → Delivery Transition
+by_directory_row line core dir_rows.NoEntry = deliveries.Broken cells.Entry
+by_directory_row line core dir_rows.Blocked = deliveries.Blocked
 by_directory_row line core (dir_rows.Go step) =
-    if directory_room line core step.sends then plans.Directory step else plans.Broken cells.Full
+    if directory_room line core step.sends then directory_move step else deliveries.Broken cells.Full
 
-abbrev pub request_by : View → Local → CoreId → Option RequestMessage → Plan
-request_by v local core None = plans.Nothing
+abbrev pub request_by : View → Local → CoreId → Option RequestMessage → Delivery Transition
+request_by v local core None = deliveries.Nothing
 request_by v local core (Some message) =
     by_directory_row (channels_at v local) core
     (dir_row_of v.exclusive (entry_at v local) (event_of_request core message))
 
-abbrev pub request_plan : View → Local → CoreId → Plan
+abbrev pub request_plan : View → Local → CoreId → Delivery Transition
 request_plan v local core = request_by v local core (core_at (channels_at v local) core.0).request
 
 -- what follows from the directory's row for a block that comes home, which sends nothing
-abbrev pub by_home_row : DirRow → Plan
-by_home_row dir_rows.NoEntry = plans.Broken cells.Entry
-by_home_row dir_rows.Blocked = plans.Blocked
-by_home_row (dir_rows.Go step) = plans.Home step.state step.owner step.sharers
+abbrev pub by_home_row : DirRow → Delivery Transition
+by_home_row dir_rows.NoEntry = deliveries.Broken cells.Entry
+by_home_row dir_rows.Blocked = deliveries.Blocked
+by_home_row (dir_rows.Go step) = home_move step.state step.owner step.sharers
 
-abbrev pub home_plan : View → Local → Plan
+abbrev pub home_plan : View → Local → Delivery Transition
 home_plan v local =
     if is_some (channels_at v local).home
     then by_home_row (dir_row_of v.exclusive (entry_at v local) dir_events.DataHome)
-    else plans.Nothing
+    else deliveries.Nothing
 
 -- ---- the caches
 
@@ -101,20 +129,20 @@ abbrev pub asks : View → Local → CoreId → Bool
 asks v local core = is_some (core_at (channels_at v local) core.0).request
 
 -- what follows from the cache's row for a forwarded message: a Put-Ack may not come before the Put was taken
-abbrev pub by_forwarded_row : View → Local → CoreId → ForwardedMessage → Row → Plan
-by_forwarded_row v local core message rows.NoEntry = plans.Broken cells.Entry
-by_forwarded_row v local core message rows.Blocked = plans.Blocked
+abbrev pub by_forwarded_row : View → Local → CoreId → ForwardedMessage → Row → Delivery Transition
+by_forwarded_row v local core message rows.NoEntry = deliveries.Broken cells.Entry
+by_forwarded_row v local core message rows.Blocked = deliveries.Blocked
 by_forwarded_row v local core message (rows.Go next sent) =
-    if not (cache_room (channels_at v local) core (requester_of core message) sent) then plans.Broken cells.Full
-    else if is_put_ack message && asks v local core then plans.Broken cells.Early
-    else plans.Forwarded next sent (requester_of core message)
+    if not (cache_room (channels_at v local) core (requester_of core message) sent) then deliveries.Broken cells.Full
+    else if is_put_ack message && asks v local core then deliveries.Broken cells.Early
+    else forwarded_move next sent (requester_of core message)
 
-abbrev pub forwarded_by : View → Local → CoreId → Option ForwardedMessage → Plan
-forwarded_by v local core None = plans.Nothing
+abbrev pub forwarded_by : View → Local → CoreId → Option ForwardedMessage → Delivery Transition
+forwarded_by v local core None = deliveries.Nothing
 forwarded_by v local core (Some message) =
     by_forwarded_row v local core message (row_of (copy_of (side_at v core) local).state (event_of_forwarded message))
 
-abbrev pub forwarded_plan : View → Local → CoreId → Plan
+abbrev pub forwarded_plan : View → Local → CoreId → Delivery Transition
 forwarded_plan v local core = forwarded_by v local core (slice_get (core_at (channels_at v local) core.0).forwarded 0)
 
 -- the event of the cache's table that data are, for a copy and the targets that wait for it
@@ -128,45 +156,45 @@ abbrev pub stands_at : View → Local → CoreId → Option ℕ
 stands_at v local core = position (holds local) (slots_at (side_at v core).array local)
 
 -- what data do to a copy that stands there
-abbrev pub fill_at : Option ℕ → CopyState → Plan
-fill_at None next = plans.Broken cells.Entry
-fill_at (Some place) next = plans.Fill place next
+abbrev pub fill_at : Option ℕ → CopyState → Delivery Transition
+fill_at None next = deliveries.Broken cells.Entry
+fill_at (Some place) next = fill_move place next
 
 -- what follows from the cache's row for data: they may not come before the request was taken
-abbrev pub by_data_row : View → Local → CoreId → Row → Plan
-by_data_row v local core rows.NoEntry = plans.Broken cells.Entry
-by_data_row v local core rows.Blocked = plans.Blocked
+abbrev pub by_data_row : View → Local → CoreId → Row → Delivery Transition
+by_data_row v local core rows.NoEntry = deliveries.Broken cells.Entry
+by_data_row v local core rows.Blocked = deliveries.Blocked
 by_data_row v local core (rows.Go next sent) =
-    if asks v local core then plans.Broken cells.Early else fill_at (stands_at v local core) next
+    if asks v local core then deliveries.Broken cells.Early else fill_at (stands_at v local core) next
 
-abbrev pub data_by : View → Local → CoreId → Option DataMessage → Plan
-data_by v local core None = plans.Nothing
+abbrev pub data_by : View → Local → CoreId → Option DataMessage → Delivery Transition
+data_by v local core None = deliveries.Nothing
 data_by v local core (Some message) =
     by_data_row v local core (row_of (copy_of (side_at v core) local).state (event_of_data v local core message))
 
-abbrev pub data_plan : View → Local → CoreId → Plan
+abbrev pub data_plan : View → Local → CoreId → Delivery Transition
 data_plan v local core = data_by v local core (core_at (channels_at v local) core.0).data
 
 -- what an acknowledgement does to a copy that stands there
-abbrev pub acknowledge_at : Option ℕ → CopyState → Plan
-acknowledge_at None next = plans.Broken cells.Entry
-acknowledge_at (Some place) next = plans.Acknowledge place next
+abbrev pub acknowledge_at : Option ℕ → CopyState → Delivery Transition
+acknowledge_at None next = deliveries.Broken cells.Entry
+acknowledge_at (Some place) next = ack_move place next
 
 -- what follows from the cache's row for an acknowledgement
-abbrev pub by_ack_row : View → Local → CoreId → Row → Plan
-by_ack_row v local core rows.NoEntry = plans.Broken cells.Entry
-by_ack_row v local core rows.Blocked = plans.Blocked
+abbrev pub by_ack_row : View → Local → CoreId → Row → Delivery Transition
+by_ack_row v local core rows.NoEntry = deliveries.Broken cells.Entry
+by_ack_row v local core rows.Blocked = deliveries.Blocked
 by_ack_row v local core (rows.Go next sent) = acknowledge_at (stands_at v local core) next
 
-abbrev pub ack_plan : View → Local → CoreId → CoreId → Plan
+abbrev pub ack_plan : View → Local → CoreId → CoreId → Delivery Transition
 ack_plan v local to from =
     let copy : CacheCopy = copy_of (side_at v to) local in
     if has (core_at (channels_at v local) to.0).acks from.0
     then by_ack_row v local to (row_of copy.state (events.InvAck copy.wants copy.counted))
-    else plans.Nothing
+    else deliveries.Nothing
 
 -- What is to be done at the front of a channel of a line.
-abbrev pub plan_of : View → Local → Channel → Plan
+abbrev pub plan_of : View → Local → Channel → Delivery Transition
 plan_of v local (channels.Req core) = request_plan v local core
 plan_of v local (channels.Fwd core) = forwarded_plan v local core
 plan_of v local (channels.Data core) = data_plan v local core
@@ -174,10 +202,10 @@ plan_of v local (channels.Ack to from) = ack_plan v local to from
 plan_of v local channels.Home = home_plan v local
 
 -- what is to be done at the front of a channel, by the place of its line: nothing of a line that isn't the slice's
-abbrev pub planned_in : View → Option Local → Channel → Plan
-planned_in v None channel = plans.Nothing
+abbrev pub planned_in : View → Option Local → Channel → Delivery Transition
+planned_in v None channel = deliveries.Nothing
 planned_in v (Some local) channel = plan_of v local channel
 
 -- What is to be done with the message in front of a pick, which a delivery there would take.
-abbrev pub planned_at : View → Pick → Plan
+abbrev pub planned_at : View → Pick → Delivery Transition
 planned_at v pick = planned_in v (local_at v.lines (line_of pick).0) (channel_of pick)

@@ -13,7 +13,7 @@ use Rattle.slice_core_answer.specs.declared.answer.Issue.TheVariants as issues
 use Rattle.slice_core_answer.specs.declared.answer.Issue.{Issue}
 use Rattle.slice_core_plan.specs.Eviction.{after_request}
 use Rattle.slice_core_plan.specs.Join.{target_for}
-use Rattle.slice_core_plan.specs.Slice.{PartsView, Accepts}
+use Rattle.slice_core_plan.specs.Parts.{PartsView, Accepts}
 use Rattle.slice_core_plan.specs.View.{View, side_at, with_side}
 use Rattle.slice_core_side.specs.Side.{array_copy}
 use Rattle.slice_core_side.specs.Steps as sides

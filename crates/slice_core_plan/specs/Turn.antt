@@ -3,15 +3,16 @@
 use Rattle.std.specs.Prelude.{◌≡◌, ℕ, ◌<◌, ◌⊎◌, List, [], ◌∷◌, Some, slice_get}
 use Rattle.address_map.specs.Locator.{Lines, line_at}
 use Rattle.address_map.specs.declared.address.Local.{Local}
-use Rattle.slice_core_answer.specs.declared.answer.DeliveredNext.{DeliveredNext}
-use Rattle.slice_core_answer.specs.declared.answer.DeliveredNext.TheVariants as delivered_next
-use Rattle.slice_core_plan.specs.Parts.{AfterDeliverNext, IsMove, PartsView}
+use Rattle.slice_core_plan.specs.Calls.{AfterDeliverNext, IsMove, PartsView}
 use Rattle.slice_core_plan.specs.Plan.{plan_of}
 use Rattle.slice_core_plan.specs.Ring.{waiting_in}
 use Rattle.slice_core_plan.specs.View.{View}
 use Rattle.slice_queues_message.specs.Pick.{line_of}
 use Rattle.slice_queues_message.specs.declared.channel.Channel.{Channel}
 use Rattle.slice_queues_message.specs.declared.channel.Class.{Class}
+use Rattle.slice_core_answer.specs.declared.answer.Delivery.TheVariants as deliveries
+use Rattle.slice_core_answer.specs.declared.answer.Delivery.{Delivery}
+use Rattle.slice_queues_message.specs.declared.channel.Pick.{Pick}
 
 -- of the messages of the class that wait in front of the line's channels one can be moved
 abbrev pub CanMove : View → Class → Local → Type 0
@@ -24,8 +25,8 @@ abbrev pub StandsAt : PartsView → Local → ℕ → Type 0
 StandsAt p local place = slice_get p.ring place ≡ Some local.0
 
 -- the message that was taken is one of this line
-abbrev pub TakesFrom : Lines → Local → DeliveredNext → Type 0
-TakesFrom lines local (delivered_next.Moved pick) = line_of pick ≡ line_at lines local
+abbrev pub TakesFrom : Lines → Local → Delivery Pick → Type 0
+TakesFrom lines local (deliveries.Moved pick) = line_of pick ≡ line_at lines local
 TakesFrom lines local _ = ⊥
 
 -- the line stands nearer to the front than this
@@ -33,7 +34,7 @@ abbrev pub StandsBefore : PartsView → Local → ℕ → Type 0
 StandsBefore p local place = (nearer : ℕ) × (nearer < place) × StandsAt p local nearer
 
 -- What a next delivery owes each line with a message of the class that can be moved.
-pub record ServesInTurn (old : PartsView) (class : Class) (answer : DeliveredNext) (new : PartsView) : Type 0 where
+pub record ServesInTurn (old : PartsView) (class : Class) (answer : Delivery Pick) (new : PartsView) : Type 0 where
   -- it stands in the ring
   pub stands : (local : Local) → local.0 < old.view.lines.lines → CanMove old.view class local
       → (place : ℕ) × StandsAt old local place
@@ -43,7 +44,7 @@ pub record ServesInTurn (old : PartsView) (class : Class) (answer : DeliveredNex
 
 -- Next deliveries of the class, made one after another, pass over the line: before each some message of its can be
 -- moved, and none takes from it.
-abbrev pub PassOver : Local → Class → PartsView → List DeliveredNext → PartsView → Type 0
+abbrev pub PassOver : Local → Class → PartsView → List (Delivery Pick) → PartsView → Type 0
 PassOver local class old [] new = new ≡ old
 PassOver local class old (answer ∷ answers) new =
     CanMove old.view class local × (TakesFrom old.view.lines local answer → ⊥)

@@ -5,7 +5,7 @@ use Rattle.std.proofs.lemmas.List.{get_or_read}
 use Rattle.std.proofs.lemmas.Option.{slice_get_read}
 use Rattle.slice_core_log.specs.declared.entry.Entry.{Entry}
 use Rattle.address_map.specs.declared.address.CoreId.{CoreId}
-use Rattle.slice_core_plan.specs.Parts.{PartsView, HasEntries, AfterHand}
+use Rattle.slice_core_plan.specs.Calls.{PartsView, HasEntries, AfterHand}
 use Rattle.slice_core_plan.specs.View.{View, no_side, side_at}
 use Rattle.slice_core_side.specs.Side.{SideView}
 use Rattle.slice_core_side.specs.Steps.{after_hand, AfterHand as SideAfterHand}

@@ -10,7 +10,7 @@ use Rattle.std.proofs.lemmas.List.Sums.{sum_by-cons}
 use Rattle.slice_queues.proofs.LineLaws.{same_itself, same-from_name}
 use Rattle.slice_queues.proofs.MailLaws.{IsEmptyLine-from_no_mail}
 use Rattle.address_map.specs.declared.address.Local.{Local}
-use Rattle.slice_core_plan.specs.Next.{next_by, next_or, IsNextAt, IsNextIn, IsNoBetter}
+use Rattle.slice_core_plan.specs.Next.{better_of, next_by, IsNextAt, IsNextIn, IsNoBetter}
 use Rattle.address_map.specs.declared.block.Block.{Block}
 use Rattle.cache_table.specs.Row.{row_of}
 use Rattle.cache_table.specs.declared.row.CacheEvent.TheVariants as events
@@ -18,14 +18,10 @@ use Rattle.directory_table.specs.Row.{row_of as dir_row_of}
 use Rattle.directory_table.specs.declared.row.DirEvent.TheVariants as dir_events
 use Rattle.slice_core_side.specs.Side.{copy_of}
 use Rattle.slice_core_plan.specs.Plan.{by_ack_row, by_home_row, data_by, forwarded_by, plan_of, request_by}
-use Rattle.slice_core_plan.specs.Parts.{IsMove, PartsView}
+use Rattle.slice_core_plan.specs.Calls.{IsMove, PartsView}
 use Rattle.slice_core_plan.specs.Ring.{has_mail_at}
 use Rattle.slice_core_plan.specs.Turn.{CanMove, StandsAt}
 use Rattle.slice_core_plan.specs.View.{View, channels_at, entry_at, side_at, IsShaped}
-use Rattle.slice_core_plan.specs.declared.decide.Next.{Next}
-use Rattle.slice_core_plan.specs.declared.decide.Next.TheVariants as nexts
-use Rattle.slice_core_plan.specs.declared.decide.Plan.{Plan}
-use Rattle.slice_core_plan.specs.declared.decide.Plan.TheVariants as plans
 use Rattle.slice_queues.specs.Line.{LineChannels, empty_line, messages_at, request_messages, data_messages}
 use Rattle.slice_queues.specs.Line.{ack_messages, home_messages}
 use Rattle.slice_queues.specs.Waiting.{channels_left, is_same_channel, is_waiting, HasEachOnceIn}
@@ -39,88 +35,91 @@ use Rattle.slice_queues_message.specs.declared.message.ForwardedMessage.{Forward
 use Rattle.slice_queues_message.specs.declared.message.Message.{Message}
 use Rattle.slice_queues_message.specs.declared.message.Message.TheVariants as messages
 use Rattle.slice_queues_message.specs.declared.message.RequestMessage.{RequestMessage}
+use Rattle.slice_core_answer.specs.declared.answer.Delivery.TheVariants as deliveries
+use Rattle.slice_core_answer.specs.declared.answer.Delivery.{Delivery}
+use Rattle.slice_core_plan.specs.declared.transition.Transition.{Transition}
 
 -- ---- the better of two
 
 -- nothing is always no better
-no_better-nothing : (one : Next) → IsNoBetter one nexts.Nothing
-no_better-nothing nexts.Nothing = refl
-no_better-nothing nexts.Blocked = refl
-no_better-nothing (nexts.Broken cell) = refl
-no_better-nothing (nexts.Move local channel) = refl
+no_better-nothing : (one : Delivery (Local × Channel)) → IsNoBetter one deliveries.Nothing
+no_better-nothing deliveries.Nothing = refl
+no_better-nothing deliveries.Blocked = refl
+no_better-nothing (deliveries.Broken cell) = refl
+no_better-nothing (deliveries.Moved at) = refl
 
 -- what is no better than the one is no better than the better of the one and another
-no_better-first : (one other third : Next) → IsNoBetter one third → IsNoBetter (next_or one other) third
-no_better-first (nexts.Move l c) other third h = refl
-no_better-first (nexts.Broken a) (nexts.Move l c) third h = refl
-no_better-first (nexts.Broken a) nexts.Nothing third h = h
-no_better-first (nexts.Broken a) nexts.Blocked third h = h
-no_better-first (nexts.Broken a) (nexts.Broken b) third h = h
-no_better-first nexts.Blocked (nexts.Move l c) third h = refl
-no_better-first nexts.Blocked (nexts.Broken b) nexts.Nothing h = refl
-no_better-first nexts.Blocked (nexts.Broken b) nexts.Blocked h = refl
-no_better-first nexts.Blocked (nexts.Broken b) (nexts.Broken d) h = refl
-no_better-first nexts.Blocked (nexts.Broken b) (nexts.Move l c) h = cc
-no_better-first nexts.Blocked nexts.Nothing third h = h
-no_better-first nexts.Blocked nexts.Blocked third h = h
-no_better-first nexts.Nothing other nexts.Nothing h = no_better-nothing other
-no_better-first nexts.Nothing other nexts.Blocked h = cc
-no_better-first nexts.Nothing other (nexts.Broken d) h = cc
-no_better-first nexts.Nothing other (nexts.Move l c) h = cc
+no_better-first : (one other third : Delivery (Local × Channel)) → IsNoBetter one third → IsNoBetter (better_of one other) third
+no_better-first (deliveries.Moved at) other third h = refl
+no_better-first (deliveries.Broken a) (deliveries.Moved at) third h = refl
+no_better-first (deliveries.Broken a) deliveries.Nothing third h = h
+no_better-first (deliveries.Broken a) deliveries.Blocked third h = h
+no_better-first (deliveries.Broken a) (deliveries.Broken b) third h = h
+no_better-first deliveries.Blocked (deliveries.Moved at) third h = refl
+no_better-first deliveries.Blocked (deliveries.Broken b) deliveries.Nothing h = refl
+no_better-first deliveries.Blocked (deliveries.Broken b) deliveries.Blocked h = refl
+no_better-first deliveries.Blocked (deliveries.Broken b) (deliveries.Broken d) h = refl
+no_better-first deliveries.Blocked (deliveries.Broken b) (deliveries.Moved at) h = cc
+no_better-first deliveries.Blocked deliveries.Nothing third h = h
+no_better-first deliveries.Blocked deliveries.Blocked third h = h
+no_better-first deliveries.Nothing other deliveries.Nothing h = no_better-nothing other
+no_better-first deliveries.Nothing other deliveries.Blocked h = cc
+no_better-first deliveries.Nothing other (deliveries.Broken d) h = cc
+no_better-first deliveries.Nothing other (deliveries.Moved at) h = cc
 
 -- the other is no better than the better of the two
-no_better-second : (one other : Next) → IsNoBetter (next_or one other) other
-no_better-second (nexts.Move l c) other = refl
-no_better-second (nexts.Broken a) (nexts.Move l c) = refl
-no_better-second (nexts.Broken a) nexts.Nothing = refl
-no_better-second (nexts.Broken a) nexts.Blocked = refl
-no_better-second (nexts.Broken a) (nexts.Broken b) = refl
-no_better-second nexts.Blocked (nexts.Move l c) = refl
-no_better-second nexts.Blocked (nexts.Broken b) = refl
-no_better-second nexts.Blocked nexts.Nothing = refl
-no_better-second nexts.Blocked nexts.Blocked = refl
-no_better-second nexts.Nothing nexts.Nothing = refl
-no_better-second nexts.Nothing nexts.Blocked = refl
-no_better-second nexts.Nothing (nexts.Broken d) = refl
-no_better-second nexts.Nothing (nexts.Move l c) = refl
+no_better-second : (one other : Delivery (Local × Channel)) → IsNoBetter (better_of one other) other
+no_better-second (deliveries.Moved at) other = refl
+no_better-second (deliveries.Broken a) (deliveries.Moved at) = refl
+no_better-second (deliveries.Broken a) deliveries.Nothing = refl
+no_better-second (deliveries.Broken a) deliveries.Blocked = refl
+no_better-second (deliveries.Broken a) (deliveries.Broken b) = refl
+no_better-second deliveries.Blocked (deliveries.Moved at) = refl
+no_better-second deliveries.Blocked (deliveries.Broken b) = refl
+no_better-second deliveries.Blocked deliveries.Nothing = refl
+no_better-second deliveries.Blocked deliveries.Blocked = refl
+no_better-second deliveries.Nothing deliveries.Nothing = refl
+no_better-second deliveries.Nothing deliveries.Blocked = refl
+no_better-second deliveries.Nothing (deliveries.Broken d) = refl
+no_better-second deliveries.Nothing (deliveries.Moved at) = refl
 
 -- what is no better than the other is no better than the better of the two
-no_better-other : (one other third : Next) → IsNoBetter other third → IsNoBetter (next_or one other) third
-no_better-other (nexts.Move l c) other third h = refl
-no_better-other (nexts.Broken a) (nexts.Move l c) third h = refl
-no_better-other (nexts.Broken a) nexts.Nothing nexts.Nothing h = refl
-no_better-other (nexts.Broken a) nexts.Nothing nexts.Blocked h = refl
-no_better-other (nexts.Broken a) nexts.Nothing (nexts.Broken d) h = refl
-no_better-other (nexts.Broken a) nexts.Nothing (nexts.Move l c) h = cc
-no_better-other (nexts.Broken a) nexts.Blocked nexts.Nothing h = refl
-no_better-other (nexts.Broken a) nexts.Blocked nexts.Blocked h = refl
-no_better-other (nexts.Broken a) nexts.Blocked (nexts.Broken d) h = refl
-no_better-other (nexts.Broken a) nexts.Blocked (nexts.Move l c) h = cc
-no_better-other (nexts.Broken a) (nexts.Broken b) nexts.Nothing h = refl
-no_better-other (nexts.Broken a) (nexts.Broken b) nexts.Blocked h = refl
-no_better-other (nexts.Broken a) (nexts.Broken b) (nexts.Broken d) h = refl
-no_better-other (nexts.Broken a) (nexts.Broken b) (nexts.Move l c) h = cc
-no_better-other nexts.Blocked (nexts.Move l c) third h = refl
-no_better-other nexts.Blocked (nexts.Broken b) third h = h
-no_better-other nexts.Blocked nexts.Blocked third h = h
-no_better-other nexts.Blocked nexts.Nothing nexts.Nothing h = refl
-no_better-other nexts.Blocked nexts.Nothing nexts.Blocked h = refl
-no_better-other nexts.Blocked nexts.Nothing (nexts.Broken d) h = cc
-no_better-other nexts.Blocked nexts.Nothing (nexts.Move l c) h = cc
-no_better-other nexts.Nothing other third h = h
+no_better-other : (one other third : Delivery (Local × Channel)) → IsNoBetter other third → IsNoBetter (better_of one other) third
+no_better-other (deliveries.Moved at) other third h = refl
+no_better-other (deliveries.Broken a) (deliveries.Moved at) third h = refl
+no_better-other (deliveries.Broken a) deliveries.Nothing deliveries.Nothing h = refl
+no_better-other (deliveries.Broken a) deliveries.Nothing deliveries.Blocked h = refl
+no_better-other (deliveries.Broken a) deliveries.Nothing (deliveries.Broken d) h = refl
+no_better-other (deliveries.Broken a) deliveries.Nothing (deliveries.Moved at) h = cc
+no_better-other (deliveries.Broken a) deliveries.Blocked deliveries.Nothing h = refl
+no_better-other (deliveries.Broken a) deliveries.Blocked deliveries.Blocked h = refl
+no_better-other (deliveries.Broken a) deliveries.Blocked (deliveries.Broken d) h = refl
+no_better-other (deliveries.Broken a) deliveries.Blocked (deliveries.Moved at) h = cc
+no_better-other (deliveries.Broken a) (deliveries.Broken b) deliveries.Nothing h = refl
+no_better-other (deliveries.Broken a) (deliveries.Broken b) deliveries.Blocked h = refl
+no_better-other (deliveries.Broken a) (deliveries.Broken b) (deliveries.Broken d) h = refl
+no_better-other (deliveries.Broken a) (deliveries.Broken b) (deliveries.Moved at) h = cc
+no_better-other deliveries.Blocked (deliveries.Moved at) third h = refl
+no_better-other deliveries.Blocked (deliveries.Broken b) third h = h
+no_better-other deliveries.Blocked deliveries.Blocked third h = h
+no_better-other deliveries.Blocked deliveries.Nothing deliveries.Nothing h = refl
+no_better-other deliveries.Blocked deliveries.Nothing deliveries.Blocked h = refl
+no_better-other deliveries.Blocked deliveries.Nothing (deliveries.Broken d) h = cc
+no_better-other deliveries.Blocked deliveries.Nothing (deliveries.Moved at) h = cc
+no_better-other deliveries.Nothing other third h = h
 
 -- the better of two is the one or the other
-either-one : (one other : Next) → (next_or one other ≡ one) ⊎ (next_or one other ≡ other)
-either-one (nexts.Move l c) other = inl refl
-either-one (nexts.Broken a) (nexts.Move l c) = inr refl
-either-one (nexts.Broken a) nexts.Nothing = inl refl
-either-one (nexts.Broken a) nexts.Blocked = inl refl
-either-one (nexts.Broken a) (nexts.Broken b) = inl refl
-either-one nexts.Blocked (nexts.Move l c) = inr refl
-either-one nexts.Blocked (nexts.Broken b) = inr refl
-either-one nexts.Blocked nexts.Nothing = inl refl
-either-one nexts.Blocked nexts.Blocked = inl refl
-either-one nexts.Nothing other = inr refl
+either-one : (one other : Delivery (Local × Channel)) → (better_of one other ≡ one) ⊎ (better_of one other ≡ other)
+either-one (deliveries.Moved at) other = inl refl
+either-one (deliveries.Broken a) (deliveries.Moved at) = inr refl
+either-one (deliveries.Broken a) deliveries.Nothing = inl refl
+either-one (deliveries.Broken a) deliveries.Blocked = inl refl
+either-one (deliveries.Broken a) (deliveries.Broken b) = inl refl
+either-one deliveries.Blocked (deliveries.Moved at) = inr refl
+either-one deliveries.Blocked (deliveries.Broken b) = inr refl
+either-one deliveries.Blocked deliveries.Nothing = inl refl
+either-one deliveries.Blocked deliveries.Blocked = inl refl
+either-one deliveries.Nothing other = inr refl
 
 -- ---- a channel without a message
 
@@ -146,7 +145,7 @@ no_home (Some block) h = cc
 
 -- where no message waits, nothing is planned
 pub plan-idle : (v : View) (local : Local) (channel : Channel) → messages_at (channels_at v local) channel ≡ []
-    → plan_of v local channel ≡ plans.Nothing
+    → plan_of v local channel ≡ deliveries.Nothing
 plan-idle v local (channels.Req core) none = ap (request_by v local core) (no_request _ none)
 plan-idle v local (channels.Fwd core) none =
     ap (λ forwarded. forwarded_by v local core (slice_get forwarded 0)) (no_forwarded _ none)
@@ -155,19 +154,19 @@ plan-idle v local (channels.Ack to from) none =
     ap (λ there. if there then by_ack_row v local to
     (row_of (copy_of (side_at v to) local).state
     (events.InvAck (copy_of (side_at v to) local).wants (copy_of (side_at v to) local).counted))
-    else plans.Nothing) (no_ack _ none)
+    else deliveries.Nothing) (no_ack _ none)
 plan-idle v local channels.Home none =
     ap (λ home. if is_some home then by_home_row (dir_row_of v.exclusive (entry_at v local) dir_events.DataHome)
-    else plans.Nothing)
+    else deliveries.Nothing)
     (no_home _ none)
 
 -- ---- the channels of a line, one after another
 
 -- Of the channels of the class those that aren't left have nothing better than this; those that are left have messages.
-pub record IsNextOf (v : View) (local : Local) (class : Class) (next : Next) (left : List Channel) : Type 0 where
+pub record IsNextOf (v : View) (local : Local) (class : Class) (next : Delivery (Local × Channel)) (left : List Channel) : Type 0 where
   pub covered : (channel : Channel) → IsTrue (is_of_class class channel) → count_by (is_same_channel channel) left ≡ 0
       → IsNoBetter next (next_by local channel (plan_of v local channel))
-  pub met : (next ≡ nexts.Nothing)
+  pub met : (next ≡ deliveries.Nothing)
       ⊎ ((channel : Channel) × IsTrue (is_of_class class channel)
       × (next ≡ next_by local channel (plan_of v local channel)))
   pub part : (channel : Channel) → count_by (is_same_channel channel) left
@@ -191,7 +190,7 @@ class-from_count count false waits some few = absurd (omega arith)
 -- before the first channel
 pub next-begins : (v : View) (local : Local) (class : Class) (names : List Channel)
     → HasEachOnceIn class (channels_at v local) names
-    → IsNextOf v local class nexts.Nothing names
+    → IsNextOf v local class deliveries.Nothing names
 next-begins v local class names once = record {
   covered = λ channel of_class none.
       let idle : is_waiting (channels_at v local) channel ≡ false =
@@ -213,7 +212,7 @@ count-head channel first rest same e =
     number b = if b then 1 else 0
 
 -- a channel that is left is of the class
-first-of_class : (v : View) (local : Local) (class : Class) (next : Next) (first : Channel) (rest : List Channel)
+first-of_class : (v : View) (local : Local) (class : Class) (next : Delivery (Local × Channel)) (first : Channel) (rest : List Channel)
     → IsNextOf v local class next (first ∷ rest) → IsTrue (is_of_class class first)
 first-of_class v local class next first rest so_far =
     let is_there : 0 < count_by (is_same_channel first) (first ∷ rest) =
@@ -221,9 +220,9 @@ first-of_class v local class next first rest so_far =
     class-from_count _ _ _ is_there (so_far.part first)
 
 -- one more channel
-pub next-more : (v : View) (local : Local) (class : Class) (next : Next) (first : Channel) (rest : List Channel)
+pub next-more : (v : View) (local : Local) (class : Class) (next : Delivery (Local × Channel)) (first : Channel) (rest : List Channel)
     → IsNextOf v local class next (first ∷ rest)
-    → IsNextOf v local class (next_or next (next_by local first (plan_of v local first))) rest
+    → IsNextOf v local class (better_of next (next_by local first (plan_of v local first))) rest
 next-more v local class next first rest so_far = record {
   covered = λ channel of_class none. by_channel channel of_class none (is_same_channel channel first) refl;
   met = by_better (either-one next (next_by local first (plan_of v local first)));
@@ -234,11 +233,11 @@ next-more v local class next first rest so_far = record {
     by_channel : (channel : Channel) → IsTrue (is_of_class class channel) → count_by (is_same_channel channel) rest ≡ 0
         → (same : Bool)
         → is_same_channel channel first ≡ same
-        → IsNoBetter (next_or next (next_by local first (plan_of v local first)))
+        → IsNoBetter (better_of next (next_by local first (plan_of v local first)))
         (next_by local channel (plan_of v local channel))
     by_channel channel of_class none true e =
         let P : Channel → Type 0 =
-        λ x. IsNoBetter (next_or next (next_by local first (plan_of v local first)))
+        λ x. IsNoBetter (better_of next (next_by local first (plan_of v local first)))
         (next_by local x (plan_of v local x)) in
         subst P (sym (same-from_name channel first e))
         (no_better-second next (next_by local first (plan_of v local first)))
@@ -248,11 +247,11 @@ next-more v local class next first rest so_far = record {
         (so_far.covered channel of_class (let more = count-head channel first rest false e in
         omega (arith, more, none)))
 
-    by_better : (next_or next (next_by local first (plan_of v local first)) ≡ next)
-        ⊎ (next_or next (next_by local first (plan_of v local first)) ≡ next_by local first (plan_of v local first))
-        → (next_or next (next_by local first (plan_of v local first)) ≡ nexts.Nothing)
+    by_better : (better_of next (next_by local first (plan_of v local first)) ≡ next)
+        ⊎ (better_of next (next_by local first (plan_of v local first)) ≡ next_by local first (plan_of v local first))
+        → (better_of next (next_by local first (plan_of v local first)) ≡ deliveries.Nothing)
         ⊎ ((channel : Channel) × IsTrue (is_of_class class channel)
-        × (next_or next (next_by local first (plan_of v local first))
+        × (better_of next (next_by local first (plan_of v local first))
         ≡ next_by local channel (plan_of v local channel)))
     by_better (inl e) = elim so_far.met [ inl none ↦ inl (e ∙ none) | inr some ↦ inr (some.0, some.1, e ∙ some.2) ]
     by_better (inr e) = inr (first, first-of_class v local class next first rest so_far, e)
@@ -264,28 +263,28 @@ taken-first [] channel h = cc
 taken-first (first ∷ rest) channel h = ap (λ x. x ∷ rest) (let e : first ≡ channel = cc in e)
 
 -- one more channel, as it was taken from those that were left
-pub next-more_taken : (v : View) (local : Local) (class : Class) (next one after_next : Next)
-    (left after : List Channel) (channel : Channel) (plan : Plan)
+pub next-more_taken : (v : View) (local : Local) (class : Class) (next one after_next : Delivery (Local × Channel))
+    (left after : List Channel) (channel : Channel) (plan : Delivery Transition)
     → IsNextOf v local class next left → Some channel ≡ slice_get left 0 → after ≡ drop 1 left
     → plan ≡ plan_of v local channel
-    → one ≡ next_by local channel plan → after_next ≡ next_or next one → IsNextOf v local class after_next after
+    → one ≡ next_by local channel plan → after_next ≡ better_of next one → IsNextOf v local class after_next after
 next-more_taken v local class next one after_next left after channel plan so_far first rest planned is better =
     let begins : left ≡ channel ∷ drop 1 left = taken-first left channel (sym first) in
     let P : List Channel → Type 0 = λ names. IsNextOf v local class next names in
-    let next_is : after_next ≡ next_or next (next_by local channel (plan_of v local channel)) =
-    better ∙ ap (next_or next) (is ∙ ap (next_by local channel) planned) in
-    let Q : Next → Type 0 = λ n. IsNextOf v local class n after in
+    let next_is : after_next ≡ better_of next (next_by local channel (plan_of v local channel)) =
+    better ∙ ap (better_of next) (is ∙ ap (next_by local channel) planned) in
+    let Q : Delivery (Local × Channel) → Type 0 = λ n. IsNextOf v local class n after in
     let R : List Channel → Type 0 =
-    λ names. IsNextOf v local class (next_or next (next_by local channel (plan_of v local channel))) names in
+    λ names. IsNextOf v local class (better_of next (next_by local channel (plan_of v local channel))) names in
     subst Q (sym next_is)
     (subst R (sym rest) (next-more v local class next channel (drop 1 left) (subst P begins so_far)))
 
 -- what can be moved is as good as any
-pub next-moves : (v : View) (local at : Local) (class : Class) (channel other : Channel) (next one : Next)
-    (left : List Channel) (plan : Plan)
+pub next-moves : (v : View) (local : Local) (class : Class) (channel : Channel) (next one : Delivery (Local × Channel))
+    (at : Local × Channel) (left : List Channel) (plan : Delivery Transition)
     → IsNextOf v local class next left → Some channel ≡ slice_get left 0 → plan ≡ plan_of v local channel
-    → one ≡ next_by local channel plan → one ≡ nexts.Move at other → IsNextAt v local class one
-next-moves v local at class channel other next one left plan so_far first planned is moves =
+    → one ≡ next_by local channel plan → one ≡ deliveries.Moved at → IsNextAt v local class one
+next-moves v local class channel next one at left plan so_far first planned is moves =
     let P : List Channel → Type 0 = λ names. IsNextOf v local class next names in
     let of_class =
     first-of_class v local class next channel (drop 1 left) (subst P (taken-first left channel (sym first)) so_far) in
@@ -296,7 +295,7 @@ none-left [] e = refl
 none-left (first ∷ rest) e = cc
 
 -- behind the last channel
-pub next-ends : (v : View) (local : Local) (class : Class) (next : Next) (left : List Channel)
+pub next-ends : (v : View) (local : Local) (class : Class) (next : Delivery (Local × Channel)) (left : List Channel)
     → IsNextOf v local class next left → None ≡ slice_get left 0 → IsNextAt v local class next
 next-ends v local class next left so_far end =
     ((λ channel of_class. so_far.covered channel of_class (rw (none-left left end) refl)), so_far.met)
@@ -316,7 +315,7 @@ rest-left left after line same is rest =
 -- before the first channel of a line that was looked up
 pub next-begins_at : (v : View) (local : Local) (class : Class) (line : LineChannels) (names : List Channel)
     → line ≡ channels_at v local
-    → HasEachOnceIn class line names → IsNextOf v local class nexts.Nothing names
+    → HasEachOnceIn class line names → IsNextOf v local class deliveries.Nothing names
 next-begins_at v local class line names is once =
     let P : LineChannels → Type 0 = λ l. HasEachOnceIn class l names in
     next-begins v local class names (subst P is once)
@@ -324,11 +323,11 @@ next-begins_at v local class line names is once =
 -- ---- the lines of the ring, one after another
 
 -- Of the lines that aren't left in the ring none has anything better than this.
-pub record IsNextSoFar (v : View) (class : Class) (next : Next) (left : List ℕ) : Type 0 where
+pub record IsNextSoFar (v : View) (class : Class) (next : Delivery (Local × Channel)) (left : List ℕ) : Type 0 where
   pub covered : (local : Local) (channel : Channel) → IsTrue (is_of_class class channel)
       → is_listed left local.0 ≡ false
       → IsNoBetter next (next_by local channel (plan_of v local channel))
-  pub met : (next ≡ nexts.Nothing)
+  pub met : (next ≡ deliveries.Nothing)
       ⊎ ((local : Local) × (channel : Channel) × (local.0 < v.lines.lines) × IsTrue (is_of_class class channel)
       × (next ≡ next_by local channel (plan_of v local channel)))
 
@@ -342,7 +341,7 @@ no-mail queues ring local unlisted = by_mail (queues_mail queues.channels local)
 
 -- before the first line: a line that isn't in the ring has no message
 pub ring-begins : (v : View) (class : Class) (queues : QueuesView) → IsRing queues → queues.channels.lines ≡ v.channels
-    → IsNextSoFar v class nexts.Nothing queues.ring
+    → IsNextSoFar v class deliveries.Nothing queues.ring
 ring-begins v class queues ring same = record {
   covered = λ local channel of_class unlisted.
       let empty : messages_at (get_or queues.channels.lines local.0 (empty_line 0)) channel ≡ [] =
@@ -357,9 +356,9 @@ unlisted-other : (first local : ℕ) (rest : List ℕ) → eqb local first ≡ f
 unlisted-other first local rest differs unlisted = rw differs unlisted
 
 -- one more line
-pub ring-more : (v : View) (class : Class) (next one : Next) (first : ℕ) (rest : List ℕ) → first < v.lines.lines
+pub ring-more : (v : View) (class : Class) (next one : Delivery (Local × Channel)) (first : ℕ) (rest : List ℕ) → first < v.lines.lines
     → IsNextSoFar v class next (first ∷ rest) → IsNextAt v (record { 0 = first }) class one
-    → IsNextSoFar v class (next_or next one) rest
+    → IsNextSoFar v class (better_of next one) rest
 ring-more v class next one first rest there so_far at = record {
   covered = λ local channel of_class unlisted. by_line local channel of_class unlisted (eqb local.0 first) refl;
   met = by_better (either-one next one);
@@ -367,7 +366,7 @@ ring-more v class next one first rest there so_far at = record {
   where
     by_line : (local : Local) (channel : Channel) → IsTrue (is_of_class class channel) → is_listed rest local.0 ≡ false
         → (same : Bool)
-        → eqb local.0 first ≡ same → IsNoBetter (next_or next one) (next_by local channel (plan_of v local channel))
+        → eqb local.0 first ≡ same → IsNoBetter (better_of next one) (next_by local channel (plan_of v local channel))
     by_line local channel of_class unlisted true e =
         let P : ℕ → Type 0 =
         λ n. IsNoBetter one (next_by (record { 0 = n }) channel (plan_of v (record { 0 = n }) channel)) in
@@ -377,10 +376,10 @@ ring-more v class next one first rest there so_far at = record {
         no_better-first next one (next_by local channel (plan_of v local channel))
         (so_far.covered local channel of_class (unlisted-other first local.0 rest e unlisted))
 
-    by_better : (next_or next one ≡ next) ⊎ (next_or next one ≡ one)
-        → (next_or next one ≡ nexts.Nothing)
+    by_better : (better_of next one ≡ next) ⊎ (better_of next one ≡ one)
+        → (better_of next one ≡ deliveries.Nothing)
         ⊎ ((local : Local) × (channel : Channel) × (local.0 < v.lines.lines) × IsTrue (is_of_class class channel)
-        × (next_or next one ≡ next_by local channel (plan_of v local channel)))
+        × (better_of next one ≡ next_by local channel (plan_of v local channel)))
     by_better (inl e) =
         elim so_far.met [ inl none ↦ inl (e ∙ none) | inr some ↦ inr (some.0, some.1, some.2, some.3, e ∙ some.4) ]
     by_better (inr e) =
@@ -388,23 +387,23 @@ ring-more v class next one first rest there so_far at = record {
         [ inl none ↦ inl (e ∙ none) | inr some ↦ inr (record { 0 = first }, some.0, there, some.1, e ∙ some.2) ]
 
 -- what can be moved is as good as any
-pub ring-moves : (v : View) (class : Class) (one : Next) (local at : Local) (channel : Channel)
+pub ring-moves : (v : View) (class : Class) (one : Delivery (Local × Channel)) (local : Local) (at : Local × Channel)
     → local.0 < v.lines.lines
-    → one ≡ nexts.Move at channel → IsNextAt v local class one → IsNextIn v class one
-ring-moves v class one local at channel there is found = ((λ other third within of_class. rw is refl), by_met found.1)
+    → one ≡ deliveries.Moved at → IsNextAt v local class one → IsNextIn v class one
+ring-moves v class one local at there is found = ((λ other third within of_class. rw is refl), by_met found.1)
   where
-    by_met : (one ≡ nexts.Nothing)
+    by_met : (one ≡ deliveries.Nothing)
         ⊎ ((third : Channel) × IsTrue (is_of_class class third) × (one ≡ next_by local third (plan_of v local third)))
-        → (one ≡ nexts.Nothing)
+        → (one ≡ deliveries.Nothing)
         ⊎ ((other : Local) × (third : Channel) × (other.0 < v.lines.lines) × IsTrue (is_of_class class third)
         × (one ≡ next_by other third (plan_of v other third)))
     by_met (inl none) = inl none
     by_met (inr some) = inr (local, some.0, there, some.1, some.2)
 
 -- one more line, as it stands in the ring
-pub ring-more_at : (v : View) (class : Class) (next one after_next : Next) (ring : List ℕ) (index : ℕ) (local : Local)
+pub ring-more_at : (v : View) (class : Class) (next one after_next : Delivery (Local × Channel)) (ring : List ℕ) (index : ℕ) (local : Local)
     → index < length ring → local.0 ≡ get_or ring index 0 → local.0 < v.lines.lines
-    → IsNextSoFar v class next (drop index ring) → IsNextAt v local class one → after_next ≡ next_or next one
+    → IsNextSoFar v class next (drop index ring) → IsNextAt v local class one → after_next ≡ better_of next one
     → IsNextSoFar v class after_next (drop (index + 1) ring)
 ring-more_at v class next one after_next ring index local within read there so_far at better =
     let begins : drop index ring ≡ get_or ring index 0 ∷ drop (suc index) ring = drop-cons ring index 0 within in
@@ -412,7 +411,7 @@ ring-more_at v class next one after_next ring index local within read there so_f
     let Q : ℕ → Type 0 = λ first. IsNextSoFar v class next (first ∷ drop (suc index) ring) in
     let more =
     ring-more v class next one local.0 (drop (suc index) ring) there (subst Q (sym read) (subst P begins so_far)) at in
-    let R : Next → Type 0 = λ n. IsNextSoFar v class n (drop (index + 1) ring) in
+    let R : Delivery (Local × Channel) → Type 0 = λ n. IsNextSoFar v class n (drop (index + 1) ring) in
     subst R (sym better) (rw add-one more)
 
 -- a line of the channels is a line of the slice

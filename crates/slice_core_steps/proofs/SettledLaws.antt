@@ -11,7 +11,7 @@ use Rattle.mshr_file.specs.Miss.{IsMissFile, TakesTargets, targets_of}
 use Rattle.mshr_file.specs.declared.registers.Register.{Register}
 use Rattle.slice_core_answer.specs.Stats.{StatsView, after_message}
 use Rattle.slice_core_log.specs.declared.entry.Entry.{Entry}
-use Rattle.slice_core_plan.specs.Parts.{PartsView, Settles}
+use Rattle.slice_core_plan.specs.Calls.{PartsView, Settles}
 use Rattle.slice_core_plan.specs.Steps.{asked_by}
 use Rattle.slice_core_plan.specs.View.{channels_at, first_word, side_at, with_channels, with_side}
 use Rattle.slice_core_plan.specs.Within.{StandsAt, is_shared}

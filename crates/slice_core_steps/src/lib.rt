@@ -17,3 +17,5 @@ pub use parts::Parts;
 
 mod line_view;
 mod parts;
+mod room;
+mod send;

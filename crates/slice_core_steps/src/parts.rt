@@ -39,7 +39,7 @@ pub struct Parts<F: MissFile> {
 impl<F: MissFile> Model for Parts<F> {
     ghost use Rattle.std.specs.Box.{boxed_slice_items};
     ghost use Rattle.std.specs.Prelude.{vec_capacity};
-    ghost use Rattle.slice_core_plan.specs.Parts.{PartsView};
+    ghost use Rattle.slice_core_plan.specs.Calls.{PartsView};
 
     ghost Value = { PartsView };
 
@@ -53,7 +53,7 @@ impl<F: MissFile> Model for Parts<F> {
 }
 
 impl<F: MissFile> Parts<F> {
-    ghost use Rattle.slice_core_plan.specs.Parts.{PartsView};
+    ghost use Rattle.slice_core_plan.specs.Calls.{PartsView};
 
     pub fn log(&self) -> &[Entry]
         ensures { result.now ≡ self.now.view.log }

@@ -6,7 +6,7 @@ use Rattle.mshr_file.specs.Miss.{Bound}
 use Rattle.receipt_ledger.proofs.Tied.{same-part}
 use Rattle.slice_core.specs.Facts.{IsSameSlice}
 use Rattle.slice_core.specs.Shape.{Shape}
-use Rattle.slice_core_plan.specs.Parts.{IsNew, PartsView}
+use Rattle.slice_core_plan.specs.Calls.{IsNew, PartsView}
 use Rattle.slice_core_side.specs.Side.{SideView}
 use Rattle.slice_lock.specs.Booked.{AreBounded}
 

@@ -7,7 +7,7 @@ use Rattle.receipt_ledger.specs.Booked.{IsTied}
 use Rattle.receipt_ledger.specs.Slice.{IsSliceOf}
 use Rattle.receipt_shares.specs.Totals.{Totals}
 use Rattle.slice_core.specs.Facts.{Holds}
-use Rattle.slice_core_plan.specs.Parts.{PartsView}
+use Rattle.slice_core_plan.specs.Calls.{PartsView}
 use Rattle.slice_core_plan.specs.View.{View, side_at}
 
 -- a slice's state, and the totals of its book

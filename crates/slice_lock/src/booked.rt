@@ -5,7 +5,7 @@ ghost use Rattle.receipt_ledger.specs.History.{AreHeld};
 ghost use Rattle.receipt_ledger.specs.Port.{with_seen};
 ghost use Rattle.receipt_ledger.specs.Settled.{IsSettled};
 ghost use Rattle.slice_core.specs.Facts.{IsNotBroken, IsNotBrokenNext};
-ghost use Rattle.slice_core_plan.specs.Parts.{AfterDeliverNext, AfterDelivery, AfterEvict};
+ghost use Rattle.slice_core_plan.specs.Calls.{AfterDeliverNext, AfterDelivery, AfterEvict};
 ghost use Rattle.slice_core_plan.specs.View.{IsQuiet};
 ghost use Rattle.slice_lock.specs.Booked.{IsShown};
 ghost use Rattle.slice_lock.specs.Settled.{AreSettled, IsUnsettledBy};

@@ -15,7 +15,7 @@ use Rattle.cache_table.specs.declared.state.CopyState.{CopyState}
 use Rattle.directory_table.specs.declared.state.DirState.{DirState}
 use Rattle.directory_table.specs.declared.state.DirState.TheVariants as directories
 use Rattle.slice_core.specs.Facts.{copy_at, targets_at}
-use Rattle.slice_core_plan.specs.Slice.{PartsView, ring_lines}
+use Rattle.slice_core_plan.specs.Parts.{PartsView, ring_lines}
 use Rattle.slice_core_plan.specs.View.{View, entry_at, side_at}
 use Rattle.slice_core_side.specs.Copy.{is_gone}
 use Rattle.slice_core_side.specs.Side.{state_of, tag_at}

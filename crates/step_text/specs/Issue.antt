@@ -11,8 +11,8 @@ use Rattle.slice_core_answer.specs.declared.answer.Refused.{Refused}
 use Rattle.slice_core_answer.specs.declared.answer.Refused.TheVariants as refusals
 use Rattle.slice_core_answer.specs.declared.answer.Stall.{Stall}
 use Rattle.slice_core_answer.specs.declared.answer.Stall.TheVariants as stalls
-use Rattle.slice_core_plan.specs.declared.decide.Decision.{Decision}
-use Rattle.slice_core_plan.specs.declared.decide.Decision.TheVariants as decisions
+use Rattle.slice_core_plan.specs.declared.decision.Decision.{Decision}
+use Rattle.slice_core_plan.specs.declared.decision.Decision.TheVariants as decisions
 use Rattle.slice_core_side.specs.declared.access.Access.{Access}
 use Rattle.slice_core_side.specs.declared.access.Access.TheVariants as accesses
 use Rattle.slice_core_side.specs.declared.access.Ask.{Ask}

@@ -1,7 +1,7 @@
 ghost use Rattle.std.specs.Box.{boxed_slice_items};
 ghost use Rattle.std.specs.Prelude.{◌≡◌, ◌<◌, IfOk};
 ghost use Rattle.slice_core_plan.specs.Initial.{IsInitialBlock, AreInitialEntries, AreNewSides};
-ghost use Rattle.slice_core_plan.specs.Parts.{PartsView, IsNew};
+ghost use Rattle.slice_core_plan.specs.Calls.{PartsView, IsNew};
 
 use super::Parts;
 use address_map::{

@@ -5,7 +5,7 @@ ghost use Rattle.slice_core_side.specs.Perform.{asks_to_write, entries_of, perfo
 ghost use Rattle.slice_core_side.specs.Side.{array_copy};
 ghost use Rattle.slice_core_side.specs.Steps.{acknowledged, after_change, after_settle};
 ghost use Rattle.slice_core_side.specs.Targets.{IsPerformable};
-ghost use Rattle.slice_core_plan.specs.Parts.{AfterDelivery, AfterPlan, CanDeliver, Moves, Settles, filled_by};
+ghost use Rattle.slice_core_plan.specs.Calls.{AfterDelivery, AfterPlan, CanDeliver, Moves, Settles, filled_by};
 ghost use Rattle.slice_core_plan.specs.Plan.{ack_plan, data_plan, forwarded_plan, home_plan, plan_of, request_plan};
 ghost use Rattle.slice_core_plan.specs.Sends.{cache_room, directory_room, directory_sent};
 ghost use Rattle.slice_core_plan.specs.Steps.{after_directory, after_forwarded, after_home, asked_by, block_in};
@@ -18,13 +18,14 @@ ghost use Rattle.slice_queues.specs.Slice.{at_local};
 ghost use Rattle.slice_queues_message.specs.declared.channel.Channel.TheVariants as channels;
 
 use super::Parts;
-use address_map::{Block, CoreId, CoreSet, Local, Offset};
-use cache_table::{CacheSends, CopyState};
-use directory_table::{DirState, DirStep};
+use crate::send::{send_from_core, send_from_directory};
+use address_map::{Block, CoreId, Local, Offset};
+use cache_table::CopyState;
+use directory_table::DirStep;
 use mshr_file::MissFile;
-use slice_core_answer::Delivered;
+use slice_core_answer::{Delivered, Delivery};
 use slice_core_log::Entry;
-use slice_core_plan::{Plan, send_from_core, send_from_directory};
+use slice_core_plan::{CopyStep, ForwardedStep, HomeStep};
 use slice_core_side::Side;
 use slice_queues::{Channel, DataMessage, Message, Pick, Queues, RequestMessage};
 
@@ -70,14 +71,13 @@ impl<F: MissFile> Parts<F> {
             self.new }
     {
         match self.plan_request(local, core) {
-            Plan::Directory(step) => {
+            Delivery::Moved(step) => {
                 self.serve(local, core, &step);
                 Delivered::Moved
             }
-            Plan::Nothing => Delivered::Nothing,
-            Plan::Blocked => Delivered::Blocked,
-            Plan::Broken(cell) => Delivered::Broken(cell),
-            _ => unreachable!(),
+            Delivery::Nothing => Delivered::Nothing,
+            Delivery::Blocked => Delivered::Blocked,
+            Delivery::Broken(cell) => Delivered::Broken(cell),
         }
     }
 
@@ -88,18 +88,13 @@ impl<F: MissFile> Parts<F> {
         ensures { AfterPlan (home_plan self.old.view local) self.old local channels.Home result self.new }
     {
         match self.plan_home(local) {
-            Plan::Home {
-                state,
-                owner,
-                sharers,
-            } => {
-                self.take_home(local, state, owner, sharers);
+            Delivery::Moved(step) => {
+                self.take_home(local, step);
                 Delivered::Moved
             }
-            Plan::Nothing => Delivered::Nothing,
-            Plan::Blocked => Delivered::Blocked,
-            Plan::Broken(cell) => Delivered::Broken(cell),
-            _ => unreachable!(),
+            Delivery::Nothing => Delivered::Nothing,
+            Delivery::Blocked => Delivered::Blocked,
+            Delivery::Broken(cell) => Delivered::Broken(cell),
         }
     }
 
@@ -112,18 +107,13 @@ impl<F: MissFile> Parts<F> {
             self.new }
     {
         match self.plan_forwarded(local, core) {
-            Plan::Forwarded {
-                next,
-                sends,
-                requester,
-            } => {
-                self.forward(local, core, next, sends, requester);
+            Delivery::Moved(step) => {
+                self.forward(local, core, step);
                 Delivered::Moved
             }
-            Plan::Nothing => Delivered::Nothing,
-            Plan::Blocked => Delivered::Blocked,
-            Plan::Broken(cell) => Delivered::Broken(cell),
-            _ => unreachable!(),
+            Delivery::Nothing => Delivered::Nothing,
+            Delivery::Blocked => Delivered::Blocked,
+            Delivery::Broken(cell) => Delivered::Broken(cell),
         }
     }
 
@@ -135,14 +125,13 @@ impl<F: MissFile> Parts<F> {
         ensures { AfterPlan (data_plan self.old.view local core) self.old local (channels.Data core) result self.new }
     {
         match self.plan_data(local, core) {
-            Plan::Fill { place, next } => {
-                self.fill(local, core, place, next);
+            Delivery::Moved(step) => {
+                self.fill(local, core, step);
                 Delivered::Moved
             }
-            Plan::Nothing => Delivered::Nothing,
-            Plan::Blocked => Delivered::Blocked,
-            Plan::Broken(cell) => Delivered::Broken(cell),
-            _ => unreachable!(),
+            Delivery::Nothing => Delivered::Nothing,
+            Delivery::Blocked => Delivered::Blocked,
+            Delivery::Broken(cell) => Delivered::Broken(cell),
         }
     }
 
@@ -156,14 +145,13 @@ impl<F: MissFile> Parts<F> {
             self.new }
     {
         match self.plan_ack(local, to, from) {
-            Plan::Acknowledge { place, next } => {
-                self.acknowledge(local, to, from, place, next);
+            Delivery::Moved(step) => {
+                self.acknowledge(local, to, from, step);
                 Delivered::Moved
             }
-            Plan::Nothing => Delivered::Nothing,
-            Plan::Blocked => Delivered::Blocked,
-            Plan::Broken(cell) => Delivered::Broken(cell),
-            _ => unreachable!(),
+            Delivery::Nothing => Delivered::Nothing,
+            Delivery::Blocked => Delivered::Blocked,
+            Delivery::Broken(cell) => Delivered::Broken(cell),
         }
     }
 
@@ -186,93 +174,87 @@ impl<F: MissFile> Parts<F> {
     }
 
     // The directory takes the block that comes home.
-    fn take_home(&mut self, local: Local, state: DirState, owner: Option<CoreId>, sharers: CoreSet)
+    fn take_home(&mut self, local: Local, step: HomeStep)
         requires line { local.0 < self.old.view.lines.lines }
         requires shaped { IsShaped self.old.view }
         requires comes { IsSome (channels_at self.old.view local).home }
-        ensures { Moves self.old local channels.Home (after_home self.old.view local state owner sharers) self.new }
+        ensures { Moves self.old local channels.Home
+            (after_home self.old.view local step.state step.owner step.sharers) self.new }
     {
         self.stats.count_message(Channel::Home);
         let entry = &mut self.entries[local.0];
         if let Some(block) = self.queues.line(local).front_home() {
             entry.home = *block;
         }
-        entry.state = state;
-        entry.owner = owner;
-        entry.sharers = sharers;
+        entry.state = step.state;
+        entry.owner = step.owner;
+        entry.sharers = step.sharers;
         self.queues.drop_at(local, Channel::Home);
     }
 
     // A core takes a forwarded message, and does its row for the requester.
-    fn forward(
-        &mut self,
-        local: Local,
-        core: CoreId,
-        next: CopyState,
-        sends: CacheSends,
-        requester: CoreId,
-    )
+    fn forward(&mut self, local: Local, core: CoreId, step: ForwardedStep)
         requires line { local.0 < self.old.view.lines.lines }
         requires core { core.0 < length self.old.view.sides }
         requires shaped { IsShaped self.old.view }
         requires stands { HasCopy (side_at self.old.view core) local }
-        requires room { cache_room (channels_at self.old.view local) core requester sends ≡ true }
+        requires room { cache_room (channels_at self.old.view local) core step.requester step.sends ≡ true }
         ensures { Moves self.old local (channels.Fwd core)
-            (after_forwarded self.old.view local core next sends requester) self.new }
+            (after_forwarded self.old.view local core step.next step.sends step.requester) self.new }
     {
         self.stats.count_message(Channel::Fwd(core));
         let side = &mut self.sides[core.0 as usize];
         let queues = &mut self.queues;
         queues.drop_at(local, Channel::Fwd(core));
-        send_from_core(queues, local, core, requester, side.block(local), sends);
-        side.advance(local, next);
+        send_from_core(queues, local, core, step.requester, side.block(local), step.sends);
+        side.advance(local, step.next);
     }
 
     // A core takes its data. What its copy then allows is performed.
-    fn fill(&mut self, local: Local, core: CoreId, place: usize, next: CopyState)
+    fn fill(&mut self, local: Local, core: CoreId, step: CopyStep)
         requires line { local.0 < self.old.view.lines.lines }
         requires core { core.0 < length self.old.view.sides }
         requires delivers { CanDeliver self.old }
-        requires stands { StandsAt (side_at self.old.view core) local place }
+        requires stands { StandsAt (side_at self.old.view core) local step.place }
         requires comes { IsSome (core_at (channels_at self.old.view local) core.0).data }
         requires idle { (core_at (channels_at self.old.view local) core.0).request ≡ None }
         ensures { Settles self.old local core (channels.Data core)
             (filled_by (array_copy (side_at self.old.view core) local)
-            (core_at (channels_at self.old.view local) core.0).data next)
+            (core_at (channels_at self.old.view local) core.0).data step.next)
             self.new }
     {
         self.stats.count_message(Channel::Data(core));
         let side = &mut self.sides[core.0 as usize];
         let queues = &mut self.queues;
         match queues.line(local).front_data(core) {
-            Some(message) => fill_copy(side, local, place, message, next),
+            Some(message) => fill_copy(side, local, step.place, message, step.next),
             None => unreachable!(),
         }
         queues.drop_at(local, Channel::Data(core));
         let first = self.lines.word_at(local, Offset(0)).0;
         let log = &mut self.log;
-        let asks = settle_copy(side, log, &mut self.pending, core, local, place, first);
+        let asks = settle_copy(side, log, &mut self.pending, core, local, step.place, first);
         ask_to_write(queues, local, core, asks);
     }
 
     // A core counts an acknowledgement. What its copy then allows is performed.
-    fn acknowledge(&mut self, local: Local, to: CoreId, from: CoreId, place: usize, next: CopyState)
+    fn acknowledge(&mut self, local: Local, to: CoreId, from: CoreId, step: CopyStep)
         requires line { local.0 < self.old.view.lines.lines }
         requires to { to.0 < length self.old.view.sides }
         requires from { from.0 < length self.old.view.sides }
         requires delivers { CanDeliver self.old }
-        requires stands { StandsAt (side_at self.old.view to) local place }
-        requires waits { is_shared next ≡ false }
+        requires stands { StandsAt (side_at self.old.view to) local step.place }
+        requires waits { is_shared step.next ≡ false }
         ensures { Settles self.old local to (channels.Ack to from)
-            (acknowledged (array_copy (side_at self.old.view to) local) next) self.new }
+            (acknowledged (array_copy (side_at self.old.view to) local) step.next) self.new }
     {
         self.stats.count_message(Channel::Ack { to, from });
         let side = &mut self.sides[to.0 as usize];
-        side.acknowledge(local, place, next);
+        side.acknowledge(local, step.place, step.next);
         self.queues.drop_at(local, Channel::Ack { to, from });
         let first = self.lines.word_at(local, Offset(0)).0;
         let log = &mut self.log;
-        let _ = settle_copy(side, log, &mut self.pending, to, local, place, first);
+        let _ = settle_copy(side, log, &mut self.pending, to, local, step.place, first);
     }
 }
 

@@ -1,6 +1,6 @@
 ghost use Rattle.std.specs.Prelude.{◌≡◌, ◌<◌, length, None};
 ghost use Rattle.slice_core_answer.specs.Stats.{after_eviction};
-ghost use Rattle.slice_core_plan.specs.Parts.{PartsView, AfterEvict, CanIssue};
+ghost use Rattle.slice_core_plan.specs.Calls.{PartsView, AfterEvict, CanIssue};
 ghost use Rattle.slice_core_plan.specs.Steps.{after_evict};
 ghost use Rattle.slice_core_plan.specs.View.{View, channels_at, side_at, IsShaped};
 ghost use Rattle.slice_core_side.specs.Access.{CanLeave};

@@ -4,8 +4,8 @@ ghost use Rattle.slice_core_answer.specs.Stats.{after_hit as hit_counted, after_
 ghost use Rattle.slice_core_answer.specs.Stats.{after_secondary};
 ghost use Rattle.slice_core_side.specs.Access.{CanReplace, CanStand, IsWithin};
 ghost use Rattle.slice_core_plan.specs.Decision.{decision_of};
-ghost use Rattle.slice_core_plan.specs.Parts.{PartsView, AfterAccepting, AfterIssue, CanIssue, IsDecided, opened_ring};
-ghost use Rattle.slice_core_plan.specs.Parts.{opened_stats, target_for};
+ghost use Rattle.slice_core_plan.specs.Calls.{PartsView, AfterAccepting, AfterIssue, CanIssue, IsDecided, opened_ring};
+ghost use Rattle.slice_core_plan.specs.Calls.{opened_stats, target_for};
 ghost use Rattle.slice_core_plan.specs.Steps.{after_hit, after_join, after_open, after_opening, with_way};
 ghost use Rattle.slice_core_plan.specs.View.{View, channels_at, side_at, IsShaped};
 ghost use Rattle.slice_core_plan.specs.Within.{StandsAt};

@@ -1,13 +1,13 @@
-ghost use Rattle.std.specs.Prelude.{◌≡◌, ◌<◌, ◌≤◌, length, map, slice_get};
-ghost use Rattle.slice_core_plan.specs.Slice.{ring_lines};
-ghost use Rattle.slice_core_plan.specs.View.{View, channels_at, entry_at, IsShaped};
-ghost use Rattle.slice_core_side.specs.Side.{SideView, state_of};
+ghost use Rattle.std.specs.Prelude.{◌≡◌, ◌<◌, ◌≤◌, ◌↔◌, All, IsTrue, length, map, slice_get};
+ghost use Rattle.slice_core_plan.specs.Parts.{ring_lines};
+ghost use Rattle.slice_core_plan.specs.View.{View, channels_at, entry_at, word_now, IsOwned, IsQuiet, IsShaped};
+ghost use Rattle.slice_core_side.specs.Side.{SideView, state_of, IsSideQuiet};
 ghost use Rattle.slice_queues.specs.Line.{messages_at};
 ghost use Rattle.slice_queues.specs.Waiting.{line_waiting, lines_waiting, placed_by, HasEachOnce, HasEachPickOnce};
 
 use super::Parts;
 use crate::line_view::LineView;
-use address_map::{LineAddr, Local};
+use address_map::{LineAddr, Local, Offset};
 use arrayvec::ArrayVec;
 use cache_table::CopyState;
 use mshr_file::MissFile;
@@ -76,6 +76,29 @@ impl<F: MissFile> Parts<F> {
     {
         self.queues.line(local).waiting()
     }
+
+    /// Whether no message is in flight, no miss register is held, no line leaves and each reply is handed out.
+    pub fn is_quiet(&self) -> bool
+        ensures { IsTrue result ↔ IsQuiet self.now.view }
+    {
+        self.queues.is_empty() && are_quiet(&self.sides)
+    }
+
+    /// The word at a place of a line of a quiet slice: the owner's copy has it where there is an owner, else the home
+    /// copy.
+    pub fn word_now(&self, local: Local, offset: Offset) -> u64
+        requires line { local.0 < length self.now.view.entries }
+        requires within { offset.0 < 8 }
+        requires owned { IsOwned self.now.view local }
+        ensures { result ≡ word_now self.now.view local offset.0 }
+    {
+        let entry = &self.entries[local.0];
+        let block = match entry.owner {
+            Some(owner) => self.sides[owner.0 as usize].copy(local).block,
+            None => entry.home,
+        };
+        block.words[offset.0 as usize]
+    }
 }
 
 fn states_of<F: MissFile>(sides: &[Side<F>], local: Local) -> ArrayVec<CopyState, 64>
@@ -87,4 +110,10 @@ fn states_of<F: MissFile>(sides: &[Side<F>], local: Local) -> ArrayVec<CopyState
         states.push(side.copy(local).state);
     }
     states
+}
+
+fn are_quiet<F: MissFile>(sides: &[Side<F>]) -> bool
+    ensures { IsTrue result ↔ All IsSideQuiet sides.now }
+{
+    sides.iter().all(|side| side.is_quiet())
 }

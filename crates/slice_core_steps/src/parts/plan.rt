@@ -1,19 +1,22 @@
 ghost use Rattle.std.specs.Prelude.{◌≡◌, ◌<◌, length};
 ghost use Rattle.slice_core_plan.specs.Plan.{plan_of, planned_at, request_plan, home_plan, forwarded_plan, data_plan};
 ghost use Rattle.slice_core_plan.specs.Plan.{ack_plan};
+ghost use Rattle.slice_core_answer.specs.Delivery.{delivery_map};
 ghost use Rattle.slice_core_plan.specs.View.{View, IsShaped};
+ghost use Rattle.slice_core_plan.specs.declared.transition.Transition.TheVariants as transitions;
 ghost use Rattle.slice_core_steps.specs.Planned.{IsPlanned};
 ghost use Rattle.slice_queues_message.specs.declared.channel.Channel.TheVariants as channels;
 
 use super::Parts;
+use crate::room::{cache_room, directory_room};
 use address_map::{CoreId, Local};
 use cache_table::{CacheEvent, Row, cache_row};
-use directory_table::{DirEvent, DirRow, dir_row};
+use directory_table::{DirEvent, DirRow, DirStep, dir_row};
 use mshr_file::MissFile;
-use slice_core_answer::Cell;
+use slice_core_answer::{Cell, Delivery};
 use slice_core_plan::{
-    Plan, cache_room, directory_room, event_of_forwarded, event_of_request, is_put_ack,
-    requester_of,
+    CopyStep, ForwardedStep, HomeStep, Plan, Transition, event_of_forwarded, event_of_request,
+    is_put_ack, requester_of,
 };
 use slice_queues::{Channel, DataMessage, Pick};
 
@@ -25,7 +28,7 @@ impl<F: MissFile> Parts<F> {
     {
         match self.lines.local_of(pick.line()) {
             Some(local) => self.plan(local, pick.channel()),
-            None => Plan::Nothing,
+            None => Delivery::Nothing,
         }
     }
 
@@ -36,108 +39,112 @@ impl<F: MissFile> Parts<F> {
         ensures planned { result ≡ plan_of self.now.view local channel }
     {
         if !self.queues.line(local).has_channel(channel) {
-            return Plan::Nothing;
+            return Delivery::Nothing;
         }
         match channel {
-            Channel::Req(core) => self.plan_request(local, core),
-            Channel::Fwd(core) => self.plan_forwarded(local, core),
-            Channel::Data(core) => self.plan_data(local, core),
-            Channel::Ack { to, from } => self.plan_ack(local, to, from),
-            Channel::Home => self.plan_home(local),
+            Channel::Req(core) => self.plan_request(local, core).map(Transition::Directory),
+            Channel::Fwd(core) => self.plan_forwarded(local, core).map(Transition::Forwarded),
+            Channel::Data(core) => self.plan_data(local, core).map(Transition::Fill),
+            Channel::Ack { to, from } => self.plan_ack(local, to, from).map(Transition::Acknowledge),
+            Channel::Home => self.plan_home(local).map(Transition::Home),
         }
     }
 
     // The directory's row for the core's request.
     #[inline(always)]
-    pub(super) fn plan_request(&self, local: Local, core: CoreId) -> Plan
+    pub(super) fn plan_request(&self, local: Local, core: CoreId) -> Delivery<DirStep>
         requires line { local.0 < self.now.view.lines.lines }
         requires core { core.0 < length self.now.view.sides }
         requires shaped { IsShaped self.now.view }
-        ensures planned { result ≡ request_plan self.now.view local core }
-        ensures within { IsPlanned self.now.view local (channels.Req core) result }
+        ensures planned { delivery_map transitions.Directory result ≡ request_plan self.now.view local core }
+        ensures within { IsPlanned self.now.view local (channels.Req core)
+            (delivery_map transitions.Directory result) }
     {
         let line = self.queues.line(local);
         let Some(request) = line.front_request(core) else {
-            return Plan::Nothing;
+            return Delivery::Nothing;
         };
         let event = event_of_request(core, request);
         match dir_row(self.exclusive, &self.entries[local.0], event) {
-            DirRow::NoEntry => Plan::Broken(Cell::Entry),
-            DirRow::Blocked => Plan::Blocked,
+            DirRow::NoEntry => Delivery::Broken(Cell::Entry),
+            DirRow::Blocked => Delivery::Blocked,
             DirRow::Go(step) if !directory_room(&line, core, &step.sends) => {
-                Plan::Broken(Cell::Full)
+                Delivery::Broken(Cell::Full)
             }
-            DirRow::Go(step) => Plan::Directory(step),
+            DirRow::Go(step) => Delivery::Moved(step),
         }
     }
 
     // The directory's row for the block that comes home.
     #[inline(always)]
-    pub(super) fn plan_home(&self, local: Local) -> Plan
+    pub(super) fn plan_home(&self, local: Local) -> Delivery<HomeStep>
         requires line { local.0 < self.now.view.lines.lines }
         requires shaped { IsShaped self.now.view }
-        ensures planned { result ≡ home_plan self.now.view local }
-        ensures within { IsPlanned self.now.view local channels.Home result }
+        ensures planned { delivery_map transitions.Home result ≡ home_plan self.now.view local }
+        ensures within { IsPlanned self.now.view local channels.Home
+            (delivery_map transitions.Home result) }
     {
         if self.queues.line(local).front_home().is_none() {
-            return Plan::Nothing;
+            return Delivery::Nothing;
         }
         match dir_row(self.exclusive, &self.entries[local.0], DirEvent::DataHome) {
-            DirRow::NoEntry => Plan::Broken(Cell::Entry),
-            DirRow::Blocked => Plan::Blocked,
-            DirRow::Go(step) => Plan::Home {
+            DirRow::NoEntry => Delivery::Broken(Cell::Entry),
+            DirRow::Blocked => Delivery::Blocked,
+            DirRow::Go(step) => Delivery::Moved(HomeStep {
                 state: step.state,
                 owner: step.owner,
                 sharers: step.sharers,
-            },
+            }),
         }
     }
 
     // The cache's row for the forwarded message that waits for the core.
     #[inline(always)]
-    pub(super) fn plan_forwarded(&self, local: Local, core: CoreId) -> Plan
+    pub(super) fn plan_forwarded(&self, local: Local, core: CoreId) -> Delivery<ForwardedStep>
         requires line { local.0 < self.now.view.lines.lines }
         requires core { core.0 < length self.now.view.sides }
         requires shaped { IsShaped self.now.view }
-        ensures planned { result ≡ forwarded_plan self.now.view local core }
-        ensures within { IsPlanned self.now.view local (channels.Fwd core) result }
+        ensures planned { delivery_map transitions.Forwarded result ≡ forwarded_plan self.now.view local core }
+        ensures within { IsPlanned self.now.view local (channels.Fwd core)
+            (delivery_map transitions.Forwarded result) }
     {
         let line = self.queues.line(local);
         let Some(message) = line.front_forwarded(core) else {
-            return Plan::Nothing;
+            return Delivery::Nothing;
         };
         let message = *message;
         let requester = requester_of(core, message);
         let look = self.sides[core.0 as usize].look(local);
         match cache_row(look.state, event_of_forwarded(message)) {
-            Row::NoEntry => Plan::Broken(Cell::Entry),
-            Row::Blocked => Plan::Blocked,
+            Row::NoEntry => Delivery::Broken(Cell::Entry),
+            Row::Blocked => Delivery::Blocked,
             Row::Go(_, sends) if !cache_room(&line, core, requester, sends) => {
-                Plan::Broken(Cell::Full)
+                Delivery::Broken(Cell::Full)
             }
             Row::Go(_, _) if is_put_ack(message) && line.front_request(core).is_some() => {
-                Plan::Broken(Cell::Early)
+                Delivery::Broken(Cell::Early)
             }
-            Row::Go(next, sends) => Plan::Forwarded {
+            Row::Go(next, sends) => Delivery::Moved(ForwardedStep {
                 next,
                 sends,
                 requester,
-            },
+            }),
         }
     }
 
     // The cache's row for the data that wait for the core.
     #[inline(always)]
-    pub(super) fn plan_data(&self, local: Local, core: CoreId) -> Plan
+    pub(super) fn plan_data(&self, local: Local, core: CoreId) -> Delivery<CopyStep>
         requires line { local.0 < self.now.view.lines.lines }
         requires core { core.0 < length self.now.view.sides }
         requires shaped { IsShaped self.now.view }
-        ensures planned { result ≡ data_plan self.now.view local core }
-        ensures within { IsPlanned self.now.view local (channels.Data core) result }
+        ensures planned { delivery_map transitions.Fill result ≡ data_plan self.now.view local core }
+        ensures within { IsPlanned self.now.view local (channels.Data core)
+            (delivery_map transitions.Fill result) }
     {
         let line = self.queues.line(local);
         let Some(message) = line.front_data(core) else {
-            return Plan::Nothing;
+            return Delivery::Nothing;
         };
         let side = &self.sides[core.0 as usize];
         let look = side.look(local);
@@ -151,28 +158,29 @@ impl<F: MissFile> Parts<F> {
             },
         };
         match cache_row(look.state, event) {
-            Row::NoEntry => Plan::Broken(Cell::Entry),
-            Row::Blocked => Plan::Blocked,
-            Row::Go(_, _) if line.front_request(core).is_some() => Plan::Broken(Cell::Early),
+            Row::NoEntry => Delivery::Broken(Cell::Entry),
+            Row::Blocked => Delivery::Blocked,
+            Row::Go(_, _) if line.front_request(core).is_some() => Delivery::Broken(Cell::Early),
             Row::Go(next, _) => match look.place {
-                Some(place) => Plan::Fill { place, next },
-                None => Plan::Broken(Cell::Entry),
+                Some(place) => Delivery::Moved(CopyStep { place, next }),
+                None => Delivery::Broken(Cell::Entry),
             },
         }
     }
 
     // The cache's row for an acknowledgement that waits for the core.
     #[inline(always)]
-    pub(super) fn plan_ack(&self, local: Local, to: CoreId, from: CoreId) -> Plan
+    pub(super) fn plan_ack(&self, local: Local, to: CoreId, from: CoreId) -> Delivery<CopyStep>
         requires line { local.0 < self.now.view.lines.lines }
         requires to { to.0 < length self.now.view.sides }
         requires from { from.0 < length self.now.view.sides }
         requires shaped { IsShaped self.now.view }
-        ensures planned { result ≡ ack_plan self.now.view local to from }
-        ensures within { IsPlanned self.now.view local (channels.Ack to from) result }
+        ensures planned { delivery_map transitions.Acknowledge result ≡ ack_plan self.now.view local to from }
+        ensures within { IsPlanned self.now.view local (channels.Ack to from)
+            (delivery_map transitions.Acknowledge result) }
     {
         if !self.queues.line(local).has_ack(to, from) {
-            return Plan::Nothing;
+            return Delivery::Nothing;
         }
         let look = self.sides[to.0 as usize].look(local);
         let event = CacheEvent::InvAck {
@@ -180,11 +188,11 @@ impl<F: MissFile> Parts<F> {
             k: look.counted,
         };
         match cache_row(look.state, event) {
-            Row::NoEntry => Plan::Broken(Cell::Entry),
-            Row::Blocked => Plan::Blocked,
+            Row::NoEntry => Delivery::Broken(Cell::Entry),
+            Row::Blocked => Delivery::Blocked,
             Row::Go(next, _) => match look.place {
-                Some(place) => Plan::Acknowledge { place, next },
-                None => Plan::Broken(Cell::Entry),
+                Some(place) => Delivery::Moved(CopyStep { place, next }),
+                None => Delivery::Broken(Cell::Entry),
             },
         }
     }

@@ -8,7 +8,7 @@ use Rattle.slice_core.proofs.Coherent.{shows_last}
 use Rattle.slice_core.proofs.state.SliceState.word_now.Given.{Over}
 use Rattle.slice_core.proofs.state.SliceState.word_now.Goals as goal
 use Rattle.slice_core.specs.Facts.{ShowsLast}
-use Rattle.slice_core_plan.specs.Parts.{PartsView}
+use Rattle.slice_core_plan.specs.Calls.{PartsView}
 use Rattle.slice_core_plan.specs.View.{IsQuiet, word_now}
 
 -- the word's line is one of the slice's

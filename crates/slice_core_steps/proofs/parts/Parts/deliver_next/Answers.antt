@@ -1,15 +1,17 @@
 use Rattle.std.proofs.Common.{◌≡◌, ◌∙◌, ap, arith, length, subst, sym}
 use Rattle.slice_core_plan.proofs.TurnLaws.{comes-nearer, extends-done, longer, looked-within}
-use Rattle.slice_core_plan.specs.Parts.{PartsView, told as told_by}
+use Rattle.slice_core_answer.specs.declared.answer.Delivery.{Delivery}
+use Rattle.slice_core_plan.specs.Calls.{PartsView, IsNextPick}
 use Rattle.slice_core_plan.specs.Ring.{pick_of, turned}
 use Rattle.slice_core_steps.proofs.MadeLaws.{made-done}
-use Rattle.slice_core_steps.proofs.NextAnswers.{found-told, of-slice}
+use Rattle.slice_core_steps.proofs.NextAnswers.{found-pick, of-slice}
 use Rattle.slice_core_steps.proofs.NextLaws.{mover-stands}
 use Rattle.slice_core_steps.proofs.parts.Parts.deliver_next.Goals as goal
 use Rattle.slice_core_steps.specs.Found.{IsLocated, IsOfSlice}
+use Rattle.slice_queues_message.specs.declared.channel.Pick.{Pick}
 
-pub answer_to-answer-requires : goal.answer_to-answer-requires
-answer_to-answer-requires g c =
+pub pick_of-answer-requires : goal.pick_of-answer-requires
+pick_of-answer-requires g c =
     subst (λ (p : PartsView). IsOfSlice p.view.lines c.deliver_first-next.result.0) (sym c.self.view_is)
     (of-slice c.args.self.now.view c.args.class _ c.deliver_first-next.ensures.found)
 
@@ -17,12 +19,12 @@ pub rotate-requires : goal.rotate-requires
 rotate-requires g c =
     let old = c.args.self.now in
     let next = c.deliver_first-next.result.0 in
-    let answer = c.answer_to-answer.result in
-    let told = subst (λ (p : PartsView). told_by answer ≡ pick_of p.view.lines next) c.self.view_is
-    c.answer_to-answer.ensures.told in
+    let answer = c.pick_of-answer.result in
+    let pick_is = subst (λ (p : PartsView). answer ≡ pick_of p.view.lines next) c.self.view_is
+    c.pick_of-answer.ensures.pick in
     let there = subst (λ (p : PartsView). IsLocated p.view.lines next) c.self.view_is
-    c.answer_to-answer.ensures.there in
-    let done = made-done old _ next answer there told c.deliver_first-next.ensures.made in
+    c.pick_of-answer.ensures.there in
+    let done = made-done old _ next answer there pick_is c.deliver_first-next.ensures.made in
     let looked = c.deliver_first-next.ensures.looked in
     let few = looked-within old.view c.args.class old.ring in
     let now = ap (λ (p : PartsView). length p.ring) c.self-2.view_is in
@@ -33,16 +35,17 @@ pub returns-clause-step : goal.returns-clause-step
 returns-clause-step g c =
     let old = c.args.self.now in
     let next = c.deliver_first-next.result.0 in
-    let answer = c.answer_to-answer.result in
-    let told = subst (λ (p : PartsView). told_by answer ≡ pick_of p.view.lines next) c.self.view_is
-    c.answer_to-answer.ensures.told in
+    let answer = c.pick_of-answer.result in
+    let pick_is = subst (λ (p : PartsView). answer ≡ pick_of p.view.lines next) c.self.view_is
+    c.pick_of-answer.ensures.pick in
     let there = subst (λ (p : PartsView). IsLocated p.view.lines next) c.self.view_is
-    c.answer_to-answer.ensures.there in
-    let made = made-done old _ next answer there told c.deliver_first-next.ensures.made in
+    c.pick_of-answer.ensures.there in
+    let made = made-done old _ next answer there pick_is c.deliver_first-next.ensures.made in
     record {
-      next = told ∙ ap (pick_of old.view.lines) c.deliver_first-next.ensures.next;
+      next = pick_is ∙ ap (pick_of old.view.lines) c.deliver_first-next.ensures.next;
       found =
-          found-told old c.deliver_first-next.new.self c.args.class _ _ c.deliver_first-next.ensures.found told made;
+          subst (λ (pick : Delivery Pick). IsNextPick old.view c.args.class pick) (sym pick_is)
+          (found-pick old.view c.args.class next c.deliver_first-next.ensures.found there);
       done = c.deliver_first-next.new.self;
       made = made;
       turns =

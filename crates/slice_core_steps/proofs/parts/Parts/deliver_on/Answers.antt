@@ -1,5 +1,5 @@
 use Rattle.std.proofs.Common.{◌∙◌, ap, refl, subst, sym}
-use Rattle.slice_core_plan.specs.Parts.{PartsView}
+use Rattle.slice_core_plan.specs.Calls.{PartsView}
 use Rattle.slice_core_plan.specs.View.{channels_at}
 use Rattle.slice_core_steps.proofs.MadeLaws.{made-by, made-still, told-by}
 use Rattle.slice_core_steps.proofs.NextLaws.{first-left, next-ends, next-more_taken, next-moves, rest-left}
@@ -8,21 +8,21 @@ use Rattle.slice_core_steps.proofs.parts.Parts.deliver_on.Goals as goal
 use Rattle.slice_queues.specs.Line.{LineChannels}
 use Rattle.slice_queues.specs.Waiting.{AreCores}
 
-pub returns-in-Move-clause-next : goal.returns-in-Move-clause-next
-returns-in-Move-clause-next g c =
+pub returns-in-Moved-clause-next : goal.returns-in-Moved-clause-next
+returns-in-Moved-clause-next g c =
     let now = c.loop-channel.invariant.0 in
     let line = c.line-in-loop-channel.ensures
     ∙ ap (λ (p : PartsView). channels_at p.view c.args.local) (c.self-in-loop-channel.view_is ∙ now) in
     first-moves _ _ _ _ _ _ _ _ c.loop-channel.invariant.2 (first-left _ _ _ _ line c.in-Some.ensures.first) refl
-    (told-by c.args.self.now _ _ c.args.local _ _ _ now c.told-one.ensures c.deliver_at.ensures) _ _ c.in-Move.is
+    (told-by c.args.self.now _ _ c.args.local _ _ _ now c.with-one.ensures c.deliver_at.ensures) _ c.in-Moved.is
 
-pub returns-in-Move-clause-found : goal.returns-in-Move-clause-found
-returns-in-Move-clause-found g c =
+pub returns-in-Moved-clause-found : goal.returns-in-Moved-clause-found
+returns-in-Moved-clause-found g c =
     let now = c.loop-channel.invariant.0 in
     let line = c.line-in-loop-channel.ensures
     ∙ ap (λ (p : PartsView). channels_at p.view c.args.local) (c.self-in-loop-channel.view_is ∙ now) in
-    next-moves _ _ _ _ _ _ _ _ _ _ c.loop-channel.invariant.1 (first-left _ _ _ _ line c.in-Some.ensures.first) refl
-    (told-by c.args.self.now _ _ c.args.local _ _ _ now c.told-one.ensures c.deliver_at.ensures) c.in-Move.is
+    next-moves _ _ _ _ _ _ _ _ _ c.loop-channel.invariant.1 (first-left _ _ _ _ line c.in-Some.ensures.first) refl
+    (told-by c.args.self.now _ _ c.args.local _ _ _ now c.with-one.ensures c.deliver_at.ensures) c.in-Moved.is
 
 pub loop-channel-preserved : goal.loop-channel-preserved
 loop-channel-preserved g c =
@@ -32,11 +32,11 @@ loop-channel-preserved g c =
     let first = first-left _ _ _ _ line c.in-Some.ensures.first in
     let rest = rest-left _ _ _ _ line c.in-Some.ensures.rest in
     let known = λ (l : LineChannels). AreCores l.cores c.next_left.new.left.acks.receivers in
-    let told = told-by c.args.self.now _ _ c.args.local _ _ _ now c.told-one.ensures c.deliver_at.ensures in
-    let made = made-by c.args.self.now _ _ c.args.local _ _ _ now c.told-one.ensures c.deliver_at.ensures in (
-      made-still c.args.self.now _ _ c.in_default-one.not-Move made,
+    let told = told-by c.args.self.now _ _ c.args.local _ _ _ now c.with-one.ensures c.deliver_at.ensures in
+    let made = made-by c.args.self.now _ _ c.args.local _ _ _ now c.with-one.ensures c.deliver_at.ensures in (
+      made-still c.args.self.now _ _ c.in_default-one.not-Moved made,
       next-more_taken _ _ _ _ _ _ _ _ _ _ c.loop-channel.invariant.1 first rest refl told c.or-next.ensures,
-      first-more _ _ _ _ _ _ _ _ c.loop-channel.invariant.2 first refl told _ _ c.in_default-one.not-Move
+      first-more _ _ _ _ _ _ _ _ c.loop-channel.invariant.2 first refl told _ _ c.in_default-one.not-Moved
           c.or-next.ensures rest,
       subst known line c.in-Some.ensures.known,
     )

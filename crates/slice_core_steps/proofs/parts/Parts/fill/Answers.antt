@@ -1,6 +1,6 @@
 use Rattle.std.proofs.Common.{◌≡◌, ◌<◌, ◌∙◌, ap, subst, refl, rules, length, Option, Some}
 use Rattle.std.proofs.Math.ListN.{set}
-use Rattle.slice_core_plan.specs.Parts.{filled_by}
+use Rattle.slice_core_plan.specs.Calls.{filled_by}
 use Rattle.slice_core_plan.specs.Steps.{asked_by}
 use Rattle.slice_core_plan.specs.View.{channels_at, side_at}
 use Rattle.slice_core_side.specs.Side.{SideView, array_copy}

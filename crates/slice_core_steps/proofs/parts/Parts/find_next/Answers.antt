@@ -1,5 +1,5 @@
 use Rattle.std.proofs.Common.{◌∙◌, ap, arith}
-use Rattle.slice_core_plan.specs.Parts.{PartsView}
+use Rattle.slice_core_plan.specs.Calls.{PartsView}
 use Rattle.slice_core_plan.specs.Ring.{next_in}
 use Rattle.slice_core_steps.proofs.NextLaws.{line-there, ring-begins, ring-more_at, ring-moves}
 use Rattle.slice_core_steps.proofs.TurnLaws.{turn-begins, turn-more, turn-moves}
@@ -12,19 +12,19 @@ loop-place-init g c = (
   turn-begins _ _ _,
 )
 
-pub returns-in-Move-clause-found : goal.returns-in-Move-clause-found
-returns-in-Move-clause-found g c =
+pub returns-in-Moved-clause-found : goal.returns-in-Moved-clause-found
+returns-in-Moved-clause-found g c =
     let same = ap (λ (p : PartsView). p.view.channels) c.self.view_is in
-    ring-moves c.args.self.now.view _ _ c.ring_at.result _ _
+    ring-moves c.args.self.now.view _ _ c.ring_at.result _
     (line-there c.args.self.now.view c.self.inside.queues.channels.lines c.ring_at.result.0 c.requires.shaped same
     c.ring_at.ensures.there)
-    c.in-Move.is c.next_at-found.ensures.found
+    c.in-Moved.is c.next_at-found.ensures.found
 
-pub returns-in-Move-clause-next : goal.returns-in-Move-clause-next
-returns-in-Move-clause-next g c =
+pub returns-in-Moved-clause-next : goal.returns-in-Moved-clause-next
+returns-in-Moved-clause-next g c =
     turn-moves _ _ _ _ _ _ _ c.loop-place.invariant.1
     (omega (arith, c.loop-place-test.true, c.ring_len-place-end.ensures.len)) c.ring_at.ensures.line
-    c.next_at-found.ensures.next _ _ c.in-Move.is
+    c.next_at-found.ensures.next _ c.in-Moved.is
     ∙ ap (λ (p : PartsView). next_in c.args.self.now.view c.args.class p.ring) c.self.view_is
 
 pub loop-place-preserved : goal.loop-place-preserved
@@ -37,5 +37,5 @@ loop-place-preserved g c =
           c.loop-place.invariant.0 c.next_at-found.ensures.found c.or-next.ensures,
       turn-more _ _ _ _ _ _ _ c.loop-place.invariant.1
           (omega (arith, c.loop-place-test.true, c.ring_len-place-end.ensures.len)) c.ring_at.ensures.line
-          c.next_at-found.ensures.next _ c.in_default.not-Move c.or-next.ensures,
+          c.next_at-found.ensures.next _ c.in_default.not-Moved c.or-next.ensures,
     )

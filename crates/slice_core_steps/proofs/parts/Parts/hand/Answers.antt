@@ -1,6 +1,6 @@
 use Rattle.std.proofs.Common.{arith, ap, length}
 use Rattle.std.specs.Prelude.{slice_set}
-use Rattle.slice_core_plan.specs.Parts.{PartsView}
+use Rattle.slice_core_plan.specs.Calls.{PartsView}
 use Rattle.slice_core_steps.proofs.Handed.{side-read, entry-read, entry-of-reply, handed}
 use Rattle.slice_core_steps.proofs.parts.Parts.hand.Goals as goal
 

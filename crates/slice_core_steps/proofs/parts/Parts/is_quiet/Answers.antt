@@ -1,6 +1,6 @@
 use Rattle.std.proofs.Common.{subst, List}
 use Rattle.std.specs.Prelude.{IsTrue, ◌↔◌, All}
-use Rattle.slice_core_plan.specs.Parts.{PartsView}
+use Rattle.slice_core_plan.specs.Calls.{PartsView}
 use Rattle.slice_core_plan.specs.View.{IsQuiet}
 use Rattle.slice_core_side.specs.Side.{SideView, IsSideQuiet}
 use Rattle.slice_core_steps.proofs.Quiet.{quiet-by_cores, quiet-not}

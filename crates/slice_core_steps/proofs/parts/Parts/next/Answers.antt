@@ -1,25 +1,29 @@
-use Rattle.std.proofs.Common.{◌≡◌, subst}
-use Rattle.std.specs.Prelude.{Some}
-use Rattle.address_map.specs.Locator.{local_at}
-use Rattle.slice_core_plan.specs.Next.{IsNextIn}
-use Rattle.slice_core_plan.specs.Parts.{PartsView}
-use Rattle.slice_core_plan.specs.declared.decide.Next.{Next}
-use Rattle.slice_core_steps.proofs.NextAnswers.{pick-blocked, pick-broken, pick-moved}
+use Rattle.std.proofs.Common.{◌≡◌, ◌∙◌, ap, subst, sym}
+use Rattle.slice_core_answer.specs.declared.answer.Delivery.{Delivery}
+use Rattle.slice_core_plan.specs.Calls.{PartsView, IsNextPick}
+use Rattle.slice_core_plan.specs.Ring.{pick_of}
+use Rattle.slice_core_steps.proofs.NextAnswers.{found-pick, of-slice}
 use Rattle.slice_core_steps.proofs.parts.Parts.next.Goals as goal
+use Rattle.slice_core_steps.specs.Found.{IsLocated, IsOfSlice}
+use Rattle.slice_queues_message.specs.declared.channel.Pick.{Pick}
 
-pub returns-in-Move-clause-found : goal.returns-in-Move-clause-found
-returns-in-Move-clause-found g c =
-    let p = c.args.self.now in
-    let class = c.args.class in
-    let found = λ (n : Next). IsNextIn p.view class n in
-    let at_local = λ (p : PartsView). local_at p.view.lines c.line_at.result.0 ≡ Some c.in-Move.local in
-    rw c.at.ensures
-    (pick-moved p.view class c.in-Move.local c.in-Move.channel c.line_at.result
-    (subst found c.in-Move.is c.find_next.ensures.found) (subst at_local c.self.view_is c.line_at.ensures.local))
+pub pick_of-requires : goal.pick_of-requires
+pick_of-requires g c =
+    subst (λ (p : PartsView). IsOfSlice p.view.lines c.find_next.result) (sym c.self.view_is)
+    (of-slice c.args.self.now.view c.args.class _ c.find_next.ensures.found)
 
-pub returns-in-Blocked-clause-found : goal.returns-in-Blocked-clause-found
-returns-in-Blocked-clause-found g c = pick-blocked c.args.self.now.view c.args.class c.in-Blocked.ensures.found
+pub returns-clause-next : goal.returns-clause-next
+returns-clause-next g c =
+    subst (λ (p : PartsView). c.pick_of.result ≡ pick_of p.view.lines c.find_next.result) c.self.view_is
+    c.pick_of.ensures.pick
+    ∙ ap (pick_of c.args.self.now.view.lines) c.find_next.ensures.next
 
-pub returns-in-Broken-clause-found : goal.returns-in-Broken-clause-found
-returns-in-Broken-clause-found g c =
-    pick-broken c.args.self.now.view c.args.class c.in-Broken.cell c.in-Broken.ensures.found
+pub returns-clause-found : goal.returns-clause-found
+returns-clause-found g c =
+    let v = c.args.self.now.view in
+    let there = subst (λ (p : PartsView). IsLocated p.view.lines c.find_next.result) c.self.view_is
+    c.pick_of.ensures.there in
+    let pick_is = subst (λ (p : PartsView). c.pick_of.result ≡ pick_of p.view.lines c.find_next.result) c.self.view_is
+    c.pick_of.ensures.pick in
+    subst (λ (pick : Delivery Pick). IsNextPick v c.args.class pick) (sym pick_is)
+    (found-pick v c.args.class c.find_next.result c.find_next.ensures.found there)

@@ -1,5 +1,5 @@
 use Rattle.std.proofs.Common.{ap, ◌∙◌}
-use Rattle.slice_core_plan.specs.Parts.{PartsView}
+use Rattle.slice_core_plan.specs.Calls.{PartsView}
 use Rattle.slice_core_plan.specs.View.{channels_at}
 use Rattle.slice_core_steps.proofs.NextLaws.{next-begins_at, next-more_taken, next-moves}
 use Rattle.slice_core_steps.proofs.TurnLaws.{first-begins, first-more, first-moves}
@@ -12,21 +12,21 @@ loop-next-init g c =
       first-begins _ _ _ _ _ line c.waiting_in-waiting.ensures.order,
     )
 
-pub returns-in-Move-clause-found : goal.returns-in-Move-clause-found
-returns-in-Move-clause-found g c =
-    next-moves _ _ _ _ _ _ _ _ _ _ c.loop-next.invariant.0 c.in-Some.ensures.first c.plan.ensures.planned
-    c.of-planned.ensures c.in-Move.is
+pub returns-in-Moved-clause-found : goal.returns-in-Moved-clause-found
+returns-in-Moved-clause-found g c =
+    next-moves _ _ _ _ _ _ _ _ _ c.loop-next.invariant.0 c.in-Some.ensures.first c.plan.ensures.planned
+    c.with-planned.ensures c.in-Moved.is
 
-pub returns-in-Move-clause-next : goal.returns-in-Move-clause-next
-returns-in-Move-clause-next g c =
+pub returns-in-Moved-clause-next : goal.returns-in-Moved-clause-next
+returns-in-Moved-clause-next g c =
     first-moves _ _ _ _ _ _ _ _ c.loop-next.invariant.1 c.in-Some.ensures.first c.plan.ensures.planned
-    c.of-planned.ensures _ _ c.in-Move.is
+    c.with-planned.ensures _ c.in-Moved.is
 
 pub loop-next-preserved : goal.loop-next-preserved
 loop-next-preserved g c = (
   next-more_taken _ _ _ _ _ _ _ _ _ _ c.loop-next.invariant.0 c.in-Some.ensures.first c.in-Some.ensures.rest
       c.plan.ensures.planned
-      c.of-planned.ensures c.or-next.ensures,
+      c.with-planned.ensures c.or-next.ensures,
   first-more _ _ _ _ _ _ _ _ c.loop-next.invariant.1 c.in-Some.ensures.first c.plan.ensures.planned
-      c.of-planned.ensures _ _ c.in_default-planned.not-Move c.or-next.ensures c.in-Some.ensures.rest,
+      c.with-planned.ensures _ _ c.in_default-planned.not-Moved c.or-next.ensures c.in-Some.ensures.rest,
 )

@@ -1,5 +1,5 @@
 use Rattle.std.proofs.Common.{subst, sym}
-use Rattle.slice_core_plan.specs.Parts.{PartsView}
+use Rattle.slice_core_plan.specs.Calls.{PartsView}
 use Rattle.slice_core_plan.specs.View.{IsShaped}
 use Rattle.slice_core_steps.proofs.ShapedLaws.{shaped-request}
 use Rattle.slice_core_steps.proofs.parts.Parts.open.Goals as goal

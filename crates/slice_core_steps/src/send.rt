@@ -15,7 +15,7 @@ use slice_queues::{Channel, DataMessage, ForwardedMessage, Message, Queues};
 /// Sends what a row of the directory's table sends for a core's request. Data carry the block. The line comes into the
 /// ring.
 #[inline(always)]
-pub fn send_from_directory(
+pub(crate) fn send_from_directory(
     queues: &mut Queues,
     local: Local,
     core: CoreId,
@@ -53,7 +53,7 @@ pub fn send_from_directory(
 /// Sends what a row of the cache's table sends from a core, for the requester. Data carry the block. The line comes
 /// into the ring.
 #[inline(always)]
-pub fn send_from_core(
+pub(crate) fn send_from_core(
     queues: &mut Queues,
     local: Local,
     core: CoreId,

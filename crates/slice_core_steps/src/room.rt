@@ -24,7 +24,7 @@ fn takes_invalidations(line: &LineQueues<'_>, cores: CoreSet) -> bool
 
 /// Whether each channel has room that a row of the directory's table sends to, for this core's request.
 #[inline(always)]
-pub fn directory_room(line: &LineQueues<'_>, core: CoreId, sends: &DirSends) -> bool
+pub(crate) fn directory_room(line: &LineQueues<'_>, core: CoreId, sends: &DirSends) -> bool
     ensures { result ≡ directory_room line.now core sends.now }
 {
     match sends {
@@ -42,7 +42,7 @@ pub fn directory_room(line: &LineQueues<'_>, core: CoreId, sends: &DirSends) -> 
 
 /// Whether each channel has room that a row of the cache's table sends to, from this core and for the requester.
 #[inline(always)]
-pub fn cache_room(line: &LineQueues<'_>, core: CoreId, requester: CoreId, sends: CacheSends) -> bool
+pub(crate) fn cache_room(line: &LineQueues<'_>, core: CoreId, requester: CoreId, sends: CacheSends) -> bool
     ensures { result ≡ cache_room line.now core requester sends }
 {
     match sends {

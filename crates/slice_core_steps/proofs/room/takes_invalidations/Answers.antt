@@ -1,6 +1,6 @@
 use Rattle.std.proofs.Common.{◌^◌, ◌<◌, arith}
 use Rattle.slice_core_plan.proofs.RoomLaws.{same_test, takes_invalidations-from, takes_invalidations-there}
-use Rattle.slice_core_plan.proofs.room.takes_invalidations.Goals as goal
+use Rattle.slice_core_steps.proofs.room.takes_invalidations.Goals as goal
 
 pub returns : goal.returns
 returns c =

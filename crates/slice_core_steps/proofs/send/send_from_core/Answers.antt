@@ -7,7 +7,7 @@ use Rattle.slice_queues_message.specs.declared.channel.Channel.TheVariants as ch
 use Rattle.slice_queues_message.specs.declared.message.DataMessage.TheVariants as replies
 use Rattle.slice_queues_message.specs.declared.message.Message.TheVariants as messages
 use Rattle.slice_core_plan.proofs.RoomLaws.{both_true, takes-there}
-use Rattle.slice_core_plan.proofs.send.send_from_core.Goals as goal
+use Rattle.slice_core_steps.proofs.send.send_from_core.Goals as goal
 
 pub send_at-requires-clause-room : goal.send_at-requires-clause-room
 send_at-requires-clause-room c =

@@ -3,7 +3,7 @@ use Rattle.slice_queues.specs.Line.{after_invalidating}
 use Rattle.slice_queues.specs.Slice.{at_local}
 use Rattle.slice_queues.proofs.LentLaws.{lent_again, read-lent}
 use Rattle.slice_core_plan.proofs.RoomLaws.{both_true, takes_invalidations-there, TakesInvalidations-after_data}
-use Rattle.slice_core_plan.proofs.send.send_from_directory.Goals as goal
+use Rattle.slice_core_steps.proofs.send.send_from_directory.Goals as goal
 
 pub invalidate-requires-clause-takes : goal.invalidate-requires-clause-takes
 invalidate-requires-clause-takes c =

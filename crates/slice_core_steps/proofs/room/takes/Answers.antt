@@ -1,5 +1,5 @@
 use Rattle.slice_core_plan.proofs.RoomLaws.{same_test, takes-from, takes-there}
-use Rattle.slice_core_plan.proofs.room.takes.Goals as goal
+use Rattle.slice_core_steps.proofs.room.takes.Goals as goal
 
 pub returns : goal.returns
 returns c =

@@ -148,17 +148,6 @@ pub without-missing : (set core : ℕ) → has set core ≡ false → without se
 unfolding without
 without-missing set core missing = rw missing refl
 
--- to take out the core that was put in gives the set back
-pub without-with : (set core : ℕ) → core < 64 → has set core ≡ false → without (with set core) core ≡ set
-without-with set core below missing = same_from_has (without (with set core) core) set same
-  where
-    same : (other : ℕ) → has (without (with set core) core) other ≡ has set other
-    same other =
-        elim (cases_eq other core) [
-          | inl here ↦ rw here (has-without_same (with set core) core ∙ sym missing)
-          | inr apart ↦ has-without_other (with set core) core other apart ∙ has-with_other set core other apart
-        ]
-
 -- a set with a core isn't 0
 pub some-from_has : (set core : ℕ) → has set core ≡ true → set ≢ 0
 some-from_has set core there empty =

@@ -2,5 +2,4 @@ mod Checked
 mod Dealt
 pub mod Made
 mod Owned
-mod Placed
 mod Ran

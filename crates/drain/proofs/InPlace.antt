@@ -9,11 +9,6 @@ changed f zero xs = xs
 changed f (suc i) [] = []
 changed f (suc i) (x ∷ xs) = f x ∷ changed f i xs
 
-pub length-changed : {X : Type 0} (f : X → X) (i : ℕ) (xs : List X) → length (changed f i xs) ≡ length xs
-length-changed f zero xs = refl
-length-changed f (suc i) [] = refl
-length-changed f (suc i) (x ∷ xs) = ap (λ n. suc n) (length-changed f i xs)
-
 -- The next element is as it was.
 pub next-unchanged : {X : Type 0} (f : X → X) (i : ℕ) (xs : List X) (d : X) → i < length xs
     → get_or (changed f i xs) i d ≡ get_or xs i d

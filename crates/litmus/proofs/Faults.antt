@@ -8,9 +8,6 @@ use Rattle.litmus_text.specs.Fault.{IsAtLine}
 use Rattle.litmus_text.specs.Statement.{statements_from}
 use Rattle.litmus_text.specs.declared.fault.TextFault.{TextFault}
 use Rattle.litmus_text.specs.declared.fault.TextFault.TheVariants as faults
-use Rattle.trace_check.specs.Trace.{IsFaultAt as IsTraceFaultAt, IsFaultOfTrace, IsNoMemoryOrLine, IsNoTrace}
-use Rattle.trace_check.specs.Trace.{IsOfLine}
-use Rattle.litmus.specs.Check.{IsNotChecked}
 use Rattle.litmus.specs.Tests.{IsTestNotRun}
 
 pub not-run : (text : List ℕ) (fault : TextFault) → IsNoMemoryOr ((whole : Said) → ¬ IsLitmusTest text whole) fault
@@ -20,11 +17,3 @@ not-run text faults.NoMemory refused line wrong = inl tt
 not-run text faults.CannotWrite refused line wrong = absurd refused
 not-run text (faults.Line number fault) refused line wrong = inr (refused, line, wrong)
 not-run text (faults.Config error) refused line wrong = inr (refused, line, wrong)
-
-pub not-checked : (text : List ℕ) (fault : TextFault) → IsNoMemoryOrLine (IsNoTrace text) fault
-    → IsAtLine (IsTraceFaultAt (statements_from 0 (lines text))) fault
-    → IsOfLine (IsFaultOfTrace (statements_from 0 (lines text))) fault → IsNotChecked text fault
-not-checked text faults.NoMemory refused line fault = inl tt
-not-checked text faults.CannotWrite refused line fault = absurd refused
-not-checked text (faults.Line number kind) refused line fault = inr (refused, line, fault)
-not-checked text (faults.Config error) refused line fault = absurd refused

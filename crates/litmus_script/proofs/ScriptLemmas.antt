@@ -1,5 +1,5 @@
 -- How a script's configuration is read, line by line.
-use Rattle.std.proofs.Common.{◌≡◌, ℕ, List, [], ◌∷◌, ◌++◌, Option, Some, None, Ok, Err, refl, sym, subst, ◌∙◌, inl, inr}
+use Rattle.std.proofs.Common.{◌≡◌, ℕ, List, [], ◌∷◌, ◌++◌, Option, Some, None, Ok, Err, refl, sym, subst, ◌∙◌, inr}
 use Rattle.std.proofs.Common.{append_assoc}
 use Rattle.std.specs.Prelude.{Result}
 use Rattle.std.specs.Option.{option_map_or}
@@ -9,8 +9,7 @@ use Rattle.address_map.specs.declared.config.ConfigError.{ConfigError}
 use Rattle.litmus_text.specs.Settings.{default_settings}
 use Rattle.litmus_text.specs.declared.fault.TextFault.{TextFault}
 use Rattle.litmus_text.specs.declared.settings.Settings.{Settings}
-use Rattle.litmus_script.specs.Fault.{BeginsAsConfig}
-use Rattle.litmus_script.specs.Script.{BeginOtherwise, Configures, IsConfigFault, IsConfigured, IsLineFault}
+use Rattle.litmus_script.specs.Script.{BeginOtherwise, Configures, IsConfigFault, IsConfigured}
 use Rattle.litmus_script.specs.Script.{IsNotConfigured, IsRefused, TakesLine}
 
 configures_more : (a b c : Settings) (done : List (ℕ × List (List ℕ))) (s : ℕ × List (List ℕ))
@@ -32,13 +31,6 @@ configured_more all left s old new so_far line = record {
   split = so_far.split ∙ sym (append_assoc so_far.done (s ∷ []) left);
   configured = configures_more default_settings old new so_far.done s so_far.configured line;
 }
-
--- a line that configures is at fault
-pub not_configured_line : (all left : List (ℕ × List (List ℕ))) (s : ℕ × List (List ℕ))
-    (settings : Settings) (fault : TextFault)
-    → IsConfigured all settings (s ∷ left) → BeginsAsConfig s.1 → IsLineFault s fault → IsNotConfigured all fault
-not_configured_line all left s settings fault so_far begins wrong =
-    record { settings = settings; left = s ∷ left; read = so_far; wrong = inl (begins, wrong) }
 
 refused_wrong : (settings : Settings) (left : List (ℕ × List (List ℕ))) (fault : TextFault) → BeginOtherwise left
     → IsRefused settings.config fault → IsConfigFault settings left fault

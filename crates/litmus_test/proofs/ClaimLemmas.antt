@@ -24,9 +24,6 @@ pub record LeaveClaims (words left : List (List ℕ)) (done : List (List ℕ × 
   pub only : (all : List (List ℕ × ℕ)) → AreClaims words all
       → (more : List (List ℕ × ℕ)) × ((all ≡ done ++ more) × AreClaims left more)
 
-pub leave_all : (words : List (List ℕ)) → LeaveClaims words words []
-leave_all words = record { whole = λ more h. h; only = λ all h. (all, (refl, h)) }
-
 pub leave_none : (words : List (List ℕ)) (done : List (List ℕ × ℕ)) → LeaveClaims words [] done → AreClaims words done
 unfolding AreClaims
 leave_none words done h = subst (AreClaims words) (append-nil done) (h.whole [] tt)

@@ -57,12 +57,6 @@ no_access name rest other (ops.Store value) word w = other accesses.Store w.0
 no_access name rest other (ops.Add delta) word w = other accesses.Add w.0
 no_access name rest other (ops.Cas expect new) word w = other accesses.Cas w.0
 
--- and write none
-pub no_access_written : (name : List ℕ) (rest : List (List ℕ)) → ((access : Access) → name ≢ name_of_access access)
-    → (op : Op) (word : ℕ) → Writes (name ∷ rest) (parts_of_op op word) → ⊥
-no_access_written name rest other op word w =
-    no_access name rest other op word (HasForm-Writes (name ∷ rest) (parts_of_op op word) w)
-
 -- .. so this is what is wrong with them
 pub nothing_fault : IsFormFaultOf parts_of_access [] faults.NotACommand
 unfolding IsFaultOf

@@ -41,12 +41,6 @@ no_channel name rest other (picks.Data line core) w = other classes.Data w.0
 no_channel name rest other (picks.Ack line to from) w = other classes.Ack w.0
 no_channel name rest other (picks.Home line) w = other classes.Home w.0
 
--- and write none
-pub no_channel_written : (name : List ℕ) (rest : List (List ℕ)) → ((class : Class) → name ≢ name_of_class class)
-    → (pick : Pick) → Writes (name ∷ rest) (parts_of_pick pick) → ⊥
-no_channel_written name rest other pick w =
-    no_channel name rest other pick (HasForm-Writes (name ∷ rest) (parts_of_pick pick) w)
-
 -- .. so this is what is wrong with them
 pub nothing_fault : (config : Config) → IsFaultOfPick config [] faults.NotACommand
 unfolding IsFaultOf

@@ -43,12 +43,6 @@ no_command name rest other commands.Waiting w = other verbs.Waiting w.0
 no_command name rest other commands.Show w = other verbs.Show w.0
 no_command name rest other (commands.Pump calls) w = other verbs.Pump w.0
 
--- and write none
-pub no_command_written : (name : List ℕ) (rest : List (List ℕ)) → ((verb : Verb) → name ≢ name_of_verb verb)
-    → (command : Command) → Writes (name ∷ rest) (parts_of command) → ⊥
-no_command_written name rest other command w =
-    no_command name rest other command (HasForm-Writes (name ∷ rest) (parts_of command) w)
-
 -- .. so this is what is wrong with them
 pub unnamed_fault : (config : Config) (name : List ℕ) (rest : List (List ℕ))
     → ((verb : Verb) → name ≢ name_of_verb verb)

@@ -1,5 +1,5 @@
 -- Cores that are dealt out to threads one after the other.
-use Rattle.std.proofs.Common.{◌≡◌, ℕ, Bool, true, false, List, [], ◌∷◌, ◌++◌, ◌∙◌, Option, None, Some, ap, append-nil}
+use Rattle.std.proofs.Common.{◌≡◌, ℕ, Bool, true, false, List, [], ◌∷◌, ◌++◌, ◌∙◌, Option, Some, ap, append-nil}
 use Rattle.std.proofs.Common.{subst, sym}
 use Rattle.std.specs.Prelude.{Err, IfOk, IsOkAnd, Ok, Result, cond, filter, is_some, map, not}
 use Rattle.std.specs.Option.{option_map_or}
@@ -48,21 +48,6 @@ thread-dealt threads seed round cores working programs idle v thread program fou
           (option_map_or (λ thread. thread.steps.items) t [])) found)
           ∙ sym (map-append (program_for threads seed round) working (v ∷ []));
       idle_are = dealt.idle_are ∙ sym (fails (λ w. not (has_thread threads w)) cores v (ap not has));
-    }
-
--- one core more that has none
-pub idle-dealt : (threads : List Thread) (seed round : ℕ) (cores working : List CoreView) (programs : List (List Step))
-    (idle : List CoreView) (v : CoreView) → None ≡ thread_at threads v.core
-    → AreDealt threads seed round cores working programs idle
-    → AreDealt threads seed round (cores ++ v ∷ []) working programs (idle ++ v ∷ [])
-idle-dealt threads seed round cores working programs idle v found dealt =
-    let has : has_thread threads v ≡ false = ap is_some (sym found) in
-    record {
-      working_are = dealt.working_are ∙ sym (fails (has_thread threads) cores v has);
-      programs_are = dealt.programs_are;
-      idle_are =
-          ap (λ (is : List CoreView). is ++ v ∷ []) dealt.idle_are
-          ∙ sym (passes (λ w. not (has_thread threads w)) cores v (ap not has));
     }
 
 -- The same, where the program was made and its core put to work.

@@ -1,10 +1,9 @@
 -- Lists that are made one item after another: what is there already, and what the rest comes to.
 use Rattle.std.proofs.Common.{◌≡◌, ℕ, suc, ◌+◌, ◌-◌, ◌<◌, Bool, true, false, List, [], ◌∷◌, ◌++◌, drop, get_or}
-use Rattle.std.proofs.Common.{length, map, Option, Some, None, refl, sym, ap, subst, ◌∙◌, append_assoc, arith}
-use Rattle.std.specs.Prelude.{IsSomeAnd, filter, filter_map, slice_get}
+use Rattle.std.proofs.Common.{length, map, Option, Some, None, refl, sym, ap, ◌∙◌, append_assoc, arith}
+use Rattle.std.specs.Prelude.{filter, filter_map}
 use Rattle.std.specs.List.{flat_map, range_with_len}
 use Rattle.std.proofs.lemmas.List.{drop_more}
-use Rattle.litmus_walk.proofs.DoneLemmas.{some-is}
 
 module _ {X : Type 0} where
   -- the first of the rest is there now
@@ -16,11 +15,6 @@ module _ {X : Type 0} where
   pub some-more : (all now new some rest : List X) → all ≡ now ++ (some ++ rest) → new ≡ now ++ some → all ≡ new ++ rest
   some-more all now new some rest whole pushed =
       whole ∙ sym (append_assoc now some rest) ∙ ap (λ xs. xs ++ rest) (sym pushed)
-
-  -- a list is its first item and what is behind it
-  pub first-and-rest : (xs : List X) (x : X) → Some x ≡ slice_get xs 0 → xs ≡ x ∷ drop 1 xs
-  first-and-rest [] x is = absurd (subst (λ found. IsSomeAnd found (λ y. x ≡ y)) is refl)
-  first-and-rest (y ∷ xs) x is = ap (λ z. z ∷ xs) (sym (some-is x y is))
 
 -- the numbers from one on, the first of them before the others
 pub range-next : (i n : ℕ) → i < n → range_with_len i (n - i) ≡ i ∷ range_with_len (i + 1) (n - (i + 1))

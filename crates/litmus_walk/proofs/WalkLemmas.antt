@@ -1,12 +1,10 @@
 -- A walk that goes on by some calls and then by some more goes on by all of them.
-use Rattle.std.proofs.Common.{◌≡◌, List, [], ◌∷◌, ◌++◌, append_assoc, ap, refl, sym, subst, ◌∙◌}
+use Rattle.std.proofs.Common.{List, [], ◌∷◌, ◌++◌, append_assoc, ap, refl, sym, subst, ◌∙◌}
 use Rattle.std.proofs.lemmas.List.{append-nil}
 use Rattle.address_map.specs.declared.config.Config.{Config}
-use Rattle.litmus_test.specs.declared.test.LitmusTest.{LitmusTest}
 use Rattle.litmus_test.specs.declared.test.Thread.{Thread}
-use Rattle.mshr_file.specs.Miss.{Bound}
 use Rattle.slice_core_plan.specs.Calls.{PartsView}
-use Rattle.litmus_walk.specs.Walk.{AreCallsOf, IsCallOf, IsFresh, IsWalkOf, Makes, Plays, WalkView, Walks}
+use Rattle.litmus_walk.specs.Walk.{AreCallsOf, IsCallOf, Makes, Plays, WalkView, Walks}
 use Rattle.litmus_walk.specs.declared.recorded.Made.{Made}
 
 pub plays-append : (config : Config) (xs ys : List Made) (a b c : List PartsView)
@@ -47,18 +45,3 @@ walks_then threads a b c first then = record {
   plays = plays-append a.config first.more then.more a.slices b.slices c.slices first.plays
       (subst (λ config. Plays config then.more b.slices c.slices) first.config then.plays);
 }
-
--- what a new machine's walk comes to is a walk
-pub walk_of_new : (test : LitmusTest) (bound : Bound) (a b : WalkView) → IsFresh test.config bound a
-    → Walks test.threads.items a b → IsWalkOf test bound b
-walk_of_new test bound a b fresh goes =
-    let calls : b.calls ≡ goes.more = goes.calls ∙ ap (λ calls. calls ++ goes.more) fresh.none in
-    record {
-      start = a.slices;
-      fresh = fresh.fresh;
-      shape = goes.config ∙ fresh.shape;
-      plays =
-          subst (λ calls. Plays test.config calls a.slices b.slices) (sym calls)
-          (subst (λ shape. Plays shape goes.more a.slices b.slices) fresh.shape goes.plays);
-      theirs = subst (AreCallsOf test.threads.items) (sym calls) goes.theirs;
-    }

@@ -13,16 +13,6 @@ use Rattle.mshr_file.specs.Miss.{is_for, targets_in, targets_of, is_waited, has_
 use Rattle.mshr_file.specs.Miss.{TakesTargets}
 use Rattle.mshr_file.proofs.Lists.{count_by-yes, count_by-no}
 
--- Where no target was taken, the misses may be as they were.
-pub takes_nothing : (misses : List Register) (line : ℕ) → TakesTargets misses misses line []
-takes_nothing misses line = record {
-  here = refl;
-  others = λ other differs. refl;
-  counts = λ test. omega arith;
-  ordered = λ ordered. ordered;
-  once = λ once. once;
-}
-
 -- Taking some targets of a line and then some more is taking all of these.
 pub takes_then : (old now new : List Register) (line : ℕ) (first second : List Target) →
     TakesTargets old now line first →

@@ -306,16 +306,6 @@ takes_first line (entry ∷ entries) d there =
     (takes_first line entries d (rw elsewhere at there)))))
     (cases_Bool (waits_for line entry))
 
--- Nothing is taken where nothing is asked for.
-pub takes_none : (line : ℕ) (entries : List Waiting) → list_any (waits_for line) entries ≡ true →
-    TakesEntries entries line [] entries
-takes_none line entries there = record {
-  here = refl;
-  others = λ other differs. refl;
-  counts = λ test. omega arith;
-  lines = rw there (omega arith);
-}
-
 -- What is taken in two steps is taken.
 pub takes_more : (line : ℕ) (old now new : List Waiting) (first second : List Target) →
     TakesEntries old line first now →

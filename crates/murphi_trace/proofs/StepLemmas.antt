@@ -1,23 +1,13 @@
 -- One line more of a trace.
-use Rattle.std.proofs.Common.{◌≡◌, ℕ, Bool, List, [], ◌∷◌, ◌++◌, Option, None, Some, ◌||◌, arith, refl, sym, ap}
-use Rattle.std.specs.Prelude.{max, option_map}
-use Rattle.std.specs.List.{cons_option, list_any}
+use Rattle.std.proofs.Common.{◌≡◌, ℕ, List, ◌++◌, Option, None, Some, refl, sym, ap}
+use Rattle.std.specs.Prelude.{option_map}
+use Rattle.std.specs.List.{cons_option}
 use Rattle.murphi_trace.specs.declared.rule.Rule.{Rule}
-use Rattle.murphi_trace.specs.Replay.{core_told, data_e_told, rules_with, text_of_told}
-use Rattle.murphi_trace.specs.Script.{Step, greatest_core, names_data_e, step_by, text_of_steps, with_rule}
+use Rattle.murphi_trace.specs.Replay.{rules_with, text_of_told}
+use Rattle.murphi_trace.specs.Script.{Step, step_by, text_of_steps, with_rule}
 use Rattle.murphi_trace.specs.Fired.{fired_by}
 use Rattle.murphi_trace.specs.Rule.{rule_of}
 use Rattle.murphi_trace.proofs.PartLemmas.{from_some}
-
-pub greatest_more : (step : Option Step) (more : List Step)
-    → greatest_core (cons_option step more) ≡ max (core_told step) (greatest_core more)
-greatest_more None more = omega arith
-greatest_more (Some step) more = refl
-
-pub any_more : (fired : Option (List ℕ × List ℕ)) (more : List (List ℕ × List ℕ))
-    → list_any names_data_e (cons_option fired more) ≡ (data_e_told fired || list_any names_data_e more)
-any_more None more = refl
-any_more (Some fired) more = refl
 
 pub text_more : (before : List Rule) (step : Option Step) (more : List Step)
     → text_of_steps before (cons_option step more)

@@ -1,8 +1,7 @@
 -- The tags of each core's accesses.
-use Rattle.std.proofs.Common.{◌≡◌, ◌≢◌, ℕ, zero, suc, Bool, true, false, cond, ◌+◌, ◌%◌, ◌<◌, ◌≤◌, List, [], ◌∷◌, ◌++◌}
-use Rattle.std.proofs.Common.{length, get_or, Option, None, Some, refl, sym, ap, ◌∙◌, inl, inr, arith, true-eqb, eq-eqb}
+use Rattle.std.proofs.Common.{◌≡◌, ◌≢◌, ℕ, suc, true, false, cond, ◌+◌, ◌%◌, ◌<◌, List, [], ◌∷◌, ◌++◌}
+use Rattle.std.proofs.Common.{length, Option, None, Some, refl, sym, ap, ◌∙◌, inl, inr, arith, true-eqb, eq-eqb}
 use Rattle.std.specs.Prelude.{◌==◌, replicate}
-use Rattle.std.specs.List.{count_by}
 use Rattle.std.proofs.Math.ListN.{set}
 use Rattle.std.proofs.lemmas.Bool.{cases_Bool, false≢true}
 use Rattle.std.proofs.lemmas.Grind.{common_steps, get_or-set_at}
@@ -16,34 +15,12 @@ use Rattle.murphi_trace.specs.Script.{accesses_of, is_access_of}
 pub tags_none : AreTags (replicate 10 None) []
 tags_none = λ core within. grind (arith, common_steps)
 
--- the tag behind another
-pub first_tag : (accesses : ℕ) → None ≡ last_tag accesses → 0 ≡ accesses % 64
-first_tag zero none = refl
-first_tag (suc earlier) none = absurd (cc)
-
-pub further_tag : (accesses tag : ℕ) → Some tag ≡ last_tag accesses → tag < 63 → tag + 1 ≡ accesses % 64
-further_tag zero tag last small = absurd (cc)
-further_tag (suc earlier) tag last small = let is : tag ≡ earlier % 64 = cc in omega arith
-
-pub tag_again : (accesses tag : ℕ) → Some tag ≡ last_tag accesses → 63 ≤ tag → 0 ≡ accesses % 64
-tag_again zero tag last great = absurd (cc)
-tag_again (suc earlier) tag last great = let is : tag ≡ earlier % 64 = cc in omega arith
-
 -- one rule more
 accesses_push : (core : ℕ) (before : List Rule) (rule : Rule)
     → accesses_of core (before ++ rule ∷ []) ≡ accesses_of core before + cond (is_access_of core rule) 1 0
 accesses_push core before rule =
     let one : accesses_of core (rule ∷ []) ≡ 0 + cond (is_access_of core rule) 1 0 = refl in
     omega (arith, one, sum_by-append (λ r. cond (is_access_of core r) 1 0) before (rule ∷ []))
-
--- no core has another tag behind a rule that is no access
-pub tags_kept : (tags : List (Option ℕ)) (before : List Rule) (rule : Rule)
-    → ((core : ℕ) → is_access_of core rule ≡ false) → AreTags tags before → AreTags tags (before ++ rule ∷ [])
-tags_kept tags before rule none are = λ core within.
-    let count = accesses_push core before rule in
-    let more = rw (none core) at count in
-    let same : accesses_of core before ≡ accesses_of core (before ++ rule ∷ []) = omega arith in
-    are core within ∙ ap last_tag same
 
 -- behind an access its core has the access's tag, and no other core another
 pub tags_more : (tags : List (Option ℕ)) (before : List Rule) (rule : Rule) (number tag : ℕ) → number < length tags

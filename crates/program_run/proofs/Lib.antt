@@ -1,6 +1,5 @@
 pub mod AskLemmas
 pub mod Commas
-pub mod DeliveryLemmas
 pub mod MoveLemmas
 pub mod Names
 pub mod RunLemmas

@@ -1,7 +1,7 @@
 -- The lines of a set, one after another, and the one that left.
 use Rattle.std.proofs.Common.{◌≡◌, ℕ, ◌+◌, ◌*◌, ◌/◌, ◌%◌, ◌<◌, ◌≤◌, ◌&&◌, nat_lt, true, false, List, slice_get, None}
 use Rattle.std.proofs.Common.{sym, ap, subst, ◌∙◌, refl, arith}
-use Rattle.std.proofs.Math.Nat.{add-mul-mod_self_right, div-mul-le_self, mod-add-div', mod-mod, mul-le-mul_right}
+use Rattle.std.proofs.Math.Nat.{add-mul-mod_self_right, div-mul-le_self, mod-add-div', mod-mod}
 use Rattle.std.proofs.lemmas.Bool.{and_parts, ltb-true}
 use Rattle.std.proofs.lemmas.Nat.{le-div}
 use Rattle.address_map.specs.declared.address.CoreId.{CoreId}
@@ -15,12 +15,6 @@ use Rattle.program_run.specs.Run.{HasLeft, IsVictim, is_leaving_in}
 -- a line of the set, by its place there
 pub in_set : (line step place : ℕ) → (line % step + place * step) % step ≡ line % step
 in_set line step place = add-mul-mod_self_right (line % step) place step ∙ mod-mod line step
-
--- a place below as many as the set has is of a line of the memory or just behind
-pub within_lines : (lines step place : ℕ) → place < lines / step + 1 → place * step ≤ lines
-within_lines lines step place below =
-    let most : place * step ≤ lines / step * step = mul-le-mul_right step (omega arith) in
-    omega (arith, most, div-mul-le_self lines step)
 
 -- the line left
 pub has_left : (config : Config) (slices : List PartsView) (history : History) (core : CoreId) (line left : LineAddr)

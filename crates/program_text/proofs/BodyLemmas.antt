@@ -1,13 +1,13 @@
 -- Accesses that are spread, and written out, and how many there are.
-use Rattle.std.proofs.Common.{◌≡◌, ◌≢◌, ℕ, zero, suc, Bool, true, false, ◌+◌, ◌-◌, ◌*◌, ◌<◌, ◌≤◌, List, [], ◌∷◌, ◌++◌}
-use Rattle.std.proofs.Common.{length, get_or, map, take, drop, refl, sym, ap, ap₂, subst, ◌∙◌, arith, add-one}
+use Rattle.std.proofs.Common.{◌≡◌, ℕ, zero, suc, ◌+◌, ◌-◌, ◌*◌, ◌<◌, ◌≤◌, List, [], ◌∷◌, ◌++◌}
+use Rattle.std.proofs.Common.{length, get_or, map, take, drop, refl, sym, ap, ap₂, ◌∙◌, arith}
 use Rattle.std.proofs.Common.{append_assoc, append-nil, length-append, length-drop, suc-mul}
 use Rattle.std.proofs.Math.Seq.{take-append_seam}
 use Rattle.std.specs.Prelude.{reverse, slice_range}
 use Rattle.std.specs.List.{range_with_len}
 use Rattle.std.proofs.Math.ListN.{set}
-use Rattle.std.proofs.lemmas.List.{drop-append-le, drop_all, get_or-drop, get_or_append_left, length-map}
-use Rattle.std.proofs.lemmas.List.{length-reverse, map-append, reverse-append, take_all, take_more, take-append-drop}
+use Rattle.std.proofs.lemmas.List.{drop-append-le, drop_all, get_or-drop, get_or_append_left}
+use Rattle.std.proofs.lemmas.List.{map-append, reverse-append, take_all, take_more, take-append-drop}
 use Rattle.std.proofs.lemmas.List.FromFn.{length-map-range_with_len, map-range_with_len_more}
 use Rattle.address_map.specs.declared.request.Op.{Op}
 use Rattle.program_text.specs.declared.programs.Access.{Access}
@@ -113,9 +113,6 @@ written_nothing start n old past =
     sym (ap₂ (λ (xs ys : List Access). xs ++ ys) (take_all start old past)
     (ap (times n) (drop_all start old past) ∙ times_nothing n) ∙ append-nil old)
 
-pub written_never : (start : ℕ) (old now : List Access) → now ≡ take start old → now ≡ written_out start 0 old
-written_never start old now is = is ∙ sym (append-nil (take start old))
-
 -- ---- the last program
 
 pub record IsLast (cores : List CoreProgram) (last : ℕ) (now d : CoreProgram) : Type 0 where
@@ -157,13 +154,6 @@ programs_last change cores last now d count core accesses =
     ap (λ (xs : List CoreProgram). reverse (map program_of xs)) at.was ∙ programs_push at.front was in
     let same : program_of now ≡ (was.core, change was.accesses.items) = cc in
     new ∙ ap (λ (p : Program). p ∷ before) same ∙ sym (ap (with_accesses change) old)
-
-pub last_count : (cores : List CoreProgram) (last : ℕ) (d : CoreProgram) → length cores ≡ last + 1
-    → last_accesses (reverse (map program_of cores)) ≡ length (get_or cores last d).accesses.items
-last_count cores last d count =
-    let at = set_last cores last d d count in
-    ap (λ (xs : List CoreProgram). last_accesses (reverse (map program_of xs))) at.was
-    ∙ ap last_accesses (programs_push at.front (get_or cores last d))
 
 -- ---- how many accesses there are
 

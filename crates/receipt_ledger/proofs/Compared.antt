@@ -1,33 +1,12 @@
 -- What a search among ports, and an element at a place, say of what they are compared with.
 use Rattle.std.proofs.Common.{◌≡◌, ℕ, zero, suc, ◌+◌, ◌<◌, ◌≤◌, Bool, true, false, cond, List, [], ◌∷◌, get_or, length}
 use Rattle.std.proofs.Common.{map, take, Option, Some, None, refl, sym, ap, ◌∙◌, subst, arith}
-use Rattle.std.specs.Prelude.{find, slice_get, IsSomeAnd, IsTrue, MatchOption}
+use Rattle.std.specs.Prelude.{find, slice_get, IsTrue, MatchOption}
 use Rattle.std.proofs.lemmas.Bool.{false≢true}
 use Rattle.std.proofs.lemmas.Option.{same_Some}
 
--- what a test decides of an element that is there, and of one that isn't
-pub decides-some : {X : Type 0} (o : Option X) (x : X) (P : X → Type 0) (b : Bool) → o ≡ Some x → (IsTrue b → P x)
-    → (P x → IsTrue b) → (IsTrue b → IsSomeAnd o P) × (IsSomeAnd o P → IsTrue b)
-decides-some o x P b is to from = (
-  λ t. subst (λ y. IsSomeAnd y P) (sym is) (to t),
-  λ h. from (subst (λ y. IsSomeAnd y P) is h),
-)
-
-pub decides-none : {X : Type 0} (o : Option X) (P : X → Type 0) → o ≡ None
-    → (IsTrue false → IsSomeAnd o P) × (IsSomeAnd o P → IsTrue false)
-decides-none o P is = (λ t. absurd (false≢true t), λ h. absurd (subst (λ y. IsSomeAnd y P) is h))
-
 one : {X : Type 0} {x y : X} → Some x ≡ Some y → x ≡ y
 one is = cc
-
--- the same of whether it is one that is wanted
-pub compares-some : {X : Type 0} (o : Option X) (x y : X) (b : Bool) → o ≡ Some x → (IsTrue b → x ≡ y)
-    → (x ≡ y → IsTrue b) → (IsTrue b → o ≡ Some y) × (o ≡ Some y → IsTrue b)
-compares-some o x y b is to from = (λ t. is ∙ ap (λ z. Some z) (to t), λ h. from (sym (one (sym h ∙ is))))
-
-pub compares-none : {X : Type 0} (o : Option X) (y : X) → o ≡ None
-    → (IsTrue false → o ≡ Some y) × (o ≡ Some y → IsTrue false)
-compares-none o y is = (λ t. absurd (false≢true t), λ h. absurd (cc (is, h)))
 
 -- the same of what a search finds
 pub finds-some : {X : Type 0} (o : Option X) (x : X) (P : X → Type 0) (b : Bool) → o ≡ Some x → (IsTrue b → P x)

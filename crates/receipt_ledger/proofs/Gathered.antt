@@ -1,7 +1,7 @@
 -- What is gathered from a port is given back to it: its requests, and its receipts' entries one by one.
-use Rattle.std.proofs.Common.{◌≡◌, ℕ, ◌+◌, ◌<◌, ◌≤◌, List, [], ◌∷◌, ◌++◌, length, take, drop, get_or, sym, ap, ◌∙◌}
+use Rattle.std.proofs.Common.{◌≡◌, ℕ, ◌+◌, ◌<◌, List, [], ◌∷◌, ◌++◌, length, take, drop, get_or, sym, ap, ◌∙◌}
 use Rattle.std.proofs.Common.{zero-add}
-use Rattle.std.proofs.lemmas.List.{drop_more, map-append, take_all, take_more}
+use Rattle.std.proofs.lemmas.List.{drop_more, map-append, take_more}
 use Rattle.address_map.specs.declared.address.WordAddr.{WordAddr}
 use Rattle.receipt_ledger.specs.Port.{entries_of}
 use Rattle.receipt_ledger.specs.declared.receipt.Receipt.{Receipt}
@@ -91,15 +91,3 @@ module _ (words : List WordAddr) where
           together_cancel fewer (together gives.others (totals words 0 (entries_of (drop (given + 1) receipts))))
           (only_handed words r.entry) (sum ∙ next);
     }
-
-  -- In the end all is given.
-  pub gives-all : (accepted : ℕ) (receipts : List Receipt) (given : ℕ) (whole left got : Totals)
-      → length receipts ≤ given
-      → GivesBack accepted receipts given whole left got
-      → (together left (totals words accepted (entries_of receipts)) ≡ whole)
-      × (got ≡ totals words accepted (entries_of receipts))
-  gives-all accepted receipts given whole left got past gives =
-      let all = take_all given receipts past in (
-        ap (λ (rs : List Receipt). together left (totals words accepted (entries_of rs))) (sym all) ∙ gives.sum,
-        gives.got_is ∙ ap (λ (rs : List Receipt). totals words accepted (entries_of rs)) all,
-      )

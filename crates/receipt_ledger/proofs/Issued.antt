@@ -62,10 +62,6 @@ module _ (old : PartsView) (core : CoreId) (request : Request) (issue : Issue) (
       placed old.view core request local access (is_past old.view.lines request.word)
       (local_at old.view.lines (line_of request.word).0) is
 
-  pub issued-spares : AfterIssue old core request (Ok issue) new
-      → stores_to old.view.counters request.op request.word ≡ false
-  issued-spares after = spares (decision_of old.view core request) refl after
-
 -- ---- done at once
 
 module _ (old : PartsView) (core : CoreId) (request : Request) (number : ℕ) (new : PartsView) where

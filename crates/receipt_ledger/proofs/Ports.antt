@@ -9,7 +9,7 @@ use Rattle.address_map.specs.declared.address.SliceId.{SliceId}
 use Rattle.address_map.specs.declared.config.Config.{Config}
 use Rattle.address_map.specs.declared.request.Request.{Request}
 use Rattle.receipt_ledger.specs.Port.{AreFreshPorts, HasRoom, IsOwn, IsPort, IsWithRoom, PortView, Room, entries_of}
-use Rattle.receipt_ledger.specs.Port.{fresh_port, held_by, seen_of, with_receipt, with_request, with_seen}
+use Rattle.receipt_ledger.specs.Port.{fresh_port, held_by, seen_of, with_receipt, with_request}
 use Rattle.receipt_ledger.specs.declared.receipt.Receipt.{Receipt}
 use Rattle.receipt_shares.proofs.Totals.{totals_accepted, totals_nil, totals_push}
 use Rattle.address_map.specs.Place.{counters_of}
@@ -130,19 +130,6 @@ room-port c number p shares room port reserved = record {
   fewer = port.fewer;
   reserved = reserved;
   greatest = port.greatest;
-  own = port.own;
-}
-
--- A port that has seen more is one.
-pub seen-port : (c : Config) (number : ℕ) (p : PortView) (shares : Amounts) (entry : ℕ) → IsPort c number p shares
-    → IsPort c number (with_seen p entry) shares
-seen-port c number p shares entry port = record {
-  known = port.known;
-  named = port.named;
-  held = port.held;
-  fewer = port.fewer;
-  reserved = port.reserved;
-  greatest = let greatest = port.greatest in omega (arith, greatest);
   own = port.own;
 }
 

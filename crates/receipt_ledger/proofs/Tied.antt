@@ -1,5 +1,5 @@
 -- State and book go on belonging together: what each call makes of the totals.
-use Rattle.std.proofs.Common.{◌≡◌, ℕ, ◌<◌, List, [], ◌∷◌, ◌++◌, get_or, length, map, Some, Ok, refl, sym, ap, ◌∙◌}
+use Rattle.std.proofs.Common.{◌≡◌, ℕ, ◌<◌, List, [], ◌∷◌, ◌++◌, get_or, length, map, Some, Ok, sym, ap, ◌∙◌}
 use Rattle.std.proofs.Common.{subst, arith}
 use Rattle.std.specs.Prelude.{slice_get, slice_index_or}
 use Rattle.std.proofs.Math.ListN.{get_or-map}
@@ -26,7 +26,7 @@ use Rattle.slice_core_machine.specs.Shows.{Leads, Performs, issue_steps, next_of
 use Rattle.slice_core_log.specs.declared.entry.Numbered.{Numbered}
 use Rattle.slice_core_plan.specs.Calls.{AfterHand, AfterIssue, PartsView}
 use Rattle.slice_core.specs.Shape.{shape_of}
-use Rattle.slice_core_plan.specs.View.{View, no_side}
+use Rattle.slice_core_plan.specs.View.{no_side}
 use Rattle.slice_core_side.specs.Side.{SideView}
 
 -- Where all parts have the same shapes, each has.
@@ -166,17 +166,6 @@ done-last old new core request number step leads =
           sym (get_or_from_slice_get (old.view.log ++ e ∷ []) number given e (ap (λ l. slice_get l number) log ∙ there))
           ∙ get_or_push old.view.log e e number (sym last);
     }
-
--- Where nothing was asked, no step was made.
-pub no-steps : (v : View) → Leads [] v v
-no-steps v = record {
-  init = refl;
-  run = record {
-    log = refl;
-    waiting = λ r. (λ waits. waits, λ waits. waits);
-    replies = λ number. (λ waits. waits, λ waits. waits);
-  };
-}
 
 -- What is handed out is an entry for the core that asked, on a word of the slice.
 module _ (c : Config) (number : ℕ) (t : Totals) (old new : PartsView)

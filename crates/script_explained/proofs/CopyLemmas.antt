@@ -1,5 +1,5 @@
 -- The copies of all lines, one line after another.
-use Rattle.std.proofs.Common.{◌≡◌, ◌≢◌, ℕ, ◌+◌, ◌-◌, ◌<◌, ◌≤◌, Bool, true, false, cond, List, [], ◌∷◌, ◌++◌, suc, zero}
+use Rattle.std.proofs.Common.{◌≡◌, ℕ, ◌+◌, ◌-◌, ◌<◌, ◌≤◌, Bool, true, false, cond, List, [], ◌∷◌, ◌++◌, suc, zero}
 use Rattle.std.proofs.Common.{refl, sym, append_assoc, arith}
 use Rattle.std.proofs.Output.{writes_in_calls_append, writes_in_calls_nil}
 use Rattle.std.proofs.lemmas.List.{append-nil}
@@ -8,9 +8,8 @@ use Rattle.std.specs.List.{filter, range_with_len}
 use Rattle.std.specs.Prelude.{if◌then◌else◌}
 use Rattle.address_map.specs.declared.address.CoreId.{CoreId}
 use Rattle.address_map.specs.declared.config.Config.{Config}
-use Rattle.script_explained.specs.Named.{text_of_all_named, text_of_copies, text_of_named}
+use Rattle.script_explained.specs.Named.{text_of_all_named, text_of_named}
 use Rattle.script_explained.specs.declared.named.Named.{Named}
-use Rattle.script_explained.specs.declared.named.Named.TheVariants as named
 use Rattle.slice_core_plan.specs.View.{View}
 
 module _ {W : Type 0} (took : W → List ℕ → W → Type 0) (config : Config) (which : Named) (left : List ℕ)
@@ -49,14 +48,3 @@ pub none_leaves : (leaves : ℕ → Bool) (line lines : ℕ) → lines ≤ line 
     → all ≡ all ++ filter leaves (range_with_len line (lines - line))
 none_leaves leaves line lines behind all =
     let e : lines - line ≡ zero = omega arith in rw e (sym (append-nil all))
-
--- where something is named, all lines are looked at
-pub copies_of_some : (config : Config) (which : Named) (left : List ℕ) (v : View) (core : CoreId)
-    → which ≢ named.Nothing
-    → text_of_copies config which left v core ≡ text_of_all_named config which left v core
-    (range_with_len 0 config.lines)
-copies_of_some config named.Nothing left v core some = absurd (some refl)
-copies_of_some config named.Waiting left v core some = refl
-copies_of_some config named.Leaving left v core some = refl
-copies_of_some config named.Victims left v core some = refl
-copies_of_some config (named.InSetOf line) left v core some = refl

@@ -1,4 +1,3 @@
 pub mod AskedLemmas
-pub mod NextLemmas
 pub mod OwnLemmas
 pub mod SessionLemmas

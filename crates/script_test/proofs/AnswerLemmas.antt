@@ -1,17 +1,16 @@
 -- What commands answer, from what a player keeps of them.
-use Rattle.std.proofs.Common.{◌≡◌, ℕ, List, [], ◌∷◌, ◌++◌, Option, Some, refl, ap, sym, subst, ◌∙◌, inr, append_assoc}
+use Rattle.std.proofs.Common.{◌≡◌, ℕ, List, [], ◌∷◌, ◌++◌, Option, Some, ap, sym, subst, ◌∙◌, append_assoc}
 use Rattle.std.proofs.Common.{append-nil}
 use Rattle.address_map.specs.declared.config.Config.{Config}
 use Rattle.litmus_text.specs.declared.command.Command.{Command}
 use Rattle.litmus_text.specs.declared.fault.TextFault.{TextFault}
-use Rattle.litmus_script.specs.Machine.{IsNewMachine, bound_of}
-use Rattle.litmus_script.specs.Play.{PlaysAll, PlaysOne, PlaysUpTo}
+use Rattle.litmus_script.specs.Machine.{IsNewMachine}
+use Rattle.litmus_script.specs.Play.{PlaysAll, PlaysUpTo}
 use Rattle.litmus_script.specs.Prints.{IsPrinted}
-use Rattle.litmus_script.specs.Script.{IsScript, IsStoppedOn, commands_of}
-use Rattle.litmus_script.specs.declared.script.Script.{Script}
+use Rattle.litmus_script.specs.Script.{IsStoppedOn}
 use Rattle.mshr_file.specs.Miss.{Bound}
 use Rattle.slice_core_plan.specs.Calls.{PartsView}
-use Rattle.script_test.specs.Answers.{Answer, Answering, AreAnswered, AreAnswers}
+use Rattle.script_test.specs.Answers.{Answer, Answering, AreAnswered}
 
 module _ {P : Type 0} (slices : P → List PartsView) (config_in : P → Config) (texts : P → List (List ℕ))
     (plays : P → List ℕ → Command → Option (List ℕ) → Option (List ℕ) → P → Type 0)
@@ -44,12 +43,6 @@ module _ {P : Type 0} (slices : P → List PartsView) (config_in : P → Config)
           behind.2,
         ),
       )
-
--- the commands of a script that was read answer
-pub are_answers : (all : List (ℕ × List (List ℕ))) (script : Script) (texts : List (List ℕ)) → IsScript all script
-    → AreAnswered script.config (bound_of script.misses script.config) (commands_of script.commands) texts
-    → AreAnswers all texts
-are_answers all script texts read answered = inr (script.config, _, _, read, answered)
 
 -- commands that are played on a new machine up to a fault
 pub stopped_on : (config0 config : Config) (bound : Bound) (commands : List (ℕ × List (List ℕ)))

@@ -1,5 +1,5 @@
 -- Every step keeps the blocks current, and they are in the beginning.
-use Rattle.std.proofs.Common.{◌≡◌, ℕ, ◌<◌, ◌≤◌, Bool, true, false, refl, ◌∙◌, sym, subst, if◌then◌else◌, IsTrue}
+use Rattle.std.proofs.Common.{◌≡◌, ℕ, ◌<◌, ◌≤◌, Bool, true, false, refl, sym, subst, if◌then◌else◌, IsTrue}
 use Rattle.std.proofs.Common.{true≢false}
 use Rattle.address_map.specs.declared.block.Block.{Block}
 use Rattle.cache_table.specs.CopyState.{is_writer}
@@ -9,7 +9,6 @@ use Rattle.cache_table.specs.declared.row.CacheEvent.TheVariants as events
 use Rattle.cache_table.specs.declared.row.CacheSends.{CacheSends}
 use Rattle.cache_table.specs.declared.row.Row.TheVariants as rows
 use Rattle.cache_table.specs.declared.state.CopyState.{CopyState}
-use Rattle.directory_table.specs.Law.{is_named}
 use Rattle.slice_core_protocol.proofs.Directory.{IsKept}
 use Rattle.slice_core_protocol.proofs.Steps.{first_coherent, step_kept}
 use Rattle.slice_core_protocol.proofs.ValueAck.{ack_current}
@@ -17,12 +16,11 @@ use Rattle.slice_core_protocol.proofs.ValueServe.{serve_current}
 use Rattle.slice_core_protocol.proofs.ValueTurn.{turn_current, turned_blocks}
 use Rattle.slice_core_protocol.proofs.ValueWrite.{write_current}
 use Rattle.slice_core_protocol.specs.Coherent.{IsCoherent}
-use Rattle.slice_core_protocol.specs.Fit.{is_no_data, is_put_m}
 use Rattle.slice_core_protocol.specs.Line.{Line, Roles}
 use Rattle.slice_core_protocol.specs.Machine.{Reached, Step, after, after_turn, beginning, count, first, further, serve}
 use Rattle.slice_core_protocol.specs.Machine.{stands, turn}
 use Rattle.slice_core_protocol.specs.Values.{Blocks, HasBlocks, IsCurrent, ReachedWith, beginning_with, blocks_after}
-use Rattle.slice_core_protocol.specs.Values.{further_with, has_newest, is_at_home, newest_after, performs}
+use Rattle.slice_core_protocol.specs.Values.{further_with, has_newest, newest_after, performs}
 
 -- A turn that performs a write is a write by who may write.
 performs_write : (event : CacheEvent) (next : CopyState) → performs event next ≡ true
@@ -119,24 +117,3 @@ with_blocks exclusive cores line home beginning =
 with_blocks exclusive cores line home (further {line = before} reached step) =
     let old = with_blocks exclusive cores before home reached in
     (blocks_after step home old.0, newest_after step home old.1, further_with old.2 step home)
-
--- Which blocks are current is a fact of the cores' parts and blocks alone.
-pub current-same : (cores : ℕ) (line next : Line) (blocks others : Blocks) (newest : Block)
-    → next.directory ≡ line.directory → next.owner ≡ line.owner → next.home ≡ line.home
-    → ((x : ℕ) → x < cores → next.part x ≡ line.part x) → ((x : ℕ) → x < cores → others.copy x ≡ blocks.copy x)
-    → ((x : ℕ) → x < cores → others.arriving x ≡ blocks.arriving x)
-    → ((x : ℕ) → x < cores → others.put x ≡ blocks.put x) → others.home ≡ blocks.home → others.mail ≡ blocks.mail
-    → IsCurrent cores line blocks newest → IsCurrent cores next others newest
-current-same cores line next blocks others newest d o w parts copies arrivals puts home mail current = record {
-  copy = λ x below h.
-      copies x below ∙ current.copy x below (subst (λ q. has_newest q.look ≡ true) (parts x below) h);
-  arriving = λ x below h.
-      arrivals x below
-      ∙ current.arriving x below (subst (λ q. is_no_data q.look.incoming ≡ false) (parts x below) h);
-  put = λ x below owns h.
-      puts x below
-      ∙ current.put x below (subst (λ owner. is_named owner x ≡ true) o owns)
-      (subst (λ q. is_put_m q.look.request ≡ true) (parts x below) h);
-  home = λ h. home ∙ current.home (subst (λ state. is_at_home state ≡ true) d h);
-  mail = λ h. mail ∙ current.mail (sym w ∙ h);
-}

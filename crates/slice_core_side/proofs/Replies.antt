@@ -105,15 +105,6 @@ pub record IsSearched (states : List TagState) (replies rest : ℕ) (least : Opt
   pub least_so_far : IsLeastBut states rest least
   pub within : IfSome least (λ found. found.0 < 64)
 
-pub search-begins : (states : List TagState) (replies : ℕ) → MarksReplies states replies →
-    IsSearched states replies replies None
-search-begins states replies marked = record {
-  marked = marked;
-  left = λ tag there. there;
-  least_so_far = λ tag number missing. silent states replies tag number marked missing;
-  within = tt;
-}
-
 number_of-Performed : (m n : ℕ) → tags.Performed m ≡ tags.Performed n → m ≡ n
 number_of-Performed m n e = cc
 

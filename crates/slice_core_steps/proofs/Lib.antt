@@ -1,6 +1,5 @@
 pub mod Begins
 pub mod Handed
-pub mod Issued
 pub mod Quiet
 pub mod StandsLaws
 pub mod ShapedLaws

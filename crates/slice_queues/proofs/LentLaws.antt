@@ -3,8 +3,7 @@ use Rattle.std.proofs.Common.{◌≡◌, ℕ, ◌<◌, ◌++◌, if◌then◌els
 use Rattle.std.proofs.Common.{eq-eqb}
 use Rattle.std.specs.Prelude.{eqb}
 use Rattle.std.proofs.Math.Bool.{or-true}
-use Rattle.std.proofs.Math.ListN.{length-set}
-use Rattle.std.proofs.lemmas.List.{get_or-set_same, set-get_or, set-set}
+use Rattle.std.proofs.lemmas.List.{get_or-set_same, set-set}
 use Rattle.std.proofs.lemmas.List.Folds.{list_any-append}
 use Rattle.address_map.specs.declared.address.Local.{Local}
 use Rattle.slice_queues.specs.Lending.{with_lent}
@@ -26,15 +25,6 @@ is_listed-with_listed order local = by_test (is_listed order local) refl
 pub with_listed-there : (order : List ℕ) (local : ℕ) → is_listed order local ≡ true → with_listed order local ≡ order
 with_listed-there order local there = rw there refl
 
--- lent as it was, a line comes into the ring
-pub with_lent-same : (queues : QueuesView) (local : Local) →
-    with_lent queues local (at_local queues.channels local.0)
-    ≡ record queues { ring = with_listed queues.ring local.0 }
-with_lent-same queues local =
-    let slice : List LineChannels → QueuesView = λ lines.
-    record { channels = record queues.channels { lines = lines }; ring = with_listed queues.ring local.0 } in
-    ap slice (set-get_or queues.channels.lines local.0 (empty_line 0))
-
 -- lent twice, a line is as it was left the second time
 pub with_lent-twice : (queues : QueuesView) (local : Local) (first second : LineChannels) →
     with_lent (with_lent queues local first) local second ≡ with_lent queues local second
@@ -49,11 +39,6 @@ with_lent-twice queues local first second =
 pub at_local-lent : (queues : QueuesView) (local : Local) (line : LineChannels) →
     local.0 < length queues.channels.lines → at_local (with_lent queues local line).channels local.0 ≡ line
 at_local-lent queues local line there = get_or-set_same queues.channels.lines local.0 line (empty_line 0) there
-
--- a slice keeps its number of lines
-pub length-lent : (queues : QueuesView) (local : Local) (line : LineChannels) →
-    length (with_lent queues local line).channels.lines ≡ length queues.channels.lines
-length-lent queues local line = length-set queues.channels.lines local.0 line
 
 -- a line that was lent is changed once more
 pub lent_again : (old first : QueuesView) (local : Local) (line : LineChannels) (change : LineChannels → LineChannels) →
@@ -70,9 +55,3 @@ pub read-lent : (old first : QueuesView) (local : Local) (line : LineChannels) �
     at_local first.channels local.0 ≡ line
 read-lent old first local line there is =
     ap (λ queues. at_local queues.channels local.0) is ∙ at_local-lent old local line there
-
--- a line stands in the ring from then on
-pub listed-lent : (old first : QueuesView) (local : Local) (line : LineChannels) → first ≡ with_lent old local line →
-    is_listed first.ring local.0 ≡ true
-listed-lent old first local line is =
-    ap (λ queues. is_listed queues.ring local.0) is ∙ is_listed-with_listed old.ring local.0

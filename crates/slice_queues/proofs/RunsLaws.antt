@@ -7,7 +7,7 @@ use Rattle.std.proofs.Math.Seq.{take-set-lt}
 use Rattle.std.proofs.Math.Seq.{drop-append_seam}
 use Rattle.std.proofs.Math.Nat.{mul-le-mul_right}
 use Rattle.std.proofs.lemmas.Bool.{cases_eq, cases_lt, lt-ltb, ltb-false}
-use Rattle.std.proofs.lemmas.List.{length-take-le, length-drop, length-append, length-replicate, length-map, take_all}
+use Rattle.std.proofs.lemmas.List.{length-drop, length-append, length-replicate, length-map, take_all}
 use Rattle.std.proofs.lemmas.List.{take-append-le, take-set-le, drop-append-le, drop-set-lt, drop-set-add}
 use Rattle.std.proofs.lemmas.List.{get_or-set_same, get_or-set_other, get_or-take, get_or-drop, get_or-append-add}
 use Rattle.std.proofs.lemmas.List.{get_or-map, get_or_past, map-set, ext_get_or, set-set}
@@ -60,12 +60,6 @@ run-append : (width first : ℕ) (cores more : List CoreChannels) → first + wi
 run-append width first cores more within =
     ap (take width) (drop-append-le first cores more (omega arith))
     ∙ take-append-le width (drop first cores) more (omega (arith, length-drop first cores))
-
--- the run of a line has so many cores
-pub length-run : (width : ℕ) (cores : List CoreChannels) (head : LineHead) → head.first + width ≤ length cores →
-    length (run_under width cores head) ≡ width
-length-run width cores head within =
-    length-take-le width (drop head.first cores) (omega (arith, length-drop head.first cores))
 
 -- a line without a run of its own has the blank one
 blank-run : (heads : List LineHead) (cores : List CoreChannels) (width capacity : ℕ) (head : LineHead) →

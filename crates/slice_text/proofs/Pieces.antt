@@ -1,5 +1,5 @@
 -- The texts of copies, lines and slices, in the pieces in which they are written.
-use Rattle.std.proofs.Common.{◌≡◌, ℕ, ◌+◌, ◌&&◌, Bool, true, false, List, [], ◌∷◌, ◌++◌, map, Option, Some, None, refl}
+use Rattle.std.proofs.Common.{◌≡◌, ◌+◌, ◌&&◌, Bool, false, List, [], ◌++◌, map, Option, Some, None, refl}
 use Rattle.std.proofs.Common.{sym, ap, ◌∙◌, subst}
 use Rattle.std.specs.List.{list_all}
 use Rattle.address_map.specs.declared.address.CoreId.{CoreId}
@@ -22,10 +22,6 @@ use Rattle.target_list.specs.declared.target.Target.{Target}
 pub no_copy : (core : CoreId) (line : LineAddr) (held : Option CacheCopy) (targets : List Target) → held ≡ None
     → [] ≡ text_of_copy core line held targets
 no_copy core line held targets none = rw none refl
-
-pub gone_copy : (core : CoreId) (line : LineAddr) (held : Option CacheCopy) (copy : CacheCopy) (targets : List Target)
-    → held ≡ Some copy → is_gone copy.state ≡ true → [] ≡ text_of_copy core line held targets
-gone_copy core line held copy targets is gone = rw is (rw gone refl)
 
 -- the text of any other is that of the copy, and then of its targets
 pub whole_copy : (core : CoreId) (line : LineAddr) (held : Option CacheCopy) (copy : CacheCopy) (targets : List Target)
@@ -55,12 +51,6 @@ pub no_line : (v : View) (line : LineAddr) (local : Option Local) (shown : Optio
     → shown ≡ None → [] ≡ text_of_place v line local
 no_line v line None shown shows none = refl
 no_line v line (Some local) shown (given, is, dir, owner, sharers, home, copies) none = absurd (cc)
-
-pub resting_line : (v : View) (line : LineAddr) (local : Option Local) (view : LineView) (b : Bool)
-    → ShowsLine v local (Some view)
-    → b ≡ (is_idle view.dir && list_all is_gone view.copies.items) → b ≡ true → [] ≡ text_of_place v line local
-resting_line v line None view b shows is resting = refl
-resting_line v line (Some local) view b shows is resting = rw (rests_as v local view b shows is ∙ resting) refl
 
 -- any other says what is shown of it, and then each core's copy
 pub shown_line : (v : View) (line : LineAddr) (local : Option Local) (view : LineView) (b : Bool)

@@ -2,4 +2,3 @@ pub mod Totals
 pub mod Padding
 pub mod Appending
 pub mod Whole
-pub mod Alike

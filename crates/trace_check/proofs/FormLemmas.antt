@@ -16,7 +16,7 @@ use Rattle.trace_check.specs.declared.trace_line.Version.{Version}
 use Rattle.trace_check.specs.declared.trace_line.Version.TheVariants as versions
 use Rattle.slice_core_log.specs.declared.entry.Entry.{Entry}
 use Rattle.trace_check.specs.declared.trace_line.TraceLine.TheVariants as lines
-use Rattle.trace_check.specs.TraceLine.{IsOfVersion, BeginsWith, IsInRange, IsEntryOf, IsNoLineOf, completed, ended}
+use Rattle.trace_check.specs.TraceLine.{IsOfVersion, BeginsWith, IsInRange, IsEntryOf, IsNoLineOf, ended}
 use Rattle.trace_check.specs.TraceLine.{parts_of_line}
 
 -- words behind words write parts behind parts
@@ -110,16 +110,6 @@ begins_otherwise (w ∷ ws) (ops.Store value) word form of cas =
 begins_otherwise (w ∷ ws) (ops.Add delta) word form of cas =
     two_names w (codes "add") (codes "cas") form.0 cas refl
 begins_otherwise (w ∷ ws) (ops.Cas expect new) word form of cas = absurd of
-
--- an entry's words, completed
-pub completed_entry : (version : Version) (ws : List (List ℕ))
-    → completed version (codes "entry" ∷ ws) ≡ codes "entry" ∷ ended version ws
-completed_entry version ws = refl
-
--- .. and another line's
-pub completed_init : (version : Version) (ws : List (List ℕ))
-    → completed version (codes "init" ∷ ws) ≡ codes "init" ∷ ws
-completed_init version ws = refl
 
 -- what the words behind `init` write of a line
 pub init_refused : (version : Version) (ws : List (List ℕ))

@@ -1,6 +1,6 @@
 -- Where a line can't come next, the text is no trace.
 use Rattle.std.proofs.Common.{◌≡◌, ℕ, ◌+◌, ◌<◌, List, [], ◌∷◌, ◌++◌, length, get_or, Option, Some, None, map, refl, sym}
-use Rattle.std.proofs.Common.{ap, subst, ◌∙◌, arith, inl, inr, length-append, append_assoc}
+use Rattle.std.proofs.Common.{ap, subst, ◌∙◌, arith, inr, length-append, append_assoc}
 use Rattle.std.specs.Prelude.{IfSome}
 use Rattle.std.specs.Str.Lines.{lines}
 use Rattle.std.proofs.Math.Seq.{get_or-append_seam}
@@ -11,7 +11,6 @@ use Rattle.slice_core_log.specs.declared.entry.Entry.{Entry}
 use Rattle.litmus_text.specs.Fault.{IsAtLine, IsFirstFault}
 use Rattle.litmus_text.specs.Form.{Writes}
 use Rattle.litmus_text.specs.Statement.{statements_from}
-use Rattle.litmus_text.specs.declared.fault.LineFault.{LineFault}
 use Rattle.litmus_text.specs.declared.fault.TextFault.{TextFault}
 use Rattle.litmus_text.specs.declared.fault.TextFault.TheVariants as faults
 use Rattle.trace_check.specs.declared.check.Check.{Check}
@@ -21,7 +20,7 @@ use Rattle.trace_check.specs.declared.trace_line.TraceLine.TheVariants as trace_
 use Rattle.trace_check.specs.TraceLine.{IsLineOf, parts_of_first, parts_of_line}
 use Rattle.trace_check.specs.Trace.{AreLines, IsFaultAt, body_of, AreTrace, AreNoTrace, AreSomeTrace, IsNoTrace}
 use Rattle.trace_check.specs.Trace.{IsLastNamed, IsNoMemoryOrLine, IsNoNextLine, IsReading, MayBegin, MayFollow}
-use Rattle.trace_check.specs.Trace.{HasRead, IsFaultAmong, IsFaultNext, IsFaultOfTrace, IsNextWord, IsOfLine}
+use Rattle.trace_check.specs.Trace.{HasRead, IsNextWord}
 use Rattle.trace_check.proofs.ReadingLemmas.{one_version, one_line, same_lines, not_both}
 
 -- the word and the value that a line names, where it names them
@@ -268,47 +267,3 @@ next_word check init entries word stands next = record {
   early = stands.count ∙ ap length next.early;
   above = above_last check.last init word stands.last next.above;
 }
-
--- what can't come next can't come behind what was read
-fault_next : (check : Check) (version : Version) (init : List (WordAddr × ℕ)) (entries : List Entry)
-    (words : List (List ℕ)) (fault : LineFault) → HasRead check init entries
-    → IsFaultNext (0 < check.entries) (MayBegin check) version words fault
-    → IsFaultNext (0 < length entries) (IsNextWord init entries) version words fault
-fault_next check version init entries words fault stands (inl late) =
-    inl ((omega (arith, stands.count, late.0.0), late.0.1), late.1)
-fault_next check version init entries words fault stands (inr (inl early)) =
-    inr (inl (λ late. early.0 (omega (arith, stands.count, late.0), late.1), early.1))
-fault_next check version init entries words fault stands (inr (inr other)) =
-    inr (inr (other.0, other.1, other.2, λ next. other.3 (next_word check init entries other.0 stands next), other.4))
-
--- this is wrong with the statement that can't come next
-pub fault_among : (check : Check) (version : Version) (all left : List (ℕ × List (List ℕ))) (number : ℕ)
-    (words : List (List ℕ)) (fault : TextFault) → check.version ≡ version → IsReading check all ((number, words) ∷ left)
-    → IsOfLine (λ n f. (n ≡ number) × IsFaultNext (0 < check.entries) (MayBegin check) check.version words f) fault
-    → IsOfLine (IsFaultAmong version all) fault
-fault_among check version all left number words faults.NoMemory same reading is = tt
-fault_among check version all left number words (faults.Line n fault) same reading is =
-    subst (λ k. IsFaultAmong version all k fault) (sym is.0) (record {
-      before = reading.done;
-      words = words;
-      behind = left;
-      stands = sym reading.split;
-      init = reading.init;
-      entries = reading.entries;
-      written = rw same at reading.written;
-      is = fault_next check version reading.init reading.entries words fault reading.stands
-          (subst (λ v. IsFaultNext (0 < check.entries) (MayBegin check) v words fault) same is.1);
-    })
-fault_among check version all left number words (faults.Config error) same reading is = tt
-fault_among check version all left number words faults.CannotWrite same reading is = tt
-
--- .. and with the text
-pub fault_behind_first : (statements rest : List (ℕ × List (List ℕ))) (number : ℕ) (first : List (List ℕ))
-    (version : Version) (fault : TextFault) → statements ≡ (number, first) ∷ rest
-    → Writes first (parts_of_first version) → IsOfLine (IsFaultAmong version rest) fault
-    → IsOfLine (IsFaultOfTrace statements) fault
-fault_behind_first statements rest number first version faults.NoMemory is begins among = tt
-fault_behind_first statements rest number first version (faults.Line n fault) is begins among =
-    subst (λ ss. IsFaultOfTrace ss n fault) (sym is) (inr (version, begins, among))
-fault_behind_first statements rest number first version (faults.Config error) is begins among = tt
-fault_behind_first statements rest number first version faults.CannotWrite is begins among = tt

@@ -1,1 +1,0 @@
--- What an access that was decided answers, by its cases.

@@ -1,1 +1,0 @@
--- How slices are seen to be alike.

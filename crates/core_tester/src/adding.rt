@@ -33,7 +33,7 @@ impl Work {
     }
 }
 
-/// Each core does so many steps of the work, in a thread of its own, beside two movers. Answers whether all finished,
+/// Each core does so many steps of the work, in a thread of its own, beside two movers. Returns whether all finished,
 /// and each job still has its core and its program.
 pub fn all_add<F: MissFile + Send, M: SystemKeys + Send + Sync, R: Threads + Wait + Sync>(
     rt: &R,
@@ -95,7 +95,7 @@ fn has_steps(program: &[Step], work: Work, core: CoreId, steps: usize) -> bool {
     program.len() == steps
 }
 
-/// Runs the jobs in threads, beside so many movers. Answers whether all finished.
+/// Runs the jobs in threads, beside so many movers. Returns whether all finished.
 pub fn all_finish<
     F: MissFile + Send,
     M: SystemKeys + Send + Sync,

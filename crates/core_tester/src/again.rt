@@ -10,7 +10,7 @@ pub const RUNS: usize = 100;
 /// How many runs of 64 threads come after them.
 const WIDE_RUNS: usize = 4;
 
-/// Makes all runs, with each setting in turn. Answers which was the first that didn't come out as wanted, counted from
+/// Makes all runs, with each setting in turn. Returns which was the first that didn't come out as wanted, counted from
 /// 1.
 pub fn first_difference<R: AllocGlobal + Print + Threads + Wait + Sync>(
     rt: &R,

@@ -7,7 +7,7 @@ use mshr_file::MissFile;
 use slice_core_answer::Evicted;
 use std::sync::Wait;
 
-/// The first core stores to a line of the first slice and one of the last, and gives the latter up. Answers whether all was done.
+/// The first core stores to a line of the first slice and one of the last, and gives the latter up. Returns whether all was done.
 pub fn stores_and_leaves<F: MissFile, M: SystemKeys, R: Wait>(
     rt: &R,
     jobs: &mut [Job<'_, F, All<M>>],
@@ -41,7 +41,7 @@ pub fn faults_come<'a, F: MissFile, M: SystemKeys, R: AllocGlobal + Wait>(
     (lacks && back && second && leaves && first, cores)
 }
 
-/// The first core gives line 0 up. Answers whether it began to.
+/// The first core gives line 0 up. Returns whether it began to.
 fn first_leaves<F: MissFile, M: SystemKeys, R: Wait>(
     rt: &R,
     cores: &mut [Core<'_, F, All<M>>],
@@ -75,7 +75,7 @@ fn fails<'a, F: MissFile, M: SystemKeys, R: AllocGlobal + Wait>(
     }
 }
 
-/// Puts a core back. Answers whether there was one, and memory for it.
+/// Puts a core back. Returns whether there was one, and memory for it.
 fn put_back<'a, F: MissFile, M: SystemKeys>(
     cores: &mut Vec<Core<'a, F, All<M>>>,
     core: Option<Core<'a, F, All<M>>>,

@@ -77,7 +77,7 @@ fn stand_once(
     Ok(once && stands.iter().all(|stands| *stands))
 }
 
-/// Marks the number of each of the slice's receipts. Answers whether each has a place, and none was marked before.
+/// Marks the number of each of the slice's receipts. Returns whether each has a place, and none was marked before.
 fn mark_all(stands: &mut [bool], audit: &Audit, slice: SliceId) -> bool {
     let mut once = true;
     for receipt in &audit.receipts {
@@ -88,7 +88,7 @@ fn mark_all(stands: &mut [bool], audit: &Audit, slice: SliceId) -> bool {
     once
 }
 
-/// Marks a number. Answers whether it has a place, and wasn't marked before.
+/// Marks a number. Returns whether it has a place, and wasn't marked before.
 fn mark(stands: &mut [bool], number: u64) -> bool {
     match stands.get_mut(number as usize) {
         Some(place) => !mem::replace(place, true),

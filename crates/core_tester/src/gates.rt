@@ -75,7 +75,7 @@ pub fn gates_are_told<F: MissFile, M: SystemKeys, R: Wait>(
     true
 }
 
-/// Runs a program of accesses without a turn, of which the slice accepts so many. Answers how that ended, where a gate
+/// Runs a program of accesses without a turn, of which the slice accepts so many. Returns how that ended, where a gate
 /// was told of all.
 fn is_told<F: MissFile, M: SystemKeys, R: Wait>(
     rt: &R,

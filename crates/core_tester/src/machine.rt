@@ -23,7 +23,7 @@ use std::marker::Brand;
 use std::sync::Wait;
 use std::thread::Threads;
 
-/// Builds the row's machine, and tries the row on it. Answers whether it came out as wanted.
+/// Builds the row's machine, and tries the row on it. Returns whether it came out as wanted.
 pub fn on_machine<F: MissFile + Send, R: AllocGlobal + Print + Threads + Wait + Sync>(
     rt: &R,
     row: Row,
@@ -105,7 +105,7 @@ fn core_of<'a, F: MissFile, M: SystemKeys>(job: Job<'a, F, All<M>>) -> Core<'a, 
     core
 }
 
-/// Lets the cores do what the row is about. Answers whether they did it as wanted.
+/// Lets the cores do what the row is about. Returns whether they did it as wanted.
 fn run<
     F: MissFile + Send,
     M: SystemKeys + Send + Sync,
@@ -134,7 +134,7 @@ fn run<
     }
 }
 
-/// Makes the row's audits that have to fail, drains the cores and audits them. Answers whether all came out as wanted.
+/// Makes the row's audits that have to fail, drains the cores and audits them. Returns whether all came out as wanted.
 fn end<F: MissFile, M: SystemKeys, R: AllocGlobal + Print + Wait>(
     rt: &R,
     system: &System<F, All<M>>,

@@ -4,10 +4,10 @@
 //! It prints a line for each of these, or the first difference, and then it ends with status 1.
 //!
 //! `core_tester again` lets four threads add to four counters a hundred times instead, and 64 threads four times, and
-//! prints one line: that all came out as wanted, or which run was the first that didn't (tests/runs).
+//! prints one line: that all came out as wanted, or which run was the first that didn't (tests/suite/runs.py).
 //!
 //! `core_tester memory` tries one small row in one setting, and says whether a request, a thread or the audit wanted
-//! memory before it came out as wanted (tests/machine_memory).
+//! memory before it came out as wanted (tests/suite/machine_memory.py).
 #![tactic(auto)]
 
 use core_thread_system::BuildError;
@@ -44,7 +44,7 @@ fn main(rt: HostRuntime) -> ExitCode {
     }
 }
 
-/// Does what the command line asks for. Answers whether all came out as wanted.
+/// Does what the command line asks for. Returns whether all came out as wanted.
 fn run<R: AllocGlobal + Env + Print + Threads + Wait + Sync>(rt: &R) -> io::Result<bool> {
     let words: Vec<String> = env::args(rt)?.collect(rt.alloc())?;
     let answer = answer(rt, &words);
@@ -66,7 +66,7 @@ fn answer<R: AllocGlobal + Print + Threads + Wait + Sync>(
     }
 }
 
-/// Tries all rows. Answers whether each came out as wanted.
+/// Tries all rows. Returns whether each came out as wanted.
 fn try_rows<R: AllocGlobal + Print + Threads + Wait + Sync>(rt: &R) -> io::Result<bool> {
     for row in ROWS {
         let tried = in_all_settings(rt, row);
@@ -77,7 +77,7 @@ fn try_rows<R: AllocGlobal + Print + Threads + Wait + Sync>(rt: &R) -> io::Resul
     Ok(true)
 }
 
-/// Prints what came of a row. Answers whether it is what was wanted.
+/// Prints what came of a row. Returns whether it is what was wanted.
 fn say<R: Print>(rt: &R, row: Row, tried: Result<bool, BuildError>) -> io::Result<bool> {
     let told = match tried {
         Ok(true) => "as wanted",
@@ -89,7 +89,7 @@ fn say<R: Print>(rt: &R, row: Row, tried: Result<bool, BuildError>) -> io::Resul
     Ok(told == "as wanted")
 }
 
-/// Makes many runs of threads, and prints what came of them. Answers whether all came out as wanted.
+/// Makes many runs of threads, and prints what came of them. Returns whether all came out as wanted.
 fn run_again<R: AllocGlobal + Print + Threads + Wait + Sync>(rt: &R) -> io::Result<bool> {
     match first_difference(rt) {
         Ok(None) => {

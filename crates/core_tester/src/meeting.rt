@@ -47,7 +47,7 @@ impl<F: MissFile> Question<F> for UntilAnswered<'_> {
     }
 }
 
-/// While one core looks at slice 0, another asks slice 3. Answers whether it was answered before the look ended.
+/// While one core looks at slice 0, another asks slice 3. Returns whether it was answered before the look ended.
 pub fn other_slice_answers<
     F: MissFile + Send,
     M: SystemKeys + Send + Sync,
@@ -132,7 +132,7 @@ impl Gate for Meeting {
     fn after<R: Wait>(&self, _rt: &R, _core: CoreId, _call: u64) {}
 }
 
-/// Two cores each make a request. Answers whether each was in its gate while the other was.
+/// Two cores each make a request. Returns whether each was in its gate while the other was.
 pub fn both_meet<F: MissFile + Send, M: SystemKeys + Send + Sync, R: Threads + Wait + Sync>(
     rt: &R,
     system: &System<F, All<M>>,

@@ -45,7 +45,7 @@ impl<F: MissFile, M: SystemKeys> Gate for OneByOne<'_, F, M> {
 }
 
 /// The first core misses in each slice in turn, and makes no turn, while the job of the other has nothing to do: a mover
-/// serves it. Before that both end at a limit, and then movers are counted. Answers whether all came about.
+/// serves it. Before that both end at a limit, and then movers are counted. Returns whether all came about.
 pub fn messages_move<F: MissFile + Send, M: SystemKeys + Send + Sync, R: Threads + Wait + Sync>(
     rt: &R,
     system: &System<F, All<M>>,
@@ -157,7 +157,7 @@ fn so_many_move<F: MissFile + Send, M: SystemKeys + Send + Sync, R: Threads + Wa
     asked && finished && taken(rt, system) == wanted
 }
 
-/// A core settles, and then asks for two lines of each slice that it hasn't asked for yet. Answers whether it could.
+/// A core settles, and then asks for two lines of each slice that it hasn't asked for yet. Returns whether it could.
 fn asks_in_each<F: MissFile, M: SystemKeys, R: Wait>(
     rt: &R,
     core: &mut Core<'_, F, All<M>>,

@@ -13,7 +13,7 @@ const WORD: WordAddr = WordAddr(1);
 /// How often each of two cores makes a request of the same kind.
 const REQUESTS: u32 = 5000;
 
-/// A core runs programs that end in each way. Answers whether each ended as wanted, and made as many accesses.
+/// A core runs programs that end in each way. Returns whether each ended as wanted, and made as many accesses.
 pub fn programs_end<F: MissFile, M: SystemKeys, R: Wait>(
     rt: &R,
     jobs: &mut [Job<'_, F, All<M>>],
@@ -91,7 +91,7 @@ const fn add(slice: usize, delta: u64) -> Step {
     Step::Access(COUNTERS[slice % SLICES], Op::Add(delta))
 }
 
-/// A core adds 2^64 - 1, which misses, and then 2, which hits. Answers whether both were made.
+/// A core adds 2^64 - 1, which misses, and then 2, which hits. Returns whether both were made.
 pub fn large_sum<F: MissFile, M: SystemKeys, R: Wait>(
     rt: &R,
     jobs: &mut [Job<'_, F, All<M>>],
@@ -104,7 +104,7 @@ pub fn large_sum<F: MissFile, M: SystemKeys, R: Wait>(
 }
 
 /// A core adds 1 to the counter of slice 0 thousands of times, of which all but the first hit, and another one as often
-/// to that of slice 1, and gives the line up each time. Answers whether all were made.
+/// to that of slice 1, and gives the line up each time. Returns whether all were made.
 pub fn thousands_are_made<F: MissFile, M: SystemKeys, R: Wait>(
     rt: &R,
     jobs: &mut [Job<'_, F, All<M>>],

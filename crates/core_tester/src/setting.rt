@@ -39,7 +39,7 @@ pub const SETTINGS: [Setting; 4] = [
     },
 ];
 
-/// Tries a row in each setting. Answers whether it came out as wanted in all.
+/// Tries a row in each setting. Returns whether it came out as wanted in all.
 pub fn in_all_settings<R: AllocGlobal + Print + Threads + Wait + Sync>(
     rt: &R,
     row: Row,
@@ -52,7 +52,7 @@ pub fn in_all_settings<R: AllocGlobal + Print + Threads + Wait + Sync>(
     Ok(true)
 }
 
-/// Tries a row in a setting. Answers whether it came out as wanted.
+/// Tries a row in a setting. Returns whether it came out as wanted.
 pub fn in_setting<R: AllocGlobal + Print + Threads + Wait + Sync>(
     rt: &R,
     row: Row,

@@ -55,7 +55,7 @@ const fn steps(line: LineAddr) -> [OneStep; 14] {
 }
 
 /// In each slice one core makes these runs of a line that is no counter's; at the end a miss in the last slice is left
-/// on its way. Answers whether each run came to what was wanted.
+/// on its way. Returns whether each run came to what was wanted.
 pub fn turns_count<F: MissFile, M: SystemKeys, R: Wait>(
     rt: &R,
     system: &System<F, All<M>>,

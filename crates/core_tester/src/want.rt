@@ -11,7 +11,7 @@ use std::sync::Wait;
 use std::thread::Threads;
 
 /// Each core adds one more than its number ten times to each counter. Before that the jobs are run with nothing to do:
-/// what came of that says nothing of a job that isn't run the next time. Answers whether all finished.
+/// what came of that says nothing of a job that isn't run the next time. Returns whether all finished.
 pub fn add_in_want<
     F: MissFile + Send,
     M: SystemKeys + Send + Sync,
@@ -23,7 +23,7 @@ pub fn add_in_want<
 }
 
 /// Runs each job in a thread of its own, beside a mover. Where memory or a thread is wanting it says which, and lets the
-/// cores do what is left, one after the other. Answers whether all finished.
+/// cores do what is left, one after the other. Returns whether all finished.
 fn finish_in_want<
     F: MissFile + Send,
     M: SystemKeys + Send + Sync,
@@ -41,7 +41,7 @@ fn finish_in_want<
     said && finish_all(rt, jobs)
 }
 
-/// Does what is left of each job. Answers whether all are finished then.
+/// Does what is left of each job. Returns whether all are finished then.
 fn finish_all<F: MissFile, M: SystemKeys, R: Wait>(
     rt: &R,
     jobs: &mut [Job<'_, F, All<M>>],

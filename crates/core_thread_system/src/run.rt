@@ -107,7 +107,7 @@ impl<'a, F: MissFile, M: SystemNames> Core<'a, F, M> {
         Ok(())
     }
 
-    // Asks for an access where a tag is free. Answers whether it was accepted.
+    // Asks for an access where a tag is free. Returns whether it was accepted.
     fn try_access<R: Wait, G: Gate>(
         &mut self,
         rt: &R,

@@ -10,7 +10,7 @@ use std::fmt;
 use std::io::Write;
 use trace_check::{Reason, Verdict, check_trace};
 
-/// Judges a trace, and prints what it comes to. Answers the exit status.
+/// Judges a trace, and prints what it comes to. Returns the exit status.
 pub fn run_check<W: Write>(alloc: Global, input: &[u8], out: &mut W) -> Result<u8, TextFault>
     ensures checked { IfOk result (IsChecked input.now (W.contents out.old) (W.contents out.new)) }
     ensures fault { IfErr result (IsNotChecked input.now) }

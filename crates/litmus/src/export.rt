@@ -10,7 +10,7 @@ use protocol_murphi::write_model;
 use std::io::Write;
 
 /// Prints a line's protocol as a model of so many cores, with the exclusive state or without it, and with what can be
-/// completed once no core asks any more, or without it. Answers the exit status.
+/// completed once no core asks any more, or without it. Returns the exit status.
 pub fn run_export<W: Write>(
     cores: ModelCores,
     exclusive: bool,

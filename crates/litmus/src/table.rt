@@ -12,7 +12,7 @@ use protocol_tables::{write_cache_table, write_directory_table};
 use std::fmt;
 use std::io::Write;
 
-/// Prints a table, with what the exclusive state adds to it or without that, and what its words mean. Answers the exit
+/// Prints a table, with what the exclusive state adds to it or without that, and what its words mean. Returns the exit
 /// status.
 pub fn run_table<W: Write>(table: Table, exclusive: bool, out: &mut W) -> Result<u8, TextFault>
     ensures status { IfOk result (λ status. status ≡ 0) }

@@ -14,7 +14,7 @@ use std::io::Write;
 use std::sync::Wait;
 use std::thread::Threads;
 
-/// Runs a litmus test over threads, and prints the table of its outcomes, or which round was stuck. Answers the exit
+/// Runs a litmus test over threads, and prints the table of its outcomes, or which round was stuck. Returns the exit
 /// status.
 pub fn run_litmus<R: Threads + Wait + Sync, W: Write, P: Progress>(
     alloc: Global,
@@ -37,7 +37,7 @@ pub fn run_litmus<R: Threads + Wait + Sync, W: Write, P: Progress>(
 }
 
 /// Runs a litmus test on random schedules, so many rounds or as many as it says, and prints their table with the
-/// seed of the first round that had each outcome, or which round was stuck. Answers the exit status.
+/// seed of the first round that had each outcome, or which round was stuck. Returns the exit status.
 pub fn run_walk<W: Write, P: Progress>(
     alloc: Global,
     input: &[u8],
@@ -60,7 +60,7 @@ pub fn run_walk<W: Write, P: Progress>(
     ended
 }
 
-/// Prints the round of this seed as a script. Answers the exit status, which is 1 where the round is stuck.
+/// Prints the round of this seed as a script. Returns the exit status, which is 1 where the round is stuck.
 pub fn write_walk<W: Write>(
     alloc: Global,
     input: &[u8],

@@ -22,7 +22,7 @@ use std::alloc::Global;
 use std::fmt;
 use std::io::Write;
 
-/// Draws the run of a script: a sequence diagram in Mermaid's words. Answers the exit status. A fault ends the chart;
+/// Draws the run of a script: a sequence diagram in Mermaid's words. Returns the exit status. A fault ends the chart;
 /// what was written before it stays.
 #[tactic(auto, using(crate::proofs::FaultLemmas::fault_of_script))]
 pub fn run_chart<W: Write>(alloc: Global, input: &[u8], out: &mut W) -> Result<u8, TextFault>

@@ -22,7 +22,7 @@ use std::fmt;
 use std::io::Write;
 
 /// Walks through a litmus test so many times, and prints how often each outcome came, with the seed of the first round
-/// that had it: round 0 has the given seed, and each the next. Answers the exit status, which is 1 where a forbidden
+/// that had it: round 0 has the given seed, and each the next. Returns the exit status, which is 1 where a forbidden
 /// outcome came or a round is stuck; then nothing else is printed but which round is.
 pub fn run_walk<W: Write, P: Progress>(
     alloc: Global,
@@ -119,7 +119,7 @@ fn print_table<W: Write>(
     }
 }
 
-// Adds the outcomes of so many rounds, up to one that is stuck. Answers its number.
+// Adds the outcomes of so many rounds, up to one that is stuck. Returns its number.
 fn walk_rounds<F: MissFile, P: Progress>(
     alloc: Global,
     test: &LitmusTest<'_>,

@@ -59,7 +59,7 @@ pub fn pump_slices<D: Deliverer, W: Write>(
     }
 }
 
-/// Makes so many rounds over all slices, up to one that moves nothing. Answers what the last came to.
+/// Makes so many rounds over all slices, up to one that moves nothing. Returns what the last came to.
 fn make_rounds<D: Deliverer, W: Write>(
     deliverer: &mut D,
     count: u64,

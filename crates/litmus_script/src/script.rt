@@ -24,7 +24,7 @@ use std::alloc::Global;
 use std::io::Write;
 
 /// Runs a script: its configuration, then its commands in order, each of which writes its answer, behind its own line
-/// where echo is asked for. Answers the exit status. A fault ends the run; what was written before it stays.
+/// where echo is asked for. Returns the exit status. A fault ends the run; what was written before it stays.
 pub fn run_script<W: Write>(
     alloc: Global,
     input: &[u8],
@@ -293,7 +293,7 @@ fn checked(config: Config) -> Result<Checked, TextFault>
     }
 }
 
-/// Reads the lines that configure the machine. Answers also the first statement that isn't one of them, where
+/// Reads the lines that configure the machine. Returns also the first statement that isn't one of them, where
 /// there is one.
 fn read_settings<'a>(
     alloc: Global,

@@ -19,7 +19,7 @@ use std::marker::Brand;
 use std::sync::Wait;
 use std::thread::Threads;
 
-/// Plays a round of a test on a new machine. Answers its outcome, or none where the round is stuck.
+/// Plays a round of a test on a new machine. Returns its outcome, or none where the round is stuck.
 pub(crate) fn play<R: Threads + Wait + Sync>(
     rt: &R,
     test: &LitmusTest<'_>,

@@ -15,7 +15,7 @@ use std::io::Write;
 use std::sync::Wait;
 use std::thread::Threads;
 
-/// Runs a test, and writes the table of its outcomes, or which round was stuck. Answers the exit status: 1 where an
+/// Runs a test, and writes the table of its outcomes, or which round was stuck. Returns the exit status: 1 where an
 /// outcome came that must not come, or a round was stuck.
 pub fn play_test<R: Threads + Wait + Sync, W: Write, P: Progress>(
     alloc: Global,
@@ -35,7 +35,7 @@ pub fn play_test<R: Threads + Wait + Sync, W: Write, P: Progress>(
     }
 }
 
-// Writes what the run came to. Answers the exit status.
+// Writes what the run came to. Returns the exit status.
 fn tell<W: Write>(test: &LitmusTest<'_>, run: &Run, out: &mut W) -> Result<u8, TextFault>
     ensures told { OnOk result (IsTold test.now (λ text. Appends (W.contents out.old) (W.contents out.new) text)
         run.now) }

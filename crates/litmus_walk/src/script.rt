@@ -19,7 +19,7 @@ use std::alloc::Global;
 use std::fmt::Write;
 use std::{fmt, io};
 
-/// Prints the walk that this seed draws as a script. Answers the exit status, which is 1 where the walk is stuck.
+/// Prints the walk that this seed draws as a script. Returns the exit status, which is 1 where the walk is stuck.
 pub fn write_walk<W: io::Write>(
     alloc: Global,
     test: &LitmusTest<'_>,

@@ -11,10 +11,10 @@
 //!
 //! It prints a line for each of these, or the first difference, and then it ends with status 1.
 //!
-//! `lock_tester twins SEEDS` makes random calls alone, of so many seeds (tests/runs).
+//! `lock_tester twins SEEDS` makes random calls alone, of so many seeds (tests/suite/runs.py).
 //!
 //! `lock_tester memory` makes requests of one core instead, each again where memory was refused for it, and prints how
-//! many were. Nothing refuses memory to it of itself: whoever runs it so does (tests/memory).
+//! many were. Nothing refuses memory to it of itself: whoever runs it so does (tests/suite/memory.py).
 #![tactic(auto)]
 
 use core_thread_system::BuildError;
@@ -58,7 +58,7 @@ fn main(rt: HostRuntime) -> ExitCode {
     }
 }
 
-/// Does what the command line asks for. Answers whether nothing was found.
+/// Does what the command line asks for. Returns whether nothing was found.
 fn run<R: AllocGlobal + Env + Print + Threads + Wait + Sync>(rt: &R) -> io::Result<bool> {
     let words: Vec<String> = env::args(rt)?.collect(rt.alloc())?;
     let answer = answer(rt, &words);
@@ -77,7 +77,7 @@ fn answer<R: AllocGlobal + Print + Threads + Wait + Sync>(
     }
 }
 
-/// Runs all tests. Answers whether nothing was found.
+/// Runs all tests. Returns whether nothing was found.
 fn test_all<R: AllocGlobal + Print + Threads + Wait + Sync>(rt: &R) -> io::Result<bool> {
     Ok(
         test_worked(rt)?
@@ -97,7 +97,7 @@ fn seeds_of(word: Option<&String>) -> u64 {
     }
 }
 
-/// Answers whether each request was accepted, at the latest when it was made again.
+/// Returns whether each request was accepted, at the latest when it was made again.
 fn test_memory<R: AllocGlobal + Print + Wait>(rt: &R) -> io::Result<bool> {
     match ask_again(rt)? {
         Some(refused) => {
@@ -111,7 +111,7 @@ fn test_memory<R: AllocGlobal + Print + Wait>(rt: &R) -> io::Result<bool> {
     }
 }
 
-/// Makes the calls whose answers are known. Answers whether each was answered so.
+/// Makes the calls whose answers are known. Returns whether each was answered so.
 fn test_worked<R: AllocGlobal + Print + Wait>(rt: &R) -> io::Result<bool> {
     for worked in WORKED {
         let is_right = worked.test(rt)?;
@@ -128,7 +128,7 @@ fn test_worked<R: AllocGlobal + Print + Wait>(rt: &R) -> io::Result<bool> {
     Ok(true)
 }
 
-/// Answers whether the book of a slice answered as wanted.
+/// Returns whether the book of a slice answered as wanted.
 fn test_books<R: AllocGlobal + Print>(rt: &R) -> io::Result<bool> {
     let is_right = books_answer(rt.alloc())?;
     let said = if is_right {
@@ -140,7 +140,7 @@ fn test_books<R: AllocGlobal + Print>(rt: &R) -> io::Result<bool> {
     Ok(is_right)
 }
 
-/// Answers whether all rounds of all settings were settled.
+/// Returns whether all rounds of all settings were settled.
 fn test_settings<R: AllocGlobal + Print + Threads + Wait + Sync>(rt: &R) -> io::Result<bool> {
     for exclusive in [false, true] {
         let explicit = test_rounds::<ExplicitFile, R>(rt, exclusive)?;
@@ -155,7 +155,7 @@ fn test_settings<R: AllocGlobal + Print + Threads + Wait + Sync>(rt: &R) -> io::
     Ok(true)
 }
 
-/// Answers how many rounds were settled, up to the first that wasn't.
+/// Returns how many rounds were settled, up to the first that wasn't.
 fn test_rounds<F: MissFile + Send, R: AllocGlobal + Threads + Wait + Sync>(
     rt: &R,
     exclusive: bool,
@@ -171,7 +171,7 @@ fn test_rounds<F: MissFile + Send, R: AllocGlobal + Threads + Wait + Sync>(
     Ok(ROUNDS)
 }
 
-/// Lets two threads make calls whose answers are known. Answers whether each was answered so.
+/// Lets two threads make calls whose answers are known. Returns whether each was answered so.
 fn test_together<R: AllocGlobal + Print + Threads + Wait + Sync>(rt: &R) -> io::Result<bool> {
     for together in TOGETHER {
         let is_right = together.test(rt)?;
@@ -188,7 +188,7 @@ fn test_together<R: AllocGlobal + Print + Threads + Wait + Sync>(rt: &R) -> io::
     Ok(true)
 }
 
-/// Answers whether two cores got what was wanted of a machine of two slices.
+/// Returns whether two cores got what was wanted of a machine of two slices.
 fn test_systems<R: AllocGlobal + Print + Wait>(rt: &R) -> io::Result<bool> {
     for shared in SHARED {
         let told = match shared.test(rt) {

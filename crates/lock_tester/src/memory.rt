@@ -22,7 +22,7 @@ const MOST_DELIVERIES: u8 = 8;
 /// What each request adds to the counter.
 const DELTA: u64 = 3;
 
-/// Makes requests of one core, one after the other, and where memory is refused for one, makes it again. Answers how
+/// Makes requests of one core, one after the other, and where memory is refused for one, makes it again. Returns how
 /// many were made again, or None where an answer isn't the one wanted: a refused request changes nothing, and when it
 /// is made again it is accepted.
 pub fn ask_again<R: AllocGlobal + Wait>(rt: &R) -> Result<Option<u64>, AllocError> {

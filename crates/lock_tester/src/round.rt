@@ -14,7 +14,7 @@ use std::sync::Wait;
 use std::thread;
 use std::thread::Threads;
 
-/// Builds a slice, lets two threads share it, and settles it. Answers whether it came out right.
+/// Builds a slice, lets two threads share it, and settles it. Returns whether it came out right.
 pub fn one_round<F: MissFile + Send, R: AllocGlobal + Threads + Wait + Sync>(
     rt: &R,
     config: &Checked,

@@ -46,7 +46,7 @@ impl fmt::Display for Shared {
 }
 
 impl Shared {
-    /// Builds a system, and makes the calls. Answers whether each answer is the one wanted.
+    /// Builds a system, and makes the calls. Returns whether each answer is the one wanted.
     pub fn test<R: AllocGlobal + Wait>(self, rt: &R) -> Result<bool, BuildError> {
         let config = configure(rt.alloc())?;
         named_round::<Brand, R>(rt, config, SystemBlanks::new(2), self)
@@ -103,7 +103,7 @@ pub fn cores_of<'a, F: MissFile, M: SystemNames>(
     Ok(cores)
 }
 
-/// Makes all cores ask, and lets them take turns until all is handed out. Answers whether each answer is the one
+/// Makes all cores ask, and lets them take turns until all is handed out. Returns whether each answer is the one
 /// wanted.
 fn play<M: SystemNames, R: Wait>(rt: &R, cores: &mut [Core<'_, ExplicitFile, M>]) -> bool {
     let mut wanted = true;

@@ -82,7 +82,7 @@ fn named_test<N: SliceNames + Send + Sync, R: AllocGlobal + Threads + Wait + Syn
     Ok(wanted && is_settled(rt, &slice, first, second, 0))
 }
 
-/// Lets a thread make the calls through each port. Answers whether each answer is the one wanted.
+/// Lets a thread make the calls through each port. Returns whether each answer is the one wanted.
 fn are_right_apart<N: SliceNames + Send + Sync, R: Threads + Wait + Sync>(
     rt: &R,
     slice: &Slice<ExplicitFile, N>,

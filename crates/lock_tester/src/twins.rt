@@ -29,7 +29,7 @@ use slice::run_slice;
 /// cores.
 const RUNS: u64 = 8;
 
-/// Makes the runs of so many seeds, and prints how many calls they were or what is wrong. Answers whether nothing is.
+/// Makes the runs of so many seeds, and prints how many calls they were or what is wrong. Returns whether nothing is.
 pub fn test_twins<R: AllocGlobal + Print + Wait>(rt: &R, seeds: u64) -> io::Result<bool> {
     for through in [Through::Slice, Through::Cores] {
         if let Err(fault) = run_seeds(rt, through, seeds) {

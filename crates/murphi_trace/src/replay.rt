@@ -34,7 +34,7 @@ const SLICE: SliceId = SliceId(0);
 
 /// Writes the run that a trace tells of as a script: for each rule its name as a comment, and the commands that do the
 /// same. The machine has the cores that take part, and the exclusive state where a message of it comes up. All else of
-/// a trace is passed over, but a text in which nothing else stands is no trace. Answers the exit status.
+/// a trace is passed over, but a text in which nothing else stands is no trace. Returns the exit status.
 pub fn run_trace<W: Write>(trace: &[u8], out: &mut W) -> Result<u8, TextFault>
     ensures status { IfOk result (λ status. status ≡ 0) }
     ensures trace { OnOk result (is_trace trace.now ≡ true) }

@@ -31,7 +31,7 @@ pub enum Form {
     Json,
 }
 
-/// Runs the programs that a text says in the order that the seed draws, and prints the report. Answers the exit status,
+/// Runs the programs that a text says in the order that the seed draws, and prints the report. Returns the exit status,
 /// which is 1 where nothing can move before the end; then nothing else is printed.
 pub fn run_programs<W: Write>(
     alloc: Global,

@@ -1,6 +1,6 @@
 //! What a line at fault was expected to say.
 //!
-//! This is a hint for who reads a fault, and no contract says which it is: `tests/expected` tries it.
+//! This is a hint for who reads a fault, and no contract says which it is: `tests/suite/expected.py` tries it.
 
 use address_map::Checked;
 use litmus_script::Script;

@@ -25,7 +25,7 @@ use std::alloc::Global;
 use std::fmt;
 use std::io::Write;
 
-/// Writes a script's run as a page for a browser: a step for each command. Answers the exit status. A line that can't
+/// Writes a script's run as a page for a browser: a step for each command. Returns the exit status. A line that can't
 /// be taken ends the steps, and the page tells it too.
 pub fn run_page<W: Write>(alloc: Global, input: &[u8], out: &mut W) -> Result<u8, TextFault>
     ensures status { IfOk result (λ status. status ≡ 0) }

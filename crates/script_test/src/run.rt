@@ -13,7 +13,7 @@ use std::alloc::{AllocError, Global};
 use std::io::Write;
 
 /// Runs the script in a text with wanted answers, and prints where an answer isn't the wanted one first, or how many
-/// lines are as wanted. Answers the exit status.
+/// lines are as wanted. Returns the exit status.
 pub fn run_test<W: Write>(alloc: Global, input: &[u8], out: &mut W) -> Result<u8, TextFault>
     ensures printed { IfOk result (PrintsTest input.now (W.contents out.old) (W.contents out.new)) }
     ensures fault { IfErr result (IsStopped input.now) }

@@ -22,7 +22,7 @@ use stats_report::write_text;
 use std::alloc::Global;
 use std::io::Write;
 
-/// Writes a script's run as waves. Answers the exit status. A script at fault has none: its lines are known only once
+/// Writes a script's run as waves. Returns the exit status. A script at fault has none: its lines are known only once
 /// it has run, and they stand first.
 pub fn run_waves<W: Write>(alloc: Global, input: &[u8], out: &mut W) -> Result<u8, TextFault>
     ensures status { IfOk result (λ status. status ≡ 0) }

@@ -50,7 +50,7 @@ impl Work {
     }
 }
 
-/// Measures each kind of work, and prints a line for it. Answers whether each request was answered as a hit.
+/// Measures each kind of work, and prints a line for it. Returns whether each request was answered as a hit.
 pub fn run_lock<R: AllocGlobal + Clock + Print + Threads + Wait + Sync>(
     rt: &R,
     requests: u64,

@@ -61,7 +61,7 @@ fn run_configured<R: Clock + AllocGlobal>(
     Ok(Ok(measure))
 }
 
-/// Builds a slice and makes so many requests on it. Answers how many calls that were, and how long the building took.
+/// Builds a slice and makes so many requests on it. Returns how many calls that were, and how long the building took.
 fn run_once<R: Clock + AllocGlobal>(
     rt: &R,
     load: &Load,

@@ -50,7 +50,7 @@ impl Player {
         })
     }
 
-    /// Makes so many requests, and what belongs to each. Answers how many calls that were.
+    /// Makes so many requests, and what belongs to each. Returns how many calls that were.
     pub fn play(&mut self, work: Work, requests: u64) -> Result<u64, Fault> {
         match work {
             Work::Hits { lines } => self.hit(lines, requests)?,

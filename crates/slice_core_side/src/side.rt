@@ -108,7 +108,7 @@ impl<F: MissFile> Side<F> {
         }
     }
 
-    /// Hands out the reply of least number, if there is one: its tag is free then. Answers the number.
+    /// Hands out the reply of least number, if there is one: its tag is free then. Returns the number.
     pub fn hand(&mut self) -> Option<u64>
         ensures { AfterHand self.old result self.new }
     {

@@ -83,7 +83,7 @@ impl Ledger {
         cores
     }
 
-    /// Takes note of a request that is accepted while the log has this length. Answers its `seq`.
+    /// Takes note of a request that is accepted while the log has this length. Returns its `seq`.
     pub fn accept(&mut self, core: CoreId, request: Request, since: u64) -> Result<u64, Fault> {
         let Some(accepted) = self.accepted.get_mut(core.0 as usize) else {
             return Err(Fault::NoCore);
@@ -131,7 +131,7 @@ impl Ledger {
         self.asked.iter().position(|asked| asked.core == core && asked.request.word.line() == line)
     }
 
-    /// Takes note that the core's oldest reply is handed out. Answers its number.
+    /// Takes note that the core's oldest reply is handed out. Returns its number.
     pub fn hand(&mut self, core: CoreId) -> Option<u64> {
         let place = self.replies.iter().position(|reply| reply.core == core)?;
         Some(self.replies.remove(place).number)

@@ -38,12 +38,12 @@ fn main(rt: HostRuntime) -> ExitCode {
     }
 }
 
-/// Answers whether no fault was found.
+/// Returns whether no fault was found.
 fn test_all<R: AllocGlobal + Print>(rt: &R) -> io::Result<bool> {
     Ok(test_worked(rt)? && test_settings(rt)?)
 }
 
-/// Tests each run whose answers are known, up to the first fault. Answers whether there was none.
+/// Tests each run whose answers are known, up to the first fault. Returns whether there was none.
 fn test_worked<R: AllocGlobal + Print>(rt: &R) -> io::Result<bool> {
     for run in &WORKED {
         if !print_worked(rt, *run)? {
@@ -66,7 +66,7 @@ fn print_worked<R: AllocGlobal + Print>(rt: &R, run: Worked) -> io::Result<bool>
     }
 }
 
-/// Tests each setting, up to the first fault. Answers whether there was none.
+/// Tests each setting, up to the first fault. Returns whether there was none.
 fn test_settings<R: AllocGlobal + Print>(rt: &R) -> io::Result<bool> {
     for setting in &SETTINGS {
         if !print_setting(rt, *setting)? {
@@ -89,7 +89,7 @@ fn print_setting<R: AllocGlobal + Print>(rt: &R, setting: Setting) -> io::Result
     }
 }
 
-/// Answers how many calls were made.
+/// Returns how many calls were made.
 fn test_setting(alloc: Global, setting: Setting) -> Result<u64, Failure> {
     let mut calls: u64 = 0;
     for seed in 0..SEEDS {

@@ -175,7 +175,7 @@ impl<F: MissFile> Tester<F> {
         self.expect_copy(core, line, Some(copy))
     }
 
-    /// Takes note of an accepted request. Answers its `seq`.
+    /// Takes note of an accepted request. Returns its `seq`.
     fn note(&mut self, core: CoreId, request: Request, memory: &mut Memory) -> Result<u64, Fault> {
         memory.note(request.word, request.op);
         self.ledger.accept(core, request, self.history.len() as u64)
@@ -207,7 +207,7 @@ impl<F: MissFile> Tester<F> {
         }
     }
 
-    /// Answers whether a message was delivered.
+    /// Returns whether a message was delivered.
     fn deliver_next(&mut self, class: Class, memory: &mut Memory) -> Result<bool, Fault> {
         match self.state.deliver_next(class) {
             DeliveredNext::Moved(pick) if !is_of_class(class, pick) => Err(Fault::Class(pick)),
@@ -229,7 +229,7 @@ impl<F: MissFile> Tester<F> {
         Ok(())
     }
 
-    /// Answers whether a reply was handed out.
+    /// Returns whether a reply was handed out.
     fn hand(&mut self, core: CoreId, memory: &mut Memory) -> Result<bool, Fault> {
         if usize::from(core.0) >= self.state.cores() {
             return Err(Fault::NoCore);

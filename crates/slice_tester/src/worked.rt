@@ -31,7 +31,7 @@ impl fmt::Display for Worked {
 }
 
 impl Worked {
-    /// Makes the run, and compares all answers, and the first word at the end. Answers how many calls were made.
+    /// Makes the run, and compares all answers, and the first word at the end. Returns how many calls were made.
     pub fn test(self, alloc: Global) -> Result<usize, Fault> {
         match self {
             Worked::EarlyInvalidation => test_run(alloc, 2, 4, &early_invalidation(), 6),

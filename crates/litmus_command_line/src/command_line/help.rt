@@ -64,7 +64,7 @@ Example: lockup litmus examples/litmus/sb.txt";
 pub const WALK: &str = "\
 Each round runs the test's programs on a new machine, on one thread: the cores' steps and single
 deliveries come in an order that is drawn from the round's seed. So the same words print the same
-table, whose lines end with the least seed of a round that had the outcome:
+table, whose lines end with the seed of the first round that had the outcome:
 
        3 a=0 b=0 seed 5
 

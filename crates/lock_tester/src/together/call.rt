@@ -46,7 +46,7 @@ pub const fn calls(filling: Call) -> [Call; 15] {
     ]
 }
 
-/// Makes the calls. Answers whether each answer is the one wanted.
+/// Makes the calls. Returns whether each answer is the one wanted.
 pub fn are_right<N: SliceNames, R: Wait>(
     rt: &R,
     slice: &Slice<ExplicitFile, N>,
@@ -61,7 +61,7 @@ pub fn are_right<N: SliceNames, R: Wait>(
     true
 }
 
-/// Makes a call. Answers whether the answer is the one wanted.
+/// Makes a call. Returns whether the answer is the one wanted.
 pub fn is_right<N: SliceNames, R: Wait>(
     rt: &R,
     slice: &Slice<ExplicitFile, N>,

@@ -40,7 +40,7 @@ impl<F: MissFile> Question<F> for WhileAsked<'_> {
     }
 }
 
-/// Looks for a flag so many times. Answers whether it came.
+/// Looks for a flag so many times. Returns whether it came.
 fn comes_within(flag: &AtomicBool, looks: u32) -> bool {
     for _ in 0..looks {
         if flag.load(SeqCst) {
@@ -51,7 +51,7 @@ fn comes_within(flag: &AtomicBool, looks: u32) -> bool {
     false
 }
 
-/// Makes each call while another thread looks at the slice. Answers whether each waited until that look ended, and then
+/// Makes each call while another thread looks at the slice. Returns whether each waited until that look ended, and then
 /// was answered as wanted.
 pub fn calls_wait<N: SliceNames + Send + Sync, R: Threads + Wait + Sync>(
     rt: &R,
@@ -85,7 +85,7 @@ fn waits<N: SliceNames + Send + Sync, R: Threads + Wait + Sync>(
     waited && right
 }
 
-/// Makes a call once the other thread looks. Answers whether the answer is the one wanted.
+/// Makes a call once the other thread looks. Returns whether the answer is the one wanted.
 fn asks<N: SliceNames, R: Wait>(
     rt: &R,
     slice: &Slice<ExplicitFile, N>,

@@ -19,7 +19,7 @@ const DRAWN: u64 = 400;
 /// Calls after which all that can be seen is compared.
 const STRIDE: u64 = 50;
 
-/// Makes the calls of a run on what is shared and on its twin. Answers which kinds of answers came up, besides those
+/// Makes the calls of a run on what is shared and on its twin. Returns which kinds of answers came up, besides those
 /// that had come up before.
 pub fn compare<F: MissFile, S: Shared<F>, R: Wait>(
     rt: &R,
@@ -39,7 +39,7 @@ pub fn compare<F: MissFile, S: Shared<F>, R: Wait>(
     Ok(kinds)
 }
 
-/// Makes one call on both. Answers what both were answered.
+/// Makes one call on both. Returns what both were answered.
 fn make_both<F: MissFile, S: Shared<F>, R: Wait>(
     rt: &R,
     shared: &mut S,

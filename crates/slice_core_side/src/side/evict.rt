@@ -34,7 +34,7 @@ impl<F: MissFile> Side<F> {
         }
     }
 
-    /// Makes a way for the line: a victim of its set leaves. Answers the victim, and what the directory is sent for it.
+    /// Makes a way for the line: a victim of its set leaves. Returns the victim, and what the directory is sent for it.
     #[inline(always)]
     pub fn replace(&mut self, local: Local) -> (Local, RequestMessage)
         requires replaces { CanReplace self.old local }
@@ -90,7 +90,7 @@ impl<F: MissFile> Side<F> {
         self.array.victim(local, |copy| may_leave(copy.state), word)
     }
 
-    /// Moves the line's copy to the write-back buffer. Answers what the directory is sent.
+    /// Moves the line's copy to the write-back buffer. Returns what the directory is sent.
     // Its answer carries a block: were it not inlined, that would be copied once more, as by the two above.
     #[inline(always)]
     pub fn evict(&mut self, local: Local) -> RequestMessage

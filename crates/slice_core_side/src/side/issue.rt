@@ -133,7 +133,7 @@ impl<F: MissFile> Side<F> {
         reply_to(op, value)
     }
 
-    /// Adds the access to the line's miss register. Answers its `seq`.
+    /// Adds the access to the line's miss register. Returns its `seq`.
     pub fn join(&mut self, local: Local, offset: Offset, request: Request, since: u64) -> u64
         requires tag { request.tag < 64 }
         requires found { has_miss self.old.misses local.0 ≡ true }
@@ -150,7 +150,7 @@ impl<F: MissFile> Side<F> {
     }
 
     /// Opens a miss register for the access. Its copy goes to a state that waits, in the way that it holds (`held`) or
-    /// in a free one. Answers its `seq`.
+    /// in a free one. Returns its `seq`.
     pub fn open(
         &mut self,
         local: Local,

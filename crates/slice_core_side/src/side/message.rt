@@ -58,7 +58,7 @@ impl<F: MissFile> Side<F> {
     }
 
     /// Performs and logs the targets that the copy now allows: the loads in front where it may be read, all where it
-    /// may be written. Answers whether a write is left, for which the right to write has to be asked. The log has room.
+    /// may be written. Returns whether a write is left, for which the right to write has to be asked. The log has room.
     pub fn settle(
         &mut self,
         core: CoreId,

@@ -300,7 +300,7 @@ fn fill_copy<F: MissFile>(
     }
 }
 
-// The targets that the copy now allows are performed and logged, and wait no more. Answers whether a write is left, for
+// The targets that the copy now allows are performed and logged, and wait no more. Returns whether a write is left, for
 // which the right to write has to be asked.
 fn settle_copy<F: MissFile>(
     side: &mut Side<F>,

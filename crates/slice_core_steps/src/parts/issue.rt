@@ -110,7 +110,7 @@ impl<F: MissFile> Parts<F> {
         }
     }
 
-    // Performs the access on the core's copy, and logs it. Answers its number.
+    // Performs the access on the core's copy, and logs it. Returns its number.
     fn hit(
         &mut self,
         core: CoreId,
@@ -149,7 +149,7 @@ impl<F: MissFile> Parts<F> {
         number
     }
 
-    // Adds the access to the line's miss register. Answers its `seq`.
+    // Adds the access to the line's miss register. Returns its `seq`.
     fn join(&mut self, core: CoreId, request: Request, local: Local) -> u64
         requires can { CanIssue self.old core }
         requires tag { request.tag < 64 }
@@ -175,7 +175,7 @@ impl<F: MissFile> Parts<F> {
         side.join(local, request.word.offset(), request, since)
     }
 
-    // Opens a miss register for the access, once a victim has left where one has to. Answers its `seq`.
+    // Opens a miss register for the access, once a victim has left where one has to. Returns its `seq`.
     fn open(
         &mut self,
         core: CoreId,

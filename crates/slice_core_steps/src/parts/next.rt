@@ -28,7 +28,7 @@ impl<F: MissFile> Parts<F> {
         answer
     }
 
-    // Makes the delivery of the class that is next, if one can be made. Answers also how many lines of the ring were
+    // Makes the delivery of the class that is next, if one can be made. Returns also how many lines of the ring were
     // looked at for it.
     fn deliver_first(&mut self, class: Class) -> (Delivery<(Local, Channel)>, usize)
         requires delivers { CanDeliver self.old }

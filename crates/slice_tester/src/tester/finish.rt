@@ -51,7 +51,7 @@ impl<F: MissFile> Tester<F> {
         Err(Fault::Restless)
     }
 
-    /// Answers whether any message was delivered.
+    /// Returns whether any message was delivered.
     fn make_round(&mut self, memory: &mut Memory) -> Result<bool, Fault> {
         let mut is_moved = false;
         for class in &CLASSES {

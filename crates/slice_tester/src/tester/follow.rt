@@ -29,7 +29,7 @@ impl<F: MissFile> Tester<F> {
         }
     }
 
-    /// Checks what can be seen after a call. Answers how many entries were added to the log.
+    /// Checks what can be seen after a call. Returns how many entries were added to the log.
     pub(super) fn follow(&mut self, touch: Touch, memory: &mut Memory) -> Result<u64, Fault> {
         let entries = self.read_log(touch, memory)?;
         self.look_again(touch, memory)?;

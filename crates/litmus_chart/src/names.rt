@@ -69,7 +69,7 @@ impl Names {
         self.count = rank.saturating_add(1);
         let place = line.0 as usize;
         for _ in self.ranks.len()..place.saturating_add(1) {
-            self.ranks.push(None).map_err(|_| TextFault::NoMemory)?;
+            self.ranks.push(None)?;
         }
         if let Some(kept) = self.ranks.get_mut(place) {
             *kept = Some(rank);
@@ -82,9 +82,7 @@ impl Names {
     {
         let place = core.0 as usize;
         for _ in self.held.len()..place + 1 {
-            self.held
-                .push(Vec::new(self.alloc))
-                .map_err(|_| TextFault::NoMemory)?;
+            self.held.push(Vec::new(self.alloc))?;
         }
         let Some(held) = self.held.get_mut(place) else {
             return Ok(());
@@ -92,6 +90,7 @@ impl Names {
         if held.iter().any(|other| other.line == named.line) {
             return Ok(());
         }
-        held.push(named).map_err(|_| TextFault::NoMemory)
+        held.push(named)?;
+        Ok(())
     }
 }

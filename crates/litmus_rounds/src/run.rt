@@ -64,9 +64,7 @@ fn run_on<F: MissFile, W: Write, P: Progress>(
     ensures fault { IfErr result IsOfRun }
 {
     let mut outcomes = Outcomes::new(alloc);
-    let Ok(stuck) = walk_rounds::<F, P>(alloc, test, rounds, seed, progress, &mut outcomes) else {
-        return Err(TextFault::NoMemory);
-    };
+    let stuck = walk_rounds::<F, P>(alloc, test, rounds, seed, progress, &mut outcomes)?;
     match stuck {
         Some(round) => {
             print_stuck(round, out)?;

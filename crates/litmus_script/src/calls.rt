@@ -28,9 +28,7 @@ pub(crate) fn build<F: MissFile>(
     ensures new { IfOk result (IsNew config.now (F.bound_by config.now) slice) }
     ensures fault { IfErr result (λ fault. fault ≡ TextFault.NoMemory) }
 {
-    let Ok(state) = SliceState::build(alloc, config, slice) else {
-        return Err(TextFault::NoMemory);
-    };
+    let state = SliceState::build(alloc, config, slice)?;
     Ok(state)
 }
 

@@ -65,9 +65,7 @@ impl<F: MissFile> Machine<F> {
         let mut slices = Vec::new(alloc);
         for slice in 0..config.slices() {
             let state = calls::build(alloc, &config, SliceId(slice as u8))?;
-            let Ok(()) = slices.push(state) else {
-                return Err(TextFault::NoMemory);
-            };
+            slices.push(state)?;
         }
         Ok(Machine {
             config,

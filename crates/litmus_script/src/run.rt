@@ -150,9 +150,7 @@ impl<F: MissFile> Machine<F> {
             self.now.slices.items self.now.slices.items
             (W.contents out.old) (W.contents out.new)) }
     {
-        let Ok(stats) = self.stats() else {
-            return Err(TextFault::NoMemory);
-        };
+        let stats = self.stats()?;
         match write_report(self.alloc, stats.as_slice(), out) {
             Ok(()) => Ok(()),
             Err(ReportError::Memory) => Err(TextFault::NoMemory),

@@ -334,10 +334,7 @@ fn configure(settings: &mut Settings, statement: &Statement<'_>) -> Result<(), T
     ensures fault { IfErr result (IsLineFault (said_by statement.now)) }
 {
     match ConfigLine::parse(statement.words.as_slice()) {
-        Ok(line) => match line.set(settings) {
-            Ok(()) => Ok(()),
-            Err(_) => Err(TextFault::NoMemory),
-        },
+        Ok(line) => Ok(line.set(settings)?),
         Err(fault) => Err(fault.at(statement.number)),
     }
 }

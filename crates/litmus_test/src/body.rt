@@ -44,10 +44,8 @@ impl<'a> LitmusTest<'a> {
         if let Err(fault) = self.judge(&line) {
             return Err(fault.at(number));
         }
-        match self.add(alloc, line) {
-            Ok(()) => Ok(()),
-            Err(_) => Err(TextFault::NoMemory),
-        }
+        self.add(alloc, line)?;
+        Ok(())
     }
 
     /// Whether the line may come next.

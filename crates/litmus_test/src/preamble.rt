@@ -66,10 +66,8 @@ impl Preamble {
         ensures said { OnOk result (said_first self.new ≡ said_setting (said_first self.old) (Setting.Config line)) }
         ensures refused { IfErr result (λ fault. fault ≡ TextFault.NoMemory) }
     {
-        match line.set(&mut self.settings) {
-            Ok(()) => Ok(()),
-            Err(_) => Err(TextFault::NoMemory),
-        }
+        line.set(&mut self.settings)?;
+        Ok(())
     }
 
     /// The test that has these settings, and no thread.

@@ -29,10 +29,8 @@ pub fn play_test<R: Threads + Wait + Sync, W: Write, P: Progress>(
     ensures told { IfOk result (IsEndOf test.now (λ text. Appends (W.contents out.old) (W.contents out.new) text)) }
     ensures fault { IfErr result IsOfRun }
 {
-    match run_test(rt, alloc, test, seed, limit, progress) {
-        Ok(run) => tell(test, &run, out),
-        Err(_) => Err(TextFault::NoMemory),
-    }
+    let run = run_test(rt, alloc, test, seed, limit, progress)?;
+    tell(test, &run, out)
 }
 
 // Writes what the run came to. Returns the exit status.

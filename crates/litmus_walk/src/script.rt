@@ -46,12 +46,8 @@ fn write_on<F: MissFile, W: io::Write>(
         (W.contents out.old) (W.contents out.new)) }
     ensures fault { IfErr result IsOfRun }
 {
-    let Ok(lines) = named_lines(alloc, test) else {
-        return Err(TextFault::NoMemory);
-    };
-    let Ok(walked) = walk::<F>(alloc, test, &lines, seed) else {
-        return Err(TextFault::NoMemory);
-    };
+    let lines = named_lines(alloc, test)?;
+    let walked = walk::<F>(alloc, test, &lines, seed)?;
     print_script(&test.config, test.misses, walked.recorded.calls(), out)?;
     if walked.over { Ok(0) } else { Ok(1) }
 }

@@ -80,12 +80,8 @@ fn run_on<F: MissFile, W: Write>(
         programs.now.cores.items form seed status (W.contents out.old) (W.contents out.new)) }
     ensures fault { IfErr result IsOfRun }
 {
-    let Ok(mut runner) = Runner::<F>::new(alloc, programs) else {
-        return Err(TextFault::NoMemory);
-    };
-    let Ok(()) = run(alloc, programs, seed, &mut runner) else {
-        return Err(TextFault::NoMemory);
-    };
+    let mut runner = Runner::<F>::new(alloc, programs)?;
+    run(alloc, programs, seed, &mut runner)?;
     if runner.is_over(programs) {
         print_report(runner.tally(), seed, form, out)?;
         Ok(0)

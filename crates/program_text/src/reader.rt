@@ -89,10 +89,8 @@ fn set(line: ConfigLine, settings: &mut Settings) -> Result<(), TextFault>
     ensures said { OnOk result (settings.new ≡ configured settings.old line) }
     ensures fault { IfErr result (λ fault. fault ≡ TextFault.NoMemory) }
 {
-    match line.set(settings) {
-        Ok(()) => Ok(()),
-        Err(_) => Err(TextFault::NoMemory),
-    }
+    line.set(settings)?;
+    Ok(())
 }
 
 impl Reader {
@@ -209,9 +207,7 @@ impl Reader {
         if let Err(fault) = self.judge(line) {
             return Err(fault.at(number));
         }
-        match self.add(alloc, number, line) {
-            Ok(()) => Ok(()),
-            Err(_) => Err(TextFault::NoMemory),
-        }
+        self.add(alloc, number, line)?;
+        Ok(())
     }
 }

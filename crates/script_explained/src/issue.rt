@@ -38,9 +38,7 @@ pub(crate) fn issue<F: MissFile, W: Write>(
 {
     let decided = decided(state, slice, core, request);
     let which = Named::of(request.word.line(), decided.decision);
-    let Ok(left) = left_before(alloc, config, which, state, core) else {
-        return Err(TextFault::NoMemory);
-    };
+    let left = left_before(alloc, config, which, state, core)?;
     let issued = litmus_script::issue(state, core, request)?;
     let mut answers = Answers { out };
     let asked = Asked {

@@ -23,10 +23,8 @@ pub fn note_line(
     if !is_new(config, line, named) {
         return Ok(());
     }
-    match named.push(line) {
-        Ok(()) => Ok(()),
-        Err(_) => Err(TextFault::NoMemory),
-    }
+    named.push(line)?;
+    Ok(())
 }
 
 /// Whether it is a line of the memory that wasn't named yet.

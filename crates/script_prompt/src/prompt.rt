@@ -47,13 +47,9 @@ fn with_end(alloc: Global, text: &[u8]) -> Result<Vec<u8>, TextFault>
     ensures { IfOk result (λ whole. whole.items ≡ with_end text.now) }
 {
     let mut whole = Vec::new(alloc);
-    let Ok(()) = whole.extend_from_slice(text) else {
-        return Err(TextFault::NoMemory);
-    };
+    whole.extend_from_slice(text)?;
     if !is_ended(text) {
-        let Ok(()) = whole.push(b'\n') else {
-            return Err(TextFault::NoMemory);
-        };
+        whole.push(b'\n')?;
     }
     Ok(whole)
 }
@@ -118,9 +114,7 @@ impl Prompt {
             Err(fault) => tell(fault, out)?,
         }
         if self.session.script().len() > before {
-            let Ok(()) = self.parts.push(before) else {
-                return Err(TextFault::NoMemory);
-            };
+            self.parts.push(before)?;
         }
         Ok(true)
     }
@@ -148,9 +142,7 @@ impl Prompt {
         ensures { OnOk result (IsMadeWith line.now self.old.session self.new.session) }
     {
         let mut script = with_end(self.alloc, self.session.script())?;
-        let Ok(()) = script.extend_from_slice(line) else {
-            return Err(TextFault::NoMemory);
-        };
+        script.extend_from_slice(line)?;
         let script = with_end(self.alloc, &script)?;
         match AnySession::open(self.alloc, script, &mut io::sink()) {
             Ok(session) => {

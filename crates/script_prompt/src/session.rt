@@ -17,7 +17,6 @@ use mshr_file::MissFile;
 use script_explained::Explained;
 use script_text::write_command;
 use slice_core::DeliveredNext;
-use std::alloc::AllocError;
 use std::fmt::Write as _;
 use std::io::Write;
 
@@ -93,9 +92,8 @@ impl<F: MissFile> Session<F> {
         ensures kept { OnOk result (self.new.script.items ≡ self.old.script.items ++ (line.now ++ codes "\n")) }
         ensures fault { IfErr result (λ fault. fault ≡ TextFault.NoMemory) }
     {
-        let (Ok(()), Ok(())) = (self.script.extend_from_slice(line), self.script.push(b'\n')) else {
-            return Err(TextFault::NoMemory);
-        };
+        self.script.extend_from_slice(line)?;
+        self.script.push(b'\n')?;
         Ok(())
     }
 
@@ -189,13 +187,6 @@ impl<F: MissFile> Session<F> {
 
     /// How many entries each slice's log has.
     fn performed(&self) -> Result<Vec<usize>, TextFault> {
-        match self.lengths() {
-            Ok(lengths) => Ok(lengths),
-            Err(_) => Err(TextFault::NoMemory),
-        }
-    }
-
-    fn lengths(&self) -> Result<Vec<usize>, AllocError> {
         let mut lengths = Vec::new(self.player.alloc);
         for state in &self.player.machine.slices {
             lengths.push(state.log().len())?;

@@ -100,9 +100,7 @@ impl<F: MissFile> Player for Recorder<F> {
             // writing to memory fails for want of it
             return Err(TextFault::NoMemory);
         };
-        match self.texts.push(text) {
-            Ok(()) => Ok(()),
-            Err(_) => Err(TextFault::NoMemory),
-        }
+        self.texts.push(text)?;
+        Ok(())
     }
 }

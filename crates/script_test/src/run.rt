@@ -1,4 +1,4 @@
-ghost use Rattle.std.specs.Prelude.{◌≡◌, Option, Ok, IfErr, IfOk, IsOk, MatchResult, length, map};
+ghost use Rattle.std.specs.Prelude.{◌≡◌, Option, IfErr, IfOk, IsOk, length, map};
 ghost use Rattle.std.specs.Io.KnownBytes.{Appends};
 ghost use Rattle.script_test.specs.Judged.{IsJudged, IsStopped, PrintsTest, Unlike, status_of, text_of};
 
@@ -9,7 +9,7 @@ use super::print::{write_count, write_difference};
 use super::recorder::texts_of;
 use litmus_text::TextFault;
 use stats_report::Cut;
-use std::alloc::{AllocError, Global};
+use std::alloc::Global;
 use std::io::Write;
 
 /// Runs the script in a text with wanted answers, and prints where an answer isn't the wanted one first, or how many
@@ -18,22 +18,12 @@ pub fn run_test<W: Write>(alloc: Global, input: &[u8], out: &mut W) -> Result<u8
     ensures printed { IfOk result (PrintsTest input.now (W.contents out.old) (W.contents out.new)) }
     ensures fault { IfErr result (IsStopped input.now) }
 {
-    let script = or_fault(script_of(alloc, input))?;
+    let script = script_of(alloc, input)?;
     let texts = texts_of(alloc, script.as_slice())?;
-    let numbers = or_fault(numbers_of(alloc, script.as_slice()))?;
-    let answers = or_fault(answers_of(alloc, numbers.as_slice(), texts.as_slice()))?;
-    let wants = or_fault(wants_of(alloc, input))?;
+    let numbers = numbers_of(alloc, script.as_slice())?;
+    let answers = answers_of(alloc, numbers.as_slice(), texts.as_slice())?;
+    let wants = wants_of(alloc, input)?;
     print_judgement(wants.as_slice(), answers.as_slice(), out)
-}
-
-/// A lack of memory, as it is for a text.
-fn or_fault<T: Drop>(made: Result<T, AllocError>) -> Result<T, TextFault>
-    ensures { MatchResult result (λ value. made ≡ Ok value) (λ fault. fault ≡ TextFault.NoMemory) }
-{
-    match made {
-        Ok(value) => Ok(value),
-        Err(_) => Err(TextFault::NoMemory),
-    }
 }
 
 /// Judges answers, and prints what this comes to.

@@ -165,9 +165,7 @@ impl Check {
         ensures refused { IfErr result (λ fault. fault ≡ TextFault.NoMemory) }
         ensures version { self.new.version ≡ self.old.version }
     {
-        let Ok(()) = self.judge.begin(word, value) else {
-            return Err(TextFault::NoMemory);
-        };
+        self.judge.begin(word, value)?;
         self.last = Some(word);
         Ok(())
     }
@@ -184,9 +182,7 @@ impl Check {
         let Some(entries) = self.entries.checked_add(1) else {
             return Err(TextFault::NoMemory);
         };
-        let Ok(()) = self.step(entry) else {
-            return Err(TextFault::NoMemory);
-        };
+        self.step(entry)?;
         self.entries = entries;
         Ok(())
     }

@@ -4,7 +4,7 @@ use Rattle.litmus_rounds.proofs.run.run_on.Goals as goal
 
 pub returns-then-forbidden-eq0-clause-printed : goal.returns-then-forbidden-eq0-clause-printed
 returns-then-forbidden-eq0-clause-printed g c =
-    let are = rw c.in-None.is at c.in-Ok.ensures.done in
+    let are = rw c.in-None.is at c.in_ok-stuck.ensures.done in
     let counted = c.forbidden.ensures are.rounds are.table_of in
     inl (record {
       table = c.walk_rounds.new.outcomes;
@@ -15,7 +15,7 @@ returns-then-forbidden-eq0-clause-printed g c =
 
 pub returns-clause-printed : goal.returns-clause-printed
 returns-clause-printed g c =
-    let are = rw c.in-None.is at c.in-Ok.ensures.done in
+    let are = rw c.in-None.is at c.in_ok-stuck.ensures.done in
     let counted = c.forbidden.ensures are.rounds are.table_of in
     inl (record {
       table = c.walk_rounds.new.outcomes;

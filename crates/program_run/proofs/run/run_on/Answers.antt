@@ -7,8 +7,8 @@ returns-then-is_over-clause-done g c =
     let config = c.args.programs.now.config in
     let programs = c.args.programs.now.cores.items in
     let printed = rw c.tally.ensures at c.in_ok-print_report.ensures.printed in
-    programs_run config (g.F.MissFile.bound_by config) programs c.args.form c.args.seed 0 c.in-Ok.runner
-    c.run.new.runner _ _ c.in-Ok.ensures c.in-Ok-run.ensures
+    programs_run config (g.F.MissFile.bound_by config) programs c.args.form c.args.seed 0 c.in_ok-runner.runner
+    c.run.new.runner _ _ c.in_ok-runner.ensures c.in_ok-run.ensures
     (λ history seen.
     prints_over config programs c.args.form c.args.seed c.run.new.runner _ _ history
     (c.is_over.ensures.0 c.if-is_over.true) printed seen)
@@ -17,8 +17,8 @@ pub returns-clause-done : goal.returns-clause-done
 returns-clause-done g c =
     let config = c.args.programs.now.config in
     let programs = c.args.programs.now.cores.items in
-    programs_run config (g.F.MissFile.bound_by config) programs c.args.form c.args.seed 1 c.in-Ok.runner
-    c.run.new.runner _ _ c.in-Ok.ensures c.in-Ok-run.ensures
+    programs_run config (g.F.MissFile.bound_by config) programs c.args.form c.args.seed 1 c.in_ok-runner.runner
+    c.run.new.runner _ _ c.in_ok-runner.ensures c.in_ok-run.ensures
     (λ history seen.
     prints_stuck config programs c.args.form c.args.seed c.run.new.runner _ _ history
     (λ over. let is : c.is_over.result ≡ true = c.is_over.ensures.1 over in cc) c.in_ok-print_stuck.ensures.printed)

@@ -10,16 +10,16 @@ use Rattle.script_test.proofs.run.run_test.Goals as goal
 pub returns-in_err-texts-clause-fault : goal.returns-in_err-texts-clause-fault
 returns-in_err-texts-clause-fault g c =
     let p = err_from_is_err_and c.from_residual-in_err-texts.result c.from_residual-in_err-texts.ensures.1 in
-    let script = rw c.in_ok-script.ensures at c.script_of.ensures in
+    let script = c.in_ok-script.ensures in
     let fault = rw (c.as_slice.ensures.value, script) at c.in_err-texts.ensures.fault in
     rw (p.1, p.2) (inl fault)
 
 pub returns-clause-printed : goal.returns-clause-printed
 returns-clause-printed g c =
-    let script = rw c.in_ok-script.ensures at c.script_of.ensures in
-    let numbers = rw c.in_ok-numbers.ensures at c.numbers_of.ensures in
-    let answers = rw c.in_ok-answers.ensures at c.answers_of.ensures in
-    let wants = rw c.in_ok-wants.ensures at c.wants_of.ensures in
+    let script = c.in_ok-script.ensures in
+    let numbers = c.in_ok-numbers.ensures in
+    let answers = c.in_ok-answers.ensures in
+    let wants = c.in_ok-wants.ensures in
     let all = c.in_ok-texts.ensures.answers in
     let numbered = rw (c.as_slice-3.ensures.value, c.as_slice-4.ensures.value) at answers in
     IfOk-weaker c.print_judgement.result _ _

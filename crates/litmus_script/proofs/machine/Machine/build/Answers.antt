@@ -13,5 +13,5 @@ loop-slice-preserved g c =
     let fresh = are_new_push config (g.F.MissFile.bound_by config) slices c.loop-slice.slice state
     c.loop-slice.invariant.fresh count
     c.in_ok-state.ensures.new in
-    let pushed = c.in-Ok.ensures.items in
+    let pushed = c.in_ok-push.ensures.items in
     rw pushed (record { count = length-append slices (state ∷ []) ∙ ap (λ n. n + 1) count; each = each; fresh = fresh })

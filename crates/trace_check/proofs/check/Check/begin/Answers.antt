@@ -5,4 +5,4 @@ use Rattle.trace_check.proofs.check.Check.begin.Goals as goal
 pub returns-clause-stands : goal.returns-clause-stands
 returns-clause-stands c = λ init stands.
     stands-begin c.args.self.now _ init c.args.word c.args.value c.requires.place refl refl refl
-    (c.in-Ok.ensures init) stands
+    (c.in_ok-begin.ensures init) stands

@@ -1,8 +1,8 @@
-ghost use Rattle.std.specs.Prelude.{◌≡◌, ◌<◌, ◌↔◌, IsTrue, OnOk, Contains};
+ghost use Rattle.std.specs.Prelude.{◌≡◌, ◌<◌, ◌↔◌, IfOk, IsTrue, OnOk, Contains};
 
 use super::address::WordAddr;
 use super::words::{CounterWords, InitialValues};
-use std::alloc::Global;
+use std::alloc::{AllocError, Global};
 use std::error::Error;
 use std::fmt;
 use std::marker::Model;
@@ -89,7 +89,7 @@ pub struct Config {
     pub counters: CounterWords,
 }
 
-/// A configuration that was checked. Only `Config::check` makes one.
+/// A configuration that was checked. Only `Config::check` makes one, and `try_clone` another of it.
 #[derive(Debug, Drop)]
 pub struct Checked {
     config: Config,
@@ -186,6 +186,21 @@ impl Config {
 impl Checked {
     ghost use Rattle.address_map.specs.Config.{IsAllowed, slice_lines};
     ghost use Rattle.address_map.specs.Words.{initial_value};
+
+    /// The same configuration, for another machine. It isn't checked again.
+    pub fn try_clone(&self, alloc: Global) -> Result<Checked, AllocError>
+        ensures { IfOk result (λ copy. copy ≡ self.now) }
+    {
+        let init = self.config.init.try_clone(alloc)?;
+        let counters = self.config.counters.try_clone(alloc)?;
+        Ok(Checked {
+            config: Config {
+                init,
+                counters,
+                ..self.config
+            },
+        })
+    }
 
     pub fn cores(&self) -> usize
         ensures cores { result ≡ self.now.cores }

@@ -5,7 +5,7 @@
 //! it. A `Locator` does so for the lines of one slice, by a shift and a mask. A `CoreSet` is a set of the cores 0 to
 //! 63, and each of its calls takes a few instructions. `Config::check` answers the first field at fault, or a
 //! `Checked`, whose getters say what it may be relied on for (`IsAllowed` in `specs/Config.antt`). Only naming an
-//! initial value or a counter takes memory.
+//! initial value or a counter takes memory, and `Checked::try_clone`.
 #![tactic(auto)]
 
 pub use address::{CoreId, LineAddr, Local, Offset, SliceId, WordAddr};

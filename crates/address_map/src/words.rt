@@ -1,4 +1,4 @@
-ghost use Rattle.std.specs.Prelude.{◌≡◌, [], ◌∷◌, ◌++◌, length, ◌↔◌, nat_lt, IsTrue, OnOk, OnErr};
+ghost use Rattle.std.specs.Prelude.{◌≡◌, [], ◌∷◌, ◌++◌, length, ◌↔◌, nat_lt, IfOk, IsTrue, OnOk, OnErr};
 ghost use Rattle.std.specs.List.{list_all};
 ghost use Rattle.address_map.specs.Words.{IsAscendingBy, is_ascending_by, initial_value};
 
@@ -37,6 +37,14 @@ impl InitialValues {
     {
         self.pairs.push((word, value))?;
         Ok(())
+    }
+
+    /// The same words and values, in memory of their own.
+    pub(super) fn try_clone(&self, alloc: Global) -> Result<Self, AllocError>
+        ensures { IfOk result (λ copy. copy ≡ self.now) }
+    {
+        let pairs = Vec::from_slice(alloc, self.as_slice())?;
+        Ok(InitialValues { pairs })
     }
 
     pub fn len(&self) -> usize
@@ -116,6 +124,14 @@ impl CounterWords {
     {
         self.words.push(word)?;
         Ok(())
+    }
+
+    /// The same words, in memory of their own.
+    pub(super) fn try_clone(&self, alloc: Global) -> Result<Self, AllocError>
+        ensures { IfOk result (λ copy. copy ≡ self.now) }
+    {
+        let words = Vec::from_slice(alloc, self.as_slice())?;
+        Ok(CounterWords { words })
     }
 
     pub fn len(&self) -> usize

@@ -3,7 +3,6 @@ ghost use Rattle.address_map.specs.Config.{IsAllowed, word_count};
 ghost use Rattle.address_map.specs.Place.{slice_of};
 ghost use Rattle.core_thread_system.specs.Core.{AreFreshSets};
 ghost use Rattle.core_thread_system.specs.Error.{IsAccepted, IsFaultOf};
-ghost use Rattle.core_thread_system.specs.declared.error.BuildError.TheVariants.{Memory};
 ghost use Rattle.core_thread_system.specs.System.{IsPlaced};
 ghost use Rattle.receipt_shares.specs.Names.{AreLedgersOf};
 ghost use Rattle.slice_core.specs.Facts.{IsNotBrokenNext};
@@ -89,7 +88,7 @@ impl<F: MissFile, M: SystemNames> System<F, M> {
         ensures sets { IfOk result (λ r. AreFreshSets config.cores r.1.items) }
     {
         match checked(config) {
-            Ok(config) => System::assemble(alloc, config, blanks),
+            Ok(config) => Ok(System::build_checked(alloc, config, blanks)?),
             Err(error) => {
                 // In one call: dropped where they are they would be forty ledgers, each with a proof of its own.
                 drop(blanks);
@@ -98,24 +97,23 @@ impl<F: MissFile, M: SystemNames> System<F, M> {
         }
     }
 
-    // Builds each slice of a configuration that was checked.
-    fn assemble(
+    /// The same with a configuration that was checked: only memory can be wanting.
+    pub fn build_checked(
         alloc: Global,
         config: Checked,
         blanks: SystemBlanks,
-    ) -> Result<(System<F, M>, Vec<PortSet<M>>), BuildError>
+    ) -> Result<(System<F, M>, Vec<PortSet<M>>), AllocError>
         requires setup { config ≡ M.setup }
         requires ledgers0 { AreLedgersOf M.S0.setup M.S0.names blanks.slice0 }
         requires ledgers1 { AreLedgersOf M.S1.setup M.S1.names blanks.slice1 }
         requires ledgers2 { AreLedgersOf M.S2.setup M.S2.names blanks.slice2 }
         requires ledgers3 { AreLedgersOf M.S3.setup M.S3.names blanks.slice3 }
-        ensures memory { IfErr result (λ error. error ≡ Memory) }
-        ensures sets { IfOk result (λ r. AreFreshSets M.setup.cores r.1.items) }
+        ensures sets { IfOk result (λ r. AreFreshSets config.cores r.1.items) }
     {
         // The ledgers that no slice takes are dropped in one call, as above.
         let Ok((slice0, ports0)) = Slice::build(alloc, &config, SliceId(0), blanks.slice0) else {
             drop((blanks.slice1, blanks.slice2, blanks.slice3));
-            return Err(BuildError::Memory);
+            return Err(AllocError);
         };
         let later = LaterSlices::<F, M>::build(
             alloc,

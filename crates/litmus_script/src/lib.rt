@@ -6,7 +6,6 @@
 //!   [`Machine`] itself, or another on it, as the [`Style`] has it in which the script is run ([`run_in_style`]).
 //! - [`Answers`] is where answers go, and the functions beside it write the text of each.
 //! - [`issue`] is an access of one slice, with what became of it as it is printed.
-//! - [`copy_of`] makes an equal configuration, for another machine.
 //! - [`pump_slices`] has a [`Deliverer`], which the [`Machine`] is, deliver whatever waits, round and round over the
 //!   slices.
 #![tactic(auto)]
@@ -16,7 +15,6 @@ pub use answers::{
     write_pumped, written,
 };
 pub use calls::issue;
-pub use copy::copy_of;
 pub use deliverer::Deliverer;
 pub use echo::Echo;
 pub use machine::Machine;
@@ -26,7 +24,6 @@ pub use script::{Commands, Plain, Script, Style, run_in_style, run_script};
 
 mod answers;
 mod calls;
-mod copy;
 mod deliverer;
 mod echo;
 mod machine;

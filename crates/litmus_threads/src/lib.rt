@@ -17,7 +17,6 @@
 pub use rounds::{Run, run_test};
 pub use run::play_test;
 
-mod copy;
 mod crew;
 mod found;
 mod machine;

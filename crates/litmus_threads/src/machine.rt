@@ -2,14 +2,13 @@ ghost use Rattle.std.specs.Prelude.{◌≡◌, IfOk, IfSome};
 ghost use Rattle.receipt_shares.specs.Names.{AreLedgersOf};
 ghost use Rattle.litmus_threads.specs.Round.{IsFoundOn};
 
-use super::copy::copy_of;
 use super::crew::Crew;
 use super::found::outcome_of;
 use super::made::have_made_all;
 use super::plan::Plan;
-use address_map::Config;
+use address_map::Checked;
 use core_thread::{RunError, run_all};
-use core_thread_system::{All, BuildError, Core, Open, PortSet, System, SystemBlanks, SystemKeys};
+use core_thread_system::{All, Core, Open, PortSet, System, SystemBlanks, SystemKeys};
 use drain::{AuditError, AuditFault, Drain, audit, drain};
 use litmus_test::LitmusTest;
 use litmus_text::MissKind;
@@ -45,14 +44,14 @@ fn on_machine<F: MissFile + Send, R: Threads + Wait + Sync>(
     ensures { IfOk result (λ found. IfSome found (λ values.
         IsFoundOn test.now.config test.now.threads.items plan.now.soughts.items values.items)) }
 {
-    let config = copy_of(plan.alloc, &test.config)?;
-    let blanks = SystemBlanks::new(config.cores);
+    let config = test.config.try_clone(plan.alloc)?;
+    let blanks = SystemBlanks::new(config.cores() as u64);
     on_named::<F, Brand, R>(rt, config, blanks, test, plan, round)
 }
 
 fn on_named<F: MissFile + Send, M: SystemKeys + Send + Sync, R: Threads + Wait + Sync>(
     rt: &R,
-    config: Config,
+    config: Checked,
     blanks: SystemBlanks,
     test: &LitmusTest<'_>,
     plan: &Plan,
@@ -66,16 +65,11 @@ fn on_named<F: MissFile + Send, M: SystemKeys + Send + Sync, R: Threads + Wait +
     ensures { IfOk result (λ found. IfSome found (λ values.
         IsFoundOn M.setup test.now.threads.items plan.now.soughts.items values.items)) }
 {
-    match System::<F, All<M>>::build(plan.alloc, config, blanks) {
-        Ok((system, sets)) => {
-            let played = on_system(rt, &system, sets, test, plan, round);
-            // In one call: dropped where it is it would be taken apart, each part with a proof of its own.
-            drop(system);
-            played
-        }
-        // A test's configuration was checked.
-        Err(BuildError::Config(_) | BuildError::Memory) => Err(AllocError),
-    }
+    let (system, sets) = System::<F, All<M>>::build_checked(plan.alloc, config, blanks)?;
+    let played = on_system(rt, &system, sets, test, plan, round);
+    // In one call: dropped where it is it would be taken apart, each part with a proof of its own.
+    drop(system);
+    played
 }
 
 // Runs the threads, and sees what came of them.

@@ -10,7 +10,6 @@ use super::moves::Move;
 use super::recorded::Recorded;
 use super::walker::Walker;
 use address_map::LineAddr;
-use litmus_script::copy_of;
 use litmus_test::LitmusTest;
 use mshr_file::MissFile;
 use rand_core::SeedableRng;
@@ -43,9 +42,7 @@ pub fn walk<F: MissFile>(
     ensures drawn { IfOk result (λ walked. IsDrawn test.now (F.bound_by test.now.config) lines.now seed
         walked.over walked.recorded) }
 {
-    let Ok(config) = copy_of(alloc, &test.config) else {
-        return Err(AllocError);
-    };
+    let config = test.config.try_clone(alloc)?;
     let recorded = Recorded::new(alloc, config)?;
     let mut walker = Walker::new(alloc, test, recorded)?;
     walk_on(alloc, test, lines, seed, &mut walker)?;

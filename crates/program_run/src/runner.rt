@@ -28,7 +28,7 @@ use super::observer::Observer;
 use super::tally::Tally;
 use super::victim::find_victim;
 use address_map::{CoreId, LineAddr, SliceId};
-use litmus_script::{Issued, Machine, copy_of};
+use litmus_script::{Issued, Machine};
 use mshr_file::MissFile;
 use program_text::{Access, CoreProgram, Programs};
 use slice_core::{Access as Asked, Decision, Delivered, Entry, Message, Pick, Way};
@@ -64,9 +64,7 @@ impl<F: MissFile> Runner<F> {
         ensures { IfOk result
             (IsNewRunner programs.now.config (F.bound_by programs.now.config) programs.now.cores.items) }
     {
-        let Ok(config) = copy_of(alloc, &programs.config) else {
-            return Err(AllocError);
-        };
+        let config = programs.config.try_clone(alloc)?;
         let observer = Observer::new(alloc, &config)?;
         let first = Place {
             asked: 0,

@@ -26,7 +26,7 @@ returns-clause-drawn g c =
     record {
       start = state_of first.recorded first.places.items first.replies.items;
       new = record {
-        fresh = rw c.in_ok-walker.ensures.recorded (rw c.in-Ok.ensures at c.in_ok-recorded.ensures);
+        fresh = rw c.in_ok-walker.ensures.recorded (rw c.in_ok-config.ensures at c.in_ok-recorded.ensures);
         first = c.in_ok-walker.ensures.first;
         none = c.in_ok-walker.ensures.none;
       };

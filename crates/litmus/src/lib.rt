@@ -22,7 +22,7 @@
 pub use check::run_check;
 pub use export::run_export;
 pub use litmus_chart::run_chart;
-pub use litmus_command_line::{CommandLine, ModelCores, Table, read_line};
+pub use litmus_command_line::{CommandLine, ModelCores, ScriptForm, Table, read_line};
 pub use litmus_script::run_script;
 pub use litmus_test::{Progress, Silent};
 pub use litmus_text::TextFault;

@@ -1,10 +1,14 @@
 -- What the program is with one more subcommand.
-use Rattle.std.proofs.Common.{◌≡◌, ◌∙◌, List, false, sym, ap, ap₂}
+use Rattle.std.proofs.Common.{◌≡◌, ◌∙◌, ◌+◌, ◌<◌, List, length, arith, false, not, sym, ap, ap₂, length-append}
+use Rattle.std.proofs.lemmas.Bool.{and_left, and_right, ne_eqb}
 use Rattle.std.specs.Prelude.{IfOk, IsOkAnd, Result, Ok, Err}
 use Rattle.std.specs.Borrow.{Bor}
+use Rattle.clap.specs.Adds.{AddsConflicts}
+use Rattle.clap.specs.Walk.{is_empty, is_free_arg}
+use Rattle.clap.specs.declared.builder.arg.Arg.{Arg}
 use Rattle.clap.specs.declared.builder.command.Command.{Command}
 use Rattle.clap.specs.declared.builder.command.Command.TheViews.{out-Command as fields_of}
-use Rattle.clap.specs.Words.{App, Text, app_of, with_subcommand}
+use Rattle.clap.specs.Words.{App, Text, app_of, rule_of, with_subcommand}
 use Rattle.litmus_command_line.specs.CommandLine.{IsExport, IsLockup, IsTable, IsTablesProgram, IsWith, export_app}
 use Rattle.litmus_command_line.specs.CommandLine.{table_app, table_program}
 
@@ -42,3 +46,14 @@ with_export (Ok sub) program app is reads plain added = record {
   is = added plain ∙ ap₂ with_subcommand is.is (ap (λ (a : App). a.top) reads.is);
 }
 with_export (Err e) program app is reads plain added = absurd added
+
+-- an option that can't stand with some others has a rule on them
+pub rule-conflicting : (old new : Arg) (ids : List (Bor Text)) → 0 < length ids → AddsConflicts old new ids
+    → rule_of new ≡ record (rule_of old) { is_free = false }
+rule-conflicting old new ids some adds =
+    let longer : length new.conflicts.items ≡ length old.conflicts.items + length ids =
+    ap length adds.1 ∙ length-append old.conflicts.items ids in
+    let has_others : is_empty new.conflicts.items ≡ false = ne_eqb _ _ (λ none. omega arith) in
+    let free : is_free_arg (record old { conflicts = new.conflicts }) ≡ false =
+    and_right (not old.exclusive) _ (and_left _ _ has_others) in
+    ap rule_of adds.0 ∙ ap (λ is. record (rule_of old) { is_free = is }) free

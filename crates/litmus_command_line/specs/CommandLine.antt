@@ -14,6 +14,8 @@ use Rattle.litmus_command_line.specs.declared.command_line.CommandLine.{CommandL
 use Rattle.litmus_command_line.specs.declared.command_line.CommandLine.TheVariants as lines
 use Rattle.litmus_command_line.specs.declared.export.ModelCores.{ModelCores}
 use Rattle.litmus_command_line.specs.declared.export.ModelCores.TheVariants.{Two, Three, Four}
+use Rattle.litmus_command_line.specs.declared.form.ScriptForm.{ScriptForm}
+use Rattle.litmus_command_line.specs.declared.form.ScriptForm.TheVariants as forms
 use Rattle.litmus_command_line.specs.declared.table.Table.{Table}
 use Rattle.litmus_command_line.specs.declared.table.Table.TheVariants.{Cache, Directory}
 
@@ -29,6 +31,10 @@ table_rule names = record (new_rule (codes "TABLE")) { required = true; parser =
 abbrev pub flag_rule : Text → Rule
 flag_rule name = record (new_rule name) { long = Some name; action = Some SetTrue }
 
+-- .. which can't stand with some others
+abbrev pub lone_rule : Text → Rule
+lone_rule name = record (flag_rule name) { is_free = false }
+
 -- the subcommand that runs a script, with the options that say how its answers are printed
 abbrev pub answering_app : App
 answering_app =
@@ -36,11 +42,11 @@ answering_app =
     (with_rule
     (with_rule (with_rule (new_app (codes "script")) file_rule) (flag_rule (codes "echo")))
     (flag_rule (codes "explain")))
-    (flag_rule (codes "beside"))
+    (lone_rule (codes "beside"))
 
 -- .. and with those that print something else in their place
 abbrev pub script_app : App
-script_app = with_rule (with_rule answering_app (flag_rule (codes "vcd"))) (flag_rule (codes "from-murphi"))
+script_app = with_rule (with_rule answering_app (lone_rule (codes "vcd"))) (lone_rule (codes "from-murphi"))
 
 -- the subcommand that answers a script's lines one by one, behind a text that may be left out
 abbrev pub try_app : App
@@ -235,12 +241,24 @@ abbrev pub IsNumberIfGiven : Text → List Row → Option ℕ → Type 0
 IsNumberIfGiven name rows None = first_of name rows ≡ None
 IsNumberIfGiven name rows (Some n) = IsNumberOf name rows n
 
+-- these options of `script` were given, and no other
+abbrev pub AreGiven : List Row → (echo explain beside vcd from_murphi : Bool) → Type 0
+AreGiven rows echo explain beside vcd from_murphi =
+    (echo ≡ is_given (codes "echo") rows) × (explain ≡ is_given (codes "explain") rows)
+    × (beside ≡ is_given (codes "beside") rows) × (vcd ≡ is_given (codes "vcd") rows)
+    × (from_murphi ≡ is_given (codes "from-murphi") rows)
+
+-- the options ask for this form, and none of them is left out of it
+abbrev pub IsFormOf : List Row → ScriptForm → Type 0
+IsFormOf rows (forms.Answers echo explain) = AreGiven rows echo explain false false false
+IsFormOf rows (forms.Beside explain) = AreGiven rows false explain true false false
+IsFormOf rows forms.Waves = AreGiven rows false false false true false
+IsFormOf rows forms.FromMurphi = AreGiven rows false false false false true
+
 -- the subcommand of this name, with these values, is what the line holds
 abbrev pub IsLine : Text → List Row → CommandLine → Type 0
-IsLine name rows (lines.Script file echo explain beside vcd from_murphi) =
-    (name ≡ codes "script") × (first_of (codes "FILE") rows ≡ Some file.now) × (echo ≡ is_given (codes "echo") rows)
-    × (explain ≡ is_given (codes "explain") rows) × (beside ≡ is_given (codes "beside") rows)
-    × (vcd ≡ is_given (codes "vcd") rows) × (from_murphi ≡ is_given (codes "from-murphi") rows)
+IsLine name rows (lines.Script file form) =
+    (name ≡ codes "script") × (first_of (codes "FILE") rows ≡ Some file.now) × IsFormOf rows form
 IsLine name rows (lines.Try file) =
     (name ≡ codes "try") × (option_map (λ f. f.now) file ≡ first_of (codes "FILE") rows)
 IsLine name rows (lines.Chart file) = (name ≡ codes "chart") × (first_of (codes "FILE") rows ≡ Some file.now)

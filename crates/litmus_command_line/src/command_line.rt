@@ -1,8 +1,8 @@
-ghost use Rattle.std.specs.Prelude.{◌≡◌, map, IfOk, IfSome, IsOkAnd, string_bytes, codes, false};
+ghost use Rattle.std.specs.Prelude.{◌≡◌, ◌<◌, length, map, IfOk, IfSome, IsOkAnd, string_bytes, codes, false};
 ghost use Rattle.clap.specs.declared.builder.command.Command.TheViews.{out-Command as fields_of};
-ghost use Rattle.litmus_command_line.specs.CommandLine.{IsAsked, IsLine, IsLockup, IsRead, IsTable, IsWith, chart_app};
-ghost use Rattle.litmus_command_line.specs.CommandLine.{check_app};
-ghost use Rattle.litmus_command_line.specs.CommandLine.{answering_app, file_rule, flag_rule, is_given, page_app};
+ghost use Rattle.litmus_command_line.specs.CommandLine.{IsAsked, IsFormOf, IsLine, IsLockup, IsRead, IsTable, IsWith};
+ghost use Rattle.litmus_command_line.specs.CommandLine.{chart_app, check_app};
+ghost use Rattle.litmus_command_line.specs.CommandLine.{answering_app, file_rule, flag_rule, is_given, lone_rule, page_app};
 ghost use Rattle.litmus_command_line.specs.CommandLine.{script_app, test_app, top_app, word_of};
 ghost use Rattle.litmus_command_line.specs.CommandLine.{IsNumberOf, IsNumberIfGiven, litmus_app, number_rule};
 ghost use Rattle.litmus_command_line.specs.CommandLine.{IsExport, IsOpenExport, number_rule_or, run_app, try_app};
@@ -11,6 +11,7 @@ ghost use Rattle.std.specs.Option.{option_map};
 ghost use Rattle.clap.specs.Words.{app_of, found_of, rows_of, rule_of, first_of, subcommand_rows_of};
 
 use super::export::ModelCores;
+use super::form::ScriptForm;
 use super::table::Table;
 use clap::builder::ValueParser;
 use clap::error::ErrorKind;
@@ -20,16 +21,10 @@ use std::alloc::{AllocError, Global};
 /// What the program's command line asks for.
 #[derive(Clone, Copy, Debug, PartialEq, Eq)]
 pub enum CommandLine<'a> {
-    /// Run the script in this file. With `echo`, print each command's line before its answer, and with `beside` on its
-    /// left; with `explain`, what happened behind it; with `vcd`, the run as waves in place of answers. With
-    /// `from_murphi` the file is a model checker's trace: print it as a script.
+    /// Run the script in this file, and print the run in this form.
     Script {
         file: &'a str,
-        echo: bool,
-        explain: bool,
-        beside: bool,
-        vcd: bool,
-        from_murphi: bool,
+        form: ScriptForm,
     },
     /// Answer a script's lines one by one, behind the script in this file if one is named.
     Try {
@@ -138,19 +133,26 @@ fn script_line<'a>(given: &ArgMatches<'a>) -> Option<CommandLine<'a>>
     ensures { IfSome result (IsLine (codes "script") (rows_of (found_of given.now))) }
 {
     let file = file_of(given)?;
+    let form = form_of(given)?;
+    Some(CommandLine::Script { file, form })
+}
+
+/// The form that the options ask for, where they ask for one alone. The command has refused all others.
+fn form_of(given: &ArgMatches<'_>) -> Option<ScriptForm>
+    ensures { IfSome result (IsFormOf (rows_of (found_of given.now))) }
+{
     let echo = is_given(given, "echo");
     let explain = is_given(given, "explain");
     let beside = is_given(given, "beside");
     let vcd = is_given(given, "vcd");
     let from_murphi = is_given(given, "from-murphi");
-    Some(CommandLine::Script {
-        file,
-        echo,
-        explain,
-        beside,
-        vcd,
-        from_murphi,
-    })
+    match (echo, explain, beside, vcd, from_murphi) {
+        (_, _, false, false, false) => Some(ScriptForm::Answers { echo, explain }),
+        (false, _, true, false, false) => Some(ScriptForm::Beside { explain }),
+        (false, false, false, true, false) => Some(ScriptForm::Waves),
+        (false, false, false, false, true) => Some(ScriptForm::FromMurphi),
+        _ => None,
+    }
 }
 
 fn try_line<'a>(given: &ArgMatches<'a>) -> Option<CommandLine<'a>>
@@ -343,16 +345,18 @@ fn script<'a>(alloc: Global) -> Result<Command<'a>, AllocError>
 {
     let answering = answering(alloc)?;
     answering
-        .arg(flag(
+        .arg(lone_flag(
             alloc,
             "vcd",
             "Print the run as waves for a wave viewer, in place of answers",
-        ))?
-        .arg(flag(
+            &["echo", "explain", "beside"],
+        )?)?
+        .arg(lone_flag(
             alloc,
             "from-murphi",
             "FILE is a trace of the model: print it as a script",
-        ))
+            &["echo", "explain", "beside", "vcd"],
+        )?)
 }
 
 /// The same with the options that say how answers are printed alone.
@@ -366,11 +370,12 @@ fn answering<'a>(alloc: Global) -> Result<Command<'a>, AllocError>
         .arg(file(alloc, "The script: one command a line; - is standard input"))?
         .arg(flag(alloc, "echo", "Print each command's line before its answer"))?
         .arg(flag(alloc, "explain", "Print behind each answer what happened"))?
-        .arg(flag(
+        .arg(lone_flag(
             alloc,
             "beside",
             "Print each answer beside its command's line",
-        ))
+            &["echo"],
+        )?)
 }
 
 fn prompt<'a>(alloc: Global) -> Result<Command<'a>, AllocError>
@@ -583,6 +588,20 @@ fn flag<'a>(alloc: Global, name: &'a str, help: &'a str) -> Arg<'a>
         .long(name)
         .help(help)
         .action(ArgAction::SetTrue)
+}
+
+/// .. which can't stand with these others.
+fn lone_flag<'a>(
+    alloc: Global,
+    name: &'a str,
+    help: &'a str,
+    others: &[&'a str],
+) -> Result<Arg<'a>, AllocError>
+    requires { 0 < length others.now }
+    ensures rule { IfOk result (λ arg. rule_of arg ≡ lone_rule name.entry.now) }
+    ensures plain { IfOk result (λ arg. arg.global ≡ false) }
+{
+    flag(alloc, name, help).conflicts_with_all(others)
 }
 
 mod help;

@@ -6,8 +6,10 @@
 
 pub use command_line::{CommandLine, read_line};
 pub use export::ModelCores;
+pub use form::ScriptForm;
 pub use table::Table;
 
 mod command_line;
 mod export;
+mod form;
 mod table;

@@ -8,13 +8,14 @@
 use clap::Error;
 use clap::error::ErrorKind;
 use litmus::{
-    CommandLine, Form, expected, read_line, run_beside, run_chart, run_check, run_explained,
-    run_export, run_litmus, run_page, run_programs, run_script, run_table, run_test, run_trace,
-    run_walk, run_waves, write_walk,
+    CommandLine, Form, ScriptForm, expected, read_line, run_beside, run_chart, run_check,
+    run_explained, run_export, run_litmus, run_page, run_programs, run_script, run_table, run_test,
+    run_trace, run_walk, run_waves, write_walk,
 };
 use litmus_text::TextFault;
 use painted::Painted;
 use progress::Shown;
+use std::alloc::Global;
 use std::env::VarError;
 use std::fmt::Display;
 use std::io::{BufWriter, IsTerminal, Read, Write};
@@ -127,7 +128,10 @@ where
 const fn is_explained(line: CommandLine<'_>) -> bool {
     matches!(
         line,
-        CommandLine::Script { explain: true, .. } | CommandLine::Try { .. }
+        CommandLine::Script {
+            form: ScriptForm::Answers { explain: true, .. } | ScriptForm::Beside { explain: true },
+            ..
+        } | CommandLine::Try { .. }
     )
 }
 
@@ -193,22 +197,7 @@ where
     let is_watched = people.watch;
     let shown = &mut Shown { rt, is_watched };
     match line {
-        CommandLine::Script {
-            from_murphi: true,
-            ..
-        } => run_trace(input, out),
-        CommandLine::Script { vcd: true, .. } => run_waves(alloc, input, out),
-        CommandLine::Script {
-            explain,
-            beside: true,
-            ..
-        } => run_beside(alloc, input, explain, out),
-        CommandLine::Script {
-            echo,
-            explain: true,
-            ..
-        } => run_explained(alloc, input, echo, out),
-        CommandLine::Script { echo, .. } => run_script(alloc, input, echo, out),
+        CommandLine::Script { form, .. } => write_run(alloc, input, form, out),
         CommandLine::Try { .. } => prompt::run(rt, input, people.type_lines, out),
         CommandLine::Chart { .. } => run_chart(alloc, input, out),
         CommandLine::Page { .. } => run_page(alloc, input, out),
@@ -237,6 +226,28 @@ where
             exclusive,
             closed,
         } => run_export(cores, exclusive, closed, out),
+    }
+}
+
+/// Runs a script, and prints the run in this form.
+fn write_run<W: Write>(
+    alloc: Global,
+    input: &[u8],
+    form: ScriptForm,
+    out: &mut W,
+) -> Result<u8, TextFault> {
+    match form {
+        ScriptForm::Answers {
+            echo,
+            explain: true,
+        } => run_explained(alloc, input, echo, out),
+        ScriptForm::Answers {
+            echo,
+            explain: false,
+        } => run_script(alloc, input, echo, out),
+        ScriptForm::Beside { explain } => run_beside(alloc, input, explain, out),
+        ScriptForm::Waves => run_waves(alloc, input, out),
+        ScriptForm::FromMurphi => run_trace(input, out),
     }
 }
 

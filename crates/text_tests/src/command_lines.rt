@@ -1,4 +1,4 @@
-use litmus_command_line::{CommandLine, Table, read_line};
+use litmus_command_line::{CommandLine, ScriptForm, Table, read_line};
 use std::alloc::{AllocError, Global};
 use std::test::Fail;
 
@@ -44,19 +44,17 @@ fn reads_a_script(rt: HostRuntime) -> Result<(), Fail> {
     let file = "first.txt";
     let plain = CommandLine::Script {
         file,
-        echo: false,
-        explain: false,
-        beside: false,
-        vcd: false,
-        from_murphi: false,
+        form: ScriptForm::Answers {
+            echo: false,
+            explain: false,
+        },
     };
     let echo = CommandLine::Script {
         file,
-        echo: true,
-        explain: false,
-        beside: false,
-        vcd: false,
-        from_murphi: false,
+        form: ScriptForm::Answers {
+            echo: true,
+            explain: false,
+        },
     };
     assert!(rt; is_read(rt.alloc(), &["lockup", "script", file], plain)?);
     assert!(rt; is_read(rt.alloc(), &["lockup", "script", "--echo", file], echo)?);
@@ -69,11 +67,10 @@ fn reads_a_script_to_be_explained(rt: HostRuntime) -> Result<(), Fail> {
     let file = "first.txt";
     let explained = CommandLine::Script {
         file,
-        echo: false,
-        explain: true,
-        beside: false,
-        vcd: false,
-        from_murphi: false,
+        form: ScriptForm::Answers {
+            echo: false,
+            explain: true,
+        },
     };
     assert!(rt;
         is_read(
@@ -90,11 +87,7 @@ fn reads_a_script_with_answers_beside_it(rt: HostRuntime) -> Result<(), Fail> {
     let file = "first.txt";
     let beside = CommandLine::Script {
         file,
-        echo: false,
-        explain: false,
-        beside: true,
-        vcd: false,
-        from_murphi: false,
+        form: ScriptForm::Beside { explain: false },
     };
     assert!(rt; is_read(rt.alloc(), &["lockup", "script", "--beside", file], beside)?);
     Ok(())
@@ -105,11 +98,7 @@ fn reads_a_script_to_be_shown_as_waves(rt: HostRuntime) -> Result<(), Fail> {
     let file = "first.txt";
     let waves = CommandLine::Script {
         file,
-        echo: false,
-        explain: false,
-        beside: false,
-        vcd: true,
-        from_murphi: false,
+        form: ScriptForm::Waves,
     };
     assert!(rt; is_read(rt.alloc(), &["lockup", "script", "--vcd", file], waves)?);
     Ok(())
@@ -120,11 +109,7 @@ fn reads_a_trace_of_the_model(rt: HostRuntime) -> Result<(), Fail> {
     let file = "trace.txt";
     let trace = CommandLine::Script {
         file,
-        echo: false,
-        explain: false,
-        beside: false,
-        vcd: false,
-        from_murphi: true,
+        form: ScriptForm::FromMurphi,
     };
     assert!(rt;
         is_read(
@@ -182,6 +167,48 @@ fn a_refused_line_ends_with_2(rt: HostRuntime) -> Result<(), Fail> {
     for given in refused {
         assert!(rt; status_of(rt.alloc(), given)? == Some(2));
     }
+    Ok(())
+}
+
+#[test]
+fn two_forms_of_a_run_end_with_2(rt: HostRuntime) -> Result<(), Fail> {
+    let refused = [
+        ["--echo", "--beside"],
+        ["--vcd", "--echo"],
+        ["--vcd", "--explain"],
+        ["--vcd", "--beside"],
+        ["--from-murphi", "--echo"],
+        ["--from-murphi", "--explain"],
+        ["--from-murphi", "--beside"],
+        ["--from-murphi", "--vcd"],
+    ];
+    for [first, second] in refused {
+        let given = ["lockup", "script", first, second, "a"];
+        assert!(rt; status_of(rt.alloc(), &given)? == Some(2));
+        let turned = ["lockup", "script", second, first, "a"];
+        assert!(rt; status_of(rt.alloc(), &turned)? == Some(2));
+    }
+    Ok(())
+}
+
+#[test]
+fn an_explained_run_has_its_commands_before_or_beside(rt: HostRuntime) -> Result<(), Fail> {
+    let file = "first.txt";
+    let echo = CommandLine::Script {
+        file,
+        form: ScriptForm::Answers {
+            echo: true,
+            explain: true,
+        },
+    };
+    let beside = CommandLine::Script {
+        file,
+        form: ScriptForm::Beside { explain: true },
+    };
+    let given = ["lockup", "script", "--echo", "--explain", file];
+    assert!(rt; is_read(rt.alloc(), &given, echo)?);
+    let given = ["lockup", "script", "--explain", "--beside", file];
+    assert!(rt; is_read(rt.alloc(), &given, beside)?);
     Ok(())
 }
 

@@ -11,7 +11,7 @@ returns-clause-reads c =
     let echo = c.in_ok-arg-2.ensures.shape c.flag.ensures.plain ∙ ap₂ with_rule file c.flag.ensures.rule in
     let explain = c.in_ok-arg-3.ensures.shape c.flag-2.ensures.plain ∙ ap₂ with_rule echo c.flag-2.ensures.rule in
     IfOk-weaker c.arg-4.result _ _
-    (λ made adds. adds.shape c.flag-3.ensures.plain ∙ ap₂ with_rule explain c.flag-3.ensures.rule)
+    (λ made adds. adds.shape c.in_ok-lone_flag.ensures.plain ∙ ap₂ with_rule explain c.in_ok-lone_flag.ensures.rule)
     c.arg-4.ensures
 
 pub returns-clause-plain : goal.returns-clause-plain
@@ -21,5 +21,5 @@ returns-clause-plain c =
     let echo = c.in_ok-arg-2.ensures.globals ∙ ap₂ (λ a b. a || b) file c.flag.ensures.plain in
     let explain = c.in_ok-arg-3.ensures.globals ∙ ap₂ (λ a b. a || b) echo c.flag-2.ensures.plain in
     IfOk-weaker c.arg-4.result _ _
-    (λ made adds. adds.globals ∙ ap₂ (λ a b. a || b) explain c.flag-3.ensures.plain)
+    (λ made adds. adds.globals ∙ ap₂ (λ a b. a || b) explain c.in_ok-lone_flag.ensures.plain)
     c.arg-4.ensures

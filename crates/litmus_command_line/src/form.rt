@@ -1,0 +1,12 @@
+/// How the run of a script is printed.
+#[derive(Clone, Copy, Debug, PartialEq, Eq)]
+pub enum ScriptForm {
+    /// Its answers: with `echo` each behind its command's line, and with `explain` each before what happened.
+    Answers { echo: bool, explain: bool },
+    /// Each answer beside its command's line.
+    Beside { explain: bool },
+    /// Waves, and no answers.
+    Waves,
+    /// The file is a model checker's trace. It isn't run, but printed as a script.
+    FromMurphi,
+}

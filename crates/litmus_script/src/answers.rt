@@ -63,6 +63,22 @@ pub enum Issued {
     Refused(Refused),
 }
 
+impl fmt::Display for Issued {
+    ghost use Rattle.std.specs.Prelude.{Some};
+    ghost use Rattle.litmus_script.specs.Answer.{text_of_issued};
+
+    ghost output = { λ issued. Some (text_of_issued issued) };
+
+    fn fmt<W: fmt::Write>(&self, f: &mut fmt::Formatter<W>) -> fmt::Result {
+        match *self {
+            Issued::Done { number, reply } => write!(f, "done {number} reply {reply}"),
+            Issued::Pending(seq) => write!(f, "pending {seq}"),
+            Issued::Stall(stall) => write!(f, "stall {stall}"),
+            Issued::Refused(refused) => write!(f, "refused {refused}"),
+        }
+    }
+}
+
 /// What is left after a pump.
 #[derive(Clone, Copy, Debug, PartialEq, Eq)]
 pub enum Pumped {
@@ -79,9 +95,7 @@ pub fn write_issued<W: fmt::Write>(issued: Issued, out: &mut W) -> fmt::Result
 {
     match issued {
         Issued::Done { number, reply } => write_done(number, reply, out),
-        Issued::Pending(seq) => writeln!(out, "pending {seq}"),
-        Issued::Stall(stall) => writeln!(out, "stall {stall}"),
-        Issued::Refused(refused) => writeln!(out, "refused {refused}"),
+        Issued::Pending(_) | Issued::Stall(_) | Issued::Refused(_) => writeln!(out, "{issued}"),
     }
 }
 

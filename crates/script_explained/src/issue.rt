@@ -94,31 +94,11 @@ fn write_issue<F: MissFile, W: fmt::Write>(
         ++ (text_of_issue asked.now.decided ++ text_of_copies config.now which left.now state.now.view asked.now.core))
         out.new) }
 {
-    let answer = IssuedAnswer(asked.issued);
+    let issued = asked.issued;
     let decided = asked.decided;
-    write!(out, "{answer}   {decided}")?;
+    write!(out, "{issued}   {decided}")?;
     write_copies(config, which, left, state, asked.core, out)?;
     writeln!(out)
-}
-
-/// The answer to an access.
-#[derive(Clone, Copy)]
-struct IssuedAnswer(Issued);
-
-impl fmt::Display for IssuedAnswer {
-    ghost use Rattle.std.specs.Prelude.{Some};
-    ghost use Rattle.litmus_script.specs.Answer.{text_of_issued};
-
-    ghost output = { λ answer. Some (text_of_issued answer.0) };
-
-    fn fmt<W: fmt::Write>(&self, f: &mut fmt::Formatter<W>) -> fmt::Result {
-        match self.0 {
-            Issued::Done { number, reply } => write!(f, "done {number} reply {reply}"),
-            Issued::Pending(seq) => write!(f, "pending {seq}"),
-            Issued::Stall(stall) => write!(f, "stall {stall}"),
-            Issued::Refused(refused) => write!(f, "refused {refused}"),
-        }
-    }
 }
 
 /// Asks for an eviction in the slice with this number, and writes what became of it and why.

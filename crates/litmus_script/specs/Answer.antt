@@ -5,9 +5,7 @@ use Rattle.litmus_script.specs.declared.answers.Issued.{Issued}
 use Rattle.litmus_script.specs.declared.answers.Issued.TheVariants as issues
 use Rattle.litmus_script.specs.declared.answers.Pumped.{Pumped}
 use Rattle.litmus_script.specs.declared.answers.Pumped.TheVariants as pumps
-use Rattle.slice_core_answer.specs.Text.{text_of_cell, text_of_refused, text_of_stall}
-use Rattle.slice_core_answer.specs.declared.answer.Delivered.{Delivered}
-use Rattle.slice_core_answer.specs.declared.answer.Delivered.TheVariants as deliveries
+use Rattle.slice_core_answer.specs.Text.{text_of_refused, text_of_stall}
 use Rattle.slice_core_log.specs.declared.entry.Numbered.{Numbered}
 
 -- what became of an access
@@ -16,13 +14,6 @@ text_of_issued (issues.Done number reply) = codes "done " ++ decimal number ++ c
 text_of_issued (issues.Pending seq) = codes "pending " ++ decimal seq
 text_of_issued (issues.Stall stall) = codes "stall " ++ text_of_stall stall
 text_of_issued (issues.Refused refused) = codes "refused " ++ text_of_refused refused
-
--- what became of a delivery
-abbrev pub text_of_delivered : Delivered → List ℕ
-text_of_delivered deliveries.Moved = codes "moved"
-text_of_delivered deliveries.Blocked = codes "blocked"
-text_of_delivered deliveries.Nothing = codes "nothing"
-text_of_delivered (deliveries.Broken cell) = codes "broken " ++ text_of_cell cell
 
 -- a reply that is handed out, or that there is none
 abbrev pub text_of_handed : Option Numbered → List ℕ

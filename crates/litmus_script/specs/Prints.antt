@@ -3,7 +3,7 @@ use Rattle.std.specs.Prelude.{◌≡◌, ℕ, ◌/◌, ◌%◌, List, ◌++◌, 
 use Rattle.std.specs.Io.KnownBytes.{Appends}
 use Rattle.address_map.specs.Place.{line_of as line_of_word}
 use Rattle.address_map.specs.declared.config.Config.{Config}
-use Rattle.litmus_script.specs.Answer.{text_of_delivered, text_of_handed, text_of_issued, text_of_pumped, text_of_word}
+use Rattle.litmus_script.specs.Answer.{text_of_handed, text_of_issued, text_of_pumped, text_of_word}
 use Rattle.litmus_script.specs.Issued.{IsIssued}
 use Rattle.litmus_script.specs.Machine.{IsAnswered, IsShownLine, IsShownWord, counts_in, init_at, log_at}
 use Rattle.litmus_script.specs.Pump.{Pumps, Silently, Telling}
@@ -15,7 +15,7 @@ use Rattle.litmus_text.specs.declared.command.Command.{Command}
 use Rattle.litmus_text.specs.declared.command.Command.TheVariants as commands
 use Rattle.slice_core.specs.declared.run.Call.TheVariants as calls
 use Rattle.slice_core.specs.declared.run.CallAnswer.TheVariants as answers
-use Rattle.slice_core_answer.specs.Text.{text_of_evicted}
+use Rattle.slice_core_answer.specs.Text.{text_of_delivered, text_of_evicted}
 use Rattle.slice_core_answer.specs.declared.answer.Delivered.{Delivered}
 use Rattle.slice_core_answer.specs.declared.answer.Evicted.{Evicted}
 use Rattle.slice_core_log.specs.declared.entry.Numbered.{Numbered}

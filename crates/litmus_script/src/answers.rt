@@ -1,7 +1,7 @@
 ghost use Rattle.std.specs.Prelude.{◌≡◌, ◌↔◌, ◌++◌, IfErr, IsOk, OnOk, codes, decimal};
 ghost use Rattle.std.specs.Io.KnownBytes.{Appends};
-ghost use Rattle.slice_core_answer.specs.Text.{text_of_evicted};
-ghost use Rattle.litmus_script.specs.Answer.{WritesLine, text_of_delivered, text_of_handed, text_of_issued};
+ghost use Rattle.slice_core_answer.specs.Text.{text_of_delivered, text_of_evicted};
+ghost use Rattle.litmus_script.specs.Answer.{WritesLine, text_of_handed, text_of_issued};
 ghost use Rattle.litmus_script.specs.Answer.{text_of_pumped, text_of_word};
 
 use arrayvec::ArrayString;
@@ -112,9 +112,9 @@ pub fn write_delivered<W: fmt::Write>(delivered: Delivered, out: &mut W) -> fmt:
 {
     match delivered {
         Delivered::Moved => write_whole("moved\n", out),
-        Delivered::Blocked => write_whole("blocked\n", out),
-        Delivered::Nothing => write_whole("nothing\n", out),
-        Delivered::Broken(cell) => writeln!(out, "broken {cell}"),
+        Delivered::Blocked | Delivered::Nothing | Delivered::Broken(_) => {
+            writeln!(out, "{delivered}")
+        }
     }
 }
 

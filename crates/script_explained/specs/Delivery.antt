@@ -4,7 +4,6 @@ use Rattle.std.specs.Prelude.{ℕ, List, [], ◌++◌, codes, length, Option, So
 use Rattle.std.specs.Io.KnownBytes.{Appends}
 use Rattle.std.specs.Option.{option_map}
 use Rattle.address_map.specs.declared.address.CoreId.{CoreId}
-use Rattle.litmus_script.specs.Answer.{text_of_delivered}
 use Rattle.litmus_script.specs.Machine.{Answers}
 use Rattle.litmus_script.specs.Prints.{Adds}
 use Rattle.litmus_text.specs.Command.{parts_of}
@@ -13,6 +12,7 @@ use Rattle.script_explained.specs.Look.{copy_at, entry_of, message_at}
 use Rattle.script_text.specs.Line.{text_of_parts}
 use Rattle.slice_core.specs.declared.run.Call.TheVariants as calls
 use Rattle.slice_core.specs.declared.run.CallAnswer.TheVariants as answers
+use Rattle.slice_core_answer.specs.Text.{text_of_delivered}
 use Rattle.slice_core_answer.specs.declared.answer.Delivered.{Delivered}
 use Rattle.slice_core_plan.specs.Calls.{PartsView, core_of}
 use Rattle.slice_core_plan.specs.Plan.{planned_at}

@@ -2,11 +2,12 @@
 ghost use Rattle.std.specs.Prelude.{◌≡◌, ◌++◌, IfErr, IfOk, OnOk, codes};
 ghost use Rattle.std.specs.Fmt.{WritesInCalls};
 ghost use Rattle.std.specs.Io.KnownBytes.{Appends};
-ghost use Rattle.litmus_script.specs.Answer.{WritesLine, text_of_delivered};
+ghost use Rattle.litmus_script.specs.Answer.{WritesLine};
 ghost use Rattle.litmus_script.specs.Play.{IsOfRun};
 ghost use Rattle.script_explained.specs.Delivery.{ExplainsDelivery, ExplainsNext, case_at, delivery_at, done_at};
 ghost use Rattle.script_explained.specs.Delivery.{text_of_made, told_of_delivery, who_takes};
 ghost use Rattle.slice_core.specs.Facts.{IsSameSlice};
+ghost use Rattle.slice_core_answer.specs.Text.{text_of_delivered};
 ghost use Rattle.slice_core_plan.specs.Calls.{core_of, next_pick};
 ghost use Rattle.slice_core_answer.specs.declared.answer.Delivery.TheVariants as deliveries;
 ghost use Rattle.slice_queues_message.specs.Pick.{channel_of};
@@ -119,35 +120,14 @@ fn told(slice: usize, pick: Pick, case: Option<Case>, plan: Plan, done: Done) ->
     })
 }
 
-/// The answer to a delivery.
-#[derive(Clone, Copy)]
-struct Answer(Delivered);
-
-impl fmt::Display for Answer {
-    ghost use Rattle.std.specs.Prelude.{Some};
-    ghost use Rattle.litmus_script.specs.Answer.{text_of_delivered};
-
-    ghost output = { λ answer. Some (text_of_delivered answer.0) };
-
-    fn fmt<W: fmt::Write>(&self, f: &mut fmt::Formatter<W>) -> fmt::Result {
-        match self.0 {
-            Delivered::Moved => f.write_str("moved"),
-            Delivered::Blocked => f.write_str("blocked"),
-            Delivered::Nothing => f.write_str("nothing"),
-            Delivered::Broken(cell) => write!(f, "broken {cell}"),
-        }
-    }
-}
-
 /// Writes the answer to a delivery, and what there is to say of it.
 fn write<W: fmt::Write>(delivered: Delivered, told: Option<ExplainedDelivery>, out: &mut W) -> fmt::Result
     ensures { OnOk result (WritesLine W.write_str_gives out.old
         (text_of_delivered delivered ++ codes "   " ++ told_of_delivery told) out.new) }
 {
-    let answer = Answer(delivered);
     match told {
-        Some(told) => writeln!(out, "{answer}   {told}"),
-        None => writeln!(out, "{answer}   no message waits"),
+        Some(told) => writeln!(out, "{delivered}   {told}"),
+        None => writeln!(out, "{delivered}   no message waits"),
     }
 }
 

@@ -1,5 +1,5 @@
 -- What the answers print.
-use Rattle.std.specs.Prelude.{ℕ, List, codes}
+use Rattle.std.specs.Prelude.{ℕ, List, ◌++◌, codes}
 use Rattle.slice_core_answer.specs.declared.answer.Refused.{Refused}
 use Rattle.slice_core_answer.specs.declared.answer.Refused.TheVariants as refusals
 use Rattle.slice_core_answer.specs.declared.answer.Stall.{Stall}
@@ -8,6 +8,8 @@ use Rattle.slice_core_answer.specs.declared.answer.Evicted.{Evicted}
 use Rattle.slice_core_answer.specs.declared.answer.Evicted.TheVariants as evictions
 use Rattle.slice_core_answer.specs.declared.answer.Cell.{Cell}
 use Rattle.slice_core_answer.specs.declared.answer.Cell.TheVariants as cells
+use Rattle.slice_core_answer.specs.declared.answer.Delivered.{Delivered}
+use Rattle.slice_core_answer.specs.declared.answer.Delivered.TheVariants as deliveries
 
 -- the number and the name of a refusal
 abbrev pub text_of_refused : Refused → List ℕ
@@ -39,3 +41,10 @@ abbrev pub text_of_cell : Cell → List ℕ
 text_of_cell cells.Entry = codes "entry"
 text_of_cell cells.Full = codes "full"
 text_of_cell cells.Early = codes "early"
+
+-- what became of a delivery
+abbrev pub text_of_delivered : Delivered → List ℕ
+text_of_delivered deliveries.Moved = codes "moved"
+text_of_delivered deliveries.Blocked = codes "blocked"
+text_of_delivered deliveries.Nothing = codes "nothing"
+text_of_delivered (deliveries.Broken cell) = codes "broken " ++ text_of_cell cell

@@ -161,6 +161,21 @@ impl Delivered {
     }
 }
 
+impl fmt::Display for Delivered {
+    ghost use Rattle.slice_core_answer.specs.Text.{text_of_delivered};
+
+    ghost output = { λ delivered. Some (text_of_delivered delivered) };
+
+    fn fmt<W: fmt::Write>(&self, f: &mut fmt::Formatter<W>) -> fmt::Result {
+        match self {
+            Delivered::Moved => f.write_str("moved"),
+            Delivered::Blocked => f.write_str("blocked"),
+            Delivered::Nothing => f.write_str("nothing"),
+            Delivered::Broken(cell) => write!(f, "broken {cell}"),
+        }
+    }
+}
+
 /// What comes of a delivery that is planned, or that the slice was to choose. All but `Moved` change nothing.
 #[derive(Clone, Copy, Debug, PartialEq, Eq)]
 pub enum Delivery<T> {

@@ -7,15 +7,3 @@ returns-in-Moved g c =
     rw c.in-Moved.is
     (on_ok_weaker c.write_whole.result
     (λ wrote. writes_in_calls_single g.W.Write.write_str_gives _ _ _ wrote) c.write_whole.ensures)
-
-pub returns-in-Blocked : goal.returns-in-Blocked
-returns-in-Blocked g c =
-    rw c.in-Blocked.is
-    (on_ok_weaker c.write_whole-in-Blocked.result
-    (λ wrote. writes_in_calls_single g.W.Write.write_str_gives _ _ _ wrote) c.write_whole-in-Blocked.ensures)
-
-pub returns-in-Nothing : goal.returns-in-Nothing
-returns-in-Nothing g c =
-    rw c.in-Nothing.is
-    (on_ok_weaker c.write_whole-in-Nothing.result
-    (λ wrote. writes_in_calls_single g.W.Write.write_str_gives _ _ _ wrote) c.write_whole-in-Nothing.ensures)

@@ -15,8 +15,8 @@ use litmus_script::{
     Answers, Deliverer, Issued, Machine, Player, Script, pump_slices, write_delivered,
     write_evicted, write_handed, write_issued, write_pumped, written,
 };
-use litmus_text::{Command, MissKind, Settings, Statement, TextFault};
-use mshr_file::{ExplicitFile, InvertedFile, MissFile};
+use litmus_text::{Command, Settings, Statement, TextFault};
+use mshr_file::{ExplicitFile, InvertedFile, MissFile, MissKind};
 use slice_core::{Class, Delivered, DeliveredNext, Pick};
 use std::alloc::Global;
 use std::fmt;

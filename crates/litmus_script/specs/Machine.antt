@@ -6,8 +6,8 @@ use Rattle.address_map.specs.Locator.{lines_of, local_at}
 use Rattle.address_map.specs.declared.address.LineAddr.{LineAddr}
 use Rattle.address_map.specs.declared.address.WordAddr.{WordAddr}
 use Rattle.address_map.specs.declared.config.Config.{Config}
-use Rattle.litmus_text.specs.declared.settings.MissKind.{MissKind}
-use Rattle.litmus_text.specs.declared.settings.MissKind.TheVariants as kinds
+use Rattle.mshr_file.specs.declared.kind.MissKind.{MissKind}
+use Rattle.mshr_file.specs.declared.kind.MissKind.TheVariants as kinds
 use Rattle.mshr_file.specs.Miss.{Bound, registers_of, tags}
 use Rattle.slice_core.specs.Facts.{AreWaitingAt, ShowsLine, front_at}
 use Rattle.slice_core.specs.Run.{AfterCall}

@@ -17,9 +17,9 @@ use super::machine::Machine;
 use super::player::Player;
 use address_map::{Checked, Config};
 use litmus_text::{
-    ConfigLine, LineFault, MissKind, Settings, Statement, Statements, TextFault, parse_command,
+    ConfigLine, LineFault, Settings, Statement, Statements, TextFault, parse_command,
 };
-use mshr_file::{ExplicitFile, InvertedFile, MissFile};
+use mshr_file::{ExplicitFile, InvertedFile, MissFile, MissKind};
 use std::alloc::Global;
 use std::io::Write;
 

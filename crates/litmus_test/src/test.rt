@@ -1,7 +1,7 @@
 ghost use Rattle.litmus_test.specs.Sound.{IsSound};
 
 use address_map::{Checked, CoreId, LineAddr, Op, WordAddr};
-use litmus_text::MissKind;
+use mshr_file::MissKind;
 
 /// The most rounds of a test.
 pub const MOST_ROUNDS: u64 = 10_000;

@@ -5,8 +5,8 @@ use Rattle.address_map.specs.declared.config.PolicyKind.{PolicyKind}
 use Rattle.address_map.specs.declared.config.PolicyKind.TheVariants as policies
 use Rattle.litmus_text.specs.declared.policy.PolicyName.{PolicyName}
 use Rattle.litmus_text.specs.declared.policy.PolicyName.TheVariants as names
-use Rattle.litmus_text.specs.declared.settings.MissKind.{MissKind}
-use Rattle.litmus_text.specs.declared.settings.MissKind.TheVariants as misses
+use Rattle.mshr_file.specs.declared.kind.MissKind.{MissKind}
+use Rattle.mshr_file.specs.declared.kind.MissKind.TheVariants as misses
 use Rattle.litmus_text.specs.declared.settings.Settings.{Settings}
 use Rattle.litmus_text.specs.declared.config_line.ConfigLine.{ConfigLine}
 use Rattle.litmus_text.specs.declared.config_line.ConfigLine.TheVariants as lines

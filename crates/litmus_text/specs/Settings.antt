@@ -1,6 +1,6 @@
 -- What a text configures.
 use Rattle.address_map.specs.Config.{default_config}
-use Rattle.litmus_text.specs.declared.settings.MissKind.TheVariants.{Explicit}
+use Rattle.mshr_file.specs.declared.kind.MissKind.TheVariants.{Explicit}
 use Rattle.litmus_text.specs.declared.settings.Settings.{Settings}
 
 -- the machine of a text that configures nothing

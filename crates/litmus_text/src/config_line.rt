@@ -2,15 +2,16 @@ ghost use Rattle.std.specs.Prelude.{◌≡◌, ◌↔◌, IsTrue, ◌≢◌, ℕ
 ghost use Rattle.std.specs.Prelude.{[], ◌∷◌};
 ghost use Rattle.litmus_text.specs.Form.{Writes, IsFormFaultOf, key};
 ghost use Rattle.litmus_text.specs.ConfigLine.{name_of_misses, name_of_setting, parts_of_misses, parts_of_setting};
-ghost use Rattle.litmus_text.specs.declared.settings.MissKind.{MissKind};
+ghost use Rattle.mshr_file.specs.declared.kind.MissKind.{MissKind};
 
 use super::fault::LineFault;
 use super::field::{Count, FIELDS, Field};
 use super::number::{one_number, two_numbers};
 use super::policy::parse_policy;
-use super::settings::{MissKind, Settings};
+use super::settings::Settings;
 use super::table::value_named;
 use address_map::{PolicyKind, WordAddr};
+use mshr_file::MissKind;
 use std::alloc::AllocError;
 
 /// A line of a text that configures the machine.

@@ -25,7 +25,7 @@ pub use number::{
 };
 pub use parse::{parse_access, parse_command};
 pub use row::{MOST_WORDS, first_words};
-pub use settings::{MissKind, Settings};
+pub use settings::Settings;
 pub use statement::{Statement, Statements};
 pub use table::value_named;
 pub use word::Words;

@@ -1,16 +1,8 @@
 ghost use Rattle.std.specs.Prelude.{◌≡◌};
 
 use address_map::Config;
+use mshr_file::MissKind;
 use std::alloc::Global;
-
-/// How a cache keeps track of its misses.
-#[derive(Clone, Copy, Debug, PartialEq, Eq)]
-pub enum MissKind {
-    /// A number of registers with a number of target fields each.
-    Explicit,
-    /// An entry for each tag.
-    Inverted,
-}
 
 /// What a text configures: a machine's shape, before it is checked, and the miss registers of its caches.
 #[derive(Debug, Drop)]

@@ -5,7 +5,7 @@ use Rattle.std.specs.List.{flat_map}
 use Rattle.address_map.specs.declared.config.Config.{Config}
 use Rattle.litmus_test.specs.declared.test.LitmusTest.{LitmusTest}
 use Rattle.litmus_text.specs.Command.{parts_of}
-use Rattle.litmus_text.specs.declared.settings.MissKind.{MissKind}
+use Rattle.mshr_file.specs.declared.kind.MissKind.{MissKind}
 use Rattle.litmus_walk.specs.Done.{AreDone}
 use Rattle.litmus_walk.specs.Drawn.{IsDrawn, lines_of}
 use Rattle.litmus_walk.specs.declared.place.StepPlace.{StepPlace}

@@ -18,6 +18,8 @@
 //! - [`InvertedFile`] has an entry for each tag of the core, their inverted organisation, and so it has room whenever
 //!   the tag is free.
 //!
+//! [`MissKind`] names one of them.
+//!
 //! Only [`MissFile::make`] takes memory: registers and their rows stand in boxed slices, which have no call that lets
 //! them grow, and entries lie in the value. A call searches a row of 16 bytes for each register of its file, at most
 //! 32, or for each entry that is in use, at most 64. A target is taken where it stands, and no other target moves; only
@@ -29,6 +31,7 @@
 pub use admission::Admission;
 pub use explicit::ExplicitFile;
 pub use inverted::InvertedFile;
+pub use kind::MissKind;
 pub use miss_file::MissFile;
 pub use target_list::Target;
 pub use waiting::Waiting;
@@ -37,6 +40,7 @@ mod admission;
 mod entry_table;
 mod explicit;
 mod inverted;
+mod kind;
 mod miss_file;
 mod registers;
 mod waiting;

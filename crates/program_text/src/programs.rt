@@ -1,5 +1,5 @@
 use address_map::{Checked, CoreId, Op, WordAddr};
-use litmus_text::MissKind;
+use mshr_file::MissKind;
 
 /// The most accesses of all programs of a text.
 pub const MOST_ACCESSES: usize = 1_000_000;

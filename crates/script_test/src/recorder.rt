@@ -7,8 +7,8 @@ ghost use Rattle.script_test.specs.Answers.{Answering, AreAnswered, AreAnswers};
 
 use address_map::Checked;
 use litmus_script::{Commands, Machine, Player, Script};
-use litmus_text::{Command, MissKind, Statement, TextFault};
-use mshr_file::{ExplicitFile, InvertedFile, MissFile};
+use litmus_text::{Command, Statement, TextFault};
+use mshr_file::{ExplicitFile, InvertedFile, MissFile, MissKind};
 use std::alloc::Global;
 use std::io::Write;
 

@@ -6,7 +6,7 @@ use Rattle.address_map.specs.declared.config.Config.{Config}
 use Rattle.litmus_text.specs.ConfigLine.{parts_of_config_line}
 use Rattle.litmus_text.specs.declared.config_line.ConfigLine.{ConfigLine}
 use Rattle.litmus_text.specs.declared.config_line.ConfigLine.TheVariants as lines
-use Rattle.litmus_text.specs.declared.settings.MissKind.{MissKind}
+use Rattle.mshr_file.specs.declared.kind.MissKind.{MissKind}
 use Rattle.script_text.specs.Line.{line_of_parts}
 use Rattle.script_text.specs.Settings.{counts_of, init_line, lines_of_settings, text_of_lines}
 

@@ -7,7 +7,7 @@ use Rattle.litmus_text.specs.ConfigLine.{parts_of_config_line}
 use Rattle.litmus_text.specs.declared.config_line.ConfigLine.{ConfigLine}
 use Rattle.litmus_text.specs.declared.config_line.ConfigLine.TheVariants as lines
 use Rattle.litmus_text.specs.declared.field.Count.TheVariants as counts
-use Rattle.litmus_text.specs.declared.settings.MissKind.{MissKind}
+use Rattle.mshr_file.specs.declared.kind.MissKind.{MissKind}
 use Rattle.script_text.specs.Line.{line_of_parts}
 
 -- the numbers of a machine

@@ -6,7 +6,7 @@ ghost use Rattle.script_text.specs.Line.{line_of_parts};
 ghost use Rattle.script_text.specs.Settings.{counts_of, init_line, lines_of_settings, text_of_lines};
 
 use address_map::{Checked, PolicyKind, WordAddr};
-use litmus_text::MissKind;
+use mshr_file::MissKind;
 use std::fmt;
 use std::fmt::Write;
 

@@ -2,9 +2,10 @@ use address_map::{
     Checked, Config, ConfigError, CoreId, LineAddr, Op, PolicyKind, Request, SliceId, WordAddr,
 };
 use litmus_text::{
-    Command, ConfigLine, Count, LineFault, MissKind, Settings, Statements, TextFault, first_words,
+    Command, ConfigLine, Count, LineFault, Settings, Statements, TextFault, first_words,
     parse_command,
 };
+use mshr_file::MissKind;
 use slice_queues_message::Pick;
 use std::alloc::{AllocError, Global};
 use std::test::Fail;

@@ -1,7 +1,7 @@
 use Rattle.std.proofs.Common.{◌≡◌, ◌≢◌, ℕ, List, rules, map}
 use Rattle.litmus_text.specs.declared.config_line.TheConstants.{MISS_KINDS}
-use Rattle.litmus_text.specs.declared.settings.MissKind.{MissKind}
-use Rattle.litmus_text.specs.declared.settings.MissKind.TheVariants as misses
+use Rattle.mshr_file.specs.declared.kind.MissKind.{MissKind}
+use Rattle.mshr_file.specs.declared.kind.MissKind.TheVariants as misses
 use Rattle.litmus_text.specs.ConfigLine.{name_of_misses}
 use Rattle.litmus_text.proofs.TableLemmas.{Each, named, unnamed}
 use Rattle.litmus_text.proofs.config_line.miss_kind.Goals as goal

@@ -6,13 +6,14 @@ ghost use Rattle.litmus_text.specs.Command.{ReadsAsPick, HasCore, HasLine, HasLi
 
 use super::fault::LineFault;
 use super::number::{core_in, line_in, one_number, three_numbers, two_numbers};
+use super::slot::Slot;
 use super::table::value_named;
 use address_map::{Checked, CoreId, LineAddr};
 use slice_queues_message::Pick;
 
 /// The class of the messages in a channel.
 #[derive(Clone, Copy)]
-enum Class {
+pub(super) enum Class {
     Req,
     Fwd,
     Data,
@@ -29,6 +30,17 @@ static CLASSES: [(&[u8], Class); 5] = [
     (b"home", Class::Home),
 ];
 
+impl Class {
+    /// What stands behind its name.
+    pub(super) const fn slots(self) -> &'static [Slot] {
+        match self {
+            Class::Req | Class::Fwd | Class::Data => &[Slot::Line, Slot::Core],
+            Class::Ack => &[Slot::Line, Slot::Core, Slot::Core],
+            Class::Home => &[Slot::Line],
+        }
+    }
+}
+
 /// A channel, by its class, its line and its cores.
 pub(super) fn parse_pick(config: &Checked, words: &[&[u8]]) -> Result<Pick, LineFault>
     ensures { ReadsAsPick config.now (map (λ w. w.now) words.now) result }
@@ -42,7 +54,7 @@ pub(super) fn parse_pick(config: &Checked, words: &[&[u8]]) -> Result<Pick, Line
     }
 }
 
-fn class_named(name: &[u8]) -> Option<Class>
+pub(super) fn class_named(name: &[u8]) -> Option<Class>
     ensures found { IfSome result (λ class. name.now ≡ name_of_class class) }
     ensures none { IfNone result ((class : Class) → name.now ≢ name_of_class class) }
 {

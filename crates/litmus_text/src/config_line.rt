@@ -116,7 +116,7 @@ static MISS_KINDS: [(&[u8], MissKind); 2] = [
     (b"inverted", MissKind::Inverted),
 ];
 
-fn miss_kind(name: &[u8]) -> Option<MissKind>
+pub(super) fn miss_kind(name: &[u8]) -> Option<MissKind>
     ensures named { IfSome result (λ kind. name.now ≡ name_of_misses kind) }
     ensures refused { IfNone result ((kind : MissKind) → name.now ≢ name_of_misses kind) }
 {
@@ -141,7 +141,7 @@ fn setting(words: &[&[u8]]) -> Result<bool, LineFault>
 /// How a setting is written that is on or off.
 static SETTINGS: [(&[u8], bool); 2] = [(b"on", true), (b"off", false)];
 
-fn is_on(name: &[u8]) -> Option<bool>
+pub(super) fn is_on(name: &[u8]) -> Option<bool>
     ensures named { IfSome result (λ is_on. name.now ≡ name_of_setting is_on) }
     ensures refused { IfNone result ((is_on : Bool) → name.now ≢ name_of_setting is_on) }
 {

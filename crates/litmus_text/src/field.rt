@@ -1,5 +1,6 @@
 ghost use Rattle.std.specs.Prelude.{◌≡◌};
 
+use super::slot::Slot;
 use address_map::Config;
 
 /// A number of a machine's shape.
@@ -62,3 +63,16 @@ pub(super) static FIELDS: [(&[u8], Field); 13] = [
     (b"init", Field::Init),
     (b"counter", Field::Counter),
 ];
+
+impl Field {
+    /// What stands behind its name.
+    pub(super) const fn slots(self) -> &'static [Slot] {
+        match self {
+            Field::Count(_) | Field::Counter => &[Slot::Number],
+            Field::Policy => &[Slot::Policy],
+            Field::Misses => &[Slot::Misses],
+            Field::Exclusive => &[Slot::Setting],
+            Field::Init => &[Slot::Number, Slot::Number],
+        }
+    }
+}

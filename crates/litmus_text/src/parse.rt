@@ -14,12 +14,13 @@ use super::number::{
     core_in, line_in, no_numbers, number, one_number, slice_in, tag_number, three_numbers,
     two_numbers, word_in,
 };
+use super::slot::Slot;
 use super::table::value_named;
 use address_map::{Checked, Op, Request, WordAddr};
 
 /// What a line of a script asks for, by the word with which the line begins.
 #[derive(Clone, Copy)]
-enum Verb {
+pub(super) enum Verb {
     Issue,
     Evict,
     Deliver,
@@ -50,11 +51,26 @@ static VERBS: [(&[u8], Verb); 11] = [
 
 impl Verb {
     /// The verb with this name.
-    fn named(name: &[u8]) -> Option<Verb>
+    pub(super) fn named(name: &[u8]) -> Option<Verb>
         ensures found { IfSome result (λ verb. name.now ≡ name_of_verb verb) }
         ensures none { IfNone result ((verb : Verb) → name.now ≢ name_of_verb verb) }
     {
         value_named(&VERBS, name)
+    }
+
+    /// What stands behind its name.
+    pub(super) const fn slots(self) -> &'static [Slot] {
+        match self {
+            Verb::Issue => &[Slot::Core, Slot::Tag, Slot::Access],
+            Verb::Evict => &[Slot::Core, Slot::Line],
+            Verb::Deliver => &[Slot::Channel],
+            Verb::Hand => &[Slot::Core, Slot::Slice],
+            Verb::Word => &[Slot::Word],
+            Verb::State => &[Slot::Line],
+            Verb::Log => &[Slot::Slice],
+            Verb::Stats | Verb::Waiting | Verb::Show => &[],
+            Verb::Pump => &[Slot::Number],
+        }
     }
 }
 
@@ -178,7 +194,7 @@ fn parse_pump(words: &[&[u8]]) -> Result<Command, LineFault>
 
 /// What an access does, by its name.
 #[derive(Clone, Copy)]
-enum Access {
+pub(super) enum Access {
     Load,
     Store,
     Add,
@@ -186,12 +202,23 @@ enum Access {
 }
 
 /// Each access, by its name.
-static ACCESSES: [(&[u8], Access); 4] = [
+pub(super) static ACCESSES: [(&[u8], Access); 4] = [
     (b"load", Access::Load),
     (b"store", Access::Store),
     (b"add", Access::Add),
     (b"cas", Access::Cas),
 ];
+
+impl Access {
+    /// What stands behind its name: the word, and what else it takes.
+    pub(super) const fn slots(self) -> &'static [Slot] {
+        match self {
+            Access::Load => &[Slot::Number],
+            Access::Store | Access::Add => &[Slot::Number, Slot::Number],
+            Access::Cas => &[Slot::Number, Slot::Number, Slot::Number],
+        }
+    }
+}
 
 /// The access that words write, by its name, its word and what else it takes.
 #[tactic(auto, unfolding(crate::specs::Command::parts_of_op))]

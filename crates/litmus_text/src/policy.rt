@@ -6,12 +6,13 @@ ghost use Rattle.address_map.specs.declared.config.PolicyKind.{PolicyKind};
 
 use super::fault::LineFault;
 use super::number::{no_numbers, one_number};
+use super::slot::Slot;
 use super::table::value_named;
 use address_map::PolicyKind;
 
 /// How a replacement policy is called.
 #[derive(Clone, Copy)]
-enum PolicyName {
+pub(super) enum PolicyName {
     Lru,
     Fifo,
     Random,
@@ -23,6 +24,16 @@ static POLICIES: [(&[u8], PolicyName); 3] = [
     (b"fifo", PolicyName::Fifo),
     (b"random", PolicyName::Random),
 ];
+
+impl PolicyName {
+    /// What stands behind it.
+    pub(super) const fn slots(self) -> &'static [Slot] {
+        match self {
+            PolicyName::Lru | PolicyName::Fifo => &[],
+            PolicyName::Random => &[Slot::Number],
+        }
+    }
+}
 
 /// A replacement policy, by its name and its seed where it has one.
 pub(super) fn parse_policy(words: &[&[u8]]) -> Result<PolicyKind, LineFault>
@@ -42,7 +53,7 @@ pub(super) fn parse_policy(words: &[&[u8]]) -> Result<PolicyKind, LineFault>
     }
 }
 
-fn policy_named(name: &[u8]) -> Option<PolicyName>
+pub(super) fn policy_named(name: &[u8]) -> Option<PolicyName>
     ensures found { IfSome result (λ policy. name.now ≡ name_of_policy policy) }
     ensures none { IfNone result ((policy : PolicyName) → name.now ≢ name_of_policy policy) }
 {

@@ -4,79 +4,10 @@
 
 use address_map::Checked;
 use litmus_script::Script;
-use litmus_text::{LineFault, Statements, TextFault, parse_number, value_named};
+use litmus_text::{LineFault, Slot, Statements, TextFault, parse_number};
 use std::alloc::Global;
 use std::fmt;
 use std::str::from_utf8;
-
-/// What stands at a place of a line: a keyword, or a number.
-#[derive(Clone, Copy)]
-enum Slot {
-    Name,
-    Channel,
-    Access,
-    Policy,
-    Misses,
-    Setting,
-    Core,
-    Line,
-    Slice,
-    Word,
-    Tag,
-    Number,
-}
-
-/// A keyword, and what stands behind it.
-type Keyword = (&'static [u8], &'static [Slot]);
-
-/// The lines of a script.
-static NAMES: [Keyword; 24] = [
-    (b"issue", &[Slot::Core, Slot::Tag, Slot::Access]),
-    (b"evict", &[Slot::Core, Slot::Line]),
-    (b"deliver", &[Slot::Channel]),
-    (b"pump", &[Slot::Number]),
-    (b"hand", &[Slot::Core, Slot::Slice]),
-    (b"word", &[Slot::Word]),
-    (b"state", &[Slot::Line]),
-    (b"waiting", &[]),
-    (b"show", &[]),
-    (b"stats", &[]),
-    (b"log", &[Slot::Slice]),
-    (b"cores", &[Slot::Number]),
-    (b"slices", &[Slot::Number]),
-    (b"lines", &[Slot::Number]),
-    (b"sets", &[Slot::Number]),
-    (b"ways", &[Slot::Number]),
-    (b"mshrs", &[Slot::Number]),
-    (b"targets", &[Slot::Number]),
-    (b"writebacks", &[Slot::Number]),
-    (b"policy", &[Slot::Policy]),
-    (b"misses", &[Slot::Misses]),
-    (b"exclusive", &[Slot::Setting]),
-    (b"init", &[Slot::Number, Slot::Number]),
-    (b"counter", &[Slot::Number]),
-];
-
-static CHANNELS: [Keyword; 5] = [
-    (b"req", &[Slot::Line, Slot::Core]),
-    (b"fwd", &[Slot::Line, Slot::Core]),
-    (b"data", &[Slot::Line, Slot::Core]),
-    (b"ack", &[Slot::Line, Slot::Core, Slot::Core]),
-    (b"home", &[Slot::Line]),
-];
-
-static ACCESSES: [Keyword; 4] = [
-    (b"load", &[Slot::Number]),
-    (b"store", &[Slot::Number, Slot::Number]),
-    (b"add", &[Slot::Number, Slot::Number]),
-    (b"cas", &[Slot::Number, Slot::Number, Slot::Number]),
-];
-
-static POLICIES: [Keyword; 3] = [(b"lru", &[]), (b"fifo", &[]), (b"random", &[Slot::Number])];
-
-static MISSES: [Keyword; 2] = [(b"explicit", &[]), (b"inverted", &[])];
-
-static SETTINGS: [Keyword; 2] = [(b"on", &[]), (b"off", &[])];
 
 /// The largest tag that can be written.
 const LAST_TAG: u64 = 255;
@@ -124,12 +55,12 @@ impl Judge {
     /// What stands behind the word, where it can stand there itself.
     fn behind(&self, slot: Slot, rest: &'static [Slot], word: &[u8]) -> Option<&'static [Slot]> {
         match slot {
-            Slot::Name => value_named(&NAMES, word),
-            Slot::Channel => value_named(&CHANNELS, word),
-            Slot::Access => value_named(&ACCESSES, word),
-            Slot::Policy => value_named(&POLICIES, word),
-            Slot::Misses => value_named(&MISSES, word),
-            Slot::Setting => value_named(&SETTINGS, word),
+            Slot::Name
+            | Slot::Channel
+            | Slot::Access
+            | Slot::Policy
+            | Slot::Misses
+            | Slot::Setting => slot.behind(word),
             _ if self.takes(slot, word) => Some(rest),
             _ => None,
         }
@@ -212,24 +143,23 @@ fn expected_of<'a>(
     judge.first_misfit(words)
 }
 
-impl Slot {
-    const fn text(self) -> &'static str {
-        match self {
-            Slot::Name => {
-                "issue, evict, deliver, pump, hand, word, state, waiting, show, stats, log, or a field of the configuration"
-            }
-            Slot::Channel => "req, fwd, data, ack or home",
-            Slot::Access => "load, store, add or cas",
-            Slot::Policy => "lru, fifo or random",
-            Slot::Misses => "explicit or inverted",
-            Slot::Setting => "on or off",
-            Slot::Core => "a core",
-            Slot::Line => "a line",
-            Slot::Slice => "a slice",
-            Slot::Word => "a word",
-            Slot::Tag => "a tag",
-            Slot::Number => "a number",
+/// What can stand at a place, in words.
+const fn text_of(slot: Slot) -> &'static str {
+    match slot {
+        Slot::Name => {
+            "issue, evict, deliver, pump, hand, word, state, waiting, show, stats, log, or a field of the configuration"
         }
+        Slot::Channel => "req, fwd, data, ack or home",
+        Slot::Access => "load, store, add or cas",
+        Slot::Policy => "lru, fifo or random",
+        Slot::Misses => "explicit or inverted",
+        Slot::Setting => "on or off",
+        Slot::Core => "a core",
+        Slot::Line => "a line",
+        Slot::Slice => "a slice",
+        Slot::Word => "a word",
+        Slot::Tag => "a tag",
+        Slot::Number => "a number",
     }
 }
 
@@ -241,7 +171,7 @@ impl fmt::Display for Misfit<'_> {
         }
         match self.wanted {
             Wanted::Slot(slot, most) => {
-                let text = slot.text();
+                let text = text_of(slot);
                 match most {
                     Some(most) => write!(f, ": {text}, 0 to {most}"),
                     None => write!(f, ": {text}"),

@@ -117,7 +117,7 @@ shared : {V P : Type 0} (array : ArrayView V P) (line other : Local) → ShareSe
 shared array line other same = ap (λ i. (get_or array.sets i (empty_set 0)).slots) same
 
 -- a slot of the line's set holds a line of that set, with its value
-slot_held : {V P : Type 0} (array : ArrayView V P) (line : Local) (place : ℕ) (slot : Slot V) → IsArray array →
+pub slot_held : {V P : Type 0} (array : ArrayView V P) (line : Local) (place : ℕ) (slot : Slot V) → IsArray array →
     slice_get (slots_at array line) place ≡ Some slot →
     ShareSet array line slot.line × (held_at array slot.line ≡ Some slot.value)
 slot_held {V = V} array line place slot sound at =

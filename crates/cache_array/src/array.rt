@@ -8,7 +8,7 @@ ghost use Rattle.cache_array.specs.History.Event.{Inserted, Used, Removed};
 ghost use Rattle.cache_array.specs.Set.{holds, after_insert, after_write, after_use, after_remove};
 
 use crate::policy::Policy;
-use crate::set::Set;
+use crate::set::{Set, Slot};
 use address_map::{Checked, Local};
 use std::alloc::{AllocError, Global};
 use std::boxed::BoxedSlice;
@@ -108,6 +108,14 @@ impl<V: Copy, P: Policy + Drop> CacheArray<V, P> {
             unreachable!();
         };
         self.value_mut(line, place)
+    }
+
+    /// The slots of the line's set, in their order.
+    pub fn slots(&self, line: Local) -> &[Slot<V>]
+        ensures slots { result.now ≡ slots_at self.now line }
+        ensures arranged { IsArray self.now }
+    {
+        self.sets[self.set_index(line)].slots()
     }
 
     /// The policy by which the array chooses victims.

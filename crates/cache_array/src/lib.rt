@@ -9,7 +9,8 @@
 //!   line is in its own set alone, no line stands twice, and no set has more lines than ways (`IsArray`).
 //! - [`CacheArray::find`] says where a line stands in its set. [`CacheArray::value`], [`CacheArray::value_mut`] and
 //!   [`CacheArray::touch_at`] go there without another search, so a hit looks for its line once. What is left behind
-//!   the `&mut` of `value_mut` is the line's value, in the same slot (specs/Lending.antt).
+//!   the `&mut` of `value_mut` is the line's value, in the same slot (specs/Lending.antt). [`CacheArray::slots`] shows
+//!   all lines of a set.
 //! - [`CacheArray::insert`], [`CacheArray::write`], [`CacheArray::touch`] and [`CacheArray::remove`] each say what list
 //!   they leave (`after`), that no other line's value changes (`held`), and the order of the set's lines as one more
 //!   event of their history leaves it (`order`, specs/History.antt).
@@ -33,6 +34,7 @@
 
 pub use array::CacheArray;
 pub use policy::Policy;
+pub use set::Slot;
 
 mod array;
 mod policy;

@@ -72,6 +72,13 @@ impl<V: Copy> Set<V> {
         slot.map(|slot| &slot.value)
     }
 
+    /// Its slots, in their order.
+    pub fn slots(&self) -> &[Slot<V>]
+        ensures { result.now ≡ self.now.slots }
+    {
+        &self.slots
+    }
+
     /// Where the line's slot stands.
     pub fn find(&self, line: Local) -> Option<usize>
         ensures { result ≡ position (holds line) self.now.slots }

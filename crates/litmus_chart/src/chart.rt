@@ -205,11 +205,11 @@ impl<F: MissFile> Chart<F> {
         let issued = self.machine.issue(core, request)?;
         written(note_issued(core, statement, issued, out))?;
         if let Issued::Pending(_) = issued {
-            self.picture.name(core, line, before.as_slice())?;
+            self.picture.name(line)?;
         }
         written(
             self.picture
-                .write_access(&self.machine, core, line, before.as_slice(), out),
+                .write_access(&self.machine, core, before.as_slice(), out),
         )
     }
 

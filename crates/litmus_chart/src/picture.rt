@@ -1,5 +1,6 @@
 ghost use Rattle.std.specs.Prelude.{IfErr};
 ghost use Rattle.litmus_script.specs.Play.{IsOfRun};
+ghost use Rattle.litmus_text.specs.Command.{HasCore};
 
 use super::arrow::{Arrow, Fate, sender};
 use super::names::Names;
@@ -8,7 +9,7 @@ use address_map::{CoreId, LineAddr};
 use litmus_script::{Answers, Machine, written};
 use litmus_text::TextFault;
 use mshr_file::MissFile;
-use slice_core::{ForwardedMessage, Message, Pick};
+use slice_core::{CoreLines, ForwardedMessage, Message, Pick};
 use std::alloc::Global;
 use std::fmt;
 use std::fmt::Write as _;
@@ -36,7 +37,7 @@ impl Picture {
         }
     }
 
-    /// What an access of a core can change: the line itself, and the core's lines in the same set, of which one may
+    /// What an access of a core can change: the line itself, and those of its set in the core's array, of which one may
     /// have to leave for it.
     pub fn look<F: MissFile>(
         &self,
@@ -45,58 +46,55 @@ impl Picture {
         core: CoreId,
         line: LineAddr,
     ) -> Result<Vec<Seen>, TextFault>
+        requires { HasCore machine.now.config core }
         ensures fault { IfErr result IsOfRun }
     {
         let mut seen = Vec::new(alloc);
         note(&mut seen, Seen::of(machine, line))?;
-        for named in self.names.held_by(core) {
-            if named.line != line && shares_set(machine, line, named.line) {
-                note(&mut seen, Seen::of(machine, named.line))?;
+        for other in set_of(alloc, machine, core, line)? {
+            if other != line {
+                note(&mut seen, Seen::of(machine, other))?;
             }
         }
         Ok(seen)
     }
 
-    /// A core has asked for the line. Before that these lines were looked at.
-    pub fn name(&mut self, core: CoreId, line: LineAddr, before: &[Seen]) -> Result<(), TextFault>
+    /// A core has asked for the line.
+    pub fn name(&mut self, line: LineAddr) -> Result<(), TextFault>
         ensures fault { IfErr result IsOfRun }
     {
-        // those that left the set since then
-        if let Some(held) = self.names.held.get_mut(core.0 as usize) {
-            held.retain(|named| match seen_of(before, named.line) {
-                Some(seen) => seen.has_copy(core.0),
-                None => true,
-            });
-        }
-        self.names.name(core, line)
+        self.names.name(line)
     }
 
     /// Draws what an access of a core changed: the line itself, and the one that had to leave for it, in the order in
-    /// which they were first asked for.
+    /// which they were first asked for. Before that these were looked at, the line first.
     pub fn write_access<F: MissFile, W: Write>(
         &self,
         now: &Machine<F>,
         core: CoreId,
-        line: LineAddr,
         before: &[Seen],
         out: &mut Answers<'_, W>,
-    ) -> fmt::Result {
-        let Some(rank) = self.names.rank(line) else {
+    ) -> fmt::Result
+        requires { HasCore now.now.config core }
+    {
+        let Some((seen, others)) = before.split_first() else {
             return Ok(());
         };
-        let held = self.names.held_by(core);
-        for named in held {
-            if named.rank < rank {
-                write_change(now, named.line, before, out)?;
+        let left = match last_written_back(now, core, seen.line) {
+            Some(left) => others.iter().find(|other| other.line == left),
+            None => None,
+        };
+        match left {
+            Some(left) if self.names.is_first(left.line, seen.line) => {
+                left.write_change(now, out)?;
+                seen.write_change(now, out)
             }
-        }
-        write_change(now, line, before, out)?;
-        for named in held {
-            if named.rank > rank {
-                write_change(now, named.line, before, out)?;
+            Some(left) => {
+                seen.write_change(now, out)?;
+                left.write_change(now, out)
             }
+            None => seen.write_change(now, out),
         }
-        Ok(())
     }
 
     /// Draws a message in front of its channel. There is none where nothing waits.
@@ -179,27 +177,30 @@ fn note(seen: &mut Vec<Seen>, one: Seen) -> Result<(), TextFault>
     seen.push(one).map_err(|_| TextFault::NoMemory)
 }
 
-/// What was seen of a line, if it was looked at.
-fn seen_of(seen: &[Seen], line: LineAddr) -> Option<&Seen> {
-    seen.iter().find(|one| one.line == line)
-}
-
-/// Draws what is different of a line, if it was looked at.
-fn write_change<F: MissFile, W: Write>(
-    now: &Machine<F>,
+/// The lines of the line's set in the core's array.
+fn set_of<F: MissFile>(
+    alloc: Global,
+    machine: &Machine<F>,
+    core: CoreId,
     line: LineAddr,
-    before: &[Seen],
-    out: &mut Answers<'_, W>,
-) -> fmt::Result {
-    match seen_of(before, line) {
-        Some(seen) => seen.write_change(now, out),
-        None => Ok(()),
-    }
+) -> Result<Vec<LineAddr>, TextFault>
+    requires { HasCore machine.now.config core }
+    ensures fault { IfErr result IsOfRun }
+{
+    let slice = machine.slice_of(line);
+    machine.slices[slice]
+        .core_lines(alloc, core, CoreLines::InSetOf(line))
+        .map_err(|_| TextFault::NoMemory)
 }
 
-/// Whether the two lines are of one slice, and stand in the same set of a core's array.
-fn shares_set<F: MissFile>(machine: &Machine<F>, line: LineAddr, other: LineAddr) -> bool {
-    let slices = machine.config.slices() as u64;
-    let sets = machine.config.sets() as u64;
-    line.0 % slices == other.0 % slices && line.0 / slices % sets == other.0 / slices % sets
+/// The line that last left the core in the slice of this one.
+fn last_written_back<F: MissFile>(
+    machine: &Machine<F>,
+    core: CoreId,
+    line: LineAddr,
+) -> Option<LineAddr>
+    requires { HasCore machine.now.config core }
+{
+    let slice = machine.slice_of(line);
+    machine.slices[slice].last_written_back(core)
 }

@@ -4,7 +4,7 @@ use super::note::write_changes;
 use address_map::LineAddr;
 use litmus_script::Machine;
 use mshr_file::MissFile;
-use slice_core::{CopyState, LineView, Message, Pick};
+use slice_core::{LineView, Message, Pick};
 use std::fmt;
 use std::fmt::Write;
 
@@ -21,17 +21,6 @@ impl Seen {
         Seen {
             line,
             view: machine.view(line),
-        }
-    }
-
-    /// Whether the core with this number had a copy of the line.
-    pub fn has_copy(&self, core: u8) -> bool {
-        match &self.view {
-            Some(view) => view
-                .copies
-                .get(core as usize)
-                .is_some_and(|copy| *copy != CopyState::I),
-            None => false,
         }
     }
 

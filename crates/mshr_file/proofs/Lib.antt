@@ -9,3 +9,4 @@ mod ByLine
 mod Entries
 mod Tags
 mod Slots
+pub mod LinesWaited

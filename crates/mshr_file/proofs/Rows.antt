@@ -30,7 +30,7 @@ free_row register = none register.targets
     none [] = refl
     none (target ∷ targets) = ne_eqb _ _ (λ zero. omega (arith, zero))
 
-used_row : (register : Register) → not (is_free_row (row_of register)) ≡ is_waited register.targets
+pub used_row : (register : Register) → not (is_free_row (row_of register)) ≡ is_waited register.targets
 used_row register = ap not (free_row register) ∙ twice (is_waited register.targets)
   where
     twice : (b : Bool) → not (not b) ≡ b

@@ -2,6 +2,7 @@
 use Rattle.std.specs.Prelude.{◌≡◌, ◌≢◌, ◌≤◌, ◌<◌, ◌==◌, ℕ, ◌+◌, Bool, not, nat_lt, if◌then◌else◌, List, [], ◌∷◌, ◌++◌}
 use Rattle.std.specs.Prelude.{length, filter, find, map, Option, None, unwrap_or, slice_index_or}
 use Rattle.std.specs.List.{count_by, list_any}
+use Rattle.address_map.specs.declared.address.Local.{Local}
 use Rattle.target_list.specs.declared.target.Target.{Target}
 use Rattle.target_list.specs.Target.{is_load, no_target}
 use Rattle.mshr_file.specs.declared.entry_table.EntryTable.{EntryTable}
@@ -29,6 +30,15 @@ put_first entry (register ∷ registers) =
 unfoldable pub by_line : List Waiting → List Register
 by_line [] = []
 by_line (entry ∷ entries) = put_first entry (by_line entries)
+
+-- the lines with one more behind them, where it isn't among them
+abbrev pub with_line : Local → List Local → List Local
+with_line line lines = if list_any (λ other. other.0 == line.0) lines then lines else lines ++ line ∷ []
+
+-- the lines of slots, each once, those of the last slots first
+unfoldable pub lines_from : List Slot → List Local
+lines_from [] = []
+lines_from (slot ∷ slots) = with_line slot.line (lines_from slots)
 
 -- how many entries a test of their targets passes
 abbrev pub count_at : (Target → Bool) → List Waiting → ℕ

@@ -1,14 +1,16 @@
 ghost use Rattle.std.specs.Prelude.{◌≡◌, ◌+◌, ◌<◌, ◌≤◌, true, if◌then◌else◌, [], ◌∷◌, filter, find, length, map, take};
+ghost use Rattle.std.specs.Prelude.{IfOk, OnOk};
 ghost use Rattle.std.specs.List.{list_any, prefix_len, position};
 ghost use Rattle.std.specs.Option.{option_copied};
 ghost use Rattle.target_list.specs.Target.{front_loads};
-ghost use Rattle.mshr_file.specs.Miss.{targets_of, has_miss, has_tag, is_free, AddsTarget, TakesTargets, IsMissFile};
+ghost use Rattle.mshr_file.specs.Miss.{waited_lines, targets_of, has_miss, has_tag, is_free, AddsTarget, TakesTargets, IsMissFile};
 ghost use Rattle.mshr_file.specs.Waiting.{at_line, by_line, entry_at, waiting_in, waits_for, slot_for, IsEntryTable};
-ghost use Rattle.mshr_file.specs.Waiting.{TakesEntries};
+ghost use Rattle.mshr_file.specs.Waiting.{lines_from, with_line, TakesEntries};
 
 use super::waiting::Waiting;
 use address_map::Local;
 use arrayvec::ArrayVec;
+use std::alloc::{AllocError, Global};
 use target_list::Target;
 
 /// What a search reads of an entry: its line, its tag, and whether it is a load.
@@ -95,6 +97,14 @@ impl EntryTable {
         ensures { result.items ≡ targets_of (by_line (waiting_in self.now)) line.0 }
     {
         targets_at(&self.entries, self.order.as_slice(), line)
+    }
+
+    /// The lines of the entries, each once, those of the latest entries first.
+    pub fn lines(&self, alloc: Global) -> Result<Vec<Local>, AllocError>
+        requires { IsEntryTable self.now }
+        ensures { IfOk result (λ lines. lines.items ≡ waited_lines (by_line (waiting_in self.now))) }
+    {
+        lines_from(alloc, self.order.as_slice())
     }
 
     /// How many loads the entries for the line begin with.
@@ -214,6 +224,27 @@ fn entry_of(entries: &[Option<Waiting>], slot: Slot) -> Waiting
             line: Local(0),
         },
     }
+}
+
+/// The lines of these slots, each once, those of the last slots first.
+fn lines_from(alloc: Global, slots: &[Slot]) -> Result<Vec<Local>, AllocError>
+    ensures { IfOk result (λ lines. lines.items ≡ lines_from slots.now) }
+{
+    let mut lines = Vec::new(alloc);
+    for seen in 0..slots.len() {
+        note_line(&mut lines, slots[slots.len() - 1 - seen].line)?;
+    }
+    Ok(lines)
+}
+
+/// Puts a line behind the others, where it isn't among them.
+fn note_line(lines: &mut Vec<Local>, line: Local) -> Result<(), AllocError>
+    ensures { OnOk result (lines.new.items ≡ with_line line lines.old.items) }
+{
+    if lines.iter().any(|other| *other == line) {
+        return Ok(());
+    }
+    Ok(lines.push(line)?)
 }
 
 fn any_for(slots: &[Slot], line: Local) -> bool

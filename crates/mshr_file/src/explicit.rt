@@ -67,6 +67,10 @@ impl MissFile for ExplicitFile {
         self.table.targets(line)
     }
 
+    fn lines(&self, alloc: Global) -> Result<Vec<Local>, AllocError> {
+        self.table.lines(alloc)
+    }
+
     fn admit(&self, line: Local, tag: u8) -> Admission {
         let used = self.table.waiting(line);
         if used > 0 {

@@ -83,6 +83,10 @@ impl MissFile for InvertedFile {
         self.table.targets(line)
     }
 
+    fn lines(&self, alloc: Global) -> Result<Vec<Local>, AllocError> {
+        self.table.lines(alloc)
+    }
+
     fn admit(&self, line: Local, tag: u8) -> Admission {
         let free = self.room_open(tag);
         match (self.find(line), free) {

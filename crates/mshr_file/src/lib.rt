@@ -5,6 +5,7 @@
 //!
 //! - [`MissFile`] is what a cache needs of its registers. Its contracts see a list of them, each a line with its
 //!   targets in order, in which no line stands twice and each has a target (`IsMissFile` of specs/Miss.antt).
+//! - [`MissFile::lines`] lists the lines that are waited for.
 //! - [`MissFile::admit`] says what a request for a line is to do: join its register, open one, or wait for room.
 //! - [`MissFile::open`] and [`MissFile::join`] add a target to one line at the end (`AddsTarget`),
 //!   [`MissFile::take_first`], [`MissFile::take_loads`] and [`MissFile::close`] take the first ones of a line
@@ -20,10 +21,11 @@
 //!
 //! [`MissKind`] names one of them.
 //!
-//! Only [`MissFile::make`] takes memory: registers and their rows stand in boxed slices, which have no call that lets
-//! them grow, and entries lie in the value. A call searches a row of 16 bytes for each register of its file, at most
-//! 32, or for each entry that is in use, at most 64. A target is taken where it stands, and no other target moves; only
-//! [`MissFile::targets`], [`MissFile::take_loads`] and [`MissFile::close`] hand out a list, 3 KB by value.
+//! Only [`MissFile::make`] and [`MissFile::lines`] take memory: registers and their rows stand in boxed slices, which
+//! have no call that lets them grow, and entries lie in the value. A call searches a row of 16 bytes for each register
+//! of its file, at most 32, or for each entry that is in use, at most 64. A target is taken where it stands, and no
+//! other target moves; only [`MissFile::targets`], [`MissFile::take_loads`] and [`MissFile::close`] hand out a list,
+//! 3 KB by value.
 //!
 //! What follows for callers from `AddsTarget` and `TakesTargets` stands in proofs/Changes.antt.
 #![tactic(auto)]

@@ -4,7 +4,7 @@ ghost use Rattle.address_map.specs.declared.config.Config.{Config};
 ghost use Rattle.target_list.specs.Target.{front_loads, behind_loads};
 ghost use Rattle.mshr_file.specs.declared.registers.Register.{Register};
 ghost use Rattle.mshr_file.specs.Miss.{Bound, IsMissFile, AddsTarget, TakesTargets, IsInOrder, HasEachTagOnce};
-ghost use Rattle.mshr_file.specs.Miss.{targets_of, has_miss, is_free, can_open, can_join, admission_of};
+ghost use Rattle.mshr_file.specs.Miss.{waited_lines, targets_of, has_miss, is_free, can_open, can_join, admission_of};
 
 use super::admission::Admission;
 use address_map::{Checked, Local};
@@ -54,6 +54,10 @@ pub trait MissFile: Sized + Drop {
     /// The targets of the line, the oldest first: none where it has no register.
     fn targets(&self, line: Local) -> ArrayVec<Target, 64>
         ensures { result.items ≡ targets_of (misses self.now) line.0 };
+
+    /// The lines that are waited for, in the order of their registers.
+    fn lines(&self, alloc: Global) -> Result<Vec<Local>, AllocError>
+        ensures { IfOk result (λ lines. lines.items ≡ waited_lines (misses self.now)) };
 
     /// What a request with this tag for the line is to do.
     fn admit(&self, line: Local, tag: u8) -> Admission

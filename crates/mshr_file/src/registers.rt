@@ -1,9 +1,9 @@
 ghost use Rattle.std.specs.Prelude.{◌≡◌, ◌<◌, ◌≤◌, ◌+◌, ◌==◌, [], ◌∷◌, true, false, nat_lt, not, if◌then◌else◌, length};
-ghost use Rattle.std.specs.Prelude.{filter, IfOk, replicate, slice_index_or};
+ghost use Rattle.std.specs.Prelude.{filter, map, IfOk, replicate, slice_index_or};
 ghost use Rattle.std.specs.Box.{boxed_slice_items};
 ghost use Rattle.std.specs.List.{list_any, position};
 ghost use Rattle.target_list.specs.Target.{front_loads};
-ghost use Rattle.mshr_file.specs.Miss.{is_waited, targets_of, has_miss, AddsTarget, TakesTargets, IsMissFile};
+ghost use Rattle.mshr_file.specs.Miss.{is_waited, waited_lines, targets_of, has_miss, AddsTarget, TakesTargets, IsMissFile};
 ghost use Rattle.mshr_file.specs.Register.{IsKept, registers_in, open_in, serves, no_register, row_of, no_row};
 ghost use Rattle.mshr_file.specs.Register.{row_serves, is_free_row};
 
@@ -148,6 +148,14 @@ impl RegisterTable {
             Some(place) => self.registers[place].targets.to_vec(),
             None => ArrayVec::new(),
         }
+    }
+
+    /// The lines of the open registers.
+    pub fn lines(&self, alloc: Global) -> Result<Vec<Local>, AllocError>
+        requires { IsKept self.now }
+        ensures { IfOk result (λ lines. lines.items ≡ waited_lines (open_in self.now)) }
+    {
+        lines_in_use(alloc, &self.rows)
     }
 
     /// How many registers are open.
@@ -312,6 +320,21 @@ fn free_rows(alloc: Global, count: usize) -> Result<BoxedSlice<Row>, AllocError>
         rows.push(Row::free())?;
     }
     Ok(rows.into_boxed_slice())
+}
+
+/// The lines of the rows that aren't free.
+fn lines_in_use(alloc: Global, rows: &[Row]) -> Result<Vec<Local>, AllocError>
+    ensures { IfOk result (λ lines. lines.items
+        ≡ map (λ row. row.line) (filter (λ row. not (is_free_row row)) rows.now)) }
+{
+    let mut lines = Vec::new(alloc);
+    for row in rows {
+        if row.is_free() {
+            continue;
+        }
+        lines.push(row.line)?;
+    }
+    Ok(lines)
 }
 
 fn first_serving(rows: &[Row], line: Local) -> Option<usize>

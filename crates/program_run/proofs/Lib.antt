@@ -5,4 +5,3 @@ pub mod Names
 pub mod RunLemmas
 pub mod Seen
 pub mod Totals
-pub mod VictimLemmas

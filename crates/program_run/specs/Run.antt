@@ -12,7 +12,6 @@ use Rattle.address_map.specs.declared.address.CoreId.{CoreId}
 use Rattle.address_map.specs.declared.address.LineAddr.{LineAddr}
 use Rattle.address_map.specs.declared.config.Config.{Config}
 use Rattle.address_map.specs.declared.request.Request.{Request}
-use Rattle.cache_table.specs.CopyState.{is_leaving}
 use Rattle.litmus_script.specs.Issued.{IsIssued}
 use Rattle.litmus_script.specs.Machine.{HasAt, IsAnswered, IsMade, IsNewMachine, log_at}
 use Rattle.litmus_script.specs.Play.{IsOfRun}
@@ -26,7 +25,7 @@ use Rattle.program_text.specs.declared.programs.Access.{Access}
 use Rattle.program_text.specs.declared.programs.CoreProgram.{CoreProgram}
 use Rattle.rand_xoshiro.specs.SplitMix64.{splitmix_seed}
 use Rattle.rand_xoshiro.specs.Xoshiro256.{of_seed, plus_plus}
-use Rattle.slice_core.specs.Facts.{copy_at, front_at}
+use Rattle.slice_core.specs.Facts.{front_at}
 use Rattle.slice_core.specs.declared.run.Call.TheVariants as calls
 use Rattle.slice_core.specs.declared.run.CallAnswer.TheVariants as answers
 use Rattle.slice_core_answer.specs.declared.answer.Delivered.{Delivered}
@@ -39,13 +38,13 @@ use Rattle.slice_core_plan.specs.declared.decision.Decision.{Decision}
 use Rattle.slice_core_plan.specs.declared.decision.Decision.TheVariants as decisions
 use Rattle.slice_core_side.specs.declared.access.Access.TheVariants as accesses
 use Rattle.slice_core_side.specs.declared.access.Way.TheVariants as ways
-use Rattle.slice_core_side.specs.declared.copy.CacheCopy.{CacheCopy}
+use Rattle.slice_core_steps.specs.CoreLines.{last_written_back}
 use Rattle.slice_queues_message.specs.Pick.{channel_of, line_of as line_of_pick}
 use Rattle.slice_queues_message.specs.declared.channel.Class.TheVariants as classes
 use Rattle.slice_queues_message.specs.declared.channel.Pick.{Pick}
 use Rattle.slice_queues_message.specs.declared.message.Message.{Message}
 use Rattle.program_run.specs.History.{History, HasSeen, after_eviction, after_hit, after_message, after_performing}
-use Rattle.program_run.specs.History.{has_line, no_history}
+use Rattle.program_run.specs.History.{no_history}
 use Rattle.program_run.specs.Json.{json_of}
 use Rattle.program_run.specs.Report.{report_of}
 use Rattle.program_run.specs.Tally.{TallyView, new_tally, tally_after}
@@ -147,38 +146,20 @@ abbrev pub makes_room : Decision → Bool
 makes_room (decisions.Access local (accesses.Open next ask ways.Victim)) = true
 makes_room decision = false
 
--- the copy is leaving, if there is one
-abbrev pub is_leaving_copy : Option CacheCopy → Bool
-is_leaving_copy None = false
-is_leaving_copy (Some copy) = is_leaving copy.state
-
--- .. in the slice
-abbrev pub is_leaving_in : Option PartsView → CoreId → LineAddr → Bool
-is_leaving_in None core line = false
-is_leaving_in (Some state) core line = is_leaving_copy (copy_at state.view core (local_at state.view.lines line.0))
-
--- the core had the line, which is of the same set as the other, and its copy is leaving
-pub record HasLeft (config : Config) (slices : List PartsView) (history : History) (core : CoreId)
-    (line left : LineAddr) : Type 0 where
-  pub same_set : left.0 % (config.slices * config.sets) ≡ line.0 % (config.slices * config.sets)
-  pub had : has_line config.lines core left history ≡ true
-  pub leaves : is_leaving_in (slice_get slices (left.0 % config.slices)) core left ≡ true
-
--- this line left to make room for the other, or none did
-abbrev pub IsVictim : Config → List PartsView → History → CoreId → LineAddr → Option LineAddr → Type 0
-IsVictim config slices history core line (Some left) = HasLeft config slices history core line left
-IsVictim config slices history core line None = (left : LineAddr) → ¬ HasLeft config slices history core line left
+-- the line that the core's write-back buffer took in last, in the slice
+abbrev pub left_in : Option PartsView → CoreId → Option LineAddr
+left_in None core = None
+left_in (Some state) core = last_written_back state.view core
 
 abbrev pub after_leaving : ℕ → CoreId → Option LineAddr → History → History
 after_leaving lines core None history = history
 after_leaving lines core (Some left) history = after_eviction lines core left history
 
--- Where room was made, the line that left is seen, and counted as an eviction.
-abbrev pub MakesRoom : Config → Bool → List PartsView → CoreId → LineAddr → History → History → Type 0
-MakesRoom config false slices core line old new = new ≡ old
-MakesRoom config true slices core line old new =
-    (left : Option LineAddr) × IsVictim config slices old core line left
-    × (new ≡ after_leaving config.lines core left old)
+-- Where room was made, the line that left is seen, and counted as an eviction: the last that the core's write-back
+-- buffer took in.
+abbrev pub after_room : ℕ → Bool → Option PartsView → CoreId → History → History
+after_room lines false state core history = history
+after_room lines true state core history = after_leaving lines core (left_in state core) history
 
 -- What the answer to an access comes to: one that is done at once is a hit, and the core goes on; one that is pending
 -- makes it wait, and may have made room; and all others are nothing.
@@ -188,7 +169,8 @@ AfterAnswer config number core access room (issues.Done place reply) old new =
     × (new.history ≡ after_hit config.lines core access.word access.op reply old.history)
 AfterAnswer config number core access room (issues.Pending seq) old new =
     (new.places ≡ gone_on number true (slice_get old.places number) old.places)
-    × MakesRoom config room new.slices core (line_of access.word) old.history new.history
+    × (new.history
+    ≡ after_room config.lines room (slice_get new.slices (slice_of config access)) core old.history)
 AfterAnswer config number core access room issued old new = (new.places ≡ old.places) × (new.history ≡ old.history)
 
 -- the access was asked of the machine, which answered it

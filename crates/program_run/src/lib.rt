@@ -5,7 +5,7 @@
 //! the next delivery of a slice, where one can be made. So the same seed runs the same way on every machine.
 //!
 //! - src/runner.rt: the machine, where each program stands, and what a move does (`Makes` of specs/Run.antt).
-//! - src/moves.rt: what may come next (`moves_of`). src/victim.rt: which line left to make room for another.
+//! - src/moves.rt: what may come next (`moves_of`).
 //! - src/observer.rt: what is seen of each call: what becomes of the cores' copies, and what is counted
 //!   (specs/History.antt). A miss is counted under its cause (`miss_cause`).
 //! - src/tally.rt: the counts, for each core and for each line (specs/Tally.antt).
@@ -26,4 +26,3 @@ mod report;
 mod run;
 mod runner;
 mod tally;
-mod victim;

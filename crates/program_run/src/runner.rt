@@ -13,11 +13,12 @@ ghost use Rattle.program_run.specs.Run.{
   HaveEnded,
   Leads,
   Makes,
-  MakesRoom,
   Performs,
+  after_room,
   asks_of,
   deliveries_of,
   gone_on,
+  left_in,
   makes_room,
   program_of,
   woken,
@@ -26,7 +27,6 @@ ghost use Rattle.program_run.specs.Run.{
 use super::moves::{Move, Place, decide, list_moves, next_access, request_of};
 use super::observer::Observer;
 use super::tally::Tally;
-use super::victim::find_victim;
 use address_map::{CoreId, LineAddr, SliceId};
 use litmus_script::{Issued, Machine};
 use mshr_file::MissFile;
@@ -224,17 +224,26 @@ fn make_room<F: MissFile>(
     line: LineAddr,
 )
     requires { HasCore machine.now.config core }
-    ensures { (history : History) → HasSeen machine.now.config history observer.old → (after : History)
-        × HasSeen machine.now.config after observer.new
-        × MakesRoom machine.now.config room machine.now.slices.items core line history after }
+    ensures { (history : History) → HasSeen machine.now.config history observer.old
+        → HasSeen machine.now.config (after_room machine.now.config.lines room
+        (slice_get machine.now.slices.items (line.0 % machine.now.config.slices)) core history) observer.new }
 {
     if !room {
         return;
     }
-    match find_victim(machine, observer, core, line) {
+    match left_in(machine, core, line) {
         Some(left) => observer.evict(core, left),
         None => {}
     }
+}
+
+// The line that left last in the slice of this line.
+fn left_in<F: MissFile>(machine: &Machine<F>, core: CoreId, line: LineAddr) -> Option<LineAddr>
+    requires { HasCore machine.now.config core }
+    ensures { result ≡ left_in (slice_get machine.now.slices.items (line.0 % machine.now.config.slices)) core }
+{
+    let slice = machine.slice_of(line);
+    machine.slices[slice].last_written_back(core)
 }
 
 // The program of this number has asked for one more access.

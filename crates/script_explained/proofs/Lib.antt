@@ -1,4 +1,3 @@
-pub mod CopyLemmas
 pub mod NextLemmas
 pub mod Pieces
 pub mod PlayerLemmas

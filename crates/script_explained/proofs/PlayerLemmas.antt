@@ -22,10 +22,10 @@ delivery_explained config pick slice old new before after at told =
 
 pub issue_explained : (config : Config) (core : CoreId) (request : Request) (slice : ℕ) (old new : List PartsView)
     (before after : Option (List ℕ)) → slice ≡ (line_of_word request.word).0 % config.slices
-    → OneSlice slice (ExplainsIssue config slice core request before after) old new
+    → OneSlice slice (ExplainsIssue slice core request before after) old new
     → IsExplained config (commands.Issue core request) old new before after
 issue_explained config core request slice old new before after at told =
     record {
-      explained = subst (λ (s : ℕ). OneSlice s (ExplainsIssue config s core request before after) old new)
+      explained = subst (λ (s : ℕ). OneSlice s (ExplainsIssue s core request before after) old new)
           at told;
     }

@@ -23,9 +23,9 @@ TellsNext old slice answer before after new = OneSlice slice (ExplainsNext slice
 abbrev pub Explains : Config → Command → List PartsView → List PartsView → Option (List ℕ) → Option (List ℕ) → Type 0
 Explains config (commands.Issue core request) old new before after =
     let slice = (line_of_word request.word).0 % config.slices in
-    OneSlice slice (ExplainsIssue config slice core request before after) old new
+    OneSlice slice (ExplainsIssue slice core request before after) old new
 Explains config (commands.Evict core line) old new before after =
-    let slice = line.0 % config.slices in OneSlice slice (ExplainsEviction config slice core line before after) old new
+    let slice = line.0 % config.slices in OneSlice slice (ExplainsEviction slice core line before after) old new
 Explains config (commands.Deliver pick) old new before after =
     let slice = (line_of pick).0 % config.slices in OneSlice slice (ExplainsDelivery slice pick before after) old new
 Explains config (commands.Hand core slice) old new before after =

@@ -1,9 +1,8 @@
 -- What is said of an access and of an eviction: the case that it met, what was decided, and the copies that stood in
 -- its way.
-use Rattle.std.specs.Prelude.{ℕ, List, [], ◌++◌, codes, Option}
+use Rattle.std.specs.Prelude.{ℕ, List, ◌++◌, codes, Option}
 use Rattle.address_map.specs.declared.address.CoreId.{CoreId}
 use Rattle.address_map.specs.declared.address.LineAddr.{LineAddr}
-use Rattle.address_map.specs.declared.config.Config.{Config}
 use Rattle.address_map.specs.declared.request.Request.{Request}
 use Rattle.address_map.specs.Place.{line_of}
 use Rattle.litmus_script.specs.Answer.{text_of_issued}
@@ -12,7 +11,7 @@ use Rattle.litmus_script.specs.Machine.{Answers}
 use Rattle.litmus_script.specs.Prints.{Adds}
 use Rattle.litmus_script.specs.declared.answers.Issued.{Issued}
 use Rattle.script_explained.specs.Look.{copy_at, message_at}
-use Rattle.script_explained.specs.Named.{left_before, named_by, text_of_copies}
+use Rattle.script_explained.specs.Named.{named_by, text_of_copies, AreNamed}
 use Rattle.script_explained.specs.declared.named.Named.{Named}
 use Rattle.script_explained.specs.declared.named.Named.TheVariants as named
 use Rattle.slice_core.specs.declared.run.Call.TheVariants as calls
@@ -23,6 +22,7 @@ use Rattle.slice_core_answer.specs.declared.answer.Evicted.TheVariants as evicti
 use Rattle.slice_core_plan.specs.Decision.{decision_of}
 use Rattle.slice_core_plan.specs.Calls.{PartsView}
 use Rattle.slice_core_plan.specs.View.{View}
+use Rattle.slice_core_steps.specs.declared.core_lines.CoreLines.TheVariants as which
 use Rattle.slice_queues_message.specs.declared.channel.Pick.TheVariants as picks
 use Rattle.step_text.specs.Issue.{event_of, text_of_eviction, text_of_issue}
 use Rattle.step_text.specs.declared.case.Event.TheVariants as events
@@ -39,21 +39,25 @@ issue_at slice v core request = record {
   decision = decision_of v core request;
 }
 
--- what is said of it: the copies in its way are named as they are then
-abbrev pub told_of_issue : Config → ℕ → CoreId → Request → View → View → List ℕ
-told_of_issue config slice core request old new =
-    let which : Named = named_by (line_of request.word) (decision_of old core request) in
+-- which copies are named as the reason: those in its way, or its victim
+abbrev pub named_at : View → CoreId → Request → Named
+named_at v core request = named_by (line_of request.word) (decision_of v core request)
+
+-- what is said of it, where these are the lines of the copies that are named: each is told as it is then
+abbrev pub told_of_issue : ℕ → CoreId → Request → List ℕ → View → View → List ℕ
+told_of_issue slice core request lines old new =
     text_of_issue (issue_at slice old core request)
-    ++ text_of_copies config which (left_before config which old core) new core
+    ++ text_of_copies (named_at old core request) new core lines
 
 -- a state of a slice answered the access, and its answer was written with what is said of that
-pub record ExplainsIssue (config : Config) (slice : ℕ) (core : CoreId) (request : Request)
-    (before after : Option (List ℕ))
+pub record ExplainsIssue (slice : ℕ) (core : CoreId) (request : Request) (before after : Option (List ℕ))
     (old new : PartsView) : Type 0 where
   pub issued : Issued
   pub answered : Issues core request issued old new
+  pub numbers : List ℕ
+  pub are_named : AreNamed (named_at old.view core request) new.view core numbers
   pub written : Adds before after (text_of_issued issued ++ codes "   "
-      ++ told_of_issue config slice core request old.view new.view)
+      ++ told_of_issue slice core request numbers old.view new.view)
 
 -- an eviction that a core asked the slice with this number for, as it was answered
 abbrev pub eviction_of : ℕ → CoreId → LineAddr → Evicted → View → View → Eviction
@@ -67,19 +71,20 @@ eviction_of slice core line answer old new = record {
 
 -- where the write-back buffer is full, the copies in it are named
 abbrev pub named_by_answer : Evicted → Named
-named_by_answer evictions.WriteBackFull = named.Leaving
+named_by_answer evictions.WriteBackFull = named.Lines which.Leaving
 named_by_answer answer = named.Nothing
 
-abbrev pub told_of_eviction : Config → ℕ → CoreId → LineAddr → Evicted → View → View → List ℕ
-told_of_eviction config slice core line answer old new =
+abbrev pub told_of_eviction : ℕ → CoreId → LineAddr → Evicted → List ℕ → View → View → List ℕ
+told_of_eviction slice core line answer lines old new =
     text_of_eviction (eviction_of slice core line answer old new)
-    ++ text_of_copies config (named_by_answer answer) [] new core
+    ++ text_of_copies (named_by_answer answer) new core lines
 
 -- a state of a slice answered the eviction, and its answer was written with what is said of that
-pub record ExplainsEviction (config : Config) (slice : ℕ) (core : CoreId) (line : LineAddr)
-    (before after : Option (List ℕ))
+pub record ExplainsEviction (slice : ℕ) (core : CoreId) (line : LineAddr) (before after : Option (List ℕ))
     (old new : PartsView) : Type 0 where
   pub answer : Evicted
   pub answered : Answers (calls.Evict core line) (answers.Evict answer) old new
+  pub numbers : List ℕ
+  pub are_named : AreNamed (named_by_answer answer) new.view core numbers
   pub written : Adds before after
-      (text_of_evicted answer ++ codes "   " ++ told_of_eviction config slice core line answer old.view new.view)
+      (text_of_evicted answer ++ codes "   " ++ told_of_eviction slice core line answer numbers old.view new.view)

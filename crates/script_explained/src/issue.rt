@@ -1,5 +1,5 @@
 //! Accesses and evictions.
-ghost use Rattle.std.specs.Prelude.{◌≡◌, ◌++◌, ◌<◌, [], length, IfErr, OnOk, codes};
+ghost use Rattle.std.specs.Prelude.{◌≡◌, ◌++◌, ◌<◌, length, IfErr, OnOk, codes};
 ghost use Rattle.litmus_script.specs.Answer.{WritesLine, text_of_issued};
 ghost use Rattle.litmus_script.specs.Play.{IsOfRun};
 ghost use Rattle.script_explained.specs.Issue.{ExplainsEviction, ExplainsIssue, eviction_of, issue_at, named_by_answer};
@@ -9,12 +9,12 @@ ghost use Rattle.slice_core_answer.specs.Text.{text_of_evicted};
 ghost use Rattle.step_text.specs.Issue.{text_of_eviction, text_of_issue};
 
 use super::look;
-use super::named::{Named, left_before, write_copies};
-use address_map::{Checked, CoreId, LineAddr, Request};
+use super::named::{Named, named_lines, write_copies};
+use address_map::{CoreId, LineAddr, Request};
 use litmus_script::{Answers, Issued, written};
 use litmus_text::TextFault;
 use mshr_file::MissFile;
-use slice_core::{Evicted, Pick, SliceState};
+use slice_core::{CoreLines, Evicted, Pick, SliceState};
 use std::alloc::Global;
 use std::fmt;
 use std::io::Write;
@@ -23,7 +23,6 @@ use step_text::{Case, Event, Eviction, Issue, Who};
 /// Asks for an access of a core in the slice with this number, and writes what became of it and why.
 pub(crate) fn issue<F: MissFile, W: Write>(
     alloc: Global,
-    config: &Checked,
     state: &mut SliceState<F>,
     slice: usize,
     core: CoreId,
@@ -32,21 +31,21 @@ pub(crate) fn issue<F: MissFile, W: Write>(
 ) -> Result<(), TextFault>
     requires { core.0 < length state.old.view.sides }
     ensures same { IsSameSlice state.old state.new }
-    ensures told { OnOk result (ExplainsIssue config.now slice core request (W.contents out.old) (W.contents out.new)
+    ensures told { OnOk result (ExplainsIssue slice core request (W.contents out.old) (W.contents out.new)
         state.old state.new) }
     ensures fault { IfErr result IsOfRun }
 {
     let decided = decided(state, slice, core, request);
     let which = Named::of(request.word.line(), decided.decision);
-    let left = left_before(alloc, config, which, state, core)?;
     let issued = litmus_script::issue(state, core, request)?;
+    let lines = named_lines(alloc, which, state, core)?;
     let mut answers = Answers { out };
     let asked = Asked {
         core,
         issued,
         decided,
     };
-    written(write_issue(config, state, &asked, which, left.as_slice(), &mut answers))
+    written(write_issue(state, &asked, which, lines.as_slice(), &mut answers))
 }
 
 /// An access of a core that was asked for: what was decided, and what became of it.
@@ -82,28 +81,27 @@ fn decided<F: MissFile>(
 }
 
 fn write_issue<F: MissFile, W: fmt::Write>(
-    config: &Checked,
     state: &SliceState<F>,
     asked: &Asked,
     which: Named,
-    left: &[u64],
+    lines: &[u64],
     out: &mut W,
 ) -> fmt::Result
     ensures { OnOk result (WritesLine W.write_str_gives out.old
         (text_of_issued asked.now.issued ++ codes "   "
-        ++ (text_of_issue asked.now.decided ++ text_of_copies config.now which left.now state.now.view asked.now.core))
+        ++ (text_of_issue asked.now.decided ++ text_of_copies which state.now.view asked.now.core lines.now))
         out.new) }
 {
     let issued = asked.issued;
     let decided = asked.decided;
     write!(out, "{issued}   {decided}")?;
-    write_copies(config, which, left, state, asked.core, out)?;
+    write_copies(which, lines, state, asked.core, out)?;
     writeln!(out)
 }
 
 /// Asks for an eviction in the slice with this number, and writes what became of it and why.
 pub(crate) fn evict<F: MissFile, W: Write>(
-    config: &Checked,
+    alloc: Global,
     state: &mut SliceState<F>,
     slice: usize,
     core: CoreId,
@@ -112,7 +110,7 @@ pub(crate) fn evict<F: MissFile, W: Write>(
 ) -> Result<(), TextFault>
     requires { core.0 < length state.old.view.sides }
     ensures same { IsSameSlice state.old state.new }
-    ensures told { OnOk result (ExplainsEviction config.now slice core line (W.contents out.old) (W.contents out.new)
+    ensures told { OnOk result (ExplainsEviction slice core line (W.contents out.old) (W.contents out.new)
         state.old state.new) }
     ensures fault { IfErr result IsOfRun }
 {
@@ -131,26 +129,30 @@ pub(crate) fn evict<F: MissFile, W: Write>(
         state: look::copy(state, line, core),
         sent: state.front(Pick::Req(line, core)),
     };
+    let which = named(answer);
+    let Ok(lines) = named_lines(alloc, which, state, core) else {
+        return Err(TextFault::NoMemory);
+    };
     let mut answers = Answers { out };
-    written(write_eviction(config, state, core, evicted, &mut answers))
+    written(write_eviction(state, core, evicted, which, lines.as_slice(), &mut answers))
 }
 
 fn write_eviction<F: MissFile, W: fmt::Write>(
-    config: &Checked,
     state: &SliceState<F>,
     core: CoreId,
     evicted: Eviction,
+    which: Named,
+    lines: &[u64],
     out: &mut W,
 ) -> fmt::Result
     ensures { OnOk result (WritesLine W.write_str_gives out.old
         (text_of_evicted evicted.answer ++ codes "   "
-        ++ (text_of_eviction evicted ++ text_of_copies config.now (named_by_answer evicted.answer)
-        [] state.now.view core))
+        ++ (text_of_eviction evicted ++ text_of_copies which state.now.view core lines.now))
         out.new) }
 {
     let answer = evicted.answer;
     write!(out, "{answer}   {evicted}")?;
-    write_copies(config, named(answer), &[], state, core, out)?;
+    write_copies(which, lines, state, core, out)?;
     writeln!(out)
 }
 
@@ -159,7 +161,7 @@ const fn named(answer: Evicted) -> Named
     ensures { result ≡ named_by_answer answer }
 {
     match answer {
-        Evicted::WriteBackFull => Named::Leaving,
+        Evicted::WriteBackFull => Named::Lines(CoreLines::Leaving),
         Evicted::Evicting | Evicted::NotHeld | Evicted::Busy => Named::Nothing,
     }
 }

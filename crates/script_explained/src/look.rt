@@ -10,11 +10,11 @@ use slice_core::{CopyState, DirState, SliceState};
 pub(crate) fn copy<F: MissFile>(state: &SliceState<F>, line: LineAddr, core: CoreId) -> CopyState
     ensures { result ≡ copy_at state.now.view line core }
 {
-    let Some(view) = state.line_view(line) else {
+    if core.0 as usize >= state.cores() {
         return CopyState::I;
-    };
-    match view.copies.get(core.0 as usize) {
-        Some(copy) => *copy,
+    }
+    match state.copy(core, line) {
+        Some(copy) => copy.state,
         None => CopyState::I,
     }
 }

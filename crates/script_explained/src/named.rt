@@ -1,14 +1,13 @@
 //! The copies of a core that are named as the reason for an answer.
-ghost use Rattle.std.specs.Prelude.{◌≡◌, ◌++◌, ◌∷◌, [], if◌then◌else◌, IfOk, OnOk};
+ghost use Rattle.std.specs.Prelude.{◌≡◌, ◌<◌, length, map, option_to_list, IfOk, OnOk};
 ghost use Rattle.std.specs.Fmt.{WritesInCalls};
-ghost use Rattle.cache_table.specs.CopyState.{is_leaving};
-ghost use Rattle.script_explained.specs.Named.{is_held, is_named, leaving_in, left_before, named_by, set_of};
-ghost use Rattle.script_explained.specs.Named.{text_of_copies, text_of_named, text_of_state};
+ghost use Rattle.script_explained.specs.Named.{named_by, named_lines, text_of_copies, text_of_copy, text_of_state};
+ghost use Rattle.script_explained.specs.Named.{AreNamed};
 
 use super::look;
-use address_map::{Checked, CoreId, LineAddr};
+use address_map::{CoreId, LineAddr};
 use mshr_file::MissFile;
-use slice_core::{Access, CopyState, Decision, SliceState, Stall, Way};
+use slice_core::{Access, CopyState, CoreLines, Decision, SliceState, Stall, Way};
 use std::alloc::{AllocError, Global};
 use std::fmt;
 use std::fmt::Write;
@@ -17,14 +16,10 @@ use std::fmt::Write;
 #[derive(Clone, Copy)]
 pub(crate) enum Named {
     Nothing,
-    /// Those that wait in miss registers.
-    Waiting,
-    /// Those in the write-back buffer.
-    Leaving,
-    /// Those that leave now and didn't before.
-    Victims,
-    /// Those in the set of this line.
-    InSetOf(LineAddr),
+    /// The copy that has just left for another line.
+    Victim,
+    /// Those that stand there.
+    Lines(CoreLines),
 }
 
 impl Named {
@@ -33,130 +28,108 @@ impl Named {
         ensures { result ≡ named_by line decision }
     {
         match decision {
-            Decision::Access(_, Access::Stall(Stall::NoRegister)) => Named::Waiting,
-            Decision::Access(_, Access::Stall(Stall::NoWay)) => Named::InSetOf(line),
-            Decision::Access(_, Access::Stall(Stall::WriteBackFull)) => Named::Leaving,
+            Decision::Access(_, Access::Stall(Stall::NoRegister)) => Named::Lines(
+                CoreLines::Waiting,
+            ),
+            Decision::Access(_, Access::Stall(Stall::NoWay)) => Named::Lines(CoreLines::InSetOf(
+                line,
+            )),
+            Decision::Access(_, Access::Stall(Stall::WriteBackFull)) => Named::Lines(
+                CoreLines::Leaving,
+            ),
             Decision::Access(
                 _,
                 Access::Open {
                     way: Way::Victim,
                     ..
                 },
-            ) => Named::Victims,
+            ) => Named::Victim,
             _ => Named::Nothing,
         }
     }
-
-    /// Whether a line's copy in this state is one of them, where these lines left before.
-    fn has(self, config: &Checked, left: &[u64], line: u64, state: CopyState) -> bool
-        ensures { result ≡ is_named config.now self left.now line state }
-    {
-        match self {
-            Named::Nothing => false,
-            Named::Waiting => state.is_waiting(),
-            Named::Leaving => state.is_leaving(),
-            Named::Victims => state.is_leaving() && !left.contains(&line),
-            Named::InSetOf(other) => {
-                is_held(state) && set_of(config, line) == set_of(config, other.0)
-            }
-        }
-    }
 }
 
-/// Whether a copy in this state stands in the core's array.
-const fn is_held(state: CopyState) -> bool
-    ensures { result ≡ is_held state }
-{
-    !matches!(state, CopyState::I) && !state.is_leaving()
-}
-
-/// The set of a line in the arrays of its slice.
-fn set_of(config: &Checked, line: u64) -> u64
-    ensures { result ≡ set_of config.now line }
-{
-    line / config.slices() as u64 % config.sets() as u64
-}
-
-/// The lines that leave, where victims are to be told from them.
-pub(crate) fn left_before<F: MissFile>(
+/// The lines of these copies by their numbers, in ascending order.
+pub(crate) fn named_lines<F: MissFile>(
     alloc: Global,
-    config: &Checked,
     which: Named,
     state: &SliceState<F>,
     core: CoreId,
 ) -> Result<Vec<u64>, AllocError>
-    ensures { IfOk result (λ left. left.items ≡ left_before config.now which state.now.view core) }
+    requires { core.0 < length state.now.view.sides }
+    ensures { IfOk result (λ lines. AreNamed which state.now.view core lines.items) }
+{
+    let lines = lines_of(alloc, which, state, core)?;
+    let mut numbers = numbers_of(alloc, lines.as_slice())?;
+    numbers.sort()?;
+    Ok(numbers)
+}
+
+/// The same by their addresses, in any order.
+fn lines_of<F: MissFile>(
+    alloc: Global,
+    which: Named,
+    state: &SliceState<F>,
+    core: CoreId,
+) -> Result<Vec<LineAddr>, AllocError>
+    requires { core.0 < length state.now.view.sides }
+    ensures { IfOk result (λ lines. lines.items ≡ named_lines which state.now.view core) }
 {
     match which {
-        Named::Victims => leaving(alloc, config, state, core),
-        Named::Nothing | Named::Waiting | Named::Leaving | Named::InSetOf(_) => Ok(Vec::new(alloc)),
+        Named::Nothing => Ok(Vec::new(alloc)),
+        Named::Victim => list_of(alloc, state.last_written_back(core)),
+        Named::Lines(lines) => state.core_lines(alloc, core, lines),
     }
 }
 
-/// The lines of the memory whose copies stand in a core's write-back buffer.
-fn leaving<F: MissFile>(
-    alloc: Global,
-    config: &Checked,
-    state: &SliceState<F>,
-    core: CoreId,
-) -> Result<Vec<u64>, AllocError>
-    ensures { IfOk result (λ lines. lines.items ≡ leaving_in config.now state.now.view core) }
+fn list_of(alloc: Global, line: Option<LineAddr>) -> Result<Vec<LineAddr>, AllocError>
+    ensures { IfOk result (λ lines. lines.items ≡ option_to_list line) }
 {
     let mut lines = Vec::new(alloc);
-    for line in 0..config.lines() as u64 {
-        note(&mut lines, line, look::copy(state, LineAddr(line), core))?;
+    if let Some(line) = line {
+        lines.push(line)?;
     }
     Ok(lines)
 }
 
-/// Notes a line whose copy in this state leaves.
-fn note(lines: &mut Vec<u64>, line: u64, state: CopyState) -> Result<(), AllocError>
-    ensures { OnOk result
-        (lines.new.items ≡ (if is_leaving state then lines.old.items ++ line ∷ [] else lines.old.items)) }
+fn numbers_of(alloc: Global, lines: &[LineAddr]) -> Result<Vec<u64>, AllocError>
+    ensures { IfOk result (λ numbers. numbers.items ≡ map (λ line. line.0) lines.now) }
 {
-    if !state.is_leaving() {
-        return Ok(());
+    let mut numbers = Vec::new(alloc);
+    for line in lines {
+        numbers.push(line.0)?;
     }
-    Ok(lines.push(line)?)
+    Ok(numbers)
 }
 
-/// Writes those of a core's copies of the lines of the memory, each with its state.
+/// Writes a core's copies of these lines, each with its state.
 pub(crate) fn write_copies<F: MissFile, W: Write>(
-    config: &Checked,
     which: Named,
-    left: &[u64],
+    lines: &[u64],
     state: &SliceState<F>,
     core: CoreId,
     out: &mut W,
 ) -> fmt::Result
     ensures { OnOk result (WritesInCalls W.write_str_gives out.old
-        (text_of_copies config.now which left.now state.now.view core) out.new) }
+        (text_of_copies which state.now.view core lines.now) out.new) }
 {
-    if let Named::Nothing = which {
-        return Ok(());
-    }
-    for line in 0..config.lines() as u64 {
-        write_copy(config, which, left, state, core, line, out)?;
+    for line in lines {
+        write_copy(which, *line, state, core, out)?;
     }
     Ok(())
 }
 
 fn write_copy<F: MissFile, W: Write>(
-    config: &Checked,
     which: Named,
-    left: &[u64],
+    line: u64,
     state: &SliceState<F>,
     core: CoreId,
-    line: u64,
     out: &mut W,
 ) -> fmt::Result
     ensures { OnOk result (WritesInCalls W.write_str_gives out.old
-        (text_of_named config.now which left.now state.now.view core line) out.new) }
+        (text_of_copy which state.now.view core line) out.new) }
 {
     let copy = look::copy(state, LineAddr(line), core);
-    if !which.has(config, left, line, copy) {
-        return Ok(());
-    }
     write!(out, "; line {line}{}", State { which, copy })
 }
 
@@ -176,10 +149,8 @@ impl fmt::Display for State {
     fn fmt<W: fmt::Write>(&self, f: &mut fmt::Formatter<W>) -> fmt::Result {
         let copy = self.copy;
         match self.which {
-            Named::Victims => write!(f, " to {copy}"),
-            Named::Nothing | Named::Waiting | Named::Leaving | Named::InSetOf(_) => {
-                write!(f, " {copy}")
-            }
+            Named::Victim => write!(f, " to {copy}"),
+            Named::Nothing | Named::Lines(_) => write!(f, " {copy}"),
         }
     }
 }

@@ -109,19 +109,11 @@ impl<F: MissFile> Explained<F> {
         ensures config { self.new.machine.config ≡ self.old.machine.config }
         ensures fault { IfErr result IsOfRun }
         ensures told { OnOk result (OneSlice slice
-            (ExplainsIssue self.old.machine.config slice core request (W.contents out.old) (W.contents out.new))
+            (ExplainsIssue slice core request (W.contents out.old) (W.contents out.new))
             self.old.machine.slices.items self.new.machine.slices.items) }
     {
-        let Machine { config, slices, .. } = &mut self.machine;
-        issue::issue(
-            self.alloc,
-            config,
-            &mut slices[slice],
-            slice,
-            core,
-            request,
-            out,
-        )
+        let Machine { slices, .. } = &mut self.machine;
+        issue::issue(self.alloc, &mut slices[slice], slice, core, request, out)
     }
 
     fn evict<W: Write>(
@@ -137,8 +129,8 @@ impl<F: MissFile> Explained<F> {
             self.old.machine.slices.items self.new.machine.slices.items (W.contents out.old) (W.contents out.new)) }
     {
         let slice = self.machine.slice_of(line);
-        let Machine { config, slices, .. } = &mut self.machine;
-        issue::evict(config, &mut slices[slice], slice, core, line, out)
+        let Machine { slices, .. } = &mut self.machine;
+        issue::evict(self.alloc, &mut slices[slice], slice, core, line, out)
     }
 
     fn deliver<W: Write>(&mut self, pick: Pick, out: &mut W) -> Result<(), TextFault>

@@ -298,6 +298,10 @@ links_hand v core tag links there =
           placed (λ (s : SideView). IsSome (array_at s.array l) →
           l.0 < v.lines.lines) v.sides core.0 other.0 now no_side there
           (λ same. links.own core l there) (λ apart. links.own other l (is_core other.0 h));
+      leaves = λ other l h.
+          placed (λ (s : SideView). IsSome (buffer_at s.buffer.entries l.0) →
+          l.0 < v.lines.lines) v.sides core.0 other.0 now no_side there
+          (λ same. links.leaves core l there) (λ apart. links.leaves other l (is_core other.0 h));
       waits = λ other l h.
           placed (λ (s : SideView). is_waiting (state_of s l) ≡ has_miss s.misses l.0) v.sides core.0 other.0 now
           no_side there

@@ -62,6 +62,10 @@ links_new v c bound slice own power few sides entries channels = record {
   kept = λ core h. subst IsKept (sym (new core h)) (kept-new c bound slice core.0 power few);
   own = λ core local h some. absurd (copy-held (side_at v core) local some
       (subst IsKept (sym (new core h)) (kept-new c bound slice core.0 power few)) (gone core local h));
+  leaves = λ core local h some.
+      let none : buffer_at (side_at v core).buffer.entries local.0 ≡ None =
+      ap (λ (s : SideView). buffer_at s.buffer.entries local.0) (new core h) in
+      cc;
   waits = λ core local h.
       ap is_waiting (gone core local h)
       ∙ sym (ap (λ (s : SideView). has_miss s.misses local.0) (new core h));

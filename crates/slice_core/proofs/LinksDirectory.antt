@@ -185,6 +185,7 @@ pub links_entry : (v : View) (local : Local) (entry : DirEntry) (line : LineChan
 links_entry v local entry line shaped links within owned sent = record {
   kept = links.kept;
   own = links.own;
+  leaves = links.leaves;
   waits = links.waits;
   sent = λ core l there inside.
       placed (λ (c : LineChannels). has_sent (state_of (side_at v core) l) (asked c core.0) ≡ true) v.channels local.0

@@ -20,6 +20,7 @@ use Rattle.slice_core_plan.specs.View.{View, channels_at, entry_at, side_at, wit
 use Rattle.slice_core_plan.specs.View.{IsShaped}
 use Rattle.slice_core.specs.Sound.{HasLinks, has_sent}
 use Rattle.slice_queues.specs.Line.{LineChannels, core_at, empty_line}
+use Rattle.writeback_buffer.specs.Buffer.{held_at as buffer_at}
 use Rattle.writeback_buffer.specs.declared.entry.Leaving.{Leaving}
 
 -- what holds of the new element at its place, and of the old ones elsewhere, holds at every place
@@ -76,6 +77,13 @@ module _ (v : View) (core : CoreId) (local : Local) (side : SideView) (line : Li
         | inr apart ↦ links.own core other there (subst IsSome (step.changes.array_others other apart) some)
       ]
 
+  leaves_now : (other : Local) → IsSome (buffer_at side.buffer.entries other.0) → other.0 < v.lines.lines
+  leaves_now other some =
+      elim (cases_eq other.0 local.0) [
+        | inl same ↦ subst (λ n. n < v.lines.lines) (sym same) within
+        | inr apart ↦ links.leaves core other there (subst IsSome (step.changes.buffer_others other apart) some)
+      ]
+
   waits_now : (other : Local) → is_waiting (state_of side other) ≡ has_miss side.misses other.0
   waits_now other =
       elim (cases_eq other.0 local.0) [
@@ -122,6 +130,10 @@ module _ (v : View) (core : CoreId) (local : Local) (side : SideView) (line : Li
         placed (λ (s : SideView). IsSome (array_at s.array l) →
         l.0 < v.lines.lines) v.sides core.0 other.0 side no_side there
         (λ same. own_now l) (λ apart. links.own other l (is_core other.0 h));
+    leaves = λ other l h.
+        placed (λ (s : SideView). IsSome (buffer_at s.buffer.entries l.0) →
+        l.0 < v.lines.lines) v.sides core.0 other.0 side no_side there
+        (λ same. leaves_now l) (λ apart. links.leaves other l (is_core other.0 h));
     waits = λ other l h.
         placed (λ (s : SideView). is_waiting (state_of s l) ≡ has_miss s.misses l.0) v.sides core.0 other.0 side
         no_side there
@@ -145,6 +157,7 @@ pub links_logged : (v : View) (log : List Entry) → HasLinks v → HasLinks (re
 links_logged v log links = record {
   kept = links.kept;
   own = links.own;
+  leaves = links.leaves;
   waits = links.waits;
   sent = links.sent;
   owned = links.owned;

@@ -2,7 +2,7 @@
 use Rattle.std.specs.Prelude.{◌≡◌, ℕ, ◌<◌, ◌&&◌, true, if◌then◌else◌, [], count_by, is_some, nat_lt, length, map}
 use Rattle.std.specs.Prelude.{slice_get, List, Option, Some, None, Result, Ok}
 use Rattle.address_map.specs.declared.address.CoreId.{CoreId}
-use Rattle.address_map.specs.Locator.{local_at}
+use Rattle.address_map.specs.Locator.{line_at, local_at}
 use Rattle.address_map.specs.Place.{offset_of}
 use Rattle.address_map.specs.declared.address.Local.{Local}
 use Rattle.address_map.specs.declared.address.WordAddr.{WordAddr}
@@ -24,11 +24,17 @@ use Rattle.slice_core_log.specs.Log.{initially, value, IsLegal, IsOrdered}
 use Rattle.slice_core_log.specs.declared.entry.Entry.{Entry}
 use Rattle.slice_core_machine.specs.Shows.{IsAccounted}
 use Rattle.slice_core_side.specs.Side.{copy_of, state_of, tag_at}
+use Rattle.slice_core_side.specs.Steps.{victim_for}
+use Rattle.slice_core_side.specs.declared.access.Access.TheVariants as accesses
+use Rattle.slice_core_side.specs.declared.access.Way.TheVariants as ways
 use Rattle.slice_core_side.specs.declared.copy.CacheCopy.{CacheCopy}
 use Rattle.slice_core_side.specs.declared.tags.TagState.TheVariants as tags
 use Rattle.slice_core_standing.specs.Standing.{is_open, standings}
 use Rattle.slice_core_plan.specs.Calls.{PartsView}
 use Rattle.slice_core_plan.specs.View.{View, channels_at, entry_at, side_at, word_now}
+use Rattle.slice_core_plan.specs.declared.decision.Decision.{Decision}
+use Rattle.slice_core_plan.specs.declared.decision.Decision.TheVariants as decisions
+use Rattle.slice_core_steps.specs.CoreLines.{last_written_back}
 use Rattle.slice_core_steps.specs.declared.line_view.LineView.{LineView}
 use Rattle.slice_queues.specs.Line.{messages_at}
 use Rattle.slice_queues.specs.Waiting.{HasEachOnce, is_from_core, is_same_pick, line_waiting}
@@ -177,6 +183,12 @@ HasEachFrontOnce v picks =
 -- that an access of its can have (Farkas and Jouppi's inverted organisation).
 abbrev pub IsInverted : View → CoreId → Type 0
 IsInverted v core = (side_at v core).bound ≡ Bound.tags
+
+-- A miss for which a line had to leave: the victim is the line that the core's write-back buffer took in last.
+abbrev pub LeavesVictim : Decision → View → CoreId → Result Issue Refused → View → Type 0
+LeavesVictim (decisions.Access local (accesses.Open next ask ways.Victim)) old core (Ok (issues.Pending seq)) new =
+    last_written_back new core ≡ Some (line_at old.lines (victim_for (side_at old core) local))
+LeavesVictim decision old core answer new = Unit {0}
 
 -- The request was not put off for want of a miss register, nor of a field of one.
 abbrev pub NeedsNoRegister : Result Issue Refused → Type 0

@@ -19,6 +19,7 @@ use Rattle.slice_core_plan.specs.View.{View, channels_at, side_at, IsOwned, IsSh
 use Rattle.slice_queues.specs.Line.{core_at}
 use Rattle.slice_queues_message.specs.declared.message.RequestMessage.{RequestMessage}
 use Rattle.slice_queues_message.specs.declared.message.RequestMessage.TheVariants as requests
+use Rattle.writeback_buffer.specs.Buffer.{held_at as buffer_at}
 
 -- ---- sizes and counts
 
@@ -61,6 +62,8 @@ pub record HasLinks (v : View) : Type 0 where
   pub kept : (core : CoreId) → core.0 < length v.sides → IsKept (side_at v core)
   pub own : (core : CoreId) (local : Local) → core.0 < length v.sides → IsSome (array_at (side_at v core).array local)
       → local.0 < v.lines.lines
+  pub leaves : (core : CoreId) (local : Local) → core.0 < length v.sides
+      → IsSome (buffer_at (side_at v core).buffer.entries local.0) → local.0 < v.lines.lines
   pub waits : (core : CoreId) (local : Local) → core.0 < length v.sides
       → is_waiting (state_of (side_at v core) local) ≡ has_miss (side_at v core).misses local.0
   pub sent : (core : CoreId) (local : Local) → core.0 < length v.sides → local.0 < v.lines.lines

@@ -16,7 +16,8 @@
 //! through the picks with a message, and [`SliceState::waiting_at`] through the channels of one line that have one. A
 //! call does what was decided: its contract is by the same definitions (`decision_of`, `planned_at`, `next_pick`).
 //! [`SliceState::line_view`], [`SliceState::copy`], [`SliceState::targets`], [`SliceState::tag`] and
-//! [`SliceState::ring_line`] show what the slice has.
+//! [`SliceState::ring_line`] show what the slice has. [`SliceState::core_lines`] lists the lines of a core that wait,
+//! that leave, or that stand in one set, and [`SliceState::last_written_back`] names the victim of the last miss.
 #![tactic(auto)]
 
 pub use address_map::{Block, CoreId, CoreSet, LineAddr, Local, Op, Request, SliceId, WordAddr};
@@ -29,7 +30,7 @@ pub use slice_core_answer::{
 pub use slice_core_log::{Entry, Numbered};
 pub use slice_core_plan::{CopyStep, Decision, ForwardedStep, HomeStep, Plan, Transition};
 pub use slice_core_side::{Access, Ask, CacheCopy, TagState, Way};
-pub use slice_core_steps::LineView;
+pub use slice_core_steps::{CoreLines, LineView};
 pub use slice_queues::{LineWaiting, Picks};
 pub use slice_queues_message::{
     Class, DataMessage, ForwardedMessage, Message, Pick, RequestMessage,

@@ -3,8 +3,8 @@ ghost use Rattle.std.specs.Prelude.{IsSome, None};
 ghost use Rattle.address_map.specs.Locator.{local_at};
 ghost use Rattle.address_map.specs.Place.{line_of};
 ghost use Rattle.slice_core.specs.Facts.{copy_at, targets_at, AreWaitingAt, HasEachFrontOnce, Holds, IsInverted};
-ghost use Rattle.slice_core.specs.Facts.{IsNotBroken, IsNotBrokenNext, IsSameSlice, NeedsNoRegister, ShowsLast};
-ghost use Rattle.slice_core.specs.Facts.{ShowsLine, ShowsWord, front_at};
+ghost use Rattle.slice_core.specs.Facts.{IsNotBroken, IsNotBrokenNext, IsSameSlice, LeavesVictim, NeedsNoRegister};
+ghost use Rattle.slice_core.specs.Facts.{ShowsLast, ShowsLine, ShowsWord, front_at};
 ghost use Rattle.slice_core.specs.Run.{AfterCall, HasCore, HasCores, IsOneRun, IsUnbroken, Runs};
 ghost use Rattle.slice_core_machine.specs.Machine.{IsSame, new_machine};
 ghost use Rattle.slice_core_machine.specs.Shows.{Leads, Performs, hand_steps, issue_steps, next_of, shown};
@@ -16,6 +16,7 @@ ghost use Rattle.slice_core_plan.specs.Turn.{ServesInTurn};
 ghost use Rattle.slice_core_plan.specs.Parts.{ring_lines};
 ghost use Rattle.slice_core_plan.specs.View.{View, IsQuiet, side_at};
 ghost use Rattle.slice_core_side.specs.Side.{tag_at};
+ghost use Rattle.slice_core_steps.specs.CoreLines.{core_lines, last_written_back};
 ghost use Rattle.slice_queues.specs.Waiting.{lines_waiting};
 ghost use Rattle.slice_queues_message.specs.Pick.{channel_of, line_of as line_of_pick};
 
@@ -27,7 +28,7 @@ use slice_core_answer::{Delivered, DeliveredNext, Evicted, Issue, Refused, Stats
 use slice_core_log::{Entry, Numbered};
 use slice_core_plan::{Decision, Plan};
 use slice_core_side::{CacheCopy, TagState};
-use slice_core_steps::{LineView, Parts};
+use slice_core_steps::{CoreLines, LineView, Parts};
 use slice_queues::{LineWaiting, Picks};
 use slice_queues_message::{Class, Message, Pick};
 use std::alloc::{AllocError, Global};
@@ -72,6 +73,8 @@ impl<F: MissFile> SliceState<F> {
         ensures step { AfterIssue self.old core request result self.new }
         ensures machine { Leads (issue_steps (next_of self.old.view core request) result) self.old.view self.new.view }
         ensures unbounded { IsInverted self.old.view core → NeedsNoRegister result }
+        ensures victim { LeavesVictim (decision_of self.old.view core request) self.old.view core result
+            self.new.view }
         ensures same { IsSameSlice self.old self.new }
         ensures holds { Holds self.new }
     {
@@ -238,6 +241,29 @@ impl<F: MissFile> SliceState<F> {
             Some(local) => self.parts.sides()[core.0 as usize].targets(local),
             None => ArrayVec::new(),
         }
+    }
+
+    /// Some of the lines of which a core has a copy, each once. It looks at the core's miss registers, its write-back
+    /// buffer or the one set, and at no other line.
+    pub fn core_lines(
+        &self,
+        alloc: Global,
+        core: CoreId,
+        which: CoreLines,
+    ) -> Result<Vec<LineAddr>, AllocError>
+        requires { core.0 < length self.now.view.sides }
+        ensures { IfOk result (λ lines. lines.items ≡ core_lines self.now.view core which) }
+    {
+        self.parts.core_lines(alloc, core, which)
+    }
+
+    /// The line that a core's write-back buffer took in last. Just after a miss for which a line had to leave that is
+    /// the victim.
+    pub fn last_written_back(&self, core: CoreId) -> Option<LineAddr>
+        requires { core.0 < length self.now.view.sides }
+        ensures { result ≡ last_written_back self.now.view core }
+    {
+        self.parts.last_written_back(core)
     }
 
     /// What a tag of a core names.

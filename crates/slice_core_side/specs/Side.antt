@@ -1,5 +1,5 @@
 -- What one core has in the slice: its array, its miss registers, its write-back buffer and its tags.
-use Rattle.std.specs.Prelude.{◌≡◌, ℕ, ◌+◌, ◌*◌, ◌%◌, ◌^◌, List, [], replicate, unwrap_or, position, None}
+use Rattle.std.specs.Prelude.{◌≡◌, ℕ, ◌+◌, ◌*◌, ◌%◌, ◌^◌, List, [], map, replicate, unwrap_or, position, None}
 use Rattle.address_map.specs.declared.address.Local.{Local}
 use Rattle.address_map.specs.declared.config.Config.{Config}
 use Rattle.address_map.specs.declared.config.PolicyKind.{PolicyKind}
@@ -55,6 +55,10 @@ copy_of side local = found_in (array_at side.array local) (buffer_at side.buffer
 
 abbrev pub state_of : SideView → Local → CopyState
 state_of side local = (copy_of side local).state
+
+-- the lines in the write-back buffer, the latest last
+abbrev pub leaving_lines : SideView → List Local
+leaving_lines side = map (λ entry. entry.line) side.buffer.entries
 
 -- the copy that the array holds of a line
 abbrev pub array_copy : SideView → Local → CacheCopy

@@ -1,2 +1,3 @@
+pub mod CoreLines
 pub mod Found
 pub mod Planned

@@ -53,6 +53,14 @@ impl WritebackBuffer {
         Some(&self.entries[place].leaving)
     }
 
+    /// What is held, in the order in which it came.
+    pub fn entries(&self) -> &[Entry]
+        ensures entries { result.now ≡ self.now.entries }
+        ensures sound { IsBuffer self.now }
+    {
+        self.entries.as_slice()
+    }
+
     /// Whether another line may be put.
     pub fn has_room(&self) -> bool
         ensures { IsTrue result ↔ (length self.now.entries < self.now.capacity) }

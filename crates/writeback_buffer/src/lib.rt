@@ -6,7 +6,7 @@
 //!
 //! - The buffer is seen as `Buffer` of specs/Buffer.antt: its entries in the order in which they came, and its
 //!   capacity. `held_at` finds a line among them. [`WritebackBuffer::get`] answers it, and says that no line stands
-//!   twice.
+//!   twice. [`WritebackBuffer::entries`] shows all, the latest last.
 //! - [`WritebackBuffer::put`], [`WritebackBuffer::advance`] and [`WritebackBuffer::remove`] say the entries that they
 //!   leave, and how many. What is held of every other line is as it was (`ChangesOnly`).
 //! - [`WritebackBuffer::has_room`] compares the number of entries with the capacity, which is never passed.
@@ -17,7 +17,7 @@
 #![tactic(auto)]
 
 pub use buffer::{MOST_ENTRIES, WritebackBuffer};
-pub use entry::Leaving;
+pub use entry::{Entry, Leaving};
 
 mod buffer;
 mod entry;

@@ -1,16 +1,20 @@
-ghost use Rattle.std.specs.Prelude.{◌≡◌, ◌⊎◌, length, position, IsSome};
+ghost use Rattle.std.specs.Prelude.{◌≡◌, ◌⊎◌, ◌-◌, length, map, position, slice_get, IfOk, IsSome};
 ghost use Rattle.std.specs.List.{list_all};
-ghost use Rattle.cache_array.specs.Array.{held_at as array_at, slots_at};
-ghost use Rattle.cache_array.specs.Set.{holds};
-ghost use Rattle.mshr_file.specs.Miss.{targets_of};
+ghost use Rattle.cache_array.specs.Array.{held_at as array_at, lines_at, slots_at};
+ghost use Rattle.cache_array.specs.Set.{holds, lines_of};
+ghost use Rattle.mshr_file.specs.Miss.{targets_of, waited_lines};
 ghost use Rattle.target_list.specs.Target.{is_load};
 ghost use Rattle.writeback_buffer.specs.Buffer.{held_at as buffer_at};
 
 use super::Side;
+use crate::copy::CacheCopy;
 use address_map::{Block, Local};
 use arrayvec::ArrayVec;
+use cache_array::Slot;
 use cache_table::CopyState;
 use mshr_file::{MissFile, Target};
+use std::alloc::{AllocError, Global};
+use writeback_buffer::Entry;
 
 /// What a message looks at of a core's copy: all but its block.
 #[derive(Clone, Copy, Debug, PartialEq, Eq)]
@@ -24,7 +28,7 @@ pub struct CopyLook {
 }
 
 impl<F: MissFile> Side<F> {
-    ghost use Rattle.slice_core_side.specs.Side.{copy_of};
+    ghost use Rattle.slice_core_side.specs.Side.{copy_of, leaving_lines};
 
     /// The core's copy of a line but for its block. It stands in the array, or in the write-back buffer, or nowhere.
     pub fn look(&self, local: Local) -> CopyLook
@@ -75,10 +79,61 @@ impl<F: MissFile> Side<F> {
         self.file.targets(local)
     }
 
+    /// The lines that accesses wait for, in the order of their miss registers.
+    pub fn waited(&self, alloc: Global) -> Result<Vec<Local>, AllocError>
+        ensures { IfOk result (λ lines. lines.items ≡ waited_lines self.now.misses) }
+    {
+        self.file.lines(alloc)
+    }
+
+    /// The lines in the write-back buffer, the latest last.
+    pub fn leaving(&self, alloc: Global) -> Result<Vec<Local>, AllocError>
+        ensures { IfOk result (λ lines. lines.items ≡ leaving_lines self.now) }
+    {
+        lines_of_entries(alloc, self.buffer.entries())
+    }
+
+    /// The line that the write-back buffer took in last.
+    pub fn last_written_back(&self) -> Option<Local>
+        ensures { result ≡ slice_get (leaving_lines self.now) (length (leaving_lines self.now) - 1) }
+    {
+        match self.buffer.entries().last() {
+            Some(entry) => Some(entry.line),
+            None => None,
+        }
+    }
+
+    /// The lines that the array holds in the set of this one, in the order of their slots.
+    pub fn in_set_of(&self, alloc: Global, local: Local) -> Result<Vec<Local>, AllocError>
+        ensures { IfOk result (λ lines. lines.items ≡ lines_at self.now.array local) }
+    {
+        lines_of_slots(alloc, self.array.slots(local))
+    }
+
     /// Whether no access that waits for the line writes it.
     pub fn all_loads(&self, local: Local) -> bool
         ensures { result ≡ list_all is_load (targets_of self.now.misses local.0) }
     {
         self.file.front_loads(local) == self.file.waiting(local)
     }
+}
+
+fn lines_of_entries(alloc: Global, entries: &[Entry]) -> Result<Vec<Local>, AllocError>
+    ensures { IfOk result (λ lines. lines.items ≡ map (λ entry. entry.line) entries.now) }
+{
+    let mut lines = Vec::new(alloc);
+    for entry in entries {
+        lines.push(entry.line)?;
+    }
+    Ok(lines)
+}
+
+fn lines_of_slots(alloc: Global, slots: &[Slot<CacheCopy>]) -> Result<Vec<Local>, AllocError>
+    ensures { IfOk result (λ lines. lines.items ≡ lines_of slots.now) }
+{
+    let mut lines = Vec::new(alloc);
+    for slot in slots {
+        lines.push(slot.line)?;
+    }
+    Ok(lines)
 }

@@ -1,19 +1,23 @@
-ghost use Rattle.std.specs.Prelude.{◌≡◌, ◌<◌, ◌≤◌, ◌↔◌, All, IsTrue, length, map, slice_get};
+ghost use Rattle.std.specs.Prelude.{◌≡◌, ◌<◌, ◌≤◌, ◌↔◌, All, IfOk, IsTrue, length, map, slice_get};
+ghost use Rattle.address_map.specs.Locator.{line_at};
 ghost use Rattle.slice_core_plan.specs.Parts.{ring_lines};
 ghost use Rattle.slice_core_plan.specs.View.{View, channels_at, entry_at, word_now, IsOwned, IsQuiet, IsShaped};
 ghost use Rattle.slice_core_side.specs.Side.{SideView, state_of, IsSideQuiet};
+ghost use Rattle.slice_core_steps.specs.CoreLines.{core_lines, last_written_back, places_of};
 ghost use Rattle.slice_queues.specs.Line.{messages_at};
 ghost use Rattle.slice_queues.specs.Waiting.{line_waiting, lines_waiting, placed_by, HasEachOnce, HasEachPickOnce};
 
 use super::Parts;
+use crate::core_lines::CoreLines;
 use crate::line_view::LineView;
-use address_map::{LineAddr, Local, Offset};
+use address_map::{CoreId, LineAddr, Local, Locator, Offset};
 use arrayvec::ArrayVec;
 use cache_table::CopyState;
 use mshr_file::MissFile;
 use slice_core_side::Side;
 use slice_queues::{LineWaiting, Picks};
 use slice_queues_message::{Channel, Message};
+use std::alloc::{AllocError, Global};
 
 impl<F: MissFile> Parts<F> {
     /// What the slice has of a line.
@@ -36,6 +40,53 @@ impl<F: MissFile> Parts<F> {
             home,
             copies: states_of(&self.sides, local),
         }
+    }
+
+    /// Some of the lines of which a core has a copy, each once.
+    pub fn core_lines(
+        &self,
+        alloc: Global,
+        core: CoreId,
+        which: CoreLines,
+    ) -> Result<Vec<LineAddr>, AllocError>
+        requires core { core.0 < length self.now.view.sides }
+        requires own { All (λ local. local.0 < self.now.view.lines.lines) (places_of self.now.view core which) }
+        ensures { IfOk result (λ lines. lines.items ≡ core_lines self.now.view core which) }
+    {
+        let places = self.places_of(alloc, core, which)?;
+        lines_at(alloc, self.lines, places.as_slice())
+    }
+
+    // The same by their places in the slice.
+    fn places_of(
+        &self,
+        alloc: Global,
+        core: CoreId,
+        which: CoreLines,
+    ) -> Result<Vec<Local>, AllocError>
+        requires { core.0 < length self.now.view.sides }
+        ensures { IfOk result (λ places. places.items ≡ places_of self.now.view core which) }
+    {
+        let side = &self.sides[core.0 as usize];
+        match which {
+            CoreLines::Waiting => side.waited(alloc),
+            CoreLines::Leaving => side.leaving(alloc),
+            CoreLines::InSetOf(line) => match self.lines.local_of(line) {
+                Some(local) => side.in_set_of(alloc, local),
+                None => Ok(Vec::new(alloc)),
+            },
+        }
+    }
+
+    /// The line that the core's write-back buffer took in last.
+    pub fn last_written_back(&self, core: CoreId) -> Option<LineAddr>
+        requires core { core.0 < length self.now.view.sides }
+        requires own { All (λ local. local.0 < self.now.view.lines.lines)
+            (places_of self.now.view core CoreLines.Leaving) }
+        ensures { result ≡ last_written_back self.now.view core }
+    {
+        let local = self.sides[core.0 as usize].last_written_back()?;
+        Some(self.lines.line_at(local))
     }
 
     /// The oldest message in a channel of a line. `None` too where the channel names a core that isn't there.
@@ -116,4 +167,16 @@ fn are_quiet<F: MissFile>(sides: &[Side<F>]) -> bool
     ensures { IsTrue result ↔ All IsSideQuiet sides.now }
 {
     sides.iter().all(|side| side.is_quiet())
+}
+
+// The lines at these places of the slice.
+fn lines_at(alloc: Global, own: Locator, places: &[Local]) -> Result<Vec<LineAddr>, AllocError>
+    requires { All (λ place. place.0 < own.lines) places.now }
+    ensures { IfOk result (λ lines. lines.items ≡ map (line_at own) places.now) }
+{
+    let mut lines = Vec::new(alloc);
+    for place in places {
+        lines.push(own.line_at(*place))?;
+    }
+    Ok(lines)
 }

@@ -14,6 +14,8 @@ returns-clause-told g c =
       answer = _;
       answered = evicted c.args.state.now c.evict-answer.new.self c.args.core c.args.line
           c.evict-answer.result c.evict-answer.ensures.step;
+      numbers = _;
+      are_named = search rules;
       written = search rules;
     })
     c.write_eviction.ensures

@@ -9,5 +9,11 @@ returns-clause-told g c =
     on_written c.write_issue.result c.written.result c.written.ensures.fine
     (λ wrote.
     let (name, bytes) = Appends-of_writes (λ s. s.out.ghost_name) (λ s. contents s.out.now) _ _ _ wrote in
-    record { issued = _; answered = c.in_ok-issued.ensures.issued; written = search rules })
+    record {
+      issued = _;
+      answered = c.in_ok-issued.ensures.issued;
+      numbers = _;
+      are_named = search rules;
+      written = search rules;
+    })
     c.write_issue.ensures

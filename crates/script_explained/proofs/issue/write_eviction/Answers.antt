@@ -7,6 +7,5 @@ pub returns : goal.returns
 returns g c =
     let then = writes_in_calls_append g.W.Write.write_str_gives in
     on_ok_weaker c.writeln.result
-    (λ last. rw pieces (then _ _ _ _ _ c.in_ok-write.ensures.writes
-    (then _ _ _ _ _ (rw c.named.ensures at c.in_ok-write_copies.ensures) last)))
+    (λ last. rw pieces (then _ _ _ _ _ c.in_ok-write.ensures.writes (then _ _ _ _ _ c.in_ok-write_copies.ensures last)))
     c.writeln.ensures.writes

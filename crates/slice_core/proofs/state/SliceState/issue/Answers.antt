@@ -1,6 +1,7 @@
 use Rattle.std.proofs.Common.{◌<◌, arith, ap, length, subst, sym}
 use Rattle.slice_core_plan.specs.Calls.{PartsView}
-use Rattle.slice_core.specs.Facts.{IsInverted, IsSameSlice}
+use Rattle.slice_core_plan.specs.Decision.{decision_of}
+use Rattle.slice_core.specs.Facts.{IsInverted, IsSameSlice, LeavesVictim}
 use Rattle.slice_core.specs.Sound.{IsSound}
 use Rattle.slice_core.proofs.Coherent.{holds}
 use Rattle.slice_core.proofs.LinksInverted.{needs-issue}
@@ -9,6 +10,7 @@ use Rattle.slice_core.proofs.state.SliceState.issue.Given.{Over}
 use Rattle.slice_core.proofs.state.SliceState.issue.Goals as goal
 use Rattle.slice_core.proofs.SameSlice.{same-issue}
 use Rattle.slice_core.proofs.Machine.{machine-issue}
+use Rattle.slice_core.proofs.Victim.{leaves_victim}
 use Rattle.slice_core_machine.specs.Shows.{Leads, issue_steps, next_of}
 
 -- the core is one of the slice's
@@ -32,6 +34,14 @@ returns-clause-unbounded g c inverted =
     needs-issue c.self.inside.parts c.args.core c.args.request c.issue.result c.issue.new.self c.self.invariant
     (known g c) (subst (λ (p : PartsView). IsInverted p.view c.args.core) (sym c.self.view_is) inverted)
     c.issue.ensures.step
+
+pub returns-clause-victim : goal.returns-clause-victim
+returns-clause-victim g c =
+    let core = c.args.core in
+    let request = c.args.request in
+    subst (λ (p : PartsView). LeavesVictim (decision_of p.view core request) p.view core c.issue.result
+    c.issue.new.self.view) c.self.view_is
+    (leaves_victim c.self.inside.parts core request c.issue.result c.issue.new.self (known g c) c.issue.ensures.step)
 
 pub returns-clause-machine : goal.returns-clause-machine
 returns-clause-machine g c =

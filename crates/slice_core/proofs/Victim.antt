@@ -1,0 +1,130 @@
+-- A miss for which a line has to leave: the core's write-back buffer takes the victim in last.
+use Rattle.std.proofs.Common.{◌≡◌, ◌<◌, ◌-◌, ℕ, List, [], ◌∷◌, ◌++◌, length, map, slice_get, set, Option, Some, Result, Ok}
+use Rattle.std.proofs.Common.{Err, refl, sym, ap, subst, ◌∙◌, arith, ⊎_elim, length-append, length-set}
+use Rattle.std.specs.Prelude.{◌⊎◌, false}
+use Rattle.std.proofs.lemmas.List.{get_or-set_same, map-append}
+use Rattle.address_map.specs.Locator.{Lines, line_at}
+use Rattle.address_map.specs.declared.address.CoreId.{CoreId}
+use Rattle.address_map.specs.declared.address.LineAddr.{LineAddr}
+use Rattle.address_map.specs.declared.address.Local.{Local}
+use Rattle.address_map.specs.declared.request.Request.{Request}
+use Rattle.cache_table.specs.declared.state.CopyState.{CopyState}
+use Rattle.mshr_file.specs.declared.registers.Register.{Register}
+use Rattle.slice_core.specs.Facts.{LeavesVictim}
+use Rattle.slice_core_answer.specs.declared.answer.Issue.{Issue}
+use Rattle.slice_core_answer.specs.declared.answer.Refused.{Refused}
+use Rattle.slice_core_plan.specs.Decision.{decision_of}
+use Rattle.slice_core_plan.specs.Calls.{PartsView, AfterAccess, AfterIssue, IsAccepted, LacksMemory}
+use Rattle.slice_core_plan.specs.Steps.{after_open, with_way}
+use Rattle.slice_core_plan.specs.View.{View, no_side, side_at}
+use Rattle.slice_core_plan.specs.declared.decision.Decision.{Decision}
+use Rattle.slice_core_plan.specs.declared.decision.Decision.TheVariants as decisions
+use Rattle.slice_core_side.specs.Side.{SideView, array_copy, leaving_lines}
+use Rattle.slice_core_side.specs.Steps as sides
+use Rattle.slice_core_side.specs.Steps.{victim_for}
+use Rattle.slice_core_side.specs.declared.access.Access.{Access}
+use Rattle.slice_core_side.specs.declared.access.Access.TheVariants as accesses
+use Rattle.slice_core_side.specs.declared.access.Ask.{Ask}
+use Rattle.slice_core_side.specs.declared.access.Way.{Way}
+use Rattle.slice_core_side.specs.declared.access.Way.TheVariants as ways
+use Rattle.slice_core_steps.specs.CoreLines.{last_written_back}
+use Rattle.writeback_buffer.specs.declared.entry.Entry.{Entry}
+
+-- what was put behind others is the last
+behind : {X : Type 0} (xs : List X) (x : X) → slice_get (xs ++ x ∷ []) (length xs) ≡ Some x
+behind [] x = refl
+behind (y ∷ xs) x = behind xs x
+
+last_behind : {X : Type 0} (xs : List X) (x : X) → slice_get (xs ++ x ∷ []) (length (xs ++ x ∷ []) - 1) ≡ Some x
+last_behind xs x =
+    let all = length-append xs (x ∷ []) in
+    let long : length (xs ++ x ∷ []) - 1 ≡ length xs = omega (arith, all) in
+    subst (λ n. slice_get (xs ++ x ∷ []) n ≡ Some x) (sym long) (behind xs x)
+
+-- the line at the last of some places
+last_line : (lines : Lines) (places : List Local) (last : Local)
+    → slice_get (map (line_at lines) (places ++ last ∷ [])) (length (map (line_at lines) (places ++ last ∷ [])) - 1)
+    ≡ Some (line_at lines last)
+last_line lines places last =
+    ap (λ (all : List LineAddr). slice_get all (length all - 1)) (map-append (line_at lines) places (last ∷ []))
+    ∙ last_behind (map (line_at lines) places) (line_at lines last)
+
+-- the buffer of a core in which a victim has left for a line
+leaves_last : (side : SideView) (local : Local)
+    → leaving_lines (sides.after_replace side local) ≡ leaving_lines side ++ victim_for side local ∷ []
+leaves_last side local =
+    let victim = victim_for side local in
+    let drawn = sides.after_draw side in
+    map-append (λ (entry : Entry). entry.line) side.buffer.entries
+    (record { leaving = sides.evicted (array_copy drawn victim); line = record { 0 = victim.0 } } ∷ [])
+
+module _ (old : View) (core : CoreId) (request : Request) (local : Local) (next : CopyState) (ask : Ask)
+    (misses : List Register) (known : core.0 < length old.sides) where
+  abbrev victim : Local
+  victim = victim_for (side_at old core) local
+
+  -- the victim has left, and the miss has its register
+  leaving_now : leaving_lines (side_at (after_open old core request local ways.Victim next ask misses) core)
+      ≡ leaving_lines (side_at old core) ++ victim ∷ []
+  leaving_now =
+      let side = side_at old core in
+      let way = with_way old core local ways.Victim in
+      let left = sides.after_replace side local in
+      let opened = sides.after_open (side_at way core) local false next request misses in
+      let there : side_at way core ≡ left = get_or-set_same old.sides core.0 left no_side known in
+      let long = length-set old.sides core.0 left in
+      let then : side_at (after_open old core request local ways.Victim next ask misses) core ≡ opened =
+      get_or-set_same way.sides core.0 opened no_side (omega (arith, known, long)) in
+      ap leaving_lines then ∙ ap leaving_lines there ∙ leaves_last side local
+
+  victim_last : (new : View) → new ≡ after_open old core request local ways.Victim next ask misses
+      → last_written_back new core ≡ Some (line_at old.lines victim)
+  victim_last new is =
+      ap (λ (v : View). last_written_back v core) is
+      ∙ ap (λ (places : List Local). slice_get (map (line_at old.lines) places)
+      (length (map (line_at old.lines) places) - 1)) leaving_now
+      ∙ last_line old.lines (leaving_lines (side_at old core)) victim
+
+module _ (old : PartsView) (core : CoreId) (request : Request) (answer : Result Issue Refused) (new : PartsView)
+    (known : core.0 < length old.view.sides) where
+  abbrev Leaves : Decision → Result Issue Refused → Type 0
+  Leaves decision given = LeavesVictim decision old.view core given new.view
+
+  abbrev by_decision : Decision → Type 0
+  by_decision (decisions.Refuse refused) = (answer ≡ Err refused) × (new ≡ old)
+  by_decision (decisions.Access local access) = AfterAccess access old core request local answer new
+
+  left_for : (local : Local) (next : CopyState) (ask : Ask)
+      → LacksMemory old answer new
+      ⊎ IsAccepted (accesses.Open next ask ways.Victim) old core request local answer new
+      → Leaves (decisions.Access local (accesses.Open next ask ways.Victim)) answer
+  left_for local next ask after =
+      let decision : Decision = decisions.Access local (accesses.Open next ask ways.Victim) in
+      ⊎_elim
+      (λ lacks. subst (Leaves decision) (sym lacks.refused) tt)
+      (λ done.
+      let made = done.5.3 in
+      subst (Leaves decision) (sym done.4)
+      (subst (λ (issue : Issue). Leaves decision (Ok issue)) (sym made.0)
+      (victim_last old.view core request local next ask done.5.0 known new.view
+      (ap (λ (p : PartsView). p.view) made.1))))
+      after
+
+  opened : (local : Local) (next : CopyState) (ask : Ask) (way : Way)
+      → AfterAccess (accesses.Open next ask way) old core request local answer new
+      → Leaves (decisions.Access local (accesses.Open next ask way)) answer
+  opened local next ask ways.Held after = tt
+  opened local next ask ways.Free after = tt
+  opened local next ask ways.Victim after = left_for local next ask after
+
+  decided : (decision : Decision) → by_decision decision → Leaves decision answer
+  decided (decisions.Refuse refused) after = tt
+  decided (decisions.Access local (accesses.Stall stall)) after = tt
+  decided (decisions.Access local (accesses.Hit place next silent)) after = tt
+  decided (decisions.Access local accesses.Join) after = tt
+  decided (decisions.Access local (accesses.Open next ask way)) after = opened local next ask way after
+
+  -- Where a line has to leave for the request, the victim is what the core's write-back buffer took in last.
+  pub leaves_victim : AfterIssue old core request answer new → LeavesVictim (decision_of old.view core request)
+      old.view core answer new.view
+  leaves_victim after = decided (decision_of old.view core request) after

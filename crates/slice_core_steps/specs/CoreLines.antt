@@ -1,0 +1,32 @@
+-- The lines of which a core has a copy, by where the copies stand.
+use Rattle.std.specs.Prelude.{◌-◌, List, [], length, map, slice_get, Option, Some, None}
+use Rattle.address_map.specs.Locator.{line_at, local_at}
+use Rattle.address_map.specs.declared.address.CoreId.{CoreId}
+use Rattle.address_map.specs.declared.address.LineAddr.{LineAddr}
+use Rattle.address_map.specs.declared.address.Local.{Local}
+use Rattle.cache_array.specs.Array.{lines_at}
+use Rattle.mshr_file.specs.Miss.{waited_lines}
+use Rattle.slice_core_plan.specs.View.{View, side_at}
+use Rattle.slice_core_side.specs.Side.{leaving_lines}
+use Rattle.slice_core_steps.specs.declared.core_lines.CoreLines.{CoreLines}
+use Rattle.slice_core_steps.specs.declared.core_lines.CoreLines.TheVariants as which
+
+-- the lines in the set of a line; a line that isn't the slice's has no set
+abbrev pub set_of : View → CoreId → Option Local → List Local
+set_of v core None = []
+set_of v core (Some local) = lines_at (side_at v core).array local
+
+-- the lines by their places in the slice
+abbrev pub places_of : View → CoreId → CoreLines → List Local
+places_of v core which.Waiting = waited_lines (side_at v core).misses
+places_of v core which.Leaving = leaving_lines (side_at v core)
+places_of v core (which.InSetOf line) = set_of v core (local_at v.lines line.0)
+
+-- .. and by their numbers in the memory
+abbrev pub core_lines : View → CoreId → CoreLines → List LineAddr
+core_lines v core lines = map (line_at v.lines) (places_of v core lines)
+
+-- the line that the core's write-back buffer took in last: after a miss for which one had to leave, the victim
+abbrev pub last_written_back : View → CoreId → Option LineAddr
+last_written_back v core =
+    let lines : List LineAddr = core_lines v core which.Leaving in slice_get lines (length lines - 1)

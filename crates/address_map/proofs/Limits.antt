@@ -9,7 +9,7 @@ use Rattle.std.proofs.lemmas.List.Sums.{AllPass-from_list_all}
 use Rattle.std.specs.List.{list_all}
 use Rattle.address_map.specs.declared.config.Config.{Config}
 use Rattle.address_map.specs.declared.config.ConfigError.{ConfigError}
-use Rattle.address_map.specs.declared.config.ConfigError.TheVariants as errors
+use Rattle.address_map.specs.declared.config.ConfigError.TheVariants as config_errors
 use Rattle.address_map.specs.Config.{IsAllowed, IsSliceCount, first_fault, fields, allows, is_within, word_count}
 use Rattle.address_map.specs.Words.{is_ascending_by, IsAscendingBy, are_words_below}
 use Rattle.address_map.proofs.Ascending.{IsAscendingBy-from_test}
@@ -22,16 +22,16 @@ passes-at c none k d inside =
     not-false (allows c (get_or fields k d)) (All-from_find_none (λ field. not (allows c field)) fields none k d inside)
 
 passes : (c : Config) → first_fault c ≡ None → (field : ConfigError) → allows c field ≡ true
-passes c none errors.Cores = passes-at c none 0 errors.Cores (lit< tt)
-passes c none errors.Slices = passes-at c none 1 errors.Slices (lit< tt)
-passes c none errors.Lines = passes-at c none 2 errors.Lines (lit< tt)
-passes c none errors.Sets = passes-at c none 3 errors.Sets (lit< tt)
-passes c none errors.Ways = passes-at c none 4 errors.Ways (lit< tt)
-passes c none errors.Mshrs = passes-at c none 5 errors.Mshrs (lit< tt)
-passes c none errors.Targets = passes-at c none 6 errors.Targets (lit< tt)
-passes c none errors.Writebacks = passes-at c none 7 errors.Writebacks (lit< tt)
-passes c none errors.Init = passes-at c none 8 errors.Init (lit< tt)
-passes c none errors.Counters = passes-at c none 9 errors.Counters (lit< tt)
+passes c none config_errors.Cores = passes-at c none 0 config_errors.Cores (lit< tt)
+passes c none config_errors.Slices = passes-at c none 1 config_errors.Slices (lit< tt)
+passes c none config_errors.Lines = passes-at c none 2 config_errors.Lines (lit< tt)
+passes c none config_errors.Sets = passes-at c none 3 config_errors.Sets (lit< tt)
+passes c none config_errors.Ways = passes-at c none 4 config_errors.Ways (lit< tt)
+passes c none config_errors.Mshrs = passes-at c none 5 config_errors.Mshrs (lit< tt)
+passes c none config_errors.Targets = passes-at c none 6 config_errors.Targets (lit< tt)
+passes c none config_errors.Writebacks = passes-at c none 7 config_errors.Writebacks (lit< tt)
+passes c none config_errors.Init = passes-at c none 8 config_errors.Init (lit< tt)
+passes c none config_errors.Counters = passes-at c none 9 config_errors.Counters (lit< tt)
 
 -- what the tests of the fields say
 is_within-true : (least most n : ℕ) → is_within least most n ≡ true → (least ≤ n) × (n ≤ most)
@@ -59,20 +59,20 @@ words-true {X} word limit xs both =
 
 pub IsAllowed-from_no_fault : (c : Config) → first_fault c ≡ None → IsAllowed c
 IsAllowed-from_no_fault c none =
-    let cores = is_within-true 1 64 c.cores (passes c none errors.Cores) in
-    let slice_counts = slices-true c.slices (passes c none errors.Slices) in
+    let cores = is_within-true 1 64 c.cores (passes c none config_errors.Cores) in
+    let slice_counts = slices-true c.slices (passes c none config_errors.Slices) in
     let slices = slices-some c.slices slice_counts in
-    let lines = and_parts (is_within 1 65536 c.lines) (c.lines % c.slices == 0) (passes c none errors.Lines) in
+    let lines = and_parts (is_within 1 65536 c.lines) (c.lines % c.slices == 0) (passes c none config_errors.Lines) in
     let line_count = is_within-true 1 65536 c.lines lines.0 in
-    let sets = and_parts (is_power_of_two c.sets) (is_within 1 256 c.sets) (passes c none errors.Sets) in
+    let sets = and_parts (is_power_of_two c.sets) (is_within 1 256 c.sets) (passes c none config_errors.Sets) in
     let set_count = is_within-true 1 256 c.sets sets.1 in
-    let ways = is_within-true 1 16 c.ways (passes c none errors.Ways) in
-    let mshrs = is_within-true 1 32 c.mshrs (passes c none errors.Mshrs) in
-    let targets = is_within-true 1 32 c.targets (passes c none errors.Targets) in
-    let writebacks = is_within-true 1 16 c.writebacks (passes c none errors.Writebacks) in
-    let init = words-true (λ pair. pair.0.0) (word_count c) c.init (passes c none errors.Init) in
+    let ways = is_within-true 1 16 c.ways (passes c none config_errors.Ways) in
+    let mshrs = is_within-true 1 32 c.mshrs (passes c none config_errors.Mshrs) in
+    let targets = is_within-true 1 32 c.targets (passes c none config_errors.Targets) in
+    let writebacks = is_within-true 1 16 c.writebacks (passes c none config_errors.Writebacks) in
+    let init = words-true (λ pair. pair.0.0) (word_count c) c.init (passes c none config_errors.Init) in
     let counters_below = are_words_below (λ word. word.0) (word_count c) c.counters in
-    let counters = and_parts (nat_le (length c.counters) 8) counters_below (passes c none errors.Counters) in
+    let counters = and_parts (nat_le (length c.counters) 8) counters_below (passes c none config_errors.Counters) in
     let counter_words = words-true (λ word. word.0) (word_count c) c.counters counters.1 in
     record {
       some_core = cores.0;

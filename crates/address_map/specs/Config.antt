@@ -5,8 +5,8 @@ use Rattle.std.specs.Int.{is_power_of_two}
 use Rattle.std.specs.Option.{option_map_or}
 use Rattle.address_map.specs.declared.config.Config.{Config}
 use Rattle.address_map.specs.declared.config.ConfigError.{ConfigError}
-use Rattle.address_map.specs.declared.config.ConfigError.TheVariants as errors
-use Rattle.address_map.specs.declared.config.PolicyKind.TheVariants as policies
+use Rattle.address_map.specs.declared.config.ConfigError.TheVariants as config_errors
+use Rattle.address_map.specs.declared.config.PolicyKind.TheVariants as policy_kinds
 use Rattle.address_map.specs.Words.{IsAscendingBy, are_words_below}
 
 -- the machine of a text that configures nothing
@@ -20,7 +20,7 @@ default_config = record {
   mshrs = 4;
   targets = 4;
   writebacks = 2;
-  policy = policies.Lru;
+  policy = policy_kinds.Lru;
   exclusive = false;
   init = [];
   counters = [];
@@ -40,36 +40,38 @@ is_within least most n = nat_le least n && nat_le n most
 
 -- whether the field that an error names is allowed
 abbrev pub allows : Config → ConfigError → Bool
-allows c errors.Cores = is_within 1 64 c.cores
-allows c errors.Slices = c.slices == 1 || c.slices == 2 || c.slices == 4
+allows c config_errors.Cores = is_within 1 64 c.cores
+allows c config_errors.Slices = c.slices == 1 || c.slices == 2 || c.slices == 4
 -- as many lines in each slice
-allows c errors.Lines = is_within 1 65536 c.lines && (c.lines % c.slices == 0)
-allows c errors.Sets = is_power_of_two c.sets && is_within 1 256 c.sets
-allows c errors.Ways = is_within 1 16 c.ways
-allows c errors.Mshrs = is_within 1 32 c.mshrs
-allows c errors.Targets = is_within 1 32 c.targets
-allows c errors.Writebacks = is_within 1 16 c.writebacks
-allows c errors.Init = are_words_below (λ pair. pair.0.0) (word_count c) c.init
-allows c errors.Counters = nat_le (length c.counters) 8 && are_words_below (λ word. word.0) (word_count c) c.counters
+allows c config_errors.Lines = is_within 1 65536 c.lines && (c.lines % c.slices == 0)
+allows c config_errors.Sets = is_power_of_two c.sets && is_within 1 256 c.sets
+allows c config_errors.Ways = is_within 1 16 c.ways
+allows c config_errors.Mshrs = is_within 1 32 c.mshrs
+allows c config_errors.Targets = is_within 1 32 c.targets
+allows c config_errors.Writebacks = is_within 1 16 c.writebacks
+allows c config_errors.Init = are_words_below (λ pair. pair.0.0) (word_count c) c.init
+allows c config_errors.Counters = nat_le (length c.counters) 8
+    && are_words_below (λ word. word.0) (word_count c) c.counters
 
 -- the fields that can be at fault, in the order in which they are judged
 abbrev pub fields : List ConfigError
 fields =
-    errors.Cores ∷ errors.Slices ∷ errors.Lines ∷ errors.Sets ∷ errors.Ways ∷ errors.Mshrs ∷ errors.Targets
-    ∷ errors.Writebacks ∷ errors.Init ∷ errors.Counters ∷ []
+    config_errors.Cores ∷ config_errors.Slices ∷ config_errors.Lines ∷ config_errors.Sets ∷ config_errors.Ways
+        ∷ config_errors.Mshrs ∷ config_errors.Targets
+    ∷ config_errors.Writebacks ∷ config_errors.Init ∷ config_errors.Counters ∷ []
 
 -- what an error prints: its number in that order, and the field
 abbrev pub text_of_error : ConfigError → List ℕ
-text_of_error errors.Cores = codes "1 Cores"
-text_of_error errors.Slices = codes "2 Slices"
-text_of_error errors.Lines = codes "3 Lines"
-text_of_error errors.Sets = codes "4 Sets"
-text_of_error errors.Ways = codes "5 Ways"
-text_of_error errors.Mshrs = codes "6 Mshrs"
-text_of_error errors.Targets = codes "7 Targets"
-text_of_error errors.Writebacks = codes "8 Writebacks"
-text_of_error errors.Init = codes "9 Init"
-text_of_error errors.Counters = codes "10 Counters"
+text_of_error config_errors.Cores = codes "1 Cores"
+text_of_error config_errors.Slices = codes "2 Slices"
+text_of_error config_errors.Lines = codes "3 Lines"
+text_of_error config_errors.Sets = codes "4 Sets"
+text_of_error config_errors.Ways = codes "5 Ways"
+text_of_error config_errors.Mshrs = codes "6 Mshrs"
+text_of_error config_errors.Targets = codes "7 Targets"
+text_of_error config_errors.Writebacks = codes "8 Writebacks"
+text_of_error config_errors.Init = codes "9 Init"
+text_of_error config_errors.Counters = codes "10 Counters"
 
 -- the first field at fault
 abbrev pub first_fault : Config → Option ConfigError

@@ -262,34 +262,34 @@ set_is {V = V} view slots ways e f =
     ap with_slots e ∙ ap with_ways f
 
 -- a use of a line that the set holds, and of one that it doesn't
-pub moved_set : {V : Type 0} (line : Local) (inside now : SetView V) (old new : List (Slot V)) (long place : ℕ) →
+pub moved_set : {V : Type 0} (line : Local) (inside now : SetView V) (old new : List (Slot V)) (long way : ℕ) →
     long ≡ length inside.slots → inside ≡ now → old ≡ inside.slots → length new ≡ length old →
-    position (holds line) now.slots ≡ Some place →
-    ((d : Slot V) → new ≡ remove old place ++ get_or old place d ∷ []) →
+    position (holds line) now.slots ≡ Some way →
+    ((d : Slot V) → new ≡ remove old way ++ get_or old way d ∷ []) →
     ◌≡◌ {A = SetView V} (record { slots = refill long inside.slots new; ways = inside.ways })
     (record now { slots = after_use true now.slots line })
-moved_set {V = V} line inside now old new long place l e f kept at moved =
+moved_set {V = V} line inside now old new long way l e f kept at moved =
     set_is (record now { slots = after_use true now.slots line }) (refill long inside.slots new) inside.ways
     (ap (λ n. refill n inside.slots new) l
-    ∙ moved_within (holds line) now.slots inside.slots old new place (ap (λ (s : SetView V). s.slots) e) f kept at
+    ∙ moved_within (holds line) now.slots inside.slots old new way (ap (λ (s : SetView V). s.slots) e) f kept at
     moved)
     (ap (λ (s : SetView V). s.ways) e)
 
 -- once the line's slot went to the end it is taken out there
 pub popped_set : {V : Type 0} (line : Local) (inside now : SetView V) (looked old new rest : List (Slot V))
-    (last : Slot V) (out : Option (Slot V)) (long place : ℕ) →
-    long ≡ length inside.slots → inside ≡ now → looked ≡ inside.slots → position (holds line) looked ≡ Some place →
+    (last : Slot V) (out : Option (Slot V)) (long way : ℕ) →
+    long ≡ length inside.slots → inside ≡ now → looked ≡ inside.slots → position (holds line) looked ≡ Some way →
     old ≡ inside.slots → length new ≡ length old →
-    ((d : Slot V) → new ≡ remove old place ++ get_or old place d ∷ []) →
+    ((d : Slot V) → new ≡ remove old way ++ get_or old way d ∷ []) →
     refill long inside.slots new ≡ rest ++ option_to_list out → out ≡ Some last →
     (◌≡◌ {A = SetView V} (record { slots = rest; ways = inside.ways })
     (record now { slots = after_remove now.slots line }))
     × (Some last.value ≡ value_in now.slots line)
-popped_set {V = V} line inside now looked old new rest last out long place l e k at f kept moved there is =
+popped_set {V = V} line inside now looked old new rest last out long way l e k at f kept moved there is =
     let slots = ap (λ (s : SetView V). s.slots) e in
     let both =
-    popped (holds line) now.slots inside.slots old new rest last place slots f kept
-    (subst (λ (xs : List (Slot V)). position (holds line) xs ≡ Some place) (k ∙ slots) at) moved
+    popped (holds line) now.slots inside.slots old new rest last way slots f kept
+    (subst (λ (xs : List (Slot V)). position (holds line) xs ≡ Some way) (k ∙ slots) at) moved
     (ap (λ n. refill n inside.slots new) (sym l) ∙ there
     ∙ ap (λ (o : Option (Slot V)). rest ++ option_to_list o) is) in (
       set_is (record now { slots = after_remove now.slots line }) rest inside.ways both.0
@@ -313,10 +313,10 @@ length-asked R (u ∷ xs) (v ∷ ys) all = ap suc (length-asked R xs ys all.1)
 
 -- a chosen slot is one of the set
 pub choice_within : {V : Type 0} (R : Slot V → Bool → Type 0) (slots : List (Slot V)) (flags : List Bool)
-    (chosen : Option ℕ) (place : ℕ) →
-    AllZip R slots flags → IsAllowed flags chosen → chosen ≡ Some place → place < length slots
-choice_within R slots flags chosen place asked allowed e =
-    let there = slice_get_within flags place true (rw e at allowed) in
+    (chosen : Option ℕ) (way : ℕ) →
+    AllZip R slots flags → IsAllowed flags chosen → chosen ≡ Some way → way < length slots
+choice_within R slots flags chosen way asked allowed e =
+    let there = slice_get_within flags way true (rw e at allowed) in
     omega (arith, there, length-asked R slots flags asked)
 
 -- the answers of one closure, told in two ways
@@ -328,11 +328,11 @@ asked_as R S same (u ∷ xs) [] all = absurd all
 asked_as R S same (u ∷ xs) (v ∷ ys) all = (same u v all.0, asked_as R S same xs ys all.1)
 
 -- the line in the chosen slot
-pub line_at : {V : Type 0} (slots now : List (Slot V)) (chosen : Option ℕ) (place : ℕ) (slot : Slot V) →
-    slots ≡ now → place < length slots → chosen ≡ Some place → slot ≡ get_or slots place slot →
+pub line_at : {V : Type 0} (slots now : List (Slot V)) (chosen : Option ℕ) (way : ℕ) (slot : Slot V) →
+    slots ≡ now → way < length slots → chosen ≡ Some way → slot ≡ get_or slots way slot →
     Some slot.line ≡ line_in now chosen
-line_at {V = V} slots now chosen place slot e within at found =
-    let there : slice_get slots place ≡ Some slot = slice_get-get_or slots place slot within ∙ ap Some (sym found) in
+line_at {V = V} slots now chosen way slot e within at found =
+    let there : slice_get slots way ≡ Some slot = slice_get-get_or slots way slot within ∙ ap Some (sym found) in
     sym (ap (line_in now) at
-    ∙ ap (λ (s : List (Slot V)). option_map (λ (x : Slot V). x.line) (slice_get s place)) (sym e)
+    ∙ ap (λ (s : List (Slot V)). option_map (λ (x : Slot V). x.line) (slice_get s way)) (sym e)
     ∙ ap (option_map (λ (x : Slot V). x.line)) there)

@@ -45,42 +45,42 @@ none_passes {V = V} test (slot ∷ slots) line none =
     by false here rest = rest
 
 -- a flag that is up is that of a slot
-flagged : {V : Type 0} (test : V → Bool) (slots : List (Slot V)) (place : ℕ) →
-    slice_get (flags_of test slots) place ≡ Some true →
-    (slot : Slot V) × (slice_get slots place ≡ Some slot) × (test slot.value ≡ true)
-flagged test [] place e = cc
+flagged : {V : Type 0} (test : V → Bool) (slots : List (Slot V)) (way : ℕ) →
+    slice_get (flags_of test slots) way ≡ Some true →
+    (slot : Slot V) × (slice_get slots way ≡ Some slot) × (test slot.value ≡ true)
+flagged test [] way e = cc
 flagged test (slot ∷ slots) zero e = (slot, refl, cc)
-flagged test (slot ∷ slots) (suc place) e = flagged test slots place e
+flagged test (slot ∷ slots) (suc way) e = flagged test slots way e
 
-line_place : {V : Type 0} (slots : List (Slot V)) (place : ℕ) (slot : Slot V) → slice_get slots place ≡ Some slot →
-    slice_get (lines_of slots) place ≡ Some slot.line
-line_place [] place slot e = cc
+line_place : {V : Type 0} (slots : List (Slot V)) (way : ℕ) (slot : Slot V) → slice_get slots way ≡ Some slot →
+    slice_get (lines_of slots) way ≡ Some slot.line
+line_place [] way slot e = cc
 line_place {V = V} (first ∷ slots) zero slot e = let same : first ≡ slot = cc in ap (λ (s : Slot V). Some s.line) same
-line_place (first ∷ slots) (suc place) slot e = line_place slots place slot e
+line_place (first ∷ slots) (suc way) slot e = line_place slots way slot e
 
-value_place : {V : Type 0} (slots : List (Slot V)) (place : ℕ) (slot : Slot V) → AreApart (lines_of slots) →
-    slice_get slots place ≡ Some slot → value_in slots slot.line ≡ Some slot.value
-value_place [] place slot apart e = cc
+value_place : {V : Type 0} (slots : List (Slot V)) (way : ℕ) (slot : Slot V) → AreApart (lines_of slots) →
+    slice_get slots way ≡ Some slot → value_in slots slot.line ≡ Some slot.value
+value_place [] way slot apart e = cc
 value_place {V = V} (first ∷ slots) zero slot apart e =
     let same : first ≡ slot = cc in
     let here : holds slot.line first ≡ true = eq-eqb first.line.0 slot.line.0 (ap (λ (s : Slot V). s.line.0) same) in
     rw here (ap (λ (s : Slot V). Some s.value) same)
-value_place {V = V} (first ∷ slots) (suc place) slot apart e =
-    let at = line_place slots place slot e in
-    let same : get_or (lines_of slots) place slot.line ≡ slot.line =
-    get_or_from_slice_get (lines_of slots) place slot.line slot.line at in
+value_place {V = V} (first ∷ slots) (suc way) slot apart e =
+    let at = line_place slots way slot e in
+    let same : get_or (lines_of slots) way slot.line ≡ slot.line =
+    get_or_from_slice_get (lines_of slots) way slot.line slot.line at in
     let other : first.line.0 ≢ slot.line.0 =
     subst (λ (l : Local). first.line.0 ≢ l.0) same
-    (AllPairs-head (λ line later. line.0 ≢ later.0) first.line (lines_of slots) apart place slot.line
-    (slice_get_within (lines_of slots) place slot.line at)) in
+    (AllPairs-head (λ line later. line.0 ≢ later.0) first.line (lines_of slots) apart way slot.line
+    (slice_get_within (lines_of slots) way slot.line at)) in
     let no : holds slot.line first ≡ false = ne_eqb first.line.0 slot.line.0 other in
-    rw no (value_place slots place slot
+    rw no (value_place slots way slot
     (AllPairs-tail (λ line later. line.0 ≢ later.0) first.line (lines_of slots) apart) e)
 
 -- a value that may go has its flag up, at the place of its line
 flag_of : {V : Type 0} (test : V → Bool) (slots : List (Slot V)) (line : Local) →
     IsSomeAnd (value_in slots line) (λ value. test value ≡ true) →
-    (place : ℕ) × (slice_get (lines_of slots) place ≡ Some line) × (slice_get (flags_of test slots) place ≡ Some true)
+    (way : ℕ) × (slice_get (lines_of slots) way ≡ Some line) × (slice_get (flags_of test slots) way ≡ Some true)
 flag_of test [] line passes = absurd passes
 flag_of {V = V} test (slot ∷ slots) line passes = by (holds line slot) refl passes (flag_of test slots line)
   where
@@ -88,10 +88,10 @@ flag_of {V = V} test (slot ∷ slots) line passes = by (holds line slot) refl pa
         IsSomeAnd (option_map (λ (s : Slot V). s.value) (cond b (Some slot) (find (holds line) slots))) (λ value.
         test value ≡ true) →
         (IsSomeAnd (value_in slots line) (λ value. test value ≡ true) →
-        (place : ℕ) × (slice_get (lines_of slots) place ≡ Some line)
-        × (slice_get (flags_of test slots) place ≡ Some true)) →
-        (place : ℕ) × (slice_get (slot.line ∷ lines_of slots) place ≡ Some line)
-        × (slice_get (test slot.value ∷ flags_of test slots) place ≡ Some true)
+        (way : ℕ) × (slice_get (lines_of slots) way ≡ Some line)
+        × (slice_get (flags_of test slots) way ≡ Some true)) →
+        (way : ℕ) × (slice_get (slot.line ∷ lines_of slots) way ≡ Some line)
+        × (slice_get (test slot.value ∷ flags_of test slots) way ≡ Some true)
     by true is here rest = (0, ap Some (same_line line slot.line is), ap Some here)
     by false is here rest = let later = rest here in (suc later.0, later.1, later.2)
 
@@ -117,27 +117,27 @@ shared : {V P : Type 0} (array : ArrayView V P) (line other : Local) → ShareSe
 shared array line other same = ap (λ i. (get_or array.sets i (empty_set 0)).slots) same
 
 -- a slot of the line's set holds a line of that set, with its value
-pub slot_held : {V P : Type 0} (array : ArrayView V P) (line : Local) (place : ℕ) (slot : Slot V) → IsArray array →
-    slice_get (slots_at array line) place ≡ Some slot →
+pub slot_held : {V P : Type 0} (array : ArrayView V P) (line : Local) (way : ℕ) (slot : Slot V) → IsArray array →
+    slice_get (slots_at array line) way ≡ Some slot →
     ShareSet array line slot.line × (held_at array slot.line ≡ Some slot.value)
-slot_held {V = V} array line place slot sound at =
+slot_held {V = V} array line way slot sound at =
     let slots = slots_at array line in
     let its = its_set array line sound in
-    let named = line_place slots place slot at in
-    let within = slice_get_within (lines_of slots) place slot.line named in
+    let named = line_place slots way slot at in
+    let within = slice_get_within (lines_of slots) way slot.line named in
     let same : ShareSet array line slot.line =
     subst (λ (l : Local). l.0 % length array.sets ≡ set_index array line)
-    (get_or_from_slice_get (lines_of slots) place slot.line slot.line named)
-    (its.its_own place slot.line within) in
-    let value = value_place slots place slot its.distinct at in
+    (get_or_from_slice_get (lines_of slots) way slot.line slot.line named)
+    (its.its_own way slot.line within) in
+    let value = value_place slots way slot its.distinct at in
     (same, ap (λ s. value_in s slot.line) (shared array line slot.line same) ∙ value)
 
 -- some slot may go where one's flag is up, and none where none is
-some_flagged : {V : Type 0} (test : V → Bool) (slots : List (Slot V)) (place : ℕ) →
-    slice_get (flags_of test slots) place ≡ Some true → some_may_go test slots ≡ true
-some_flagged test [] place e = cc
+some_flagged : {V : Type 0} (test : V → Bool) (slots : List (Slot V)) (way : ℕ) →
+    slice_get (flags_of test slots) way ≡ Some true → some_may_go test slots ≡ true
+some_flagged test [] way e = cc
 some_flagged test (slot ∷ slots) zero e = let here : test slot.value ≡ true = cc in rw here refl
-some_flagged test (slot ∷ slots) (suc place) e = by (test slot.value) (some_flagged test slots place e)
+some_flagged test (slot ∷ slots) (suc way) e = by (test slot.value) (some_flagged test slots way e)
   where
     by : (b : Bool) → some_may_go test slots ≡ true → (b || some_may_go test slots) ≡ true
     by true rest = refl
@@ -162,13 +162,13 @@ flags_down test (slot ∷ slots) none = by (test slot.value) none (flags_down te
     by false e rest = All-cons (λ may_go. may_go ≡ false) false (flags_of test slots) refl (rest e)
 
 flag_up : {V : Type 0} (test : V → Bool) (slots : List (Slot V)) → some_may_go test slots ≡ true →
-    (place : ℕ) × (slice_get (flags_of test slots) place ≡ Some true)
+    (way : ℕ) × (slice_get (flags_of test slots) way ≡ Some true)
 flag_up test [] some = cc
 flag_up test (slot ∷ slots) some = by (test slot.value) some (flag_up test slots)
   where
     by : (b : Bool) → (b || some_may_go test slots) ≡ true →
-        (some_may_go test slots ≡ true → (place : ℕ) × (slice_get (flags_of test slots) place ≡ Some true)) →
-        (place : ℕ) × (slice_get (b ∷ flags_of test slots) place ≡ Some true)
+        (some_may_go test slots ≡ true → (way : ℕ) × (slice_get (flags_of test slots) way ≡ Some true)) →
+        (way : ℕ) × (slice_get (b ∷ flags_of test slots) way ≡ Some true)
     by true e rest = (0, refl)
     by false e rest = let later = rest e in (suc later.0, later.1)
 
@@ -196,10 +196,10 @@ none_may_go {V = V} array line test sound = (
 victim_chosen : {V : Type 0} (test : V → Bool) (slots : List (Slot V)) (chosen : Option ℕ) →
     IsAllowed (flags_of test slots) chosen → is_some (line_in slots chosen) ≡ some_may_go test slots
 victim_chosen test slots None allowed = sym (none_flagged test slots allowed)
-victim_chosen {V = V} test slots (Some place) allowed =
-    let found = flagged test slots place allowed in
+victim_chosen {V = V} test slots (Some way) allowed =
+    let found = flagged test slots way allowed in
     ap (λ (o : Option (Slot V)). is_some (option_map (λ (s : Slot V). s.line) o)) found.1
-    ∙ sym (some_flagged test slots place allowed)
+    ∙ sym (some_flagged test slots way allowed)
 
 -- the line in the slot that was chosen is the victim
 pub victim_is : {V P : Type 0} (array : ArrayView V P) (line : Local) (test : V → Bool) (moves : Bool)
@@ -212,8 +212,8 @@ victim_is array line test moves prefers None sound allowed preferred =
     λ other same.
     subst (λ slots. IfSome (value_in slots other) (λ value. test value ≡ false)) (sym (shared array line other same))
     (none_passes test (slots_at array line) other allowed)
-victim_is {V = V} {P = P} array line test moves prefers (Some place) sound allowed preferred =
-    let found = flagged test (slots_at array line) place allowed in
+victim_is {V = V} {P = P} array line test moves prefers (Some way) sound allowed preferred =
+    let found = flagged test (slots_at array line) way allowed in
     subst (λ victim. MatchOption victim (NoneMayGo test array line) (IsVictim test moves prefers array line))
     (sym (ap (option_map (λ (s : Slot V). s.line)) found.1))
     (chosen found.0 found.1 found.2)
@@ -221,11 +221,11 @@ victim_is {V = V} {P = P} array line test moves prefers (Some place) sound allow
     slots : List (Slot V)
     slots = slots_at array line
 
-    chosen : (slot : Slot V) → slice_get (slots_at array line) place ≡ Some slot → test slot.value ≡ true →
+    chosen : (slot : Slot V) → slice_get (slots_at array line) way ≡ Some slot → test slot.value ≡ true →
         IsVictim test moves prefers array line slot.line
     chosen slot at passes =
-        let named = line_place (slots_at array line) place slot at in
-        let held = slot_held array line place slot sound at in record {
+        let named = line_place (slots_at array line) way slot at in
+        let held = slot_held array line way slot sound at in record {
           same_set = held.0;
           may_go = subst (λ o. IsSomeAnd o (λ v. test v ≡ true)) (sym held.1) passes;
           preferred =
@@ -234,11 +234,11 @@ victim_is {V = V} {P = P} array line test moves prefers (Some place) sound allow
               (subst (λ s. IsSomeAnd (value_in s other) (λ v. test v ≡ true)) (shared array line other shares) may_go)
               in
               preferred history up.0 slot.line other
-              (ap (λ ls. slice_get ls place) (sym order) ∙ named)
+              (ap (λ ls. slice_get ls way) (sym order) ∙ named)
               (ap (λ ls. slice_get ls up.0) (sym order) ∙ up.1)
               up.2
               (λ e. apart
-              (two (slice_get (lines_of (slots_at array line)) place)
+              (two (slice_get (lines_of (slots_at array line)) way)
               (sym (ap (λ k. slice_get (lines_of (slots_at array line)) k) e) ∙ up.1) named));
         }
       where

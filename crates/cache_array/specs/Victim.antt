@@ -21,7 +21,7 @@ some_may_go test slots = list_any (λ slot. test slot.value) slots
 
 -- the line in the slot that was chosen, if one was
 abbrev pub line_in : {V : Type 0} → List (Slot V) → Option ℕ → Option Local
-line_in slots chosen = option_and_then (λ place. option_map (λ slot. slot.line) (slice_get slots place)) chosen
+line_in slots chosen = option_and_then (λ way. option_map (λ slot. slot.line) (slice_get slots way)) chosen
 
 -- two lines have one set
 abbrev pub ShareSet : {V P : Type 0} → ArrayView V P → Local → Local → Type 0

@@ -72,7 +72,7 @@ impl<V: Copy, P: Policy + Drop> CacheArray<V, P> {
 
     /// Where the line stands in its set, if the array holds it.
     pub fn find(&self, line: Local) -> Option<usize>
-        ensures place { result ≡ position (holds line) (slots_at self.now line) }
+        ensures way { result ≡ position (holds line) (slots_at self.now line) }
         ensures held { IsSome result ↔ IsSome (held_at self.now line) }
         ensures arranged { IsArray self.now }
     {
@@ -80,22 +80,22 @@ impl<V: Copy, P: Policy + Drop> CacheArray<V, P> {
     }
 
     /// The value of a line that stands there in its set. It is no use of the line.
-    pub fn value(&self, line: Local, place: usize) -> &V
-        requires { position (holds line) (slots_at self.now line) ≡ Some place }
+    pub fn value(&self, line: Local, way: usize) -> &V
+        requires { position (holds line) (slots_at self.now line) ≡ Some way }
         ensures { held_at self.now line ≡ Some result.now }
     {
-        self.sets[self.set_index(line)].value(line, place)
+        self.sets[self.set_index(line)].value(line, way)
     }
 
     /// The value of a line that stands there in its set, to be changed in its slot. It is no use of the line.
-    pub fn value_mut(&mut self, line: Local, place: usize) -> &mut V
-        requires { position (holds line) (slots_at self.old line) ≡ Some place }
+    pub fn value_mut(&mut self, line: Local, way: usize) -> &mut V
+        requires { position (holds line) (slots_at self.old line) ≡ Some way }
         ensures* lends { sem 𝓛 (LendsValue V.row P.row self.entry line result) }
         ensures value { held_at self.old line ≡ Some result.now }
     {
         let index = self.set_index(line);
         let set = &mut self.sets[index];
-        set.value_mut(line, place)
+        set.value_mut(line, way)
     }
 
     /// The value of a line that the array holds, to be changed in its slot. It is no use of the line.
@@ -104,10 +104,10 @@ impl<V: Copy, P: Policy + Drop> CacheArray<V, P> {
         ensures* lends { sem 𝓛 (LendsValue V.row P.row self.entry line result) }
         ensures value { held_at self.old line ≡ Some result.now }
     {
-        let Some(place) = self.find(line) else {
+        let Some(way) = self.find(line) else {
             unreachable!();
         };
-        self.value_mut(line, place)
+        self.value_mut(line, way)
     }
 
     /// The slots of the line's set, in their order.
@@ -154,15 +154,15 @@ impl<V: Copy, P: Policy + Drop> CacheArray<V, P> {
         ensures order { lines_at self.new line ≡ after_event (P.moves self.old.policy) (Used line)
             (lines_at self.old line) }
     {
-        let Some(place) = self.find(line) else {
+        let Some(way) = self.find(line) else {
             unreachable!();
         };
-        self.touch_at(line, place);
+        self.touch_at(line, way);
     }
 
     /// Uses a line that stands there in its set.
-    pub fn touch_at(&mut self, line: Local, place: usize)
-        requires { position (holds line) (slots_at self.old line) ≡ Some place }
+    pub fn touch_at(&mut self, line: Local, way: usize)
+        requires { position (holds line) (slots_at self.old line) ≡ Some way }
         ensures after { self.new ≡ with_slots self.old line
             (after_use (P.moves self.old.policy) (slots_at self.old line) line) }
         ensures held { SetsOnly self.old self.new line (held_at self.old line) }
@@ -172,7 +172,7 @@ impl<V: Copy, P: Policy + Drop> CacheArray<V, P> {
         if self.policy.moves_on_use() {
             let index = self.set_index(line);
             let set = &mut self.sets[index];
-            set.move_to_end(line, place);
+            set.move_to_end(line, way);
         }
     }
 

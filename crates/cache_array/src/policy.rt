@@ -1,6 +1,6 @@
 ghost use Rattle.std.specs.Prelude.{◌≡◌, ◌<◌, ℕ, Bool, List, Option, IfSome, length, slice_get};
 ghost use Rattle.address_map.specs.declared.address.Local.{Local};
-ghost use Rattle.address_map.specs.declared.config.PolicyKind.TheVariants as policies;
+ghost use Rattle.address_map.specs.declared.config.PolicyKind.TheVariants as policy_kinds;
 ghost use Rattle.cache_array.specs.History.{Event};
 ghost use Rattle.cache_array.specs.Policy.{allowed_slots, first_allowed, picked_by, choice_of, moves_of, prefers_of};
 ghost use Rattle.cache_array.specs.Policy.{IsAllowed, IsPreferred, CanPickEach};
@@ -46,7 +46,7 @@ impl Policy for PolicyKind {
         ensures choice { result ≡ choice_of self.now allowed.now word }
         ensures allowed { IsAllowed allowed.now result }
         ensures preferred { IfSome result (IsPreferred (moves_of self.now) (prefers_of self.now) allowed.now) }
-        ensures random { (seed : ℕ) → self.now ≡ policies.Random seed → CanPickEach allowed.now }
+        ensures random { (seed : ℕ) → self.now ≡ policy_kinds.Random seed → CanPickEach allowed.now }
     {
         match self {
             PolicyKind::Lru | PolicyKind::Fifo => first_allowed(allowed),

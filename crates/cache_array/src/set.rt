@@ -83,24 +83,24 @@ impl<V: Copy> Set<V> {
     pub fn find(&self, line: Local) -> Option<usize>
         ensures { result ≡ position (holds line) self.now.slots }
     {
-        place_of(&self.slots, line)
+        way_of(&self.slots, line)
     }
 
     /// The value of the line, whose slot stands there.
-    pub fn value(&self, line: Local, place: usize) -> &V
-        requires { position (holds line) self.now.slots ≡ Some place }
+    pub fn value(&self, line: Local, way: usize) -> &V
+        requires { position (holds line) self.now.slots ≡ Some way }
         ensures { value_in self.now.slots line ≡ Some result.now }
     {
-        &self.slots[place].value
+        &self.slots[way].value
     }
 
     /// The value of the line, to be changed in its slot, which stands there.
-    pub fn value_mut(&mut self, line: Local, place: usize) -> &mut V
-        requires { position (holds line) self.old.slots ≡ Some place }
+    pub fn value_mut(&mut self, line: Local, way: usize) -> &mut V
+        requires { position (holds line) self.old.slots ≡ Some way }
         ensures* lends { sem 𝓛 (LendsIn V.row self.entry line result) }
         ensures value { value_in self.old.slots line ≡ Some result.now }
     {
-        let slot = &mut self.slots[place];
+        let slot = &mut self.slots[way];
         &mut slot.value
     }
 
@@ -109,8 +109,8 @@ impl<V: Copy> Set<V> {
         requires { IsSome (value_in self.old.slots line) }
         ensures { self.new ≡ record self.old { slots = after_write self.old.slots line value } }
     {
-        if let Some(place) = place_of(&self.slots, line) {
-            self.slots[place] = Slot { line, value };
+        if let Some(way) = way_of(&self.slots, line) {
+            self.slots[way] = Slot { line, value };
         }
     }
 
@@ -130,10 +130,10 @@ impl<V: Copy> Set<V> {
         ensures value { result ≡ value_in self.old.slots line }
         ensures rest { self.new ≡ record self.old { slots = after_remove self.old.slots line } }
     {
-        let Some(place) = place_of(&self.slots, line) else {
+        let Some(way) = way_of(&self.slots, line) else {
             return None;
         };
-        move_to_end(&mut self.slots, place);
+        move_to_end(&mut self.slots, way);
         let Some(slot) = self.slots.pop() else {
             unreachable!();
         };
@@ -141,11 +141,11 @@ impl<V: Copy> Set<V> {
     }
 
     /// Moves the slot of the line, which stands there, behind the others.
-    pub fn move_to_end(&mut self, line: Local, place: usize)
-        requires { position (holds line) self.old.slots ≡ Some place }
+    pub fn move_to_end(&mut self, line: Local, way: usize)
+        requires { position (holds line) self.old.slots ≡ Some way }
         ensures { self.new ≡ record self.old { slots = after_use true self.old.slots line } }
     {
-        move_to_end(&mut self.slots, place);
+        move_to_end(&mut self.slots, way);
     }
 
     /// Whether some line's value passes `allowed`.
@@ -173,10 +173,10 @@ impl<V: Copy> Set<V> {
             × (result ≡ line_in self.now.slots (P.choice policy.now flags word)) }
     {
         let flags = flags_of(&self.slots, allowed);
-        let Some(place) = policy.choose(&flags, word) else {
+        let Some(way) = policy.choose(&flags, word) else {
             return None;
         };
-        Some(self.slots[place].line)
+        Some(self.slots[way].line)
     }
 }
 
@@ -206,8 +206,8 @@ fn some_allowed<V, F: Fn(&V) -> bool>(slots: &[Slot<V>], allowed: F) -> bool
     false
 }
 
-// The place of the line's slot.
-fn place_of<V>(slots: &[Slot<V>], line: Local) -> Option<usize>
+// The way of the line's slot.
+fn way_of<V>(slots: &[Slot<V>], line: Local) -> Option<usize>
     ensures { result ≡ position (holds line) slots.now }
 {
     slots.iter().position(|slot| slot.line == line)
@@ -215,18 +215,18 @@ fn place_of<V>(slots: &[Slot<V>], line: Local) -> Option<usize>
 
 // Moves the slot behind those that follow it. Nothing moves where it is the last, and one slot is passed at less cost
 // than several.
-fn move_to_end<V>(slots: &mut [Slot<V>], place: usize)
-    requires { place < length slots.old }
-    ensures { (d : Slot V) → slots.new ≡ remove slots.old place ++ slice_index_or slots.old place d ∷ [] }
+fn move_to_end<V>(slots: &mut [Slot<V>], way: usize)
+    requires { way < length slots.old }
+    ensures { (d : Slot V) → slots.new ≡ remove slots.old way ++ slice_index_or slots.old way d ∷ [] }
 {
-    let behind = slots.len() - place - 1;
+    let behind = slots.len() - way - 1;
     if behind == 0 {
         return;
     }
     if behind == 1 {
-        slots.swap(place, place + 1);
+        slots.swap(way, way + 1);
     } else {
-        turn(&mut slots[place..]);
+        turn(&mut slots[way..]);
     }
 }
 

@@ -4,26 +4,26 @@ use Rattle.cache_table.specs.CopyState.{is_leaving, is_readable, is_waiting, is_
 use Rattle.cache_table.specs.Law.{IsLawful, asked_to_write, awaits_data, holds_data, is_clean, is_sharer, sends_data}
 use Rattle.cache_table.specs.Law.{sends_get, sends_get_m, sends_home, sends_inv_ack, sends_put, sends_put_m}
 use Rattle.cache_table.specs.declared.state.CopyState.{CopyState}
-use Rattle.cache_table.specs.declared.state.CopyState.TheVariants as states
+use Rattle.cache_table.specs.declared.state.CopyState.TheVariants as copy_states
 use Rattle.cache_table.specs.declared.row.CacheEvent.{CacheEvent}
 use Rattle.cache_table.specs.declared.row.CacheSends.{CacheSends}
-use Rattle.cache_table.specs.declared.row.CacheSends.TheVariants as sends
+use Rattle.cache_table.specs.declared.row.CacheSends.TheVariants as cache_sends
 use Rattle.cache_table.specs.declared.row.Row.{Row}
 use Rattle.cache_table.specs.declared.row.Row.TheVariants as rows
 
 -- the state of which these facts are told
 abbrev state_from : (reads writes clean waits data_missing to_write leaves holds shares : Bool) → CopyState
 state_from reads writes clean waits data_missing to_write leaves holds shares =
-    if clean then states.E
-    else if writes then states.M
+    if clean then copy_states.E
+    else if writes then copy_states.M
     else if to_write then (
-    if data_missing then (if reads then states.SM_AD else states.IM_AD)
-    else (if reads then states.SM_A else states.IM_A)
+    if data_missing then (if reads then copy_states.SM_AD else copy_states.IM_AD)
+    else (if reads then copy_states.SM_A else copy_states.IM_A)
     )
-    else if waits then states.IS_D
-    else if leaves then (if holds then states.MI_A else if shares then states.SI_A else states.II_A)
-    else if reads then states.S
-    else states.I
+    else if waits then copy_states.IS_D
+    else if leaves then (if holds then copy_states.MI_A else if shares then copy_states.SI_A else copy_states.II_A)
+    else if reads then copy_states.S
+    else copy_states.I
 
 abbrev state_told : CopyState → CopyState
 state_told s =
@@ -32,30 +32,30 @@ state_told s =
     (holds_data s) (is_sharer s)
 
 state_from-told : (s : CopyState) → state_told s ≡ s
-state_from-told states.I = refl
-state_from-told states.IS_D = refl
-state_from-told states.IM_AD = refl
-state_from-told states.IM_A = refl
-state_from-told states.S = refl
-state_from-told states.SM_AD = refl
-state_from-told states.SM_A = refl
-state_from-told states.M = refl
-state_from-told states.MI_A = refl
-state_from-told states.SI_A = refl
-state_from-told states.II_A = refl
-state_from-told states.E = refl
+state_from-told copy_states.I = refl
+state_from-told copy_states.IS_D = refl
+state_from-told copy_states.IM_AD = refl
+state_from-told copy_states.IM_A = refl
+state_from-told copy_states.S = refl
+state_from-told copy_states.SM_AD = refl
+state_from-told copy_states.SM_A = refl
+state_from-told copy_states.M = refl
+state_from-told copy_states.MI_A = refl
+state_from-told copy_states.SI_A = refl
+state_from-told copy_states.II_A = refl
+state_from-told copy_states.E = refl
 
 -- the message of which these facts are told
 abbrev sends_from : (to_requester home acknowledgement get get_m put put_m : Bool) → CacheSends
 sends_from to_requester home acknowledgement get get_m put put_m =
-    if home then sends.DataToRequesterAndHome
-    else if to_requester then sends.DataToRequester
-    else if acknowledgement then sends.InvAckToRequester
-    else if get_m then sends.GetM
-    else if get then sends.GetS
-    else if put_m then sends.PutM
-    else if put then sends.PutS
-    else sends.Nothing
+    if home then cache_sends.DataToRequesterAndHome
+    else if to_requester then cache_sends.DataToRequester
+    else if acknowledgement then cache_sends.InvAckToRequester
+    else if get_m then cache_sends.GetM
+    else if get then cache_sends.GetS
+    else if put_m then cache_sends.PutM
+    else if put then cache_sends.PutS
+    else cache_sends.Nothing
 
 abbrev sends_told : CacheSends → CacheSends
 sends_told x =
@@ -63,14 +63,14 @@ sends_told x =
     (sends_put_m x)
 
 sends_from-told : (x : CacheSends) → sends_told x ≡ x
-sends_from-told sends.Nothing = refl
-sends_from-told sends.GetS = refl
-sends_from-told sends.GetM = refl
-sends_from-told sends.PutS = refl
-sends_from-told sends.PutM = refl
-sends_from-told sends.InvAckToRequester = refl
-sends_from-told sends.DataToRequester = refl
-sends_from-told sends.DataToRequesterAndHome = refl
+sends_from-told cache_sends.Nothing = refl
+sends_from-told cache_sends.GetS = refl
+sends_from-told cache_sends.GetM = refl
+sends_from-told cache_sends.PutS = refl
+sends_from-told cache_sends.PutM = refl
+sends_from-told cache_sends.InvAckToRequester = refl
+sends_from-told cache_sends.DataToRequester = refl
+sends_from-told cache_sends.DataToRequesterAndHome = refl
 
 same_told : (a b : CopyState) → is_readable a ≡ is_readable b → is_writer a ≡ is_writer b → is_clean a ≡ is_clean b
     → is_waiting a ≡ is_waiting b → awaits_data a ≡ awaits_data b → asked_to_write a ≡ asked_to_write b

@@ -3,19 +3,19 @@ use Rattle.std.proofs.Common.{◌≡◌, ℕ, ◌+◌, ◌==◌, true, false, na
 use Rattle.std.proofs.lemmas.Bool.{cases_lt, le-leb, lt-ltb, le-ltb, lt-leb}
 use Rattle.std.proofs.lemmas.Bool.Decides.{eqb_tells}
 use Rattle.cache_table.specs.Law.{IsLawful}
-use Rattle.cache_table.specs.Row.{counted, row_of}
+use Rattle.cache_table.specs.Row.{row_by_count, row_of}
 use Rattle.cache_table.specs.declared.state.CopyState.{CopyState}
-use Rattle.cache_table.specs.declared.state.CopyState.TheVariants as states
+use Rattle.cache_table.specs.declared.state.CopyState.TheVariants as copy_states
 use Rattle.cache_table.specs.declared.row.CacheEvent.{CacheEvent}
-use Rattle.cache_table.specs.declared.row.CacheEvent.TheVariants as events
-use Rattle.cache_table.specs.declared.row.CacheSends.TheVariants as sends
+use Rattle.cache_table.specs.declared.row.CacheEvent.TheVariants as cache_events
+use Rattle.cache_table.specs.declared.row.CacheSends.TheVariants as cache_sends
 use Rattle.cache_table.specs.declared.row.Row.TheVariants as rows
 
 -- Where acknowledgements are counted, the laws hold if they do with the last, with others missing, and with no row.
 counted-lawful : (state : CopyState) (event : CacheEvent) (waits : CopyState) (come n : ℕ)
-    → ((come == n) ≡ true → nat_le come n ≡ true → IsLawful state event (rows.Go states.M sends.Nothing))
-    → ((come == n) ≡ false → nat_le come n ≡ true → IsLawful state event (rows.Go waits sends.Nothing))
-    → (nat_le come n ≡ false → IsLawful state event rows.NoEntry) → IsLawful state event (counted come n waits)
+    → ((come == n) ≡ true → nat_le come n ≡ true → IsLawful state event (rows.Go copy_states.M cache_sends.Nothing))
+    → ((come == n) ≡ false → nat_le come n ≡ true → IsLawful state event (rows.Go waits cache_sends.Nothing))
+    → (nat_le come n ≡ false → IsLawful state event rows.NoEntry) → IsLawful state event (row_by_count come n waits)
 counted-lawful state event waits come n last others none =
     elim (eqb_tells come n) [
       | inl all ↦ rw all.0 (last all.0 (le-leb come n (omega (arith, all.1))))
@@ -28,25 +28,29 @@ counted-lawful state event waits come n last others none =
 
 -- The laws hold in each cell. One line for each state splits the cases, and the last stands for each that is left.
 pub row_of-lawful : (state : CopyState) (event : CacheEvent) → IsLawful state event (row_of state event)
-row_of-lawful states.IM_AD (events.Data n k) =
-    counted-lawful states.IM_AD (events.Data n k) states.IM_A k n (λ last within. search (rules, last, within))
+row_of-lawful copy_states.IM_AD (cache_events.Data n k) =
+    counted-lawful copy_states.IM_AD (cache_events.Data n k) copy_states.IM_A k n
+        (λ last within. search (rules, last, within))
     (λ some within. search (rules, some, within)) (λ past. search (rules, past))
-row_of-lawful states.SM_AD (events.Data n k) =
-    counted-lawful states.SM_AD (events.Data n k) states.SM_A k n (λ last within. search (rules, last, within))
+row_of-lawful copy_states.SM_AD (cache_events.Data n k) =
+    counted-lawful copy_states.SM_AD (cache_events.Data n k) copy_states.SM_A k n
+        (λ last within. search (rules, last, within))
     (λ some within. search (rules, some, within)) (λ past. search (rules, past))
-row_of-lawful states.IM_A (events.InvAck n k) =
-    counted-lawful states.IM_A (events.InvAck n k) states.IM_A (k + 1) n (λ last within. search (rules, last, within))
+row_of-lawful copy_states.IM_A (cache_events.InvAck n k) =
+    counted-lawful copy_states.IM_A (cache_events.InvAck n k) copy_states.IM_A (k + 1) n
+        (λ last within. search (rules, last, within))
     (λ some within. search (rules, some, within)) (λ past. search (rules, past))
-row_of-lawful states.SM_A (events.InvAck n k) =
-    counted-lawful states.SM_A (events.InvAck n k) states.SM_A (k + 1) n (λ last within. search (rules, last, within))
+row_of-lawful copy_states.SM_A (cache_events.InvAck n k) =
+    counted-lawful copy_states.SM_A (cache_events.InvAck n k) copy_states.SM_A (k + 1) n
+        (λ last within. search (rules, last, within))
     (λ some within. search (rules, some, within)) (λ past. search (rules, past))
-row_of-lawful states.IS_D (events.DataE true) = search rules
-row_of-lawful states.IS_D (events.DataE false) = search rules
-row_of-lawful states.I events.Load = search rules
-row_of-lawful states.S events.Load = search rules
-row_of-lawful states.M events.Load = search rules
-row_of-lawful states.E events.Load = search rules
-row_of-lawful states.MI_A events.Load = search rules
-row_of-lawful states.SI_A events.Load = search rules
-row_of-lawful states.II_A events.Load = search rules
+row_of-lawful copy_states.IS_D (cache_events.DataE true) = search rules
+row_of-lawful copy_states.IS_D (cache_events.DataE false) = search rules
+row_of-lawful copy_states.I cache_events.Load = search rules
+row_of-lawful copy_states.S cache_events.Load = search rules
+row_of-lawful copy_states.M cache_events.Load = search rules
+row_of-lawful copy_states.E cache_events.Load = search rules
+row_of-lawful copy_states.MI_A cache_events.Load = search rules
+row_of-lawful copy_states.SI_A cache_events.Load = search rules
+row_of-lawful copy_states.II_A cache_events.Load = search rules
 row_of-lawful _ _ = search rules

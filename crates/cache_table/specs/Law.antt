@@ -3,11 +3,11 @@
 use Rattle.std.specs.Prelude.{◌≡◌, ◌+◌, ◌==◌, ◌&&◌, ◌||◌, Bool, true, false, not, nat_le, IsTrue}
 use Rattle.cache_table.specs.CopyState.{is_leaving, is_readable, is_waiting, is_writer}
 use Rattle.cache_table.specs.declared.state.CopyState.{CopyState}
-use Rattle.cache_table.specs.declared.state.CopyState.TheVariants as states
+use Rattle.cache_table.specs.declared.state.CopyState.TheVariants as copy_states
 use Rattle.cache_table.specs.declared.row.CacheEvent.{CacheEvent}
-use Rattle.cache_table.specs.declared.row.CacheEvent.TheVariants as events
+use Rattle.cache_table.specs.declared.row.CacheEvent.TheVariants as cache_events
 use Rattle.cache_table.specs.declared.row.CacheSends.{CacheSends}
-use Rattle.cache_table.specs.declared.row.CacheSends.TheVariants as sends
+use Rattle.cache_table.specs.declared.row.CacheSends.TheVariants as cache_sends
 use Rattle.cache_table.specs.declared.row.Row.{Row}
 use Rattle.cache_table.specs.declared.row.Row.TheVariants as rows
 
@@ -28,77 +28,77 @@ is_blocked _ = false
 -- ---- events
 
 abbrev pub is_load : CacheEvent → Bool
-is_load events.Load = true
+is_load cache_events.Load = true
 is_load _ = false
 
 abbrev pub is_write : CacheEvent → Bool
-is_write events.Write = true
+is_write cache_events.Write = true
 is_write _ = false
 
 abbrev pub is_eviction : CacheEvent → Bool
-is_eviction events.Eviction = true
+is_eviction cache_events.Eviction = true
 is_eviction _ = false
 
 -- another core reads the line, and asks its holder for the data
 abbrev pub is_read : CacheEvent → Bool
-is_read events.FwdGetS = true
+is_read cache_events.FwdGetS = true
 is_read _ = false
 
 -- another core writes the line, and asks its holder for the data
 abbrev pub is_written : CacheEvent → Bool
-is_written events.FwdGetM = true
+is_written cache_events.FwdGetM = true
 is_written _ = false
 
 -- another core writes the line, and has shared copies invalidated
 abbrev pub is_invalidated : CacheEvent → Bool
-is_invalidated events.Inv = true
+is_invalidated cache_events.Inv = true
 is_invalidated _ = false
 
 abbrev pub is_put_ack : CacheEvent → Bool
-is_put_ack events.PutAck = true
+is_put_ack cache_events.PutAck = true
 is_put_ack _ = false
 
 abbrev pub brings_data : CacheEvent → Bool
-brings_data (events.Data n k) = true
-brings_data (events.DataE loads) = true
+brings_data (cache_events.Data n k) = true
+brings_data (cache_events.DataE loads) = true
 brings_data _ = false
 
 -- data as the only copy, for loads alone
 abbrev pub brings_clean : CacheEvent → Bool
-brings_clean (events.DataE loads) = loads
+brings_clean (cache_events.DataE loads) = loads
 brings_clean _ = false
 
 -- ---- states
 
 abbrev pub is_clean : CopyState → Bool
-is_clean states.E = true
+is_clean copy_states.E = true
 is_clean _ = false
 
 -- the copy's data are the newest, and the home copy isn't: the only copy, in the array or on its way out
 abbrev pub holds_data : CopyState → Bool
-holds_data states.MI_A = true
+holds_data copy_states.MI_A = true
 holds_data state = is_writer state
 
 -- the copy is one of those that are invalidated when another core writes the line
 abbrev pub is_sharer : CopyState → Bool
-is_sharer states.S = true
-is_sharer states.SM_AD = true
-is_sharer states.SI_A = true
+is_sharer copy_states.S = true
+is_sharer copy_states.SM_AD = true
+is_sharer copy_states.SI_A = true
 is_sharer _ = false
 
 -- a miss awaits its data
 abbrev pub awaits_data : CopyState → Bool
-awaits_data states.IS_D = true
-awaits_data states.IM_AD = true
-awaits_data states.SM_AD = true
+awaits_data copy_states.IS_D = true
+awaits_data copy_states.IM_AD = true
+awaits_data copy_states.SM_AD = true
 awaits_data _ = false
 
 -- the miss asked for the right to write
 abbrev pub asked_to_write : CopyState → Bool
-asked_to_write states.IM_AD = true
-asked_to_write states.IM_A = true
-asked_to_write states.SM_AD = true
-asked_to_write states.SM_A = true
+asked_to_write copy_states.IM_AD = true
+asked_to_write copy_states.IM_A = true
+asked_to_write copy_states.SM_AD = true
+asked_to_write copy_states.SM_A = true
 asked_to_write _ = false
 
 -- the miss asked for the right to read alone
@@ -114,9 +114,9 @@ misses state event = is_load event && not (is_readable state) || is_write event 
 -- all has come that a write awaits: the data with each acknowledgement, or the last acknowledgement after the data. A
 -- read may be given the only copy.
 abbrev pub grants_writing : CopyState → CacheEvent → Bool
-grants_writing state (events.Data n k) = asked_to_write state && awaits_data state && k == n
-grants_writing state (events.InvAck n k) = asked_to_write state && not (awaits_data state) && k + 1 == n
-grants_writing state (events.DataE loads) = asked_to_read state
+grants_writing state (cache_events.Data n k) = asked_to_write state && awaits_data state && k == n
+grants_writing state (cache_events.InvAck n k) = asked_to_write state && not (awaits_data state) && k + 1 == n
+grants_writing state (cache_events.DataE loads) = asked_to_read state
 grants_writing state _ = false
 
 -- the data have come that a read awaits
@@ -130,16 +130,16 @@ ends_miss state event = grants_writing state event || serves_read state event
 -- the protocol can bring the event to a copy: an access or an eviction while nothing is under way, a request of another
 -- core to the holder or to who becomes one, an answer to who awaits it, with no more acknowledgements than there are
 abbrev pub can_come : CopyState → CacheEvent → Bool
-can_come state events.Load = not (is_waiting state) && not (is_leaving state)
-can_come state events.Write = not (is_waiting state) && not (is_leaving state)
-can_come state events.Eviction = is_readable state && not (is_waiting state)
-can_come state events.FwdGetS = holds_data state || is_waiting state
-can_come state events.FwdGetM = holds_data state || is_waiting state
-can_come state events.Inv = is_sharer state || asked_to_read state
-can_come state events.PutAck = is_leaving state
-can_come state (events.Data n k) = asked_to_read state || asked_to_write state && awaits_data state && nat_le k n
-can_come state (events.InvAck n k) = asked_to_write state && (awaits_data state || nat_le (k + 1) n)
-can_come state (events.DataE loads) = asked_to_read state
+can_come state cache_events.Load = not (is_waiting state) && not (is_leaving state)
+can_come state cache_events.Write = not (is_waiting state) && not (is_leaving state)
+can_come state cache_events.Eviction = is_readable state && not (is_waiting state)
+can_come state cache_events.FwdGetS = holds_data state || is_waiting state
+can_come state cache_events.FwdGetM = holds_data state || is_waiting state
+can_come state cache_events.Inv = is_sharer state || asked_to_read state
+can_come state cache_events.PutAck = is_leaving state
+can_come state (cache_events.Data n k) = asked_to_read state || asked_to_write state && awaits_data state && nat_le k n
+can_come state (cache_events.InvAck n k) = asked_to_write state && (awaits_data state || nat_le (k + 1) n)
+can_come state (cache_events.DataE loads) = asked_to_read state
 
 -- the message has to wait: another core asks for the line while a miss is outstanding. Only an invalidation needn't
 -- wait for a write.
@@ -150,32 +150,32 @@ has_to_wait state event =
 -- ---- messages
 
 abbrev pub sends_data : CacheSends → Bool
-sends_data sends.DataToRequester = true
-sends_data sends.DataToRequesterAndHome = true
+sends_data cache_sends.DataToRequester = true
+sends_data cache_sends.DataToRequesterAndHome = true
 sends_data _ = false
 
 abbrev pub sends_home : CacheSends → Bool
-sends_home sends.DataToRequesterAndHome = true
+sends_home cache_sends.DataToRequesterAndHome = true
 sends_home _ = false
 
 abbrev pub sends_inv_ack : CacheSends → Bool
-sends_inv_ack sends.InvAckToRequester = true
+sends_inv_ack cache_sends.InvAckToRequester = true
 sends_inv_ack _ = false
 
 abbrev pub sends_get_m : CacheSends → Bool
-sends_get_m sends.GetM = true
+sends_get_m cache_sends.GetM = true
 sends_get_m _ = false
 
 abbrev pub sends_get : CacheSends → Bool
-sends_get sends.GetS = true
+sends_get cache_sends.GetS = true
 sends_get sent = sends_get_m sent
 
 abbrev pub sends_put_m : CacheSends → Bool
-sends_put_m sends.PutM = true
+sends_put_m cache_sends.PutM = true
 sends_put_m _ = false
 
 abbrev pub sends_put : CacheSends → Bool
-sends_put sends.PutS = true
+sends_put cache_sends.PutS = true
 sends_put sent = sends_put_m sent
 
 -- ---- laws

@@ -76,9 +76,9 @@ impl CopyState {
 
 impl Default for CopyState {
     ghost use Rattle.std.specs.Prelude.{◌≡◌};
-    ghost use Rattle.cache_table.specs.declared.state.CopyState.TheVariants as states;
+    ghost use Rattle.cache_table.specs.declared.state.CopyState.TheVariants as copy_states;
 
-    ghost is_default = { λ state. state ≡ states.I };
+    ghost is_default = { λ state. state ≡ copy_states.I };
 
     /// A line that isn't held.
     fn default() -> Self {

@@ -4,7 +4,7 @@ use core_thread::Job;
 use core_thread_system::{All, Core, Open, Outcome, Step, System, SystemKeys};
 use drain::{AuditError, AuditFault, audit};
 use mshr_file::MissFile;
-use slice_core_answer::Evicted;
+use slice_answer::Evicted;
 use std::sync::Wait;
 
 /// The first core stores to a line of the first slice and one of the last, and gives the latter up. Returns whether all was done.

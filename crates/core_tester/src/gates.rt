@@ -4,7 +4,7 @@ use address_map::{CoreId, Op, WordAddr};
 use core_thread::Job;
 use core_thread_system::{All, Core, Gate, Open, Outcome, Step, System, SystemKeys};
 use mshr_file::MissFile;
-use slice_core_answer::Refused;
+use slice_answer::Refused;
 use std::sync::Wait;
 use std::sync::atomic::Ordering::SeqCst;
 use std::sync::atomic::{AtomicBool, AtomicU64};

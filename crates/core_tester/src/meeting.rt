@@ -7,7 +7,7 @@ use core_thread_system::{All, Core, Gate, Step, System, SystemKeys};
 use mshr_file::MissFile;
 use receipt_ledger::Answer;
 use slice_core::SliceState;
-use slice_core_answer::Refused;
+use slice_answer::Refused;
 use slice_lock::Question;
 use std::alloc::AllocError;
 use std::sync::Wait;

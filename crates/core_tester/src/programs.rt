@@ -4,7 +4,7 @@ use address_map::{LineAddr, Op, SliceId, WordAddr};
 use core_thread::Job;
 use core_thread_system::{All, Core, Open, Outcome, Step, SystemKeys};
 use mshr_file::MissFile;
-use slice_core_answer::Refused;
+use slice_answer::Refused;
 use std::sync::Wait;
 
 /// A word of line 0 that is no counter.

@@ -2,7 +2,7 @@ use super::row::SLICES;
 use address_map::{CoreId, SliceId};
 use core_thread_system::{All, System, SystemKeys};
 use mshr_file::MissFile;
-use slice_core_answer::{MessageCounts, Stats};
+use slice_answer::{MessageCounts, Stats};
 use std::sync::Wait;
 
 /// How many messages each slice has taken.

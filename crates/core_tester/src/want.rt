@@ -5,7 +5,7 @@ use core_thread::{Job, Movers, RunError, run_all};
 use core_thread_system::{All, Open, Outcome, System, SystemKeys};
 use drain::{AuditError, AuditFault, audit};
 use mshr_file::MissFile;
-use slice_core_answer::Refused;
+use slice_answer::Refused;
 use std::alloc::AllocError;
 use std::sync::Wait;
 use std::thread::Threads;

@@ -3,7 +3,7 @@ ghost use Rattle.std.specs.Prelude.{◌≡◌, ◌≤◌, ◌↔◌, IfSome, IsS
 use address_map::SliceId;
 use core_thread_system::{System, SystemNames};
 use mshr_file::MissFile;
-use slice_core_answer::DeliveredNext;
+use slice_answer::DeliveredNext;
 use slice_queues_message::Class;
 use std::sync::Wait;
 use std::sync::atomic::AtomicUsize;

@@ -11,8 +11,8 @@ use Rattle.receipt_ledger.specs.Answers.{AfterReply, AfterRequest, IsJudged}
 use Rattle.receipt_ledger.specs.declared.receipt.Answer.{Answer}
 use Rattle.receipt_ledger.specs.declared.receipt.Answer.TheVariants as answers
 use Rattle.receipt_ledger.specs.declared.receipt.Receipt.{Receipt}
-use Rattle.slice_core_answer.specs.declared.answer.Refused.{Refused}
-use Rattle.slice_core_answer.specs.declared.answer.Refused.TheVariants as refusals
+use Rattle.slice_answer.specs.declared.answer.Refused.{Refused}
+use Rattle.slice_answer.specs.declared.answer.Refused.TheVariants as refusals
 
 -- Why the core itself refuses a request while these tags are in flight: the first of these reasons, in this order.
 unfoldable pub refusal_of : Config → ℕ → Request → Option Refused

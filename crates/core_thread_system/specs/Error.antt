@@ -4,7 +4,7 @@ use Rattle.address_map.specs.Config.{first_fault}
 use Rattle.address_map.specs.declared.config.Config.{Config}
 use Rattle.address_map.specs.declared.config.ConfigError.{ConfigError}
 use Rattle.core_thread_system.specs.declared.error.BuildError.{BuildError}
-use Rattle.core_thread_system.specs.declared.error.BuildError.TheVariants as errors
+use Rattle.core_thread_system.specs.declared.error.BuildError.TheVariants as build_errors
 
 -- this is the first field at fault
 unfoldable pub IsRefusedFor : Config → ConfigError → Type 0
@@ -16,5 +16,5 @@ IsAccepted c = first_fault c ≡ None
 
 -- The error names the configuration's first field at fault; or none is at fault, and memory was wanting.
 abbrev pub IsFaultOf : Config → BuildError → Type 0
-IsFaultOf c (errors.Config fault) = IsRefusedFor c fault
-IsFaultOf c errors.Memory = IsAccepted c
+IsFaultOf c (build_errors.Config fault) = IsRefusedFor c fault
+IsFaultOf c build_errors.Memory = IsAccepted c

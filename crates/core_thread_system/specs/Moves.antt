@@ -9,7 +9,7 @@ use Rattle.core_thread_system.specs.declared.program.Step.{Step}
 use Rattle.core_thread_system.specs.declared.program.Step.TheVariants as steps
 use Rattle.receipt_ledger.specs.declared.receipt.Answer.{Answer}
 use Rattle.receipt_ledger.specs.declared.receipt.Receipt.{Receipt}
-use Rattle.slice_core_answer.specs.declared.answer.Refused.{Refused}
+use Rattle.slice_answer.specs.declared.answer.Refused.{Refused}
 
 -- it takes a turn, which may get it a reply, or makes a request, which is answered so
 pub data Move : Type 0 where

@@ -14,7 +14,7 @@ use Rattle.core_thread_system.specs.declared.program.Step.TheVariants as steps
 use Rattle.receipt_ledger.specs.Port.{PortView}
 use Rattle.receipt_ledger.specs.declared.receipt.Ask.{Ask}
 use Rattle.receipt_ledger.specs.declared.receipt.Receipt.{Receipt}
-use Rattle.slice_core_answer.specs.declared.answer.Refused.{Refused}
+use Rattle.slice_answer.specs.declared.answer.Refused.{Refused}
 
 -- the accesses of a program to words of the slice of this number, in the program's order
 abbrev pub accesses_in : Config → ℕ → List Step → List (WordAddr × Op)

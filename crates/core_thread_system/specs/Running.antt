@@ -10,7 +10,7 @@ use Rattle.core_thread_system.specs.declared.run.Halt.{Halt}
 use Rattle.core_thread_system.specs.declared.run.Halt.TheVariants as halts
 use Rattle.receipt_ledger.specs.declared.receipt.Answer.{Answer}
 use Rattle.receipt_ledger.specs.declared.receipt.Answer.TheVariants as answers
-use Rattle.slice_core_answer.specs.declared.answer.Refused.{Refused}
+use Rattle.slice_answer.specs.declared.answer.Refused.{Refused}
 
 -- what a request that was answered so has made: its access, where it was accepted
 abbrev pub accepted_steps : Request → Result Answer Refused → List Step

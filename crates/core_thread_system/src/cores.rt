@@ -4,8 +4,8 @@ ghost use Rattle.core_thread_system.specs.Answers.{tags_after};
 ghost use Rattle.core_thread_system.specs.Core.{accepted_of, asked_of, core_of, port_at, receipts_of, with_port};
 ghost use Rattle.receipt_ledger.specs.Answers.{AfterReply, AfterRequest, IsJudged};
 ghost use Rattle.receipt_ledger.specs.Port.{AreOwn, with_seen};
+ghost use Rattle.slice_answer.specs.declared.answer.Evicted.TheVariants.{NotHeld};
 ghost use Rattle.slice_core.specs.Facts.{IsNotBrokenNext};
-ghost use Rattle.slice_core_answer.specs.declared.answer.Evicted.TheVariants.{NotHeld};
 
 use super::look::SystemLook;
 use super::names::SystemNames;
@@ -16,7 +16,7 @@ use address_map::{CoreId, LineAddr, Request, SliceId};
 use mshr_file::MissFile;
 use receipt_ledger::{Answer, Ask, LearnError, Port, Receipt};
 use receipt_shares::SliceNames;
-use slice_core_answer::{DeliveredNext, Evicted, Refused};
+use slice_answer::{DeliveredNext, Evicted, Refused};
 use slice_lock::{Question, Slice};
 use slice_queues_message::Class;
 use std::marker::Model;

@@ -1,5 +1,5 @@
 use address_map::{CoreId, LineAddr, Op, WordAddr};
-use slice_core_answer::Refused;
+use slice_answer::Refused;
 use std::sync::Wait;
 
 /// A step of a core's program.

@@ -14,7 +14,7 @@ use super::tags::free_tag;
 use address_map::{Op, Request, WordAddr};
 use mshr_file::MissFile;
 use receipt_ledger::Answer;
-use slice_core_answer::Refused;
+use slice_answer::Refused;
 use std::sync::Wait;
 
 // How far a run has got: how many turns it has left, and how many requests it made.

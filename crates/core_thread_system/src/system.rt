@@ -15,7 +15,7 @@ use address_map::{Checked, Config, LineAddr, SliceId, slice_of};
 use mshr_file::MissFile;
 use receipt_ledger::Port;
 use receipt_shares::{Blanks, SliceNames};
-use slice_core_answer::DeliveredNext;
+use slice_answer::DeliveredNext;
 use slice_lock::Slice;
 use slice_queues_message::Class;
 use std::alloc::{AllocError, Global};

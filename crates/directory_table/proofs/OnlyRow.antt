@@ -13,13 +13,13 @@ use Rattle.directory_table.specs.Law.{is_sent_inv, is_shared, is_written_back, r
 use Rattle.directory_table.specs.Law.{sends_only_copy, writer}
 use Rattle.directory_table.specs.Row.{shared_by}
 use Rattle.directory_table.specs.declared.state.DirState.{DirState}
-use Rattle.directory_table.specs.declared.state.DirState.TheVariants as states
+use Rattle.directory_table.specs.declared.state.DirState.TheVariants as dir_states
 use Rattle.directory_table.specs.declared.row.DirEvent.{DirEvent}
-use Rattle.directory_table.specs.declared.row.DirEvent.TheVariants as events
+use Rattle.directory_table.specs.declared.row.DirEvent.TheVariants as dir_events
 use Rattle.directory_table.specs.declared.row.DirSends.{DirSends}
-use Rattle.directory_table.specs.declared.row.DirSends.TheVariants as sends
+use Rattle.directory_table.specs.declared.row.DirSends.TheVariants as dir_sends
 use Rattle.directory_table.specs.declared.row.DirRow.{DirRow}
-use Rattle.directory_table.specs.declared.row.DirRow.TheVariants as rows
+use Rattle.directory_table.specs.declared.row.DirRow.TheVariants as dir_rows
 
 apart : {P : Type 0} → false ≡ true → P
 apart clash = absurd (cc clash)
@@ -36,26 +36,26 @@ same_sets one other small small_too same =
     ])
 
 is_sent_inv-has : (x : DirSends) (core : ℕ) → is_sent_inv x core ≡ has (invalidated_by x) core
-is_sent_inv-has sends.Nothing core = sym (has-zero core)
-is_sent_inv-has (sends.Data acks) core = sym (has-zero core)
-is_sent_inv-has sends.DataE core = sym (has-zero core)
-is_sent_inv-has (sends.DataAndInv acks invalidated) core = refl
-is_sent_inv-has (sends.FwdGetS to) core = sym (has-zero core)
-is_sent_inv-has (sends.FwdGetM to) core = sym (has-zero core)
-is_sent_inv-has sends.PutAck core = sym (has-zero core)
+is_sent_inv-has dir_sends.Nothing core = sym (has-zero core)
+is_sent_inv-has (dir_sends.Data acks) core = sym (has-zero core)
+is_sent_inv-has dir_sends.DataE core = sym (has-zero core)
+is_sent_inv-has (dir_sends.DataAndInv acks invalidated) core = refl
+is_sent_inv-has (dir_sends.FwdGetS to) core = sym (has-zero core)
+is_sent_inv-has (dir_sends.FwdGetM to) core = sym (has-zero core)
+is_sent_inv-has dir_sends.PutAck core = sym (has-zero core)
 
 -- ---- what is sent is known from these facts of it
 
 abbrev forwarded : Bool → Option CoreId → DirSends
-forwarded to_write None = sends.Nothing
-forwarded to_write (Some owner) = if to_write then sends.FwdGetM owner else sends.FwdGetS owner
+forwarded to_write None = dir_sends.Nothing
+forwarded to_write (Some owner) = if to_write then dir_sends.FwdGetM owner else dir_sends.FwdGetS owner
 
 abbrev sends_from : (put_ack inv only block to_write : Bool) → ℕ → Option CoreId → DirSends
 sends_from put_ack inv only block to_write cores to =
-    if put_ack then sends.PutAck
-    else if inv then sends.DataAndInv (count_of cores) cores
-    else if only then sends.DataE
-    else if block then sends.Data 0
+    if put_ack then dir_sends.PutAck
+    else if inv then dir_sends.DataAndInv (count_of cores) cores
+    else if only then dir_sends.DataE
+    else if block then dir_sends.Data 0
     else forwarded to_write to
 
 abbrev sends_told : DirSends → DirSends
@@ -64,13 +64,13 @@ sends_told x =
     (invalidated_by x) (forwarded_to x)
 
 sends_from-told : (x : DirSends) → AwaitsInvalidated x → sends_told x ≡ x
-sends_from-told sends.Nothing counted = refl
-sends_from-told (sends.Data acks) counted = ap (λ n. sends.Data n) (sym counted)
-sends_from-told sends.DataE counted = refl
-sends_from-told (sends.DataAndInv acks cores) counted = ap (λ n. sends.DataAndInv n cores) (sym counted)
-sends_from-told (sends.FwdGetS owner) counted = refl
-sends_from-told (sends.FwdGetM owner) counted = refl
-sends_from-told sends.PutAck counted = refl
+sends_from-told dir_sends.Nothing counted = refl
+sends_from-told (dir_sends.Data acks) counted = ap (λ n. dir_sends.Data n) (sym counted)
+sends_from-told dir_sends.DataE counted = refl
+sends_from-told (dir_sends.DataAndInv acks cores) counted = ap (λ n. dir_sends.DataAndInv n cores) (sym counted)
+sends_from-told (dir_sends.FwdGetS owner) counted = refl
+sends_from-told (dir_sends.FwdGetM owner) counted = refl
+sends_from-told dir_sends.PutAck counted = refl
 
 same_told : (x y : DirSends) → acknowledges_put x ≡ acknowledges_put y → sends_inv x ≡ sends_inv y
     → sends_only_copy x ≡ sends_only_copy y → sends_data x ≡ sends_data y
@@ -122,31 +122,31 @@ to_by (Some to) owner false g m get current owned named =
 -- ---- what the laws say of one row
 
 reads_ask : (event : DirEvent) → is_some (reader event) ≡ true → is_some (getter event) ≡ true
-reads_ask (events.GetS core) is = refl
-reads_ask (events.GetM core) is = apart is
-reads_ask (events.PutS core) is = apart is
-reads_ask (events.PutM core) is = apart is
-reads_ask events.DataHome is = apart is
+reads_ask (dir_events.GetS core) is = refl
+reads_ask (dir_events.GetM core) is = apart is
+reads_ask (dir_events.PutS core) is = apart is
+reads_ask (dir_events.PutM core) is = apart is
+reads_ask dir_events.DataHome is = apart is
 
 writes_ask : (event : DirEvent) → is_some (writer event) ≡ true → is_some (getter event) ≡ true
-writes_ask (events.GetM core) is = refl
-writes_ask (events.GetS core) is = apart is
-writes_ask (events.PutS core) is = apart is
-writes_ask (events.PutM core) is = apart is
-writes_ask events.DataHome is = apart is
+writes_ask (dir_events.GetM core) is = refl
+writes_ask (dir_events.GetS core) is = apart is
+writes_ask (dir_events.PutS core) is = apart is
+writes_ask (dir_events.PutM core) is = apart is
+writes_ask dir_events.DataHome is = apart is
 
 no_reader : (event : DirEvent) → is_some (writer event) ≡ true → is_some (reader event) ≡ false
-no_reader (events.GetM core) is = refl
-no_reader (events.GetS core) is = apart is
-no_reader (events.PutS core) is = refl
-no_reader (events.PutM core) is = refl
-no_reader events.DataHome is = refl
+no_reader (dir_events.GetM core) is = refl
+no_reader (dir_events.GetS core) is = apart is
+no_reader (dir_events.PutS core) is = refl
+no_reader (dir_events.PutM core) is = refl
+no_reader dir_events.DataHome is = refl
 
 current-unowned : (state : DirState) → (is_idle state || is_shared state) ≡ true → is_modified state ≡ false
-current-unowned states.I is = refl
-current-unowned states.S is = refl
-current-unowned states.M is = apart is
-current-unowned states.S_D is = refl
+current-unowned dir_states.I is = refl
+current-unowned dir_states.S is = refl
+current-unowned dir_states.M is = apart is
+current-unowned dir_states.S_D is = refl
 
 first : (o : Option CoreId) (P Q : CoreId → Type 0) → IfSome o (λ to. P to × Q to) → IfSome o P
 first None P Q both = both
@@ -158,13 +158,13 @@ owned-some (Some to) owner named is = ap (λ o. is_some o) named
 
 forwarded_either : (x : DirSends)
     → is_some (forwarded_to x) ≡ (is_some (forwarded_get_s x) || is_some (forwarded_get_m x))
-forwarded_either sends.Nothing = refl
-forwarded_either (sends.Data acks) = refl
-forwarded_either sends.DataE = refl
-forwarded_either (sends.DataAndInv acks invalidated) = refl
-forwarded_either (sends.FwdGetS to) = refl
-forwarded_either (sends.FwdGetM to) = refl
-forwarded_either sends.PutAck = refl
+forwarded_either dir_sends.Nothing = refl
+forwarded_either (dir_sends.Data acks) = refl
+forwarded_either dir_sends.DataE = refl
+forwarded_either (dir_sends.DataAndInv acks invalidated) = refl
+forwarded_either (dir_sends.FwdGetS to) = refl
+forwarded_either (dir_sends.FwdGetM to) = refl
+forwarded_either dir_sends.PutAck = refl
 
 or_right : (one other : Bool) → other ≡ true → (one || other) ≡ true
 or_right true other is = refl
@@ -215,8 +215,8 @@ module _ (state : DirState) (owner : Option CoreId) (event : DirEvent) (x : DirS
 -- ---- who owns the line afterwards
 
 abbrev owner_after : Bool → DirState → Option CoreId → DirEvent → Option CoreId
-owner_after exclusive state owner (events.GetM core) = Some core
-owner_after exclusive state owner (events.GetS core) = if exclusive && is_idle state then Some core else None
+owner_after exclusive state owner (dir_events.GetM core) = Some core
+owner_after exclusive state owner (dir_events.GetS core) = if exclusive && is_idle state then Some core else None
 owner_after exclusive state owner event = if is_written_back state owner event then None else owner
 
 given_up_or_kept : (b : Bool) (o owner : Option CoreId) → (b ≡ false → o ≡ owner) → (b ≡ true → o ≡ None)
@@ -225,15 +225,15 @@ given_up_or_kept true o owner kept given_up = given_up refl
 given_up_or_kept false o owner kept given_up = kept refl
 
 not_both : {P : Type 0} (state : DirState) → is_awaited state ≡ true → is_modified state ≡ true → P
-not_both states.I awaited modified = apart awaited
-not_both states.S awaited modified = apart awaited
-not_both states.M awaited modified = apart awaited
-not_both states.S_D awaited modified = apart modified
+not_both dir_states.I awaited modified = apart awaited
+not_both dir_states.S awaited modified = apart awaited
+not_both dir_states.M awaited modified = apart awaited
+not_both dir_states.S_D awaited modified = apart modified
 
 -- the row that goes on to this
 abbrev row_to : DirState → Option CoreId → ℕ → DirSends → Bool → DirRow
 row_to next owns shares sent writes =
-    rows.Go (record { state = next; owner = owns; sharers = shares; sends = sent; writes_home = writes })
+    dir_rows.Go (record { state = next; owner = owns; sharers = shares; sends = sent; writes_home = writes })
 
 -- a row that goes on and obeys the laws
 abbrev Goes : Bool → DirState → Option CoreId → ℕ → DirEvent → DirState → Option CoreId → ℕ → DirSends → Bool → Type 0
@@ -242,33 +242,34 @@ Goes exclusive state owner sharers event next owns shares sent writes =
 
 -- Who reads a line that nobody has becomes its owner under the setting, and is named as one.
 read-granted : (state : DirState) (exclusive : Bool) (owner : Option CoreId) (sharers : ℕ) (core : CoreId)
-    (next : DirState) (shares : ℕ) (sent : DirSends) (writes : Bool) → IsKept state owner sharers (events.GetS core)
-    → Goes exclusive state owner sharers (events.GetS core) next None shares sent writes
+    (next : DirState) (shares : ℕ) (sent : DirSends) (writes : Bool) → IsKept state owner sharers (dir_events.GetS core)
+    → Goes exclusive state owner sharers (dir_events.GetS core) next None shares sent writes
     → None ≡ (if exclusive && is_idle state then Some core else None)
-read-granted states.I true owner sharers core next shares sent writes kept row =
+read-granted dir_states.I true owner sharers core next shares sent writes kept row =
     let nobody = has-zero core.0 in
     let none = ap (λ set. has set core.0) (kept.sharers_in_s.none refl) ∙ nobody in
     let shared = row.shared core.0 kept.core ∙ none in
     apart (sym (ap (λ b. b || false) shared) ∙ row.known kept.core)
-read-granted states.I false owner sharers core next shares sent writes kept row = refl
-read-granted states.S true owner sharers core next shares sent writes kept row = refl
-read-granted states.S false owner sharers core next shares sent writes kept row = refl
-read-granted states.M true owner sharers core next shares sent writes kept row = refl
-read-granted states.M false owner sharers core next shares sent writes kept row = refl
-read-granted states.S_D true owner sharers core next shares sent writes kept row = refl
-read-granted states.S_D false owner sharers core next shares sent writes kept row = refl
+read-granted dir_states.I false owner sharers core next shares sent writes kept row = refl
+read-granted dir_states.S true owner sharers core next shares sent writes kept row = refl
+read-granted dir_states.S false owner sharers core next shares sent writes kept row = refl
+read-granted dir_states.M true owner sharers core next shares sent writes kept row = refl
+read-granted dir_states.M false owner sharers core next shares sent writes kept row = refl
+read-granted dir_states.S_D true owner sharers core next shares sent writes kept row = refl
+read-granted dir_states.S_D false owner sharers core next shares sent writes kept row = refl
 
 -- An owner after a read was made one by it.
 read-owner : (exclusive : Bool) (state : DirState) (owner : Option CoreId) (sharers : ℕ) (core : CoreId)
     (next : DirState) (c : CoreId) (shares : ℕ) (sent : DirSends) (writes : Bool)
-    → IsKept state owner sharers (events.GetS core)
-    → Goes exclusive state owner sharers (events.GetS core) next (Some c) shares sent writes
+    → IsKept state owner sharers (dir_events.GetS core)
+    → Goes exclusive state owner sharers (dir_events.GetS core) next (Some c) shares sent writes
     → Some c ≡ (if exclusive && is_idle state then Some core else None)
 read-owner exclusive state owner sharers core next c shares sent writes kept row =
     elim row.granted.asked [
       | inl was ↦
           let modified = sym kept.owner_in_m ∙ ap (λ o. is_some o) was in
-          let read = read-told state owner (events.GetS core) sent kept.owner_in_m row.served row.replied ∙ modified in
+          let read = read-told state owner (dir_events.GetS core) sent kept.owner_in_m row.served row.replied
+              ∙ modified in
           let awaited = row.awaited.lasts ∙ ap (λ b. b || is_awaited state && true) read in
           not_both next awaited (sym (row.owner_in_m kept.owner_in_m))
       | inr asked ↦ elim asked [
@@ -281,29 +282,32 @@ owner-told : (exclusive : Bool) (state : DirState) (owner : Option CoreId) (shar
     (next : DirState) (owns : Option CoreId) (shares : ℕ) (sent : DirSends) (writes : Bool)
     → IsKept state owner sharers event → Goes exclusive state owner sharers event next owns shares sent writes
     → owns ≡ owner_after exclusive state owner event
-owner-told exclusive state owner sharers (events.GetM core) next owns shares sent writes kept row = row.granted.granted
-owner-told exclusive state owner sharers (events.GetS core) next None shares sent writes kept row =
+owner-told exclusive state owner sharers (dir_events.GetM core) next owns shares sent writes kept row =
+    row.granted.granted
+owner-told exclusive state owner sharers (dir_events.GetS core) next None shares sent writes kept row =
     read-granted state exclusive owner sharers core next shares sent writes kept row
-owner-told exclusive state owner sharers (events.GetS core) next (Some c) shares sent writes kept row =
+owner-told exclusive state owner sharers (dir_events.GetS core) next (Some c) shares sent writes kept row =
     read-owner exclusive state owner sharers core next c shares sent writes kept row
-owner-told exclusive state owner sharers (events.PutS core) next owns shares sent writes kept row =
-    given_up_or_kept (is_written_back state owner (events.PutS core)) owns owner row.granted.kept row.granted.given_up
-owner-told exclusive state owner sharers (events.PutM core) next owns shares sent writes kept row =
-    given_up_or_kept (is_written_back state owner (events.PutM core)) owns owner row.granted.kept row.granted.given_up
-owner-told exclusive state owner sharers events.DataHome next owns shares sent writes kept row =
-    given_up_or_kept (is_written_back state owner events.DataHome) owns owner row.granted.kept row.granted.given_up
+owner-told exclusive state owner sharers (dir_events.PutS core) next owns shares sent writes kept row =
+    given_up_or_kept (is_written_back state owner (dir_events.PutS core)) owns owner row.granted.kept
+        row.granted.given_up
+owner-told exclusive state owner sharers (dir_events.PutM core) next owns shares sent writes kept row =
+    given_up_or_kept (is_written_back state owner (dir_events.PutM core)) owns owner row.granted.kept
+        row.granted.given_up
+owner-told exclusive state owner sharers dir_events.DataHome next owns shares sent writes kept row =
+    given_up_or_kept (is_written_back state owner dir_events.DataHome) owns owner row.granted.kept row.granted.given_up
 
 -- ---- the next state
 
 abbrev state_from : (owned awaited : Bool) → ℕ → DirState
-state_from owned awaited shares = if owned then states.M else if awaited then states.S_D else shared_by shares
+state_from owned awaited shares = if owned then dir_states.M else if awaited then dir_states.S_D else shared_by shares
 
 state_from-told : (state : DirState) (shares : ℕ) → HasSharersInS state shares
     → state_from (is_modified state) (is_awaited state) shares ≡ state
-state_from-told states.I shares in_s = ap (λ set. shared_by set) (in_s.none refl)
-state_from-told states.S shares in_s = rw (ne_eqb shares 0 (in_s.some refl)) refl
-state_from-told states.M shares in_s = refl
-state_from-told states.S_D shares in_s = refl
+state_from-told dir_states.I shares in_s = ap (λ set. shared_by set) (in_s.none refl)
+state_from-told dir_states.S shares in_s = rw (ne_eqb shares 0 (in_s.some refl)) refl
+state_from-told dir_states.M shares in_s = refl
+state_from-told dir_states.S_D shares in_s = refl
 
 same_state : (a b : DirState) (s t : ℕ) → HasSharersInS a s → HasSharersInS b t → is_modified a ≡ is_modified b
     → is_awaited a ≡ is_awaited b → s ≡ t → a ≡ b
@@ -369,20 +373,20 @@ pub lawful-only : (exclusive : Bool) (state : DirState) (owner : Option CoreId) 
     (row other : DirRow) → IsKept state owner sharers event → HasSets row → HasSets other
     → IsLawful exclusive state owner sharers event row → IsLawful exclusive state owner sharers event other
     → other ≡ row
-lawful-only exclusive state owner sharers event (rows.Go step) (rows.Go next) kept sets sets_too one other =
+lawful-only exclusive state owner sharers event (dir_rows.Go step) (dir_rows.Go next) kept sets sets_too one other =
     same_goes exclusive state owner sharers event next.state step.state next.owner step.owner next.sharers step.sharers
     next.sends step.sends next.writes_home step.writes_home kept sets_too sets other one
-lawful-only exclusive state owner sharers event rows.Blocked rows.Blocked kept sets sets_too one other = refl
-lawful-only exclusive state owner sharers event rows.NoEntry rows.NoEntry kept sets sets_too one other = refl
-lawful-only exclusive state owner sharers event (rows.Go step) rows.Blocked kept sets sets_too one other =
+lawful-only exclusive state owner sharers event dir_rows.Blocked dir_rows.Blocked kept sets sets_too one other = refl
+lawful-only exclusive state owner sharers event dir_rows.NoEntry dir_rows.NoEntry kept sets sets_too one other = refl
+lawful-only exclusive state owner sharers event (dir_rows.Go step) dir_rows.Blocked kept sets sets_too one other =
     apart (one.blocked ∙ sym other.blocked)
-lawful-only exclusive state owner sharers event rows.Blocked (rows.Go next) kept sets sets_too one other =
+lawful-only exclusive state owner sharers event dir_rows.Blocked (dir_rows.Go next) kept sets sets_too one other =
     apart (other.blocked ∙ sym one.blocked)
-lawful-only exclusive state owner sharers event (rows.Go step) rows.NoEntry kept sets sets_too one other =
+lawful-only exclusive state owner sharers event (dir_rows.Go step) dir_rows.NoEntry kept sets sets_too one other =
     apart (other.entry kept.owner_in_m ∙ sym (one.entry kept.owner_in_m))
-lawful-only exclusive state owner sharers event rows.Blocked rows.NoEntry kept sets sets_too one other =
+lawful-only exclusive state owner sharers event dir_rows.Blocked dir_rows.NoEntry kept sets sets_too one other =
     apart (other.entry kept.owner_in_m ∙ sym (one.entry kept.owner_in_m))
-lawful-only exclusive state owner sharers event rows.NoEntry (rows.Go next) kept sets sets_too one other =
+lawful-only exclusive state owner sharers event dir_rows.NoEntry (dir_rows.Go next) kept sets sets_too one other =
     apart (one.entry kept.owner_in_m ∙ sym (other.entry kept.owner_in_m))
-lawful-only exclusive state owner sharers event rows.NoEntry rows.Blocked kept sets sets_too one other =
+lawful-only exclusive state owner sharers event dir_rows.NoEntry dir_rows.Blocked kept sets sets_too one other =
     apart (one.entry kept.owner_in_m ∙ sym (other.entry kept.owner_in_m))

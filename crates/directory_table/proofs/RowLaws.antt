@@ -11,10 +11,10 @@ use Rattle.directory_table.specs.Law.{IsLawful, IsSet, HasSets, messages_to}
 use Rattle.directory_table.specs.Row.{cell, row_of}
 use Rattle.directory_table.specs.declared.state.DirEntry.{DirEntry}
 use Rattle.directory_table.specs.declared.state.DirState.{DirState}
-use Rattle.directory_table.specs.declared.state.DirState.TheVariants as states
+use Rattle.directory_table.specs.declared.state.DirState.TheVariants as dir_states
 use Rattle.directory_table.specs.declared.row.DirEvent.{DirEvent}
-use Rattle.directory_table.specs.declared.row.DirEvent.TheVariants as events
-use Rattle.directory_table.specs.declared.row.DirSends.TheVariants as sends
+use Rattle.directory_table.specs.declared.row.DirEvent.TheVariants as dir_events
+use Rattle.directory_table.specs.declared.row.DirSends.TheVariants as dir_sends
 
 joined : (cores core : ℕ) → core < 64 → IsTrue (has (with cores core) core)
 joined cores core within = rw (has-with_same cores core within) refl
@@ -34,51 +34,52 @@ one_at_most false false = omega arith
 
 -- The requester is sent the data, and each other sharer an invalidation.
 one_message : (requester : CoreId) (sharers acks core : ℕ)
-    → messages_to (events.GetM requester) (sends.DataAndInv acks (without sharers requester.0)) core ≤ 1
+    → messages_to (dir_events.GetM requester) (dir_sends.DataAndInv acks (without sharers requester.0)) core ≤ 1
 one_message requester sharers acks core =
     rw (has-without sharers requester.0 core) (one_at_most (core == requester.0) (has sharers core))
 
 -- The laws hold in each cell.
 pub cell-lawful : (exclusive : Bool) (state : DirState) (owner : Option CoreId) (sharers : ℕ) (event : DirEvent)
     → IsLawful exclusive state owner sharers event (cell exclusive state owner sharers event)
-cell-lawful true states.I owner sharers (events.GetS core) = search rules
-cell-lawful false states.I owner sharers (events.GetS core) = search (rules, has-only_below, alone, only-some)
-cell-lawful exclusive states.S owner sharers (events.GetS core) = search (rules, has-with_below, joined, with-some)
-cell-lawful exclusive states.S owner sharers (events.GetM core) =
+cell-lawful true dir_states.I owner sharers (dir_events.GetS core) = search rules
+cell-lawful false dir_states.I owner sharers (dir_events.GetS core) = search (rules, has-only_below, alone, only-some)
+cell-lawful exclusive dir_states.S owner sharers (dir_events.GetS core) =
+    search (rules, has-with_below, joined, with-some)
+cell-lawful exclusive dir_states.S owner sharers (dir_events.GetM core) =
     search (rules, has-without, has-zero, one_message)
-cell-lawful exclusive states.S owner sharers (events.PutS core) =
+cell-lawful exclusive dir_states.S owner sharers (dir_events.PutS core) =
     elim (eqb_tells (without sharers core.0) 0) [
       | inl none ↦ rw none.0 (search (rules, has-without, none.1))
       | inr left ↦ rw left.0 (search (rules, has-without))
     ]
-cell-lawful exclusive states.S owner sharers (events.PutM core) =
+cell-lawful exclusive dir_states.S owner sharers (dir_events.PutM core) =
     elim (eqb_tells (without sharers core.0) 0) [
       | inl none ↦ rw none.0 (search (rules, has-without, none.1))
       | inr left ↦ rw left.0 (search (rules, has-without))
     ]
-cell-lawful exclusive states.M (Some from) sharers (events.GetS core) =
+cell-lawful exclusive dir_states.M (Some from) sharers (dir_events.GetS core) =
     elim (eqb_tells from.0 core.0) [
       | inl own ↦ rw own.0 (search rules)
       | inr other ↦ rw other.0 (search (rules, other.0, has-pair, joined))
     ]
-cell-lawful exclusive states.M (Some from) sharers (events.GetM core) =
+cell-lawful exclusive dir_states.M (Some from) sharers (dir_events.GetM core) =
     elim (eqb_tells from.0 core.0) [
       | inl own ↦ rw own.0 (search rules)
       | inr other ↦ rw other.0 (search (rules, other.0))
     ]
-cell-lawful exclusive states.M (Some from) sharers (events.PutS core) =
+cell-lawful exclusive dir_states.M (Some from) sharers (dir_events.PutS core) =
     elim (eqb_tells from.0 core.0) [
       | inl own ↦ rw own.0 (search rules)
       | inr other ↦ rw other.0 (search (rules, other.0))
     ]
-cell-lawful exclusive states.M (Some from) sharers (events.PutM core) =
+cell-lawful exclusive dir_states.M (Some from) sharers (dir_events.PutM core) =
     elim (eqb_tells from.0 core.0) [
       | inl own ↦ rw own.0 (search (rules, own.0))
       | inr other ↦ rw other.0 (search (rules, other.0))
     ]
-cell-lawful exclusive states.S_D owner sharers (events.PutS core) = search (rules, has-without)
-cell-lawful exclusive states.S_D owner sharers (events.PutM core) = search (rules, has-without)
-cell-lawful exclusive states.S_D owner sharers events.DataHome =
+cell-lawful exclusive dir_states.S_D owner sharers (dir_events.PutS core) = search (rules, has-without)
+cell-lawful exclusive dir_states.S_D owner sharers (dir_events.PutM core) = search (rules, has-without)
+cell-lawful exclusive dir_states.S_D owner sharers dir_events.DataHome =
     elim (eqb_tells sharers 0) [
       | inl none ↦ rw none.0 (search (rules, none.1))
       | inr left ↦ rw left.0 (search rules)
@@ -118,36 +119,41 @@ set-none other past = has-zero other
 -- The sets of each cell have only cores that there can be.
 pub cell-sets : (exclusive : Bool) (state : DirState) (owner : Option CoreId) (sharers : ℕ) (event : DirEvent)
     → IsSet sharers → HasSets (cell exclusive state owner sharers event)
-cell-sets true states.I owner sharers (events.GetS core) small = (small, set-none)
-cell-sets false states.I owner sharers (events.GetS core) small = (set-only core.0, set-none)
-cell-sets exclusive states.I owner sharers (events.GetM core) small = (small, set-none)
-cell-sets exclusive states.I owner sharers (events.PutS core) small = (small, set-none)
-cell-sets exclusive states.I owner sharers (events.PutM core) small = (small, set-none)
-cell-sets exclusive states.S owner sharers (events.GetS core) small = (set-with sharers core.0 small, set-none)
-cell-sets exclusive states.S owner sharers (events.GetM core) small = (set-none, set-without sharers core.0 small)
-cell-sets exclusive states.S owner sharers (events.PutS core) small = (set-without sharers core.0 small, set-none)
-cell-sets exclusive states.S owner sharers (events.PutM core) small = (set-without sharers core.0 small, set-none)
-cell-sets exclusive states.M (Some from) sharers (events.GetS core) small =
+cell-sets true dir_states.I owner sharers (dir_events.GetS core) small = (small, set-none)
+cell-sets false dir_states.I owner sharers (dir_events.GetS core) small = (set-only core.0, set-none)
+cell-sets exclusive dir_states.I owner sharers (dir_events.GetM core) small = (small, set-none)
+cell-sets exclusive dir_states.I owner sharers (dir_events.PutS core) small = (small, set-none)
+cell-sets exclusive dir_states.I owner sharers (dir_events.PutM core) small = (small, set-none)
+cell-sets exclusive dir_states.S owner sharers (dir_events.GetS core) small = (set-with sharers core.0 small, set-none)
+cell-sets exclusive dir_states.S owner sharers (dir_events.GetM core) small =
+    (set-none, set-without sharers core.0 small)
+cell-sets exclusive dir_states.S owner sharers (dir_events.PutS core) small =
+    (set-without sharers core.0 small, set-none)
+cell-sets exclusive dir_states.S owner sharers (dir_events.PutM core) small =
+    (set-without sharers core.0 small, set-none)
+cell-sets exclusive dir_states.M (Some from) sharers (dir_events.GetS core) small =
     elim (eqb_tells from.0 core.0) [
       | inl own ↦ rw own.0 _
       | inr other ↦ rw other.0 (set-with (only from.0) core.0 (set-only from.0), set-none)
     ]
-cell-sets exclusive states.M (Some from) sharers (events.GetM core) small =
+cell-sets exclusive dir_states.M (Some from) sharers (dir_events.GetM core) small =
     elim (eqb_tells from.0 core.0) [
       | inl own ↦ rw own.0 _
       | inr other ↦ rw other.0 (small, set-none)
     ]
-cell-sets exclusive states.M (Some from) sharers (events.PutS core) small =
+cell-sets exclusive dir_states.M (Some from) sharers (dir_events.PutS core) small =
     elim (eqb_tells from.0 core.0) [
       | inl own ↦ rw own.0 _
       | inr other ↦ rw other.0 (small, set-none)
     ]
-cell-sets exclusive states.M (Some from) sharers (events.PutM core) small =
+cell-sets exclusive dir_states.M (Some from) sharers (dir_events.PutM core) small =
     elim (eqb_tells from.0 core.0) [
       | inl own ↦ rw own.0 (small, set-none)
       | inr other ↦ rw other.0 (small, set-none)
     ]
-cell-sets exclusive states.S_D owner sharers (events.PutS core) small = (set-without sharers core.0 small, set-none)
-cell-sets exclusive states.S_D owner sharers (events.PutM core) small = (set-without sharers core.0 small, set-none)
-cell-sets exclusive states.S_D owner sharers events.DataHome small = (small, set-none)
+cell-sets exclusive dir_states.S_D owner sharers (dir_events.PutS core) small =
+    (set-without sharers core.0 small, set-none)
+cell-sets exclusive dir_states.S_D owner sharers (dir_events.PutM core) small =
+    (set-without sharers core.0 small, set-none)
+cell-sets exclusive dir_states.S_D owner sharers dir_events.DataHome small = (small, set-none)
 cell-sets _ _ _ _ _ small = search rules

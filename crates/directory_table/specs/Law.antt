@@ -5,49 +5,49 @@ use Rattle.std.specs.Prelude.{Option, Some, None, is_some, IfSome, IsTrue, IsFal
 use Rattle.address_map.specs.declared.address.CoreId.{CoreId}
 use Rattle.address_map.specs.CoreSet.{count_of, has}
 use Rattle.directory_table.specs.declared.state.DirState.{DirState}
-use Rattle.directory_table.specs.declared.state.DirState.TheVariants as states
+use Rattle.directory_table.specs.declared.state.DirState.TheVariants as dir_states
 use Rattle.directory_table.specs.declared.row.DirEvent.{DirEvent}
-use Rattle.directory_table.specs.declared.row.DirEvent.TheVariants as events
+use Rattle.directory_table.specs.declared.row.DirEvent.TheVariants as dir_events
 use Rattle.directory_table.specs.declared.row.DirSends.{DirSends}
-use Rattle.directory_table.specs.declared.row.DirSends.TheVariants as sends
+use Rattle.directory_table.specs.declared.row.DirSends.TheVariants as dir_sends
 use Rattle.directory_table.specs.declared.row.DirRow.{DirRow}
-use Rattle.directory_table.specs.declared.row.DirRow.TheVariants as rows
+use Rattle.directory_table.specs.declared.row.DirRow.TheVariants as dir_rows
 
 -- Where the row goes on, its state, owner, sharers, what it sends and whether it writes the home copy have this
 -- property.
 abbrev pub IfGo : DirRow → (DirState → Option CoreId → ℕ → DirSends → Bool → Type 0) → Type 0
-IfGo (rows.Go step) P = P step.state step.owner step.sharers step.sends step.writes_home
-IfGo rows.Blocked P = Unit {0}
-IfGo rows.NoEntry P = Unit {0}
+IfGo (dir_rows.Go step) P = P step.state step.owner step.sharers step.sends step.writes_home
+IfGo dir_rows.Blocked P = Unit {0}
+IfGo dir_rows.NoEntry P = Unit {0}
 
 abbrev pub has_entry : DirRow → Bool
-has_entry rows.NoEntry = false
+has_entry dir_rows.NoEntry = false
 has_entry _ = true
 
 abbrev pub is_blocked : DirRow → Bool
-is_blocked rows.Blocked = true
+is_blocked dir_rows.Blocked = true
 is_blocked _ = false
 
 -- ---- states, owners and sharers
 
 -- nobody has the line
 abbrev pub is_idle : DirState → Bool
-is_idle states.I = true
+is_idle dir_states.I = true
 is_idle _ = false
 
 -- some cores may read it
 abbrev pub is_shared : DirState → Bool
-is_shared states.S = true
+is_shared dir_states.S = true
 is_shared _ = false
 
 -- one core may write it
 abbrev pub is_modified : DirState → Bool
-is_modified states.M = true
+is_modified dir_states.M = true
 is_modified _ = false
 
 -- its block is on the way home
 abbrev pub is_awaited : DirState → Bool
-is_awaited states.S_D = true
+is_awaited dir_states.S_D = true
 is_awaited _ = false
 
 -- the core of the entry, if it has one, or that of the event, is this one
@@ -58,27 +58,27 @@ is_named None core = false
 -- ---- events
 
 abbrev pub reader : DirEvent → Option CoreId
-reader (events.GetS core) = Some core
+reader (dir_events.GetS core) = Some core
 reader _ = None
 
 abbrev pub writer : DirEvent → Option CoreId
-writer (events.GetM core) = Some core
+writer (dir_events.GetM core) = Some core
 writer _ = None
 
 -- the core that asks for the line, to read or to write it
 abbrev pub getter : DirEvent → Option CoreId
-getter (events.GetS core) = Some core
+getter (dir_events.GetS core) = Some core
 getter event = writer event
 
 -- the core that asks for something
 abbrev pub requester : DirEvent → Option CoreId
-requester (events.PutS core) = Some core
-requester (events.PutM core) = Some core
+requester (dir_events.PutS core) = Some core
+requester (dir_events.PutM core) = Some core
 requester event = getter event
 
 abbrev pub is_put : DirEvent → Bool
-is_put (events.PutS core) = true
-is_put (events.PutM core) = true
+is_put (dir_events.PutS core) = true
+is_put (dir_events.PutM core) = true
 is_put _ = false
 
 -- a set can have the core that asks
@@ -86,38 +86,38 @@ abbrev pub IsOfSet : DirEvent → Type 0
 IsOfSet event = IfSome (requester event) (λ core. core.0 < 64)
 
 abbrev pub is_data_home : DirEvent → Bool
-is_data_home events.DataHome = true
+is_data_home dir_events.DataHome = true
 is_data_home _ = false
 
 -- The protocol can bring the event: a block comes home while it is awaited, and requests at any time, for a Put may
 -- come late. Only the owner never asks for its own line, nor gives it up as one that it can only read.
 abbrev pub can_come : DirState → Option CoreId → DirEvent → Bool
-can_come state owner (events.GetS core) = not (is_named owner core.0)
-can_come state owner (events.GetM core) = not (is_named owner core.0)
-can_come state owner (events.PutS core) = not (is_named owner core.0)
-can_come state owner (events.PutM core) = true
-can_come state owner events.DataHome = is_awaited state
+can_come state owner (dir_events.GetS core) = not (is_named owner core.0)
+can_come state owner (dir_events.GetM core) = not (is_named owner core.0)
+can_come state owner (dir_events.PutS core) = not (is_named owner core.0)
+can_come state owner (dir_events.PutM core) = true
+can_come state owner dir_events.DataHome = is_awaited state
 
 -- the owner writes the line back
 abbrev pub is_written_back : DirState → Option CoreId → DirEvent → Bool
-is_written_back states.M owner (events.PutM core) = is_named owner core.0
+is_written_back dir_states.M owner (dir_events.PutM core) = is_named owner core.0
 is_written_back _ _ _ = false
 
 -- ---- messages
 
 -- the home copy goes to the requester
 abbrev pub sends_data : DirSends → Bool
-sends_data (sends.Data acks) = true
-sends_data sends.DataE = true
-sends_data (sends.DataAndInv acks invalidated) = true
+sends_data (dir_sends.Data acks) = true
+sends_data dir_sends.DataE = true
+sends_data (dir_sends.DataAndInv acks invalidated) = true
 sends_data _ = false
 
 abbrev pub sends_only_copy : DirSends → Bool
-sends_only_copy sends.DataE = true
+sends_only_copy dir_sends.DataE = true
 sends_only_copy _ = false
 
 abbrev pub acknowledges_put : DirSends → Bool
-acknowledges_put sends.PutAck = true
+acknowledges_put dir_sends.PutAck = true
 acknowledges_put _ = false
 
 -- the requester is sent a message
@@ -126,24 +126,24 @@ answers sent = sends_data sent || acknowledges_put sent
 
 -- the core to which the request is forwarded, as a GetS or as a GetM
 abbrev pub forwarded_get_s : DirSends → Option CoreId
-forwarded_get_s (sends.FwdGetS owner) = Some owner
+forwarded_get_s (dir_sends.FwdGetS owner) = Some owner
 forwarded_get_s _ = None
 
 abbrev pub forwarded_get_m : DirSends → Option CoreId
-forwarded_get_m (sends.FwdGetM owner) = Some owner
+forwarded_get_m (dir_sends.FwdGetM owner) = Some owner
 forwarded_get_m _ = None
 
 abbrev pub forwarded_to : DirSends → Option CoreId
-forwarded_to (sends.FwdGetS owner) = Some owner
+forwarded_to (dir_sends.FwdGetS owner) = Some owner
 forwarded_to sent = forwarded_get_m sent
 
 -- invalidations go out; one of them to this core
 abbrev pub sends_inv : DirSends → Bool
-sends_inv (sends.DataAndInv acks invalidated) = true
+sends_inv (dir_sends.DataAndInv acks invalidated) = true
 sends_inv _ = false
 
 abbrev pub is_sent_inv : DirSends → ℕ → Bool
-is_sent_inv (sends.DataAndInv acks invalidated) core = has invalidated core
+is_sent_inv (dir_sends.DataAndInv acks invalidated) core = has invalidated core
 is_sent_inv _ core = false
 
 abbrev pub messages_to : DirEvent → DirSends → ℕ → ℕ
@@ -200,8 +200,8 @@ pub record Invalidates (state : DirState) (sharers : ℕ) (event : DirEvent) (se
 
 -- The requester is told to await as many acknowledgements as cores are sent an invalidation.
 abbrev pub AwaitsInvalidated : DirSends → Type 0
-AwaitsInvalidated (sends.Data acks) = acks ≡ 0
-AwaitsInvalidated (sends.DataAndInv acks invalidated) = acks ≡ count_of invalidated
+AwaitsInvalidated (dir_sends.Data acks) = acks ≡ 0
+AwaitsInvalidated (dir_sends.DataAndInv acks invalidated) = acks ≡ count_of invalidated
 AwaitsInvalidated _ = Unit {0}
 
 -- The set has exactly the cores that pass the test.
@@ -215,14 +215,14 @@ pub record HasSharersInS (state : DirState) (sharers : ℕ) : Type 0 where
 
 -- whether a core is a sharer afterwards, by whether it was one
 abbrev pub stays_sharer : Bool → DirState → Option CoreId → DirEvent → Bool → ℕ → Bool
-stays_sharer false states.I owner (events.GetS reads) was core = core == reads.0
-stays_sharer exclusive states.S owner (events.GetS reads) was core = was || core == reads.0
-stays_sharer exclusive states.M (Some owner) (events.GetS reads) was core = core == owner.0 || core == reads.0
-stays_sharer exclusive states.S owner (events.GetM writes) was core = false
-stays_sharer exclusive states.S owner (events.PutS leaves) was core = was && not (core == leaves.0)
-stays_sharer exclusive states.S owner (events.PutM leaves) was core = was && not (core == leaves.0)
-stays_sharer exclusive states.S_D owner (events.PutS leaves) was core = was && not (core == leaves.0)
-stays_sharer exclusive states.S_D owner (events.PutM leaves) was core = was && not (core == leaves.0)
+stays_sharer false dir_states.I owner (dir_events.GetS reads) was core = core == reads.0
+stays_sharer exclusive dir_states.S owner (dir_events.GetS reads) was core = was || core == reads.0
+stays_sharer exclusive dir_states.M (Some owner) (dir_events.GetS reads) was core = core == owner.0 || core == reads.0
+stays_sharer exclusive dir_states.S owner (dir_events.GetM writes) was core = false
+stays_sharer exclusive dir_states.S owner (dir_events.PutS leaves) was core = was && not (core == leaves.0)
+stays_sharer exclusive dir_states.S owner (dir_events.PutM leaves) was core = was && not (core == leaves.0)
+stays_sharer exclusive dir_states.S_D owner (dir_events.PutS leaves) was core = was && not (core == leaves.0)
+stays_sharer exclusive dir_states.S_D owner (dir_events.PutM leaves) was core = was && not (core == leaves.0)
 stays_sharer _ _ _ _ was _ = was
 
 abbrev pub is_sharer_after : Bool → DirState → Option CoreId → ℕ → DirEvent → ℕ → Bool
@@ -279,7 +279,7 @@ abbrev pub IsSet : ℕ → Type 0
 IsSet cores = (core : ℕ) → 64 ≤ core → has cores core ≡ false
 
 abbrev pub invalidated_by : DirSends → ℕ
-invalidated_by (sends.DataAndInv acks invalidated) = invalidated
+invalidated_by (dir_sends.DataAndInv acks invalidated) = invalidated
 invalidated_by _ = 0
 
 -- The row's sharers are such a set, and so are those whom it invalidates.

@@ -18,8 +18,8 @@ use Rattle.drain.proofs.Sums.{IsAdditive, only-at}
 use Rattle.receipt_ledger.specs.History.{receipts_in}
 use Rattle.receipt_ledger.specs.Port.{AreOwn, entries_of}
 use Rattle.receipt_ledger.specs.declared.receipt.Receipt.{Receipt}
-use Rattle.slice_core_log.specs.Log.{added, added_by, named}
-use Rattle.slice_core_log.specs.declared.entry.Entry.{Entry}
+use Rattle.slice_log.specs.Log.{added_to, added_by, named}
+use Rattle.slice_log.specs.declared.entry.Entry.{Entry}
 use Rattle.address_map.specs.Place.{is_of_slice}
 
 -- what the receipts add to a word
@@ -31,12 +31,12 @@ adds-additive word = record {
   none = refl;
   both = λ xs ys.
       ap (λ (entries : List Entry). named entries word.0) (map-append (λ (r : Receipt). r.entry) xs ys)
-      ∙ sum_by-append (added word.0) (entries_of xs) (entries_of ys);
+      ∙ sum_by-append (added_to word.0) (entries_of xs) (entries_of ys);
 }
 
 -- An entry on a word of another slice adds nothing.
 added-elsewhere : (c : Config) (slice : ℕ) (word : WordAddr) (e : Entry) → is_of_slice c slice e.word ≡ true
-    → (slice ≡ home_of c word → ⊥) → added word.0 e ≡ 0
+    → (slice ≡ home_of c word → ⊥) → added_to word.0 e ≡ 0
 added-elsewhere c slice word e here other =
     let home : e.word.0 / 8 % c.slices ≡ slice = eqb-true _ slice here in
     ap (λ b. if b then added_by e.op else 0)
@@ -48,7 +48,7 @@ adds-elsewhere c slice core word [] own other = refl
 adds-elsewhere c slice core word (r ∷ receipts) own other =
     let rest = adds-elsewhere c slice core word receipts (λ place. own (suc place)) other in
     let here = added-elsewhere c slice word r.entry (own 0 r refl).entry.word other in
-    let whole = sum_by-cons (added word.0) r.entry (entries_of receipts) in
+    let whole = sum_by-cons (added_to word.0) r.entry (entries_of receipts) in
     omega (arith, rest, here, whole)
 
 -- So do receipts of another slice, of whichever cores.

@@ -9,7 +9,7 @@ use Rattle.drain.specs.Whole.{AreWhole}
 use Rattle.drain.specs.declared.report.CounterValue.{CounterValue}
 use Rattle.receipt_ledger.specs.Port.{entries_of}
 use Rattle.receipt_ledger.specs.declared.receipt.Receipt.{Receipt}
-use Rattle.slice_core_log.specs.Log.{named}
+use Rattle.slice_log.specs.Log.{named}
 use Rattle.address_map.specs.Place.{is_of_slice}
 use Rattle.slice_lock.specs.Settled.{AreSettled}
 

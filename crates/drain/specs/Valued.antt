@@ -8,7 +8,7 @@ use Rattle.drain.specs.Receipts.{ports_of}
 use Rattle.drain.specs.declared.report.CounterValue.{CounterValue}
 use Rattle.receipt_ledger.specs.History.{receipts_in}
 use Rattle.receipt_ledger.specs.Port.{entries_of}
-use Rattle.slice_core_log.specs.Log.{named}
+use Rattle.slice_log.specs.Log.{named}
 use Rattle.address_map.specs.Place.{is_of_slice}
 
 -- the number of the slice that has the word

@@ -3,7 +3,7 @@ ghost use Rattle.std.specs.Fmt.{WritesInCalls};
 ghost use Rattle.std.specs.Io.KnownBytes.{Appends};
 ghost use Rattle.litmus.specs.Check.{IsChecked, IsNotChecked, status_of, text_of_reason, text_of_verdict};
 
-use litmus_script::Answers;
+use litmus_script::TextWriter;
 use litmus_text::TextFault;
 use std::alloc::Global;
 use std::fmt;
@@ -24,7 +24,7 @@ fn print_verdict<W: Write>(verdict: Verdict, out: &mut W) -> Result<(), TextFaul
     ensures printed { OnOk result (Appends (W.contents out.old) (W.contents out.new) (text_of_verdict verdict)) }
     ensures fault { IfErr result (λ fault. fault ≡ TextFault.CannotWrite) }
 {
-    let mut answers = Answers { out };
+    let mut answers = TextWriter { out };
     match write_verdict(verdict, &mut answers) {
         Ok(()) => Ok(()),
         Err(_) => Err(TextFault::CannotWrite),

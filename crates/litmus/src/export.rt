@@ -4,7 +4,7 @@ ghost use Rattle.litmus_command_line.specs.CommandLine.{number_of};
 ghost use Rattle.protocol_murphi.specs.Model.{model_of};
 
 use litmus_command_line::ModelCores;
-use litmus_script::Answers;
+use litmus_script::TextWriter;
 use litmus_text::TextFault;
 use protocol_murphi::write_model;
 use std::io::Write;
@@ -37,7 +37,7 @@ fn print_model<W: Write>(
     ensures printed { OnOk result (Appends (W.contents out.old) (W.contents out.new)
         (model_of exclusive closed cores)) }
 {
-    let mut answers = Answers { out };
+    let mut answers = TextWriter { out };
     match write_model(exclusive, closed, cores, &mut answers) {
         Ok(()) => Ok(0),
         Err(_) => Err(TextFault::CannotWrite),

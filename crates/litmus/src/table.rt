@@ -6,7 +6,7 @@ ghost use Rattle.litmus_command_line.specs.declared.table.Table.TheVariants as t
 
 use super::legend;
 use litmus_command_line::Table;
-use litmus_script::Answers;
+use litmus_script::TextWriter;
 use litmus_text::TextFault;
 use protocol_tables::{write_cache_table, write_directory_table};
 use std::fmt;
@@ -19,7 +19,7 @@ pub fn run_table<W: Write>(table: Table, exclusive: bool, out: &mut W) -> Result
     ensures fault { IfErr result (λ fault. fault ≡ TextFault.CannotWrite) }
     ensures printed { OnOk result (Appends (W.contents out.old) (W.contents out.new) (text_of_table table exclusive)) }
 {
-    let mut answers = Answers { out };
+    let mut answers = TextWriter { out };
     match write_table(table, exclusive, &mut answers) {
         Ok(()) => Ok(0),
         Err(_) => Err(TextFault::CannotWrite),

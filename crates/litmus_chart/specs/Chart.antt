@@ -6,7 +6,7 @@ use Rattle.litmus_chart.specs.declared.arrow.Fate.{Fate}
 use Rattle.litmus_chart.specs.declared.arrow.Fate.TheVariants as fates
 use Rattle.litmus_chart.specs.declared.arrow.Participant.{Participant}
 use Rattle.litmus_chart.specs.declared.arrow.Participant.TheVariants.{Directory, Core}
-use Rattle.slice_core_answer.specs.Text.{text_of_cell}
+use Rattle.slice_answer.specs.Text.{text_of_cell}
 use Rattle.slice_queues_message.specs.declared.channel.Pick.{Pick}
 use Rattle.slice_queues_message.specs.declared.channel.Pick.TheVariants as picks
 use Rattle.step_text.specs.Message.{text_of_message}

@@ -12,7 +12,7 @@ use super::picture::Picture;
 use super::seen::{Flight, Seen};
 use address_map::{Checked, CoreId, LineAddr, Request, SliceId};
 use litmus_script::{
-    Answers, Deliverer, Issued, Machine, Player, Script, pump_slices, write_delivered,
+    TextWriter, Deliverer, Issued, Machine, Player, Script, pump_slices, write_delivered,
     write_evicted, write_handed, write_issued, write_pumped, written,
 };
 use litmus_text::{Command, Settings, Statement, TextFault};
@@ -29,7 +29,7 @@ pub fn run_chart<W: Write>(alloc: Global, input: &[u8], out: &mut W) -> Result<u
     ensures status { IfOk result (λ status. status ≡ 0) }
     ensures fault { IfErr result (IsChartFault (statements_from 0 (lines input.now))) }
 {
-    let mut answers = Answers { out };
+    let mut answers = TextWriter { out };
     match Script::read(alloc, input)? {
         Some(script) => chart_of(alloc, script, &mut answers)?,
         None => chart_of_nothing(alloc, &mut answers)?,
@@ -38,7 +38,7 @@ pub fn run_chart<W: Write>(alloc: Global, input: &[u8], out: &mut W) -> Result<u
 }
 
 /// The chart of a script that says nothing has those who take part in any other.
-fn chart_of_nothing<W: Write>(alloc: Global, out: &mut Answers<'_, W>) -> Result<(), TextFault>
+fn chart_of_nothing<W: Write>(alloc: Global, out: &mut TextWriter<'_, W>) -> Result<(), TextFault>
     ensures fault { IfErr result IsOfRun }
 {
     let Settings { config, .. } = Settings::new(alloc);
@@ -51,7 +51,7 @@ fn chart_of_nothing<W: Write>(alloc: Global, out: &mut Answers<'_, W>) -> Result
 fn chart_of<W: Write>(
     alloc: Global,
     script: Script<'_>,
-    out: &mut Answers<'_, W>,
+    out: &mut TextWriter<'_, W>,
 ) -> Result<(), TextFault>
     ensures fault { IfErr result
         (λ fault. IsOfRun fault ⊎ ChartStopsAt script.entry.config (commands_of script.entry.commands) fault) }
@@ -66,7 +66,7 @@ fn chart_of<W: Write>(
 fn chart_on<F: MissFile, W: Write>(
     alloc: Global,
     script: Script<'_>,
-    out: &mut Answers<'_, W>,
+    out: &mut TextWriter<'_, W>,
 ) -> Result<(), TextFault>
     ensures fault { IfErr result
         (λ fault. IsOfRun fault ⊎ ChartStopsAt script.entry.config (commands_of script.entry.commands) fault) }
@@ -86,7 +86,7 @@ fn note_issued<W: Write>(
     core: CoreId,
     statement: &Statement<'_>,
     issued: Issued,
-    out: &mut Answers<'_, W>,
+    out: &mut TextWriter<'_, W>,
 ) -> fmt::Result {
     let who = Participant::Core(core);
     match issued {
@@ -120,7 +120,7 @@ impl<F: MissFile> Player for Chart<F> {
         command: Command,
         out: &mut W,
     ) -> Result<(), TextFault> {
-        let out = &mut Answers { out };
+        let out = &mut TextWriter { out };
         match command {
             Command::Issue { core, request } => self.issue(statement, core, request, out),
             Command::Evict { core, line } => self.evict(statement, core, line, out),
@@ -154,7 +154,7 @@ impl<F: MissFile> Deliverer for Chart<F> {
         };
         let flight = Flight::of(&self.machine, pick);
         let delivered = self.machine.deliver_next(slice, out)?;
-        let out = &mut Answers { out };
+        let out = &mut TextWriter { out };
         self.picture.deliver(&self.machine, &flight, out)?;
         Ok(delivered)
     }
@@ -178,7 +178,7 @@ impl<F: MissFile> Chart<F> {
         statement: &Statement<'_>,
         command: Command,
         line: LineAddr,
-        out: &mut Answers<'_, W>,
+        out: &mut TextWriter<'_, W>,
     ) -> Result<(), TextFault>
         requires { IsInRange self.old.machine.config command }
         ensures config { self.new.machine.config ≡ self.old.machine.config }
@@ -194,7 +194,7 @@ impl<F: MissFile> Chart<F> {
         statement: &Statement<'_>,
         core: CoreId,
         request: Request,
-        out: &mut Answers<'_, W>,
+        out: &mut TextWriter<'_, W>,
     ) -> Result<(), TextFault>
         requires { HasCore self.old.machine.config core }
         ensures config { self.new.machine.config ≡ self.old.machine.config }
@@ -218,7 +218,7 @@ impl<F: MissFile> Chart<F> {
         statement: &Statement<'_>,
         core: CoreId,
         line: LineAddr,
-        out: &mut Answers<'_, W>,
+        out: &mut TextWriter<'_, W>,
     ) -> Result<(), TextFault>
         requires { HasCore self.old.machine.config core }
         ensures config { self.new.machine.config ≡ self.old.machine.config }
@@ -236,7 +236,7 @@ impl<F: MissFile> Chart<F> {
         &mut self,
         statement: &Statement<'_>,
         pick: Pick,
-        out: &mut Answers<'_, W>,
+        out: &mut TextWriter<'_, W>,
     ) -> Result<(), TextFault>
         ensures config { self.new.machine.config ≡ self.old.machine.config }
         ensures fault { IfErr result IsOfRun }
@@ -261,7 +261,7 @@ impl<F: MissFile> Chart<F> {
         statement: &Statement<'_>,
         core: CoreId,
         slice: SliceId,
-        out: &mut Answers<'_, W>,
+        out: &mut TextWriter<'_, W>,
     ) -> Result<(), TextFault>
         requires core { HasCore self.old.machine.config core }
         requires slice { slice.0 < self.old.machine.config.slices }
@@ -278,7 +278,7 @@ impl<F: MissFile> Chart<F> {
         &mut self,
         statement: &Statement<'_>,
         calls: u64,
-        out: &mut Answers<'_, W>,
+        out: &mut TextWriter<'_, W>,
     ) -> Result<(), TextFault>
         ensures config { self.new.machine.config ≡ self.old.machine.config }
         ensures fault { IfErr result IsOfRun }

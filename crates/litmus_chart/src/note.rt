@@ -1,6 +1,6 @@
 use super::arrow::Participant;
 use address_map::{Checked, CoreId, CoreSet, LineAddr};
-use litmus_script::Answers;
+use litmus_script::TextWriter;
 use litmus_text::Statement;
 use slice_core::LineView;
 use std::fmt::{Display, Write};
@@ -31,7 +31,7 @@ fn write_directories<W: Write>(slices: usize, out: &mut W) -> fmt::Result {
 pub fn begin_note<W: io::Write>(
     over: impl Display + Drop,
     statement: &Statement<'_>,
-    out: &mut Answers<'_, W>,
+    out: &mut TextWriter<'_, W>,
 ) -> fmt::Result {
     write!(out, "    Note over {over}: ")?;
     write_words(statement, out)
@@ -41,14 +41,14 @@ pub fn begin_note<W: io::Write>(
 pub fn begin_cross<W: io::Write>(
     core: Participant,
     statement: &Statement<'_>,
-    out: &mut Answers<'_, W>,
+    out: &mut TextWriter<'_, W>,
 ) -> fmt::Result {
     write!(out, "    {core}-x{core}: ")?;
     write_words(statement, out)
 }
 
 // The words of a statement, and a colon.
-fn write_words<W: io::Write>(statement: &Statement<'_>, out: &mut Answers<'_, W>) -> fmt::Result {
+fn write_words<W: io::Write>(statement: &Statement<'_>, out: &mut TextWriter<'_, W>) -> fmt::Result {
     for (place, word) in statement.words.iter().enumerate() {
         if place > 0 {
             out.write_str(" ")?;

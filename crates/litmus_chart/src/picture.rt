@@ -6,7 +6,7 @@ use super::arrow::{Arrow, Fate, sender};
 use super::names::Names;
 use super::seen::{Flight, Seen};
 use address_map::{CoreId, LineAddr};
-use litmus_script::{Answers, Machine, written};
+use litmus_script::{TextWriter, Machine, written};
 use litmus_text::TextFault;
 use mshr_file::MissFile;
 use slice_core::{CoreLines, ForwardedMessage, Message, Pick};
@@ -73,7 +73,7 @@ impl Picture {
         now: &Machine<F>,
         core: CoreId,
         before: &[Seen],
-        out: &mut Answers<'_, W>,
+        out: &mut TextWriter<'_, W>,
     ) -> fmt::Result
         requires { HasCore now.now.config core }
     {
@@ -102,7 +102,7 @@ impl Picture {
         &self,
         flight: &Flight,
         fate: Fate,
-        out: &mut Answers<'_, W>,
+        out: &mut TextWriter<'_, W>,
     ) -> fmt::Result {
         let Some(message) = flight.message else {
             return Ok(());
@@ -123,7 +123,7 @@ impl Picture {
         &mut self,
         now: &Machine<F>,
         flight: &Flight,
-        out: &mut Answers<'_, W>,
+        out: &mut TextWriter<'_, W>,
     ) -> Result<(), TextFault>
         ensures fault { IfErr result IsOfRun }
     {

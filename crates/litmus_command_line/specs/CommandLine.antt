@@ -9,13 +9,13 @@ use Rattle.clap.specs.declared.builder.command.Command.TheViews.{out-Command as 
 use Rattle.clap.specs.Words.{App, Row, Rule, Text, app_of, first_of, new_app, new_rule, one_of, subcommand_of}
 use Rattle.clap.specs.Words.{with_rule, with_subcommand}
 use Rattle.clap.specs.declared.builder.action.ArgAction.TheVariants.{SetTrue}
-use Rattle.clap.specs.declared.builder.value_parser.ValueParser.TheVariants as parsers
+use Rattle.clap.specs.declared.builder.value_parser.ValueParser.TheVariants as value_parsers
 use Rattle.litmus_command_line.specs.declared.command_line.CommandLine.{CommandLine}
-use Rattle.litmus_command_line.specs.declared.command_line.CommandLine.TheVariants as lines
+use Rattle.litmus_command_line.specs.declared.command_line.CommandLine.TheVariants as command_lines
 use Rattle.litmus_command_line.specs.declared.export.ModelCores.{ModelCores}
 use Rattle.litmus_command_line.specs.declared.export.ModelCores.TheVariants.{Two, Three, Four}
 use Rattle.litmus_command_line.specs.declared.form.ScriptForm.{ScriptForm}
-use Rattle.litmus_command_line.specs.declared.form.ScriptForm.TheVariants as forms
+use Rattle.litmus_command_line.specs.declared.form.ScriptForm.TheVariants as script_forms
 use Rattle.litmus_command_line.specs.declared.table.Table.{Table}
 use Rattle.litmus_command_line.specs.declared.table.Table.TheVariants.{Cache, Directory}
 
@@ -25,7 +25,7 @@ file_rule = record (new_rule (codes "FILE")) { required = true }
 
 -- the argument that is one of these names, and has to be there
 abbrev pub table_rule : Bor (List (Bor Text)) → Rule
-table_rule names = record (new_rule (codes "TABLE")) { required = true; parser = Some (parsers.Names names) }
+table_rule names = record (new_rule (codes "TABLE")) { required = true; parser = Some (value_parsers.Names names) }
 
 -- an option `--name`, which takes no value
 abbrev pub flag_rule : Text → Rule
@@ -65,12 +65,12 @@ abbrev pub number_rule : Text → Rule
 number_rule name = record (new_rule name) {
   long = Some name;
   value_names = 1;
-  parser = Some (parsers.Unsigned 0 18446744073709551615);
+  parser = Some (value_parsers.Unsigned 0 18446744073709551615);
 }
 
 -- .. from 1 on
 abbrev pub positive_rule : Text → Rule
-positive_rule name = record (number_rule name) { parser = Some (parsers.Unsigned 1 18446744073709551615) }
+positive_rule name = record (number_rule name) { parser = Some (value_parsers.Unsigned 1 18446744073709551615) }
 
 -- an option that takes a number, which has this value where it is given none
 abbrev pub number_rule_or : Text → Text → Rule
@@ -113,14 +113,14 @@ table_app names = with_rule (with_rule (new_app (codes "table")) (table_rule nam
 
 -- the argument that is one of these forms, and the option that is one of these numbers: both have to be there
 abbrev pub form_rule : Bor (List (Bor Text)) → Rule
-form_rule names = record (new_rule (codes "FORM")) { required = true; parser = Some (parsers.Names names) }
+form_rule names = record (new_rule (codes "FORM")) { required = true; parser = Some (value_parsers.Names names) }
 
 abbrev pub cores_rule : Bor (List (Bor Text)) → Rule
 cores_rule names = record (new_rule (codes "cores")) {
   long = Some (codes "cores");
   value_names = 1;
   required = true;
-  parser = Some (parsers.Names names);
+  parser = Some (value_parsers.Names names);
 }
 
 -- the subcommand that prints a model in one of these forms, of one of these numbers of cores
@@ -250,35 +250,35 @@ AreGiven rows echo explain beside vcd from_murphi =
 
 -- the options ask for this form, and none of them is left out of it
 abbrev pub IsFormOf : List Row → ScriptForm → Type 0
-IsFormOf rows (forms.Answers echo explain) = AreGiven rows echo explain false false false
-IsFormOf rows (forms.Beside explain) = AreGiven rows false explain true false false
-IsFormOf rows forms.Waves = AreGiven rows false false false true false
-IsFormOf rows forms.FromMurphi = AreGiven rows false false false false true
+IsFormOf rows (script_forms.Answers echo explain) = AreGiven rows echo explain false false false
+IsFormOf rows (script_forms.Beside explain) = AreGiven rows false explain true false false
+IsFormOf rows script_forms.Waves = AreGiven rows false false false true false
+IsFormOf rows script_forms.FromMurphi = AreGiven rows false false false false true
 
 -- the subcommand of this name, with these values, is what the line holds
 abbrev pub IsLine : Text → List Row → CommandLine → Type 0
-IsLine name rows (lines.Script file form) =
+IsLine name rows (command_lines.Script file form) =
     (name ≡ codes "script") × (first_of (codes "FILE") rows ≡ Some file.now) × IsFormOf rows form
-IsLine name rows (lines.Try file) =
+IsLine name rows (command_lines.Try file) =
     (name ≡ codes "try") × (option_map (λ f. f.now) file ≡ first_of (codes "FILE") rows)
-IsLine name rows (lines.Chart file) = (name ≡ codes "chart") × (first_of (codes "FILE") rows ≡ Some file.now)
-IsLine name rows (lines.Page file) = (name ≡ codes "page") × (first_of (codes "FILE") rows ≡ Some file.now)
-IsLine name rows (lines.Litmus file seed limit) =
+IsLine name rows (command_lines.Chart file) = (name ≡ codes "chart") × (first_of (codes "FILE") rows ≡ Some file.now)
+IsLine name rows (command_lines.Page file) = (name ≡ codes "page") × (first_of (codes "FILE") rows ≡ Some file.now)
+IsLine name rows (command_lines.Litmus file seed limit) =
     (name ≡ codes "litmus") × (first_of (codes "FILE") rows ≡ Some file.now)
     × IsNumberOf (codes "seed") rows seed × IsNumberOf (codes "limit") rows limit
-IsLine name rows (lines.Walk file rounds seed script) =
+IsLine name rows (command_lines.Walk file rounds seed script) =
     (name ≡ codes "walk") × (first_of (codes "FILE") rows ≡ Some file.now)
     × IsNumberIfGiven (codes "rounds") rows rounds × IsNumberOf (codes "seed") rows seed
     × (script ≡ is_given (codes "script") rows)
-IsLine name rows (lines.Run file seed json) =
+IsLine name rows (command_lines.Run file seed json) =
     (name ≡ codes "run") × (first_of (codes "FILE") rows ≡ Some file.now) × IsNumberOf (codes "seed") rows seed
     × (json ≡ is_given (codes "json") rows)
-IsLine name rows (lines.Test file) = (name ≡ codes "test") × (first_of (codes "FILE") rows ≡ Some file.now)
-IsLine name rows (lines.Check file) = (name ≡ codes "check") × (first_of (codes "FILE") rows ≡ Some file.now)
-IsLine name rows (lines.Table table exclusive) =
+IsLine name rows (command_lines.Test file) = (name ≡ codes "test") × (first_of (codes "FILE") rows ≡ Some file.now)
+IsLine name rows (command_lines.Check file) = (name ≡ codes "check") × (first_of (codes "FILE") rows ≡ Some file.now)
+IsLine name rows (command_lines.Table table exclusive) =
     (name ≡ codes "table") × (first_of (codes "TABLE") rows ≡ Some (word_of table))
     × (exclusive ≡ is_given (codes "exclusive") rows)
-IsLine name rows (lines.Export cores exclusive closed) =
+IsLine name rows (command_lines.Export cores exclusive closed) =
     (name ≡ codes "export") × (first_of (codes "cores") rows ≡ Some (word_of_number cores))
     × (exclusive ≡ is_given (codes "exclusive") rows) × (closed ≡ is_given (codes "closed") rows)
 

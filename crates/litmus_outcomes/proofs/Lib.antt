@@ -1,4 +1,4 @@
-mod SoughtLemmas
+mod NamedRequestLemmas
 pub mod NameLemmas
 mod Counting
 mod Rows

@@ -11,7 +11,7 @@ use Rattle.litmus_test.specs.declared.test.Action.{Action}
 use Rattle.litmus_test.specs.declared.test.Action.TheVariants as actions
 use Rattle.litmus_test.specs.declared.test.LitmusTest.{LitmusTest}
 use Rattle.litmus_test.specs.declared.test.Thread.{Thread}
-use Rattle.litmus_outcomes.specs.Sought.{request_of, sought_of}
+use Rattle.litmus_outcomes.specs.NamedRequest.{request_of, named_request_of}
 
 -- there is an element at each place of a list
 element_at : {X : Type 0} (xs : List X) (k : ℕ) → k < length xs → (x : X) × (slice_get xs k ≡ Some x)
@@ -33,7 +33,7 @@ makes_request c thread step (actions.Evict line) reads = absurd (true≢false (s
 
 -- so does the step of each name
 pub each_name_has_request : (test : LitmusTest) (name : ℕ) → name < length test.names.items
-    → IsSome (sought_of test name)
+    → IsSome (named_request_of test name)
 each_name_has_request test name within =
     let named = element_at test.names.items name within in
     let right = holds_at (IsReplyOf test.threads.items) test.names.items name named.0 named.1 test.sound.replies in

@@ -1,4 +1,4 @@
-pub mod Sought
+pub mod NamedRequest
 pub mod Table
 pub mod Forbid
 pub mod Text

@@ -1,7 +1,7 @@
 //! The outcomes of a litmus test's rounds: which requests they come from, how often each came, and their table.
 //!
-//! - A [`Sought`] says which request of which core in which slice a named reply answers (`sought_of` of
-//!   specs/Sought.antt): a slice numbers the requests of a core from 0, in the order of the core's program. Each name
+//! - A [`NamedRequest`] says which request of which core in which slice a named reply answers (`named_request_of` of
+//!   specs/NamedRequest.antt): a slice numbers the requests of a core from 0, in the order of the core's program. Each name
 //!   of a test has one ([`each_name_is_sought`]).
 //! - [`Outcomes`] counts the outcomes of rounds. Its value is a table; contracts say of which rounds it is the table
 //!   (`IsTableOf` of specs/Table.antt): a row for each outcome, ascending, with how often it came and where first.
@@ -11,12 +11,12 @@
 #![tactic(auto)]
 
 pub use row::Row;
-pub use sought::{Sought, each_name_is_sought};
+pub use named_request::{NamedRequest, each_name_is_sought};
 pub use table::{Outcomes, one_table};
 pub use text::write_table;
 
 mod forbid;
 mod row;
-mod sought;
+mod named_request;
 mod table;
 mod text;

@@ -5,8 +5,8 @@ use Rattle.std.proofs.lemmas.List.{append-nil, take_more}
 use Rattle.std.proofs.lemmas.List.Elements.{All-contains}
 use Rattle.address_map.specs.declared.address.WordAddr.{WordAddr}
 use Rattle.address_map.specs.declared.config.Config.{Config}
-use Rattle.litmus_outcomes.specs.Sought.{IsOf}
-use Rattle.litmus_outcomes.specs.declared.sought.Sought.{Sought}
+use Rattle.litmus_outcomes.specs.NamedRequest.{IsOf}
+use Rattle.litmus_outcomes.specs.declared.named_request.NamedRequest.{NamedRequest}
 use Rattle.litmus_script.specs.Machine.{IsShownWord, log_at}
 use Rattle.slice_core_plan.specs.Calls.{PartsView}
 use Rattle.litmus_rounds.specs.Outcome.{AddsMatch, HasReply, HasWord, LacksReply, Match}
@@ -58,11 +58,13 @@ match_at P (x ∷ xs) (value ∷ values) (suc i) d below all =
     match_at P xs values i d (omega (arith, below)) all.1
 
 -- a request that no entry is of has no reply
-pub no_reply : (slices : List PartsView) (sought : Option Sought) (value : ℕ) → LacksReply slices sought
-    → HasReply slices sought value → ⊥
+pub no_reply : (slices : List PartsView) (named_request : Option NamedRequest) (value : ℕ) →
+    LacksReply slices named_request
+    → HasReply slices named_request value → ⊥
 no_reply slices None value lacks has = has
-no_reply slices (Some sought) value lacks has =
-    All-contains (λ entry. IsOf sought sought.slice entry → ⊥) (log_at slices sought.slice.0) has.entry lacks has.there
+no_reply slices (Some named_request) value lacks has =
+    All-contains (λ entry. IsOf named_request named_request.slice entry → ⊥) (log_at slices named_request.slice.0)
+        has.entry lacks has.there
     has.same
 
 -- a word whose slice isn't quiet has no value

@@ -4,30 +4,30 @@ use Rattle.std.specs.Prelude.{Contains, Option, Some, None}
 use Rattle.std.specs.List.{range_with_len}
 use Rattle.address_map.specs.declared.address.WordAddr.{WordAddr}
 use Rattle.address_map.specs.declared.config.Config.{Config}
-use Rattle.litmus_outcomes.specs.Sought.{IsOf, sought_of}
-use Rattle.litmus_outcomes.specs.declared.sought.Sought.{Sought}
+use Rattle.litmus_outcomes.specs.NamedRequest.{IsOf, named_request_of}
+use Rattle.litmus_outcomes.specs.declared.named_request.NamedRequest.{NamedRequest}
 use Rattle.litmus_script.specs.Machine.{IsQuietWord, log_at}
 use Rattle.litmus_test.specs.declared.test.LitmusTest.{LitmusTest}
-use Rattle.slice_core_log.specs.declared.entry.Entry.{Entry}
 use Rattle.slice_core_plan.specs.Calls.{PartsView}
+use Rattle.slice_log.specs.declared.entry.Entry.{Entry}
 
 -- the request is an entry in the log of its slice, and this is its reply
-pub record IsReplyOf (slices : List PartsView) (sought : Sought) (value : ℕ) : Type 0 where
+pub record IsReplyOf (slices : List PartsView) (named_request : NamedRequest) (value : ℕ) : Type 0 where
   pub entry : Entry
-  pub there : Contains (log_at slices sought.slice.0) entry
-  pub same : IsOf sought sought.slice entry
+  pub there : Contains (log_at slices named_request.slice.0) entry
+  pub same : IsOf named_request named_request.slice entry
   pub reply : value ≡ entry.reply
 
 -- there is a request, and this is its reply
-abbrev pub HasReply : List PartsView → Option Sought → ℕ → Type 0
+abbrev pub HasReply : List PartsView → Option NamedRequest → ℕ → Type 0
 HasReply slices None reply = ⊥
-HasReply slices (Some sought) reply = IsReplyOf slices sought reply
+HasReply slices (Some named_request) reply = IsReplyOf slices named_request reply
 
 -- no entry in the log of its slice is of the request, or there is no request
-abbrev pub LacksReply : List PartsView → Option Sought → Type 0
+abbrev pub LacksReply : List PartsView → Option NamedRequest → Type 0
 LacksReply slices None = Unit {0}
-LacksReply slices (Some sought) =
-    All (λ entry. ¬ IsOf sought sought.slice entry) (log_at slices sought.slice.0)
+LacksReply slices (Some named_request) =
+    All (λ entry. ¬ IsOf named_request named_request.slice entry) (log_at slices named_request.slice.0)
 
 -- the word's slice is quiet, and this is the word's value after the whole log
 abbrev pub HasWord : Config → List PartsView → WordAddr → ℕ → Type 0
@@ -47,13 +47,13 @@ pub record AddsMatch {X : Type 0} (P : X → ℕ → Type 0) (xs : List X) (old 
   pub each : Match P xs values
 
 -- the requests of all names, in order
-abbrev pub all_sought : LitmusTest → List (Option Sought)
-all_sought test = map (sought_of test) (range_with_len 0 (length test.names.items))
+abbrev pub all_named_requests : LitmusTest → List (Option NamedRequest)
+all_named_requests test = map (named_request_of test) (range_with_len 0 (length test.names.items))
 
 -- the replies of all named steps, and then the values of all counters
 pub record IsOutcome (test : LitmusTest) (slices : List PartsView) (values : List ℕ) : Type 0 where
   pub replies : List ℕ
   pub counters : List ℕ
   pub both : values ≡ replies ++ counters
-  pub named : Match (HasReply slices) (all_sought test) replies
+  pub named : Match (HasReply slices) (all_named_requests test) replies
   pub counted : Match (HasWord test.config slices) test.config.counters counters

@@ -1,7 +1,7 @@
 ghost use Rattle.std.specs.Prelude.{◌≡◌, ℕ, List, [], IfNone, IfOk, IfSome, IsTrue, false};
-ghost use Rattle.litmus_rounds.specs.Outcome.{AddsMatch, HasReply, HasWord, IsOutcome, LacksReply, Match, all_sought};
+ghost use Rattle.litmus_rounds.specs.Outcome.{AddsMatch, HasReply, HasWord, IsOutcome, LacksReply, Match, all_named_requests};
 
-use litmus_outcomes::Sought;
+use litmus_outcomes::NamedRequest;
 use litmus_test::LitmusTest;
 use litmus_walk::Recorded;
 use mshr_file::MissFile;
@@ -11,18 +11,18 @@ use std::alloc::AllocError;
 /// none before the walk is over.
 pub(crate) fn read_outcome<F: MissFile>(
     test: &LitmusTest<'_>,
-    sought: &[Option<Sought>],
+    named_requests: &[Option<NamedRequest>],
     recorded: &Recorded<F>,
     values: &mut Vec<u64>,
 ) -> Result<bool, AllocError>
     requires config { recorded.now.config ≡ test.now.config }
-    requires sought { sought.now ≡ all_sought test.now }
+    requires named_requests { named_requests.now ≡ all_named_requests test.now }
     ensures read { IfOk result (λ read. IsTrue read → IsOutcome test.now recorded.now.slices values.new.items) }
     ensures none { IfOk result (λ read. read ≡ false
         → (values : List ℕ) → ¬ IsOutcome test.now recorded.now.slices values) }
 {
     values.clear();
-    if !read_replies(sought, recorded, values)? {
+    if !read_replies(named_requests, recorded, values)? {
         return Ok(false);
     }
     let read = read_counters(test, recorded, values)?;
@@ -31,16 +31,16 @@ pub(crate) fn read_outcome<F: MissFile>(
 
 // The replies that are sought, in order.
 fn read_replies<F: MissFile>(
-    sought: &[Option<Sought>],
+    named_requests: &[Option<NamedRequest>],
     recorded: &Recorded<F>,
     values: &mut Vec<u64>,
 ) -> Result<bool, AllocError>
     requires { values.old.items ≡ [] }
-    ensures read { IfOk result (λ read. IsTrue read → Match (HasReply recorded.now.slices) sought.now values.new.items) }
+    ensures read { IfOk result (λ read. IsTrue read → Match (HasReply recorded.now.slices) named_requests.now values.new.items) }
     ensures none { IfOk result (λ read. read ≡ false
-        → (values : List ℕ) → ¬ Match (HasReply recorded.now.slices) sought.now values) }
+        → (values : List ℕ) → ¬ Match (HasReply recorded.now.slices) named_requests.now values) }
 {
-    for request in sought {
+    for request in named_requests {
         let Some(reply) = reply_to(request, recorded) else {
             return Ok(false);
         };
@@ -49,7 +49,7 @@ fn read_replies<F: MissFile>(
     Ok(true)
 }
 
-fn reply_to<F: MissFile>(request: &Option<Sought>, recorded: &Recorded<F>) -> Option<u64>
+fn reply_to<F: MissFile>(request: &Option<NamedRequest>, recorded: &Recorded<F>) -> Option<u64>
     ensures reply { IfSome result (HasReply recorded.now.slices request.now) }
     ensures none { IfNone result (LacksReply recorded.now.slices request.now) }
 {

@@ -5,14 +5,14 @@ ghost use Rattle.std.specs.Fmt.{WritesInCalls};
 ghost use Rattle.std.specs.Io.KnownBytes.{Appends};
 ghost use Rattle.litmus_outcomes.specs.Table.{IsTableOf};
 ghost use Rattle.litmus_outcomes.specs.Text.{text_of};
-ghost use Rattle.litmus_rounds.specs.Outcome.{IsOutcome, all_sought};
+ghost use Rattle.litmus_rounds.specs.Outcome.{IsOutcome, all_named_requests};
 ghost use Rattle.litmus_rounds.specs.Run.{AreRounds, IsStuck, PrintsRounds, PrintsStuck, seed_of};
 ghost use Rattle.litmus_script.specs.Machine.{bound_of};
 ghost use Rattle.litmus_script.specs.Play.{IsOfRun};
 
 use super::outcome::read_outcome;
-use litmus_outcomes::{Outcomes, Sought, write_table};
-use litmus_script::Answers;
+use litmus_outcomes::{Outcomes, NamedRequest, write_table};
+use litmus_script::TextWriter;
 use litmus_test::{LitmusTest, Progress};
 use litmus_text::TextFault;
 use litmus_walk::{Walked, named_lines, walk};
@@ -86,7 +86,7 @@ fn print_stuck<W: Write>(round: u64, out: &mut W) -> Result<(), TextFault>
         (codes "stuck round " ++ decimal round ++ codes "\n")) }
     ensures fault { IfErr result IsOfRun }
 {
-    let mut answers = Answers { out };
+    let mut answers = TextWriter { out };
     match write_stuck(round, &mut answers) {
         Ok(()) => Ok(()),
         Err(_) => Err(TextFault::CannotWrite),
@@ -110,7 +110,7 @@ fn print_table<W: Write>(
         (Appends (W.contents out.old) (W.contents out.new) (text_of test.now (Some seed) outcomes.now.rows rounds)) }
     ensures fault { IfErr result IsOfRun }
 {
-    let mut answers = Answers { out };
+    let mut answers = TextWriter { out };
     match write_table(test, outcomes, Some(seed), &mut answers) {
         Ok(()) => Ok(()),
         Err(_) => Err(TextFault::CannotWrite),
@@ -134,14 +134,14 @@ fn walk_rounds<F: MissFile, P: Progress>(
         × IsStuck test.now (F.bound_by test.now.config) (seed_of seed round))) }
 {
     let lines = named_lines(alloc, test)?;
-    let sought = Sought::all(alloc, test)?;
+    let named_requests = NamedRequest::all(alloc, test)?;
     let mut values = Vec::new(alloc);
     for round in 0..rounds {
         let walked: Walked<F> = walk(alloc, test, &lines, seed.wrapping_add(round))?;
         if !walked.over {
             return Ok(Some(round));
         }
-        let added = add_outcome(test, &sought, &walked, &mut values, outcomes)?;
+        let added = add_outcome(test, &named_requests, &walked, &mut values, outcomes)?;
         if !added {
             return Ok(Some(round));
         }
@@ -153,13 +153,13 @@ fn walk_rounds<F: MissFile, P: Progress>(
 // Adds a walk's outcome, where it has one.
 fn add_outcome<F: MissFile>(
     test: &LitmusTest<'_>,
-    sought: &[Option<Sought>],
+    named_requests: &[Option<NamedRequest>],
     walked: &Walked<F>,
     values: &mut Vec<u64>,
     outcomes: &mut Outcomes,
 ) -> Result<bool, AllocError>
     requires fits { outcomes.old.rounds + 1 < 2 ^ 64 }
-    requires sought { sought.now ≡ all_sought test.now }
+    requires named_requests { named_requests.now ≡ all_named_requests test.now }
     requires config { walked.now.recorded.config ≡ test.now.config }
     ensures added { IfOk result (λ added. IsTrue added → (outcome : List ℕ)
         × IsOutcome test.now walked.now.recorded.slices outcome
@@ -169,7 +169,7 @@ fn add_outcome<F: MissFile>(
         → ¬ IsOutcome test.now walked.now.recorded.slices values) }
     ensures kept { IfOk result (λ added. added ≡ false → outcomes.new ≡ outcomes.old) }
 {
-    if !read_outcome(test, sought, &walked.recorded, values)? {
+    if !read_outcome(test, named_requests, &walked.recorded, values)? {
         return Ok(false);
     }
     outcomes.add(values)?;

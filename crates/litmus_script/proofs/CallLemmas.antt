@@ -4,39 +4,40 @@ use Rattle.std.specs.Prelude.{Option, Result}
 use Rattle.address_map.specs.declared.address.CoreId.{CoreId}
 use Rattle.address_map.specs.declared.address.LineAddr.{LineAddr}
 use Rattle.address_map.specs.declared.request.Request.{Request}
-use Rattle.slice_core.specs.declared.run.Call.TheVariants as calls
-use Rattle.slice_core.specs.declared.run.CallAnswer.TheVariants as answers
-use Rattle.slice_core_answer.specs.declared.answer.Delivered.{Delivered}
-use Rattle.slice_core_answer.specs.declared.answer.Evicted.{Evicted}
-use Rattle.slice_core_answer.specs.declared.answer.Issue.{Issue}
-use Rattle.slice_core_answer.specs.declared.answer.Refused.{Refused}
-use Rattle.slice_core_log.specs.declared.entry.Numbered.{Numbered}
+use Rattle.slice_core.specs.declared.run.Call.TheVariants as slice_calls
+use Rattle.slice_core.specs.declared.run.CallAnswer.TheVariants as call_answers
+use Rattle.slice_answer.specs.declared.answer.Delivered.{Delivered}
+use Rattle.slice_answer.specs.declared.answer.Evicted.{Evicted}
+use Rattle.slice_answer.specs.declared.answer.Issue.{Issue}
+use Rattle.slice_answer.specs.declared.answer.Refused.{Refused}
+use Rattle.slice_log.specs.declared.entry.Numbered.{Numbered}
 use Rattle.slice_core_plan.specs.Calls.{PartsView, AfterDeliverNext, AfterDelivery, AfterEvict, AfterHand, AfterIssue}
 use Rattle.slice_queues_message.specs.declared.channel.Class.{Class}
 use Rattle.slice_queues_message.specs.declared.channel.Pick.{Pick}
 use Rattle.litmus_script.specs.Machine.{Answers}
-use Rattle.slice_core_answer.specs.declared.answer.Delivery.{Delivery}
+use Rattle.slice_answer.specs.declared.answer.Delivery.{Delivery}
 
 -- .. an access, whose answer is known
 pub issued : (old new : PartsView) (core : CoreId) (request : Request) (answer known : Result Issue Refused)
     → AfterIssue old core request answer new → answer ≡ known
-    → Answers (calls.Issue core request) (answers.Issue known) old new
+    → Answers (slice_calls.Issue core request) (call_answers.Issue known) old new
 issued old new core request answer known after is =
-    subst (λ (a : Result Issue Refused). Answers (calls.Issue core request) (answers.Issue a) old new) is
+    subst (λ (a : Result Issue Refused). Answers (slice_calls.Issue core request) (call_answers.Issue a) old new) is
     (record { made = after })
 
 pub evicted : (old new : PartsView) (core : CoreId) (line : LineAddr) (answer : Evicted)
-    → AfterEvict old core line answer new → Answers (calls.Evict core line) (answers.Evict answer) old new
+    → AfterEvict old core line answer new → Answers (slice_calls.Evict core line) (call_answers.Evict answer) old new
 evicted old new core line answer after = record { made = after }
 
 pub delivered : (old new : PartsView) (pick : Pick) (answer : Delivered)
-    → AfterDelivery old pick answer new → Answers (calls.Deliver pick) (answers.Deliver answer) old new
+    → AfterDelivery old pick answer new → Answers (slice_calls.Deliver pick) (call_answers.Deliver answer) old new
 delivered old new pick answer after = record { made = after }
 
 pub delivered_next : (old new : PartsView) (class : Class) (answer : Delivery Pick)
-    → AfterDeliverNext old class answer new → Answers (calls.DeliverNext class) (answers.DeliverNext answer) old new
+    → AfterDeliverNext old class answer new →
+    Answers (slice_calls.DeliverNext class) (call_answers.DeliverNext answer) old new
 delivered_next old new class answer after = record { made = after }
 
 pub handed : (old new : PartsView) (core : CoreId) (answer : Option Numbered)
-    → AfterHand old core answer new → Answers (calls.Hand core) (answers.Hand answer) old new
+    → AfterHand old core answer new → Answers (slice_calls.Hand core) (call_answers.Hand answer) old new
 handed old new core answer after = record { made = after }

@@ -11,7 +11,7 @@ use Rattle.address_map.specs.declared.config.Config.{Config}
 use Rattle.address_map.specs.declared.address.SliceId.{SliceId}
 use Rattle.mshr_file.specs.Miss.{Bound}
 use Rattle.slice_core_plan.specs.Calls.{PartsView, IsNew}
-use Rattle.slice_core_answer.specs.Stats.{StatsView}
+use Rattle.slice_answer.specs.Stats.{StatsView}
 use Rattle.slice_text.specs.Shown.{HaveCores}
 use Rattle.stats_report.specs.Report.{AreAlike, IsLike}
 use Rattle.litmus_script.specs.Machine.{IsSliceOf, AreSlicesOf, AreNew, IsCountOf}
@@ -20,7 +20,7 @@ use Rattle.litmus_script.specs.Machine.{IsSliceOf, AreSlicesOf, AreNew, IsCountO
 pub of_new : (config : Config) (bound : Bound) (slice : SliceId) (p : PartsView) → IsNew config bound slice p
     → IsSliceOf config slice.0 p
 of_new config bound slice p new = record {
-  cores = new.sides.count_is;
+  cores = new.caches.count_is;
   lines = new.lines;
   exclusive = ap (λ s. s.exclusive) new.stats;
 }
@@ -79,4 +79,4 @@ each_has P (p ∷ more) each = All-from_get_or P (p ∷ more) p (λ i below. eac
 -- each slice of a machine has its cores
 pub have_cores : (config : Config) (slices : List PartsView) → AreSlicesOf config slices → HaveCores config.cores slices
 have_cores config slices each =
-    each_has (λ p. length p.view.sides ≡ config.cores) slices (λ i d below. (each i d below).cores)
+    each_has (λ p. length p.view.caches ≡ config.cores) slices (λ i d below. (each i d below).cores)

@@ -12,8 +12,8 @@ use Rattle.litmus_script.specs.declared.answers.Pumped.{Pumped}
 use Rattle.litmus_script.specs.declared.answers.Pumped.TheVariants as pumps
 use Rattle.litmus_script.specs.declared.pump.Round.{Round}
 use Rattle.litmus_script.specs.declared.pump.Round.TheVariants as rounds
-use Rattle.slice_core_answer.specs.declared.answer.Delivery.TheVariants as deliveries
-use Rattle.slice_core_answer.specs.declared.answer.Delivery.{Delivery}
+use Rattle.slice_answer.specs.declared.answer.Delivery.TheVariants as deliveries
+use Rattle.slice_answer.specs.declared.answer.Delivery.{Delivery}
 use Rattle.slice_queues_message.specs.declared.channel.Pick.{Pick}
 
 -- what a round comes to with one answer more

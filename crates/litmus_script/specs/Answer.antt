@@ -2,18 +2,18 @@
 use Rattle.std.specs.Prelude.{ℕ, List, ◌++◌, codes, decimal, Option, Some, None}
 use Rattle.std.specs.Fmt.{WritesInCalls}
 use Rattle.litmus_script.specs.declared.answers.Issued.{Issued}
-use Rattle.litmus_script.specs.declared.answers.Issued.TheVariants as issues
+use Rattle.litmus_script.specs.declared.answers.Issued.TheVariants as issued_kinds
 use Rattle.litmus_script.specs.declared.answers.Pumped.{Pumped}
 use Rattle.litmus_script.specs.declared.answers.Pumped.TheVariants as pumps
-use Rattle.slice_core_answer.specs.Text.{text_of_refused, text_of_stall}
-use Rattle.slice_core_log.specs.declared.entry.Numbered.{Numbered}
+use Rattle.slice_answer.specs.Text.{text_of_refused, text_of_stall}
+use Rattle.slice_log.specs.declared.entry.Numbered.{Numbered}
 
 -- what became of an access
 abbrev pub text_of_issued : Issued → List ℕ
-text_of_issued (issues.Done number reply) = codes "done " ++ decimal number ++ codes " reply " ++ decimal reply
-text_of_issued (issues.Pending seq) = codes "pending " ++ decimal seq
-text_of_issued (issues.Stall stall) = codes "stall " ++ text_of_stall stall
-text_of_issued (issues.Refused refused) = codes "refused " ++ text_of_refused refused
+text_of_issued (issued_kinds.Done number reply) = codes "done " ++ decimal number ++ codes " reply " ++ decimal reply
+text_of_issued (issued_kinds.Pending seq) = codes "pending " ++ decimal seq
+text_of_issued (issued_kinds.Stall stall) = codes "stall " ++ text_of_stall stall
+text_of_issued (issued_kinds.Refused refused) = codes "refused " ++ text_of_refused refused
 
 -- a reply that is handed out, or that there is none
 abbrev pub text_of_handed : Option Numbered → List ℕ

@@ -6,7 +6,7 @@ use Rattle.litmus_text.specs.ConfigLine.{IsLateFault}
 use Rattle.litmus_text.specs.Field.{IsFieldName}
 use Rattle.litmus_text.specs.declared.fault.LineFault.{LineFault}
 use Rattle.litmus_text.specs.declared.fault.TextFault.{TextFault}
-use Rattle.litmus_text.specs.declared.fault.TextFault.TheVariants as faults
+use Rattle.litmus_text.specs.declared.fault.TextFault.TheVariants as text_faults
 
 -- the words begin as a line that configures
 abbrev pub BeginsAsConfig : List (List ℕ) → Type 0
@@ -22,7 +22,7 @@ IsFaultBehind config words fault =
 -- Why the statement of this number isn't played: it has a fault of this kind, and nothing is written for it. Or there
 -- is no memory, or the output can't be written.
 abbrev pub IsNotPlayed : (LineFault → Type 0) → ℕ → Option (List ℕ) → Option (List ℕ) → TextFault → Type 0
-IsNotPlayed Wrong number before after (faults.Line n fault) = (n ≡ number) × Wrong fault × (after ≡ before)
-IsNotPlayed Wrong number before after (faults.Config error) = ⊥
-IsNotPlayed Wrong number before after faults.NoMemory = Unit {0}
-IsNotPlayed Wrong number before after faults.CannotWrite = Unit {0}
+IsNotPlayed Wrong number before after (text_faults.Line n fault) = (n ≡ number) × Wrong fault × (after ≡ before)
+IsNotPlayed Wrong number before after (text_faults.Config error) = ⊥
+IsNotPlayed Wrong number before after text_faults.NoMemory = Unit {0}
+IsNotPlayed Wrong number before after text_faults.CannotWrite = Unit {0}

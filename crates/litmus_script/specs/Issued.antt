@@ -3,24 +3,24 @@ use Rattle.std.specs.Prelude.{◌≡◌, ◌≢◌, ℕ, List, slice_index_or, R
 use Rattle.address_map.specs.declared.address.CoreId.{CoreId}
 use Rattle.address_map.specs.declared.request.Op.TheVariants as ops
 use Rattle.address_map.specs.declared.request.Request.{Request}
-use Rattle.slice_core.specs.declared.run.Call.TheVariants as calls
-use Rattle.slice_core.specs.declared.run.CallAnswer.TheVariants as answers
-use Rattle.slice_core_answer.specs.declared.answer.Issue.{Issue}
-use Rattle.slice_core_answer.specs.declared.answer.Issue.TheVariants as of_slice
-use Rattle.slice_core_answer.specs.declared.answer.Refused.{Refused}
-use Rattle.slice_core_answer.specs.declared.answer.Refused.TheVariants as refusals
-use Rattle.slice_core_log.specs.declared.entry.Entry.{Entry}
+use Rattle.slice_answer.specs.declared.answer.Issue.{Issue}
+use Rattle.slice_answer.specs.declared.answer.Issue.TheVariants as issues
+use Rattle.slice_answer.specs.declared.answer.Refused.{Refused}
+use Rattle.slice_answer.specs.declared.answer.Refused.TheVariants as refusals
+use Rattle.slice_core.specs.declared.run.Call.TheVariants as slice_calls
+use Rattle.slice_core.specs.declared.run.CallAnswer.TheVariants as call_answers
 use Rattle.slice_core_plan.specs.Calls.{PartsView}
+use Rattle.slice_log.specs.declared.entry.Entry.{Entry}
 use Rattle.litmus_script.specs.Machine.{Answers, OneSlice}
 use Rattle.litmus_script.specs.declared.answers.Issued.{Issued}
-use Rattle.litmus_script.specs.declared.answers.Issued.TheVariants as issues
+use Rattle.litmus_script.specs.declared.answers.Issued.TheVariants as issued_kinds
 
 -- the slice's answer
 abbrev pub answer_of : Issued → Result Issue Refused
-answer_of (issues.Done number reply) = Ok (of_slice.Done number)
-answer_of (issues.Pending seq) = Ok (of_slice.Pending seq)
-answer_of (issues.Stall stall) = Ok (of_slice.Stall stall)
-answer_of (issues.Refused refused) = Err refused
+answer_of (issued_kinds.Done number reply) = Ok (issues.Done number)
+answer_of (issued_kinds.Pending seq) = Ok (issues.Pending seq)
+answer_of (issued_kinds.Stall stall) = Ok (issues.Stall stall)
+answer_of (issued_kinds.Refused refused) = Err refused
 
 -- what stands where there is no entry
 abbrev pub no_entry : Entry
@@ -29,13 +29,13 @@ no_entry =
 
 -- an access that is done says the reply of its entry, and want of memory is not said
 abbrev pub IsSaid : Issued → List Entry → Type 0
-IsSaid (issues.Done number reply) log = reply ≡ (slice_index_or log number no_entry).reply
-IsSaid (issues.Refused refused) log = refused ≢ refusals.Memory
+IsSaid (issued_kinds.Done number reply) log = reply ≡ (slice_index_or log number no_entry).reply
+IsSaid (issued_kinds.Refused refused) log = refused ≢ refusals.Memory
 IsSaid issued log = Unit {0}
 
 -- the state answered the access, and this became of it
 pub record Issues (core : CoreId) (request : Request) (issued : Issued) (old new : PartsView) : Type 0 where
-  pub answers : Answers (calls.Issue core request) (answers.Issue (answer_of issued)) old new
+  pub answers : Answers (slice_calls.Issue core request) (call_answers.Issue (answer_of issued)) old new
   pub said : IsSaid issued new.view.log
 
 -- the slice answered the access, and this became of it
@@ -44,7 +44,8 @@ IsIssued slice core request issued old new = OneSlice slice (Issues core request
 
 -- the state had no memory for the access, and answered so
 abbrev pub LacksMemory : CoreId → Request → PartsView → PartsView → Type 0
-LacksMemory core request old new = Answers (calls.Issue core request) (answers.Issue (Err refusals.Memory)) old new
+LacksMemory core request old new =
+    Answers (slice_calls.Issue core request) (call_answers.Issue (Err refusals.Memory)) old new
 
 -- the slice had none
 abbrev pub IsOutOfMemory : ℕ → CoreId → Request → List PartsView → List PartsView → Type 0

@@ -7,18 +7,18 @@ use Rattle.address_map.specs.declared.address.LineAddr.{LineAddr}
 use Rattle.address_map.specs.declared.address.WordAddr.{WordAddr}
 use Rattle.address_map.specs.declared.config.Config.{Config}
 use Rattle.mshr_file.specs.declared.kind.MissKind.{MissKind}
-use Rattle.mshr_file.specs.declared.kind.MissKind.TheVariants as kinds
+use Rattle.mshr_file.specs.declared.kind.MissKind.TheVariants as miss_kinds
 use Rattle.mshr_file.specs.Miss.{Bound, registers_of, tags}
+use Rattle.slice_answer.specs.Stats.{StatsView}
 use Rattle.slice_core.specs.Facts.{AreWaitingAt, ShowsLine, front_at}
 use Rattle.slice_core.specs.Run.{AfterCall}
 use Rattle.slice_core.specs.declared.run.Call.{Call}
 use Rattle.slice_core.specs.declared.run.CallAnswer.{CallAnswer}
-use Rattle.slice_core_answer.specs.Stats.{StatsView}
-use Rattle.slice_core_log.specs.Log.{initially, value}
-use Rattle.slice_core_log.specs.declared.entry.Entry.{Entry}
 use Rattle.slice_core_plan.specs.Calls.{PartsView, IsNew}
 use Rattle.slice_core_plan.specs.View.{View, IsQuiet}
 use Rattle.slice_core_steps.specs.declared.line_view.LineView.{LineView}
+use Rattle.slice_log.specs.Log.{initially, value}
+use Rattle.slice_log.specs.declared.entry.Entry.{Entry}
 use Rattle.slice_queues_message.specs.Pick.{channel_of, line_of}
 use Rattle.slice_queues_message.specs.declared.channel.Channel.{Channel}
 use Rattle.slice_queues_message.specs.declared.channel.Pick.{Pick}
@@ -26,7 +26,7 @@ use Rattle.slice_queues_message.specs.declared.message.Message.{Message}
 
 -- the state is of this slice, with the configured cores, its share of the lines, and the configured setting
 pub record IsSliceOf (config : Config) (id : ℕ) (p : PartsView) : Type 0 where
-  pub cores : length p.view.sides ≡ config.cores
+  pub cores : length p.view.caches ≡ config.cores
   pub lines : p.view.lines ≡ lines_of config (record { 0 = id })
   pub exclusive : p.stats.exclusive ≡ config.exclusive
 
@@ -46,8 +46,8 @@ AreNew config bound slices =
 
 -- what bounds the miss files that a text asks for: the configured registers and targets, or a core's tags
 abbrev pub bound_of : MissKind → Config → Bound
-bound_of kinds.Explicit config = registers_of config
-bound_of kinds.Inverted config = tags
+bound_of miss_kinds.Explicit config = registers_of config
+bound_of miss_kinds.Inverted config = tags
 
 -- the states are those of a new machine
 pub record IsNewMachine (config : Config) (bound : Bound) (slices : List PartsView) : Type 0 where

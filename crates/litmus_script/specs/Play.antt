@@ -6,14 +6,14 @@ use Rattle.litmus_text.specs.Command.{IsRead}
 use Rattle.litmus_text.specs.Statement.{kept_words}
 use Rattle.litmus_text.specs.declared.command.Command.{Command}
 use Rattle.litmus_text.specs.declared.fault.TextFault.{TextFault}
-use Rattle.litmus_text.specs.declared.fault.TextFault.TheVariants as faults
+use Rattle.litmus_text.specs.declared.fault.TextFault.TheVariants as text_faults
 
 -- a fault that isn't the text's: there was no memory, or the output couldn't be written
 abbrev pub IsOfRun : TextFault → Type 0
-IsOfRun faults.NoMemory = Unit {0}
-IsOfRun faults.CannotWrite = Unit {0}
-IsOfRun (faults.Line number fault) = ⊥
-IsOfRun (faults.Config error) = ⊥
+IsOfRun text_faults.NoMemory = Unit {0}
+IsOfRun text_faults.CannotWrite = Unit {0}
+IsOfRun (text_faults.Line number fault) = ⊥
+IsOfRun (text_faults.Config error) = ⊥
 
 -- the words, which are those of a line, write a command that the machine has, and the player plays it
 pub record PlaysOne {P : Type 0} (plays : P → List ℕ → Command → Option (List ℕ) → Option (List ℕ) → P → Type 0)

@@ -13,14 +13,14 @@ use Rattle.litmus_script.specs.declared.answers.Issued.{Issued}
 use Rattle.litmus_script.specs.declared.answers.Pumped.{Pumped}
 use Rattle.litmus_text.specs.declared.command.Command.{Command}
 use Rattle.litmus_text.specs.declared.command.Command.TheVariants as commands
-use Rattle.slice_core.specs.declared.run.Call.TheVariants as calls
-use Rattle.slice_core.specs.declared.run.CallAnswer.TheVariants as answers
-use Rattle.slice_core_answer.specs.Text.{text_of_delivered, text_of_evicted}
-use Rattle.slice_core_answer.specs.declared.answer.Delivered.{Delivered}
-use Rattle.slice_core_answer.specs.declared.answer.Evicted.{Evicted}
-use Rattle.slice_core_log.specs.declared.entry.Numbered.{Numbered}
+use Rattle.slice_answer.specs.Text.{text_of_delivered, text_of_evicted}
+use Rattle.slice_answer.specs.declared.answer.Delivered.{Delivered}
+use Rattle.slice_answer.specs.declared.answer.Evicted.{Evicted}
+use Rattle.slice_core.specs.declared.run.Call.TheVariants as slice_calls
+use Rattle.slice_core.specs.declared.run.CallAnswer.TheVariants as call_answers
 use Rattle.slice_core_plan.specs.Calls.{PartsView}
 use Rattle.slice_core_steps.specs.declared.line_view.LineView.{LineView}
+use Rattle.slice_log.specs.declared.entry.Numbered.{Numbered}
 use Rattle.slice_queues_message.specs.Pick.{line_of}
 use Rattle.slice_text.specs.Line.{text_of_line}
 use Rattle.slice_text.specs.Shown.{text_of_machine}
@@ -45,14 +45,15 @@ Prints config (commands.Issue core request) old new before after =
     (issued : Issued) × IsIssued ((line_of_word request.word).0 % config.slices) core request issued old new
     × Adds before after (text_of_issued issued)
 Prints config (commands.Evict core line) old new before after =
-    (answer : Evicted) × IsAnswered (line.0 % config.slices) (calls.Evict core line) (answers.Evict answer) old new
+    (answer : Evicted)
+    × IsAnswered (line.0 % config.slices) (slice_calls.Evict core line) (call_answers.Evict answer) old new
     × Adds before after (text_of_evicted answer)
 Prints config (commands.Deliver pick) old new before after =
-    (answer : Delivered) × IsAnswered ((line_of pick).0 % config.slices) (calls.Deliver pick)
-    (answers.Deliver answer) old new
+    (answer : Delivered) × IsAnswered ((line_of pick).0 % config.slices) (slice_calls.Deliver pick)
+    (call_answers.Deliver answer) old new
     × Adds before after (text_of_delivered answer)
 Prints config (commands.Hand core slice) old new before after =
-    (answer : Option Numbered) × IsAnswered slice.0 (calls.Hand core) (answers.Hand answer) old new
+    (answer : Option Numbered) × IsAnswered slice.0 (slice_calls.Hand core) (call_answers.Hand answer) old new
     × Adds before after (text_of_handed answer)
 Prints config (commands.Word word) old new before after =
     (new ≡ old) × (shown : Option ℕ) × IsShownWord old (word.0 / 8 % config.slices) word shown

@@ -2,8 +2,8 @@
 use Rattle.std.specs.Prelude.{◌≡◌, ◌⊎◌, ℕ, zero, suc, ◌+◌, ◌*◌, ◌<◌, ◌≤◌, Bool, true, false, List, [], ◌∷◌, length}
 use Rattle.std.specs.Prelude.{if◌then◌else◌, Option}
 use Rattle.std.specs.List.{list_all, list_any}
-use Rattle.slice_core.specs.declared.run.Call.TheVariants as calls
-use Rattle.slice_core.specs.declared.run.CallAnswer.TheVariants as answers
+use Rattle.slice_core.specs.declared.run.Call.TheVariants as slice_calls
+use Rattle.slice_core.specs.declared.run.CallAnswer.TheVariants as call_answers
 use Rattle.slice_core_plan.specs.Calls.{PartsView}
 use Rattle.slice_queues_message.specs.declared.channel.Class.TheVariants as classes
 use Rattle.litmus_script.specs.Machine.{IsAnswered}
@@ -11,13 +11,14 @@ use Rattle.litmus_script.specs.declared.answers.Pumped.{Pumped}
 use Rattle.litmus_script.specs.declared.answers.Pumped.TheVariants as pumps
 use Rattle.litmus_script.specs.declared.pump.Round.{Round}
 use Rattle.litmus_script.specs.declared.pump.Round.TheVariants as rounds
-use Rattle.slice_core_answer.specs.declared.answer.Delivery.TheVariants as deliveries
-use Rattle.slice_core_answer.specs.declared.answer.Delivery.{Delivery}
+use Rattle.slice_answer.specs.declared.answer.Delivery.TheVariants as deliveries
+use Rattle.slice_answer.specs.declared.answer.Delivery.{Delivery}
 use Rattle.slice_queues_message.specs.declared.channel.Pick.{Pick}
 
 -- the slice was asked for a delivery of any class, and answered this
 abbrev pub IsDelivered : ℕ → Delivery Pick → List PartsView → List PartsView → Type 0
-IsDelivered slice answer old new = IsAnswered slice (calls.DeliverNext classes.Any) (answers.DeliverNext answer) old new
+IsDelivered slice answer old new =
+    IsAnswered slice (slice_calls.DeliverNext classes.Any) (call_answers.DeliverNext answer) old new
 
 -- A telling of deliveries: what the next delivery of a slice, by its answer, does to the slices of a machine, and what
 -- is written of it behind what was written before.

@@ -2,13 +2,13 @@
 use Rattle.std.specs.Prelude.{◌≡◌, ◌⊎◌, ℕ, Bool, true, false, List, [], ◌∷◌, ◌++◌, Option, Some, None, Ok, map}
 use Rattle.address_map.specs.Config.{checked_of, first_fault}
 use Rattle.address_map.specs.declared.config.Config.{Config}
-use Rattle.litmus_text.specs.ConfigLine.{configured, parts_of_config_line}
+use Rattle.litmus_text.specs.ConfigLine.{after_config_line, parts_of_config_line}
 use Rattle.litmus_text.specs.Form.{IsFormFaultOf, Writes}
 use Rattle.litmus_text.specs.Settings.{default_settings}
 use Rattle.litmus_text.specs.declared.command.Command.{Command}
 use Rattle.litmus_text.specs.declared.config_line.ConfigLine.{ConfigLine}
 use Rattle.litmus_text.specs.declared.fault.TextFault.{TextFault}
-use Rattle.litmus_text.specs.declared.fault.TextFault.TheVariants as faults
+use Rattle.litmus_text.specs.declared.fault.TextFault.TheVariants as text_faults
 use Rattle.litmus_text.specs.declared.settings.Settings.{Settings}
 use Rattle.litmus_text.specs.declared.statement.Statement.{Statement}
 use Rattle.mshr_file.specs.Miss.{Bound}
@@ -26,7 +26,7 @@ use Rattle.litmus_script.specs.declared.script.Script.{Script}
 pub record TakesLine (words : List (List ℕ)) (old new : Settings) : Type 0 where
   pub line : ConfigLine
   pub written : Writes words (parts_of_config_line line)
-  pub makes : new ≡ configured old line
+  pub makes : new ≡ after_config_line old line
 
 -- the statements, each a number and words, are such lines, one after another
 abbrev pub Configures : Settings → List (ℕ × List (List ℕ)) → Settings → Type 0
@@ -47,15 +47,15 @@ pub record IsConfigured (all : List (ℕ × List (List ℕ))) (settings : Settin
 
 -- why a line wasn't taken: what is wrong with its words as a line that configures, or there was no memory
 abbrev pub IsLineFault : ℕ × List (List ℕ) → TextFault → Type 0
-IsLineFault statement (faults.Line number fault) =
+IsLineFault statement (text_faults.Line number fault) =
     (number ≡ statement.0) × IsFormFaultOf parts_of_config_line statement.1 fault
-IsLineFault statement (faults.Config error) = ⊥
-IsLineFault statement faults.NoMemory = Unit {0}
-IsLineFault statement faults.CannotWrite = ⊥
+IsLineFault statement (text_faults.Config error) = ⊥
+IsLineFault statement text_faults.NoMemory = Unit {0}
+IsLineFault statement text_faults.CannotWrite = ⊥
 
 -- the machine has a field at fault
 abbrev pub IsRefused : Config → TextFault → Type 0
-IsRefused config (faults.Config error) = first_fault config ≡ Some error
+IsRefused config (text_faults.Config error) = first_fault config ≡ Some error
 IsRefused config fault = ⊥
 
 -- What is wrong with the first of the statements that are left, where it begins as a line that configures; or, where it
@@ -149,7 +149,7 @@ pub record IsStoppedOn (plays : Playing) (config : Config) (bound : Bound) (comm
 abbrev pub IsPlayedUpTo : Playing → Config → Bound → List (ℕ × List (List ℕ)) → Option (List ℕ)
     → Option (List ℕ) → TextFault → Type 0
 IsPlayedUpTo plays config bound commands before after fault =
-    ((fault ≡ faults.NoMemory) × (after ≡ before)) ⊎ IsStoppedOn plays config bound commands before after fault
+    ((fault ≡ text_faults.NoMemory) × (after ≡ before)) ⊎ IsStoppedOn plays config bound commands before after fault
 
 -- A script is run: what its commands print is written, in order. One that says nothing writes nothing.
 abbrev pub IsRun : Playing → List (ℕ × List (List ℕ)) → Option (List ℕ) → Option (List ℕ) → Type 0

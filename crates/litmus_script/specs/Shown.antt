@@ -5,7 +5,7 @@ use Rattle.address_map.specs.declared.address.WordAddr.{WordAddr}
 use Rattle.address_map.specs.declared.request.Op.{Op}
 use Rattle.address_map.specs.declared.request.Op.TheVariants as ops
 use Rattle.script_text.specs.Line.{line_of_parts}
-use Rattle.slice_core_log.specs.declared.entry.Entry.{Entry}
+use Rattle.slice_log.specs.declared.entry.Entry.{Entry}
 use Rattle.trace_check.specs.Trace.{body_of}
 use Rattle.trace_check.specs.TraceLine.{cores_of, parts_of_first, parts_of_line}
 use Rattle.trace_check.specs.declared.trace_line.TraceLine.{TraceLine}

@@ -9,11 +9,11 @@ use Rattle.litmus_text.specs.Command.{parts_of}
 use Rattle.litmus_text.specs.declared.command.Command.TheVariants as commands
 use Rattle.script_text.specs.Line.{text_of_parts}
 use Rattle.slice_core.specs.Facts.{front_at}
-use Rattle.slice_core_answer.specs.Text.{text_of_cell}
+use Rattle.slice_answer.specs.Text.{text_of_cell}
 use Rattle.slice_core_plan.specs.Calls.{PartsView}
 use Rattle.slice_core_plan.specs.Plan.{planned_at}
-use Rattle.slice_core_plan.specs.View.{View, entry_at, side_at}
-use Rattle.slice_core_side.specs.Side.{state_of}
+use Rattle.slice_core_plan.specs.View.{View, entry_at, cache_at}
+use Rattle.slice_core_cache.specs.CoreCache.{state_of}
 use Rattle.slice_queues.specs.Waiting.{lines_waiting}
 use Rattle.slice_queues_message.specs.Pick.{channel_of, line_of}
 use Rattle.slice_queues_message.specs.declared.channel.Channel.{Channel}
@@ -21,16 +21,16 @@ use Rattle.slice_queues_message.specs.declared.channel.Channel.TheVariants as ch
 use Rattle.slice_queues_message.specs.declared.channel.Pick.{Pick}
 use Rattle.slice_queues_message.specs.declared.message.Message.{Message}
 use Rattle.step_text.specs.Message.{text_of_message}
-use Rattle.slice_core_answer.specs.declared.answer.Delivery.TheVariants as deliveries
-use Rattle.slice_core_answer.specs.declared.answer.Delivery.{Delivery}
+use Rattle.slice_answer.specs.declared.answer.Delivery.TheVariants as deliveries
+use Rattle.slice_answer.specs.declared.answer.Delivery.{Delivery}
 use Rattle.slice_core_plan.specs.declared.transition.Transition.{Transition}
 
 -- in which state the directory's entry, or the core's copy, is that a channel's messages come to
 abbrev pub receiver_state : View → Local → Channel → List ℕ
 receiver_state v local (channels.Req core) = name_of_entry (entry_at v local).state
-receiver_state v local (channels.Fwd core) = name_of_copy (state_of (side_at v core) local)
-receiver_state v local (channels.Data core) = name_of_copy (state_of (side_at v core) local)
-receiver_state v local (channels.Ack to from) = name_of_copy (state_of (side_at v to) local)
+receiver_state v local (channels.Fwd core) = name_of_copy (state_of (cache_at v core) local)
+receiver_state v local (channels.Data core) = name_of_copy (state_of (cache_at v core) local)
+receiver_state v local (channels.Ack to from) = name_of_copy (state_of (cache_at v to) local)
 receiver_state v local channels.Home = name_of_entry (entry_at v local).state
 
 -- what a delivery would do, where the receiver is in this state

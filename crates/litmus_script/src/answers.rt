@@ -1,6 +1,6 @@
 ghost use Rattle.std.specs.Prelude.{◌≡◌, ◌↔◌, ◌++◌, IfErr, IsOk, OnOk, codes, decimal};
 ghost use Rattle.std.specs.Io.KnownBytes.{Appends};
-ghost use Rattle.slice_core_answer.specs.Text.{text_of_delivered, text_of_evicted};
+ghost use Rattle.slice_answer.specs.Text.{text_of_delivered, text_of_evicted};
 ghost use Rattle.litmus_script.specs.Answer.{WritesLine, text_of_handed, text_of_issued};
 ghost use Rattle.litmus_script.specs.Answer.{text_of_pumped, text_of_word};
 
@@ -14,11 +14,11 @@ use std::io::Write;
 
 /// Where answers go: each piece of text is written whole, or the writing fails.
 #[derive(Drop)]
-pub struct Answers<'a, W> {
+pub struct TextWriter<'a, W> {
     pub out: &'a mut W,
 }
 
-impl<W: Write> fmt::Write for Answers<'_, W> {
+impl<W: Write> fmt::Write for TextWriter<'_, W> {
     ghost write_str_gives = { λ old text new. (new.out.ghost_name ≡ old.out.ghost_name)
         × Appends (W.contents old.out.now) (W.contents new.out.now) text };
 
@@ -27,7 +27,7 @@ impl<W: Write> fmt::Write for Answers<'_, W> {
     }
 }
 
-impl<W: Write> Answers<'_, W> {
+impl<W: Write> TextWriter<'_, W> {
     /// Writes any bytes.
     pub fn write_bytes(&mut self, bytes: &[u8]) -> fmt::Result
         ensures { OnOk result (Appends (W.contents self.old.out.now) (W.contents self.new.out.now) bytes.now) }

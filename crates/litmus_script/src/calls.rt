@@ -4,8 +4,8 @@ ghost use Rattle.std.specs.Prelude.{◌≡◌, ◌<◌, length, IfErr, IfOk, IsS
 ghost use Rattle.address_map.specs.Locator.{local_at};
 ghost use Rattle.address_map.specs.Place.{line_of};
 ghost use Rattle.slice_core.specs.Facts.{IsSameSlice, ShowsLine};
-ghost use Rattle.slice_core.specs.declared.run.Call.TheVariants as of_slice;
-ghost use Rattle.slice_core.specs.declared.run.CallAnswer.TheVariants as answers;
+ghost use Rattle.slice_core.specs.declared.run.Call.TheVariants as slice_calls;
+ghost use Rattle.slice_core.specs.declared.run.CallAnswer.TheVariants as call_answers;
 ghost use Rattle.slice_core_plan.specs.Calls.{IsNew};
 ghost use Rattle.slice_queues_message.specs.declared.channel.Class.TheVariants as classes;
 ghost use Rattle.litmus_script.specs.Issued.{Issues, LacksMemory};
@@ -40,7 +40,7 @@ pub fn issue<F: MissFile>(
     core: CoreId,
     request: Request,
 ) -> Result<Issued, TextFault>
-    requires { core.0 < length state.old.view.sides }
+    requires { core.0 < length state.old.view.caches }
     ensures same { IsSameSlice state.old state.new }
     ensures issued { IfOk result (λ issued. Issues core request issued state.old state.new) }
     ensures memory { IfErr result (λ fault. LacksMemory core request state.old state.new) }
@@ -60,9 +60,9 @@ pub fn issue<F: MissFile>(
 
 #[inline(always)]
 pub(crate) fn evict<F: MissFile>(state: &mut SliceState<F>, core: CoreId, line: LineAddr) -> Evicted
-    requires { core.0 < length state.old.view.sides }
+    requires { core.0 < length state.old.view.caches }
     ensures same { IsSameSlice state.old state.new }
-    ensures made { Answers (of_slice.Evict core line) (answers.Evict result) state.old state.new }
+    ensures made { Answers (slice_calls.Evict core line) (call_answers.Evict result) state.old state.new }
 {
     state.evict(core, line)
 }
@@ -70,16 +70,16 @@ pub(crate) fn evict<F: MissFile>(state: &mut SliceState<F>, core: CoreId, line: 
 #[inline(always)]
 pub(crate) fn deliver_next<F: MissFile>(state: &mut SliceState<F>) -> DeliveredNext
     ensures same { IsSameSlice state.old state.new }
-    ensures made { Answers (of_slice.DeliverNext classes.Any) (answers.DeliverNext result) state.old state.new }
+    ensures made { Answers (slice_calls.DeliverNext classes.Any) (call_answers.DeliverNext result) state.old state.new }
 {
     state.deliver_next(Class::Any)
 }
 
 #[inline(always)]
 pub(crate) fn hand<F: MissFile>(state: &mut SliceState<F>, core: CoreId) -> Option<Numbered>
-    requires { core.0 < length state.old.view.sides }
+    requires { core.0 < length state.old.view.caches }
     ensures same { IsSameSlice state.old state.new }
-    ensures made { Answers (of_slice.Hand core) (answers.Hand result) state.old state.new }
+    ensures made { Answers (slice_calls.Hand core) (call_answers.Hand result) state.old state.new }
 {
     state.hand(core)
 }

@@ -4,14 +4,14 @@
 //!   and keeps nothing of it: a call takes memory for the machine, for the log's growth and for a report's text alone.
 //! - [`Script`] is a script whose configuration was read. Its [`Commands`] are played in order by a [`Player`]: the
 //!   [`Machine`] itself, or another on it, as the [`Style`] has it in which the script is run ([`run_in_style`]).
-//! - [`Answers`] is where answers go, and the functions beside it write the text of each.
+//! - [`TextWriter`] is where answers go, and the functions beside it write the text of each.
 //! - [`issue`] is an access of one slice, with what became of it as it is printed.
 //! - [`pump_slices`] has a [`Deliverer`], which the [`Machine`] is, deliver whatever waits, round and round over the
 //!   slices.
 #![tactic(auto)]
 
 pub use answers::{
-    Answers, Issued, Pumped, write_delivered, write_evicted, write_handed, write_issued,
+    TextWriter, Issued, Pumped, write_delivered, write_evicted, write_handed, write_issued,
     write_pumped, written,
 };
 pub use calls::issue;

@@ -3,8 +3,8 @@ ghost use Rattle.litmus_text.specs.Command.{IsInRange, HasCore, HasLine};
 ghost use Rattle.address_map.specs.Config.{IsAllowed};
 ghost use Rattle.stats_report.specs.Report.{AreAlike, views_of};
 ghost use Rattle.address_map.specs.Place.{line_of as line_of_word};
-ghost use Rattle.slice_core.specs.declared.run.Call.TheVariants as of_slice;
-ghost use Rattle.slice_core.specs.declared.run.CallAnswer.TheVariants as answers;
+ghost use Rattle.slice_core.specs.declared.run.Call.TheVariants as slice_calls;
+ghost use Rattle.slice_core.specs.declared.run.CallAnswer.TheVariants as call_answers;
 ghost use Rattle.slice_core_plan.specs.View.{IsQuiet};
 ghost use Rattle.slice_queues_message.specs.Pick.{line_of};
 ghost use Rattle.litmus_script.specs.Issued.{IsIssued, IsOutOfMemory};
@@ -94,7 +94,7 @@ impl<F: MissFile> Machine<F> {
         requires { HasCore self.old.config core }
         ensures config { self.new.config ≡ self.old.config }
         ensures answered { IsAnswered (line.0 % self.old.config.slices)
-            (of_slice.Evict core line) (answers.Evict result)
+            (slice_calls.Evict core line) (call_answers.Evict result)
             self.old.slices.items self.new.slices.items }
     {
         let slice = self.slice_of(line);
@@ -103,8 +103,8 @@ impl<F: MissFile> Machine<F> {
 
     pub fn deliver(&mut self, pick: Pick) -> Delivered
         ensures config { self.new.config ≡ self.old.config }
-        ensures answered { IsAnswered ((line_of pick).0 % self.old.config.slices) (of_slice.Deliver pick)
-            (answers.Deliver result) self.old.slices.items self.new.slices.items }
+        ensures answered { IsAnswered ((line_of pick).0 % self.old.config.slices) (slice_calls.Deliver pick)
+            (call_answers.Deliver result) self.old.slices.items self.new.slices.items }
     {
         let slice = self.slice_of(pick.line());
         self.slices[slice].deliver(pick)
@@ -114,7 +114,7 @@ impl<F: MissFile> Machine<F> {
         requires core { HasCore self.old.config core }
         requires slice { slice.0 < self.old.config.slices }
         ensures config { self.new.config ≡ self.old.config }
-        ensures answered { IsAnswered slice.0 (of_slice.Hand core) (answers.Hand result)
+        ensures answered { IsAnswered slice.0 (slice_calls.Hand core) (call_answers.Hand result)
             self.old.slices.items self.new.slices.items }
     {
         calls::hand(&mut self.slices[slice.0 as usize], core)

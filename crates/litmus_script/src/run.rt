@@ -6,7 +6,7 @@ ghost use Rattle.litmus_text.specs.Command.{IsInRange, HasCore, HasLine};
 ghost use Rattle.litmus_text.specs.declared.command.Command.TheVariants as commands;
 
 use super::answers::{
-    Answers, write_delivered, write_evicted, write_handed, write_issued, write_pumped, write_word,
+    TextWriter, write_delivered, write_evicted, write_handed, write_issued, write_pumped, write_word,
     written,
 };
 use super::machine::Machine;
@@ -57,7 +57,7 @@ impl<F: MissFile> Machine<F> {
             self.old.slices.items self.new.slices.items (W.contents out.old) (W.contents out.new)) }
     {
         let issued = self.issue(core, request)?;
-        let mut answers = Answers { out };
+        let mut answers = TextWriter { out };
         written(write_issued(issued, &mut answers))
     }
 
@@ -74,7 +74,7 @@ impl<F: MissFile> Machine<F> {
             self.old.slices.items self.new.slices.items (W.contents out.old) (W.contents out.new)) }
     {
         let evicted = self.evict(core, line);
-        let mut answers = Answers { out };
+        let mut answers = TextWriter { out };
         written(write_evicted(evicted, &mut answers))
     }
 
@@ -85,7 +85,7 @@ impl<F: MissFile> Machine<F> {
             self.old.slices.items self.new.slices.items (W.contents out.old) (W.contents out.new)) }
     {
         let delivered = self.deliver(pick);
-        let mut answers = Answers { out };
+        let mut answers = TextWriter { out };
         written(write_delivered(delivered, &mut answers))
     }
 
@@ -103,7 +103,7 @@ impl<F: MissFile> Machine<F> {
             self.old.slices.items self.new.slices.items (W.contents out.old) (W.contents out.new)) }
     {
         let handed = self.hand(core, slice);
-        let mut answers = Answers { out };
+        let mut answers = TextWriter { out };
         written(write_handed(handed, &mut answers))
     }
 
@@ -115,7 +115,7 @@ impl<F: MissFile> Machine<F> {
             (W.contents out.old) (W.contents out.new)) }
     {
         let shown = self.word_now(word);
-        let mut answers = Answers { out };
+        let mut answers = TextWriter { out };
         written(write_word(shown, &mut answers))
     }
 
@@ -128,7 +128,7 @@ impl<F: MissFile> Machine<F> {
             (W.contents out.old) (W.contents out.new)) }
     {
         let shown = self.line_now(line);
-        let mut answers = Answers { out };
+        let mut answers = TextWriter { out };
         written(write_line(line, &shown, &mut answers))
     }
 
@@ -140,7 +140,7 @@ impl<F: MissFile> Machine<F> {
     {
         let init = self.init_of(slice);
         let log = self.log_of(slice);
-        let mut answers = Answers { out };
+        let mut answers = TextWriter { out };
         written(write_trace(&self.config, init, log, &mut answers))
     }
 
@@ -165,7 +165,7 @@ impl<F: MissFile> Machine<F> {
             self.old.slices.items self.new.slices.items (W.contents out.old) (W.contents out.new)) }
     {
         let pumped = pump_slices(self, calls, out)?;
-        let mut answers = Answers { out };
+        let mut answers = TextWriter { out };
         written(write_pumped(pumped, &mut answers))
     }
 }

@@ -4,7 +4,7 @@ ghost use Rattle.litmus_script.specs.Play.{IsOfRun};
 ghost use Rattle.litmus_script.specs.Prints.{IsPrinted};
 ghost use Rattle.litmus_text.specs.declared.command.Command.TheVariants as commands;
 
-use super::answers::{Answers, written};
+use super::answers::{TextWriter, written};
 use super::machine::Machine;
 use litmus_text::TextFault;
 use mshr_file::MissFile;
@@ -19,7 +19,7 @@ impl<F: MissFile> Machine<F> {
             self.now.slices.items self.now.slices.items
             (W.contents out.old) (W.contents out.new)) }
     {
-        let mut answers = Answers { out };
+        let mut answers = TextWriter { out };
         written(write_slices(&self.config, self.slices.as_slice(), &mut answers))
     }
 }

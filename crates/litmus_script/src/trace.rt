@@ -2,7 +2,7 @@ ghost use Rattle.std.specs.Prelude.{◌≡◌, OnOk, map};
 ghost use Rattle.std.specs.Fmt.{WritesInCalls};
 ghost use Rattle.script_text.specs.Line.{line_of_parts};
 ghost use Rattle.trace_check.specs.TraceLine.{parts_of_first};
-ghost use Rattle.trace_check.specs.declared.trace_line.TraceLine.TheVariants as lines;
+ghost use Rattle.trace_check.specs.declared.trace_line.TraceLine.TheVariants as trace_lines;
 ghost use Rattle.litmus_script.specs.Shown.{has_compare_exchange, text_of_lines, text_of_trace, version_for};
 
 use super::trace_text::{write_entry, write_initial};
@@ -49,7 +49,7 @@ fn has_cas(log: &[Entry]) -> bool
 
 fn write_init<W: Write>(init: &[(WordAddr, u64)], out: &mut W) -> fmt::Result
     ensures { OnOk result (WritesInCalls W.write_str_gives out.old
-        (text_of_lines (map (λ pair. lines.Init pair.0 pair.1) init.now)) out.new) }
+        (text_of_lines (map (λ pair. trace_lines.Init pair.0 pair.1) init.now)) out.new) }
 {
     for (word, value) in init {
         write_initial(*word, *value, out)?;
@@ -58,7 +58,7 @@ fn write_init<W: Write>(init: &[(WordAddr, u64)], out: &mut W) -> fmt::Result
 }
 
 fn write_entries<W: Write>(log: &[Entry], out: &mut W) -> fmt::Result
-    ensures { OnOk result (WritesInCalls W.write_str_gives out.old (text_of_lines (map lines.Entry log.now)) out.new) }
+    ensures { OnOk result (WritesInCalls W.write_str_gives out.old (text_of_lines (map trace_lines.Entry log.now)) out.new) }
 {
     for entry in log {
         write_entry(entry, out)?;

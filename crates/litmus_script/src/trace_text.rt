@@ -5,7 +5,7 @@ ghost use Rattle.std.specs.Fmt.{WritesInCalls};
 ghost use Rattle.script_text.specs.Line.{line_of_parts, text_of_parts};
 ghost use Rattle.litmus_text.specs.Command.{parts_of_op};
 ghost use Rattle.trace_check.specs.TraceLine.{parts_of_line};
-ghost use Rattle.trace_check.specs.declared.trace_line.TraceLine.TheVariants as lines;
+ghost use Rattle.trace_check.specs.declared.trace_line.TraceLine.TheVariants as trace_lines;
 ghost use Rattle.litmus_script.specs.declared.trace_text.TheConstants.{LINE_ROOM};
 
 use address_map::{Op, WordAddr};
@@ -25,7 +25,7 @@ type LineText = ArrayString<LINE_ROOM>;
 /// Writes the line of a word and the value that it begins with.
 pub(crate) fn write_initial<W: Write>(word: WordAddr, value: u64, out: &mut W) -> fmt::Result
     ensures { OnOk result (WritesInCalls W.write_str_gives out.old
-        (line_of_parts (parts_of_line (lines.Init word value))) out.new) }
+        (line_of_parts (parts_of_line (trace_lines.Init word value))) out.new) }
 {
     let mut text = LineText::new();
     push_initial(word, value, &mut text);
@@ -35,7 +35,7 @@ pub(crate) fn write_initial<W: Write>(word: WordAddr, value: u64, out: &mut W) -
 /// Puts the line of an initial value together.
 fn push_initial(word: WordAddr, value: u64, text: &mut LineText)
     requires { text.old.bytes ≡ [] }
-    ensures { text.new.bytes ≡ line_of_parts (parts_of_line (lines.Init word value)) }
+    ensures { text.new.bytes ≡ line_of_parts (parts_of_line (trace_lines.Init word value)) }
 {
     text.push_str("init");
     push_number(word.0, text);
@@ -46,7 +46,7 @@ fn push_initial(word: WordAddr, value: u64, text: &mut LineText)
 /// Writes the line of an entry.
 pub(crate) fn write_entry<W: Write>(entry: &Entry, out: &mut W) -> fmt::Result
     ensures { OnOk result (WritesInCalls W.write_str_gives out.old
-        (line_of_parts (parts_of_line (lines.Entry entry.now))) out.new) }
+        (line_of_parts (parts_of_line (trace_lines.Entry entry.now))) out.new) }
 {
     let mut text = LineText::new();
     push_entry(entry, &mut text);
@@ -56,7 +56,7 @@ pub(crate) fn write_entry<W: Write>(entry: &Entry, out: &mut W) -> fmt::Result
 /// Puts the line of an entry together.
 fn push_entry(entry: &Entry, text: &mut LineText)
     requires { text.old.bytes ≡ [] }
-    ensures { text.new.bytes ≡ line_of_parts (parts_of_line (lines.Entry entry.now)) }
+    ensures { text.new.bytes ≡ line_of_parts (parts_of_line (trace_lines.Entry entry.now)) }
 {
     text.push_str("entry");
     push_number(entry.core.0 as u64, text);

@@ -9,11 +9,11 @@ ghost use Rattle.litmus_script.specs.Prints.{IsPrinted};
 ghost use Rattle.litmus_script.specs.Waiting.{flights_of, in_flight, lines_of, picks_of, receiver_state, text_at};
 ghost use Rattle.litmus_script.specs.Waiting.{text_of_waiting};
 ghost use Rattle.litmus_text.specs.declared.command.Command.TheVariants as commands;
-ghost use Rattle.slice_core_side.specs.Side.{state_of};
-ghost use Rattle.slice_core_plan.specs.View.{View, side_at};
+ghost use Rattle.slice_core_cache.specs.CoreCache.{state_of};
+ghost use Rattle.slice_core_plan.specs.View.{View, cache_at};
 ghost use Rattle.slice_queues_message.specs.Pick.{channel_of, line_of};
 
-use super::answers::{Answers, written};
+use super::answers::{TextWriter, written};
 use super::machine::Machine;
 use address_map::CoreId;
 use arrayvec::ArrayVec;
@@ -33,7 +33,7 @@ impl<F: MissFile> Machine<F> {
             self.now.slices.items self.now.slices.items
             (W.contents out.old) (W.contents out.new)) }
     {
-        let mut answers = Answers { out };
+        let mut answers = TextWriter { out };
         written(write_waiting(self.slices.as_slice(), &mut answers))
     }
 }
@@ -126,8 +126,8 @@ fn write_blocked<F: MissFile, W: Write>(
 
 /// The state of a core's copy.
 fn state_in(copies: &ArrayVec<CopyState, 64>, core: CoreId) -> CopyState
-    ensures { (v : View) (local : Local) → copies.now.items ≡ map (λ side. state_of side local) v.sides
-        → result ≡ state_of (side_at v core) local }
+    ensures { (v : View) (local : Local) → copies.now.items ≡ map (λ cache. state_of cache local) v.caches
+        → result ≡ state_of (cache_at v core) local }
 {
     match copies.get(core.0 as usize) {
         Some(copy) => *copy,

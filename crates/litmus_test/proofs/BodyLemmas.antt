@@ -23,7 +23,7 @@ use Rattle.litmus_test.specs.declared.test.NamedReply.{NamedReply}
 use Rattle.litmus_test.specs.declared.test.Pair.{Pair}
 use Rattle.litmus_test.specs.declared.test.LitmusTest.{LitmusTest}
 use Rattle.litmus_test.specs.declared.claim.Claim.{Claim}
-use Rattle.litmus_test.specs.Claim.{claimed, claims_of}
+use Rattle.litmus_test.specs.Claim.{pair_of_claim, claims_of}
 use Rattle.litmus_test.specs.declared.test.Forbidden.{Forbidden}
 use Rattle.litmus_test.specs.Name.{is_name}
 use Rattle.litmus_test.specs.Sound.{IsOutcomeOf, IsReplyOf, IsSound, IsStepOf, IsThreadOf, reads_value}
@@ -181,7 +181,7 @@ position_or_len-map f p [] = refl
 position_or_len-map f p (x ∷ xs) = ap (λ n. cond (not (p (f x))) (1 + n) 0) (position_or_len-map f p xs)
 
 pub pair_of-replies : (ns : List NamedReply) (claim : Claim)
-    → pair_of (map reply_of ns) (claimed claim) ≡ pair_in ns claim
+    → pair_of (map reply_of ns) (pair_of_claim claim) ≡ pair_in ns claim
 pair_of-replies ns claim =
     rw (
       position_or_len-map reply_of (λ (reply : Reply). bytes_eq reply.name claim.name.now) ns,

@@ -7,7 +7,7 @@ use Rattle.std.proofs.Math.Seq.{drop-cons}
 use Rattle.std.proofs.lemmas.List.{length-map, get_or-map, map-append, drop_all}
 use Rattle.litmus_test.specs.declared.claim.Claim.{Claim}
 use Rattle.litmus_test.specs.Fault.{has_claim_form}
-use Rattle.litmus_test.specs.Claim.{IsClaim, AreClaims, WritesClaims, claimed, claims_of}
+use Rattle.litmus_test.specs.Claim.{IsClaim, AreClaims, WritesClaims, pair_of_claim, claims_of}
 
 -- there is a claim for each word
 pub AreClaims-length : (words : List (List ℕ)) (claims : List (List ℕ × ℕ)) → AreClaims words claims
@@ -102,7 +102,7 @@ pub word_read : (words : List (Bor (List ℕ))) (i : ℕ) (d : Bor (List ℕ)) (
     → LeaveClaims (texts words) (drop i (texts words)) (claims_of done)
     → LeaveClaims (texts words) (drop (i + 1) (texts words)) (claims_of (done ++ claim ∷ []))
 word_read words i d done claim within is one h =
-    rw (map-append claimed done (claim ∷ []))
+    rw (map-append pair_of_claim done (claim ∷ []))
     (leave_less (texts words) (drop (i + 1) (texts words)) (get_or words i d).now (claims_of done) claim.name.now
     claim.value is one (subst (λ left. LeaveClaims (texts words) left (claims_of done)) (behind words i d within) h))
 
@@ -134,7 +134,7 @@ pub claims_read : (words : List (Bor (List ℕ))) (done : List Claim) → LeaveC
     → length done ≡ length words → 1 ≤ length words → length words ≤ 16
     → WritesClaims (texts words) (claims_of done)
 claims_read words done h count some few =
-    let long = length-map done claimed in
+    let long = length-map done pair_of_claim in
     record {
       written = leave_none (texts words) (claims_of done) h;
       some = omega (arith, long);

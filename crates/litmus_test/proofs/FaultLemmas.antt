@@ -5,7 +5,7 @@ use Rattle.litmus_text.specs.Table.{value_named}
 use Rattle.litmus_text.specs.declared.fault.LineFault.{LineFault}
 use Rattle.litmus_text.specs.declared.fault.LineFault.TheVariants as line_faults
 use Rattle.litmus_text.specs.declared.fault.TextFault.{TextFault}
-use Rattle.litmus_text.specs.declared.fault.TextFault.TheVariants as faults
+use Rattle.litmus_text.specs.declared.fault.TextFault.TheVariants as text_faults
 use Rattle.litmus_test.specs.declared.version.Version.{Version}
 use Rattle.litmus_test.specs.declared.keyword.Keyword.{Keyword}
 use Rattle.litmus_test.specs.declared.preamble.Preamble.{Preamble}
@@ -27,7 +27,7 @@ pub next_among : (version : Version) (start said : Said) (all left : List (ℕ �
     (words : List (List ℕ)) (fault : TextFault) → IsReading version start said all ((number, words) ∷ left)
     → BeginsAsSetting words ⊎ IsChecked said.settings.config → IsNextFault version said number words fault
     → IsFaultAmong version start all fault
-next_among version start said all left number words (faults.Line n kind) reading ready wrong = record {
+next_among version start said all left number words (text_faults.Line n kind) reading ready wrong = record {
   before = reading.done;
   words = words;
   behind = left;
@@ -37,16 +37,16 @@ next_among version start said all left number words (faults.Line n kind) reading
   ready = ready;
   wrong = wrong.1;
 }
-next_among version start said all left number words (faults.Config error) reading ready wrong = absurd wrong
-next_among version start said all left number words faults.NoMemory reading ready wrong = tt
-next_among version start said all left number words faults.CannotWrite reading ready wrong = absurd wrong
+next_among version start said all left number words (text_faults.Config error) reading ready wrong = absurd wrong
+next_among version start said all left number words text_faults.NoMemory reading ready wrong = tt
+next_among version start said all left number words text_faults.CannotWrite reading ready wrong = absurd wrong
 
 -- so is a configuration that is refused, once all settings were read
 pub config_among : (version : Version) (start said : Said) (all left : List (ℕ × List (List ℕ))) (fault : TextFault)
     → IsReading version start said all left → BeginOtherwise left → IsSettingsFault said.settings.config fault
     → IsFaultAmong version start all fault
-config_among version start said all left (faults.Line n kind) reading others wrong = absurd wrong
-config_among version start said all left (faults.Config error) reading others wrong = record {
+config_among version start said all left (text_faults.Line n kind) reading others wrong = absurd wrong
+config_among version start said all left (text_faults.Config error) reading others wrong = record {
   before = reading.done;
   behind = left;
   split = sym reading.split;
@@ -55,14 +55,14 @@ config_among version start said all left (faults.Config error) reading others wr
   others = others;
   is_fault = wrong;
 }
-config_among version start said all left faults.NoMemory reading others wrong = absurd wrong
-config_among version start said all left faults.CannotWrite reading others wrong = absurd wrong
+config_among version start said all left text_faults.NoMemory reading others wrong = absurd wrong
+config_among version start said all left text_faults.CannotWrite reading others wrong = absurd wrong
 
 -- .. and what is wrong with those that are left
 pub left_among : (version : Version) (start said : Said) (all left : List (ℕ × List (List ℕ))) (fault : TextFault)
     → IsReading version start said all left → IsFaultAmong version said left fault
     → IsFaultAmong version start all fault
-left_among version start said all left (faults.Line n kind) reading wrong = record {
+left_among version start said all left (text_faults.Line n kind) reading wrong = record {
   before = reading.done ++ wrong.before;
   words = wrong.words;
   behind = wrong.behind;
@@ -73,7 +73,7 @@ left_among version start said all left (faults.Line n kind) reading wrong = reco
   ready = wrong.ready;
   wrong = wrong.wrong;
 }
-left_among version start said all left (faults.Config error) reading wrong = record {
+left_among version start said all left (text_faults.Config error) reading wrong = record {
   before = reading.done ++ wrong.before;
   behind = wrong.behind;
   split = sym reading.split ∙ (ap (λ ss. reading.done ++ ss) wrong.split
@@ -83,8 +83,8 @@ left_among version start said all left (faults.Config error) reading wrong = rec
   others = wrong.others;
   is_fault = wrong.is_fault;
 }
-left_among version start said all left faults.NoMemory reading wrong = tt
-left_among version start said all left faults.CannotWrite reading wrong = absurd wrong
+left_among version start said all left text_faults.NoMemory reading wrong = tt
+left_among version start said all left text_faults.CannotWrite reading wrong = absurd wrong
 
 -- what is wrong behind the first line is wrong with the text
 pub among_text : (statements rest : List (ℕ × List (List ℕ))) (number : ℕ) (first : List (List ℕ)) (version : Version)
@@ -109,10 +109,11 @@ checked_test test = test.sound.checked
 pub placed_line : (version : Version) (said : Said) (number : ℕ) (words : List (List ℕ)) (line : Line)
     (fault : TextFault) → WritesLine version words line → IsPlaceFault said number line fault
     → IsNextFault version said number words fault
-placed_line version said number words line (faults.Line n kind) written wrong = (wrong.0, inl (line, written, wrong.1))
-placed_line version said number words line (faults.Config error) written wrong = absurd wrong
-placed_line version said number words line faults.NoMemory written wrong = tt
-placed_line version said number words line faults.CannotWrite written wrong = absurd wrong
+placed_line version said number words line (text_faults.Line n kind) written wrong =
+    (wrong.0, inl (line, written, wrong.1))
+placed_line version said number words line (text_faults.Config error) written wrong = absurd wrong
+placed_line version said number words line text_faults.NoMemory written wrong = tt
+placed_line version said number words line text_faults.CannotWrite written wrong = absurd wrong
 
 pub placed_setting : (version : Version) (said : Said) (number : ℕ) (words : List (List ℕ)) (s : Setting)
     (fault : TextFault) → WritesSetting words s → IsPlaceFault said number (setting s) fault
@@ -126,7 +127,7 @@ pub no_line : (version : Version) (said : Said) (number : ℕ) (words : List (Li
     → IsLineFault version words fault
     → (IsAstray said (keyword_of words) → told ≡ line_faults.NotACommand)
     → (¬ IsAstray said (keyword_of words) → told ≡ fault)
-    → IsNextFault version said number words (faults.Line number told)
+    → IsNextFault version said number words (text_faults.Line number told)
 no_line version said number words told fault begins none form astray placed = (
   refl,
   inr (record {
@@ -172,7 +173,7 @@ no_setting version said words told fault begins none form astray placed = inr (r
 -- .. where nothing but settings came
 pub no_setting_line : (version : Version) (preamble : Preamble) (number : ℕ) (words : List (List ℕ)) (fault : LineFault)
     → BeginsAsSetting words → ((s : Setting) → WritesSetting words s → ⊥) → IsFormFaultOf parts_of_setting words fault
-    → IsNextFault version (said_first preamble) number words (faults.Line number fault)
+    → IsNextFault version (said_first preamble) number words (text_faults.Line number fault)
 unfolding said_first
 no_setting_line version preamble number words fault begins none form = (
   refl,

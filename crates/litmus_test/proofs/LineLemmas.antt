@@ -2,7 +2,7 @@
 use Rattle.std.proofs.Common.{◌≡◌, ◌≢◌, ℕ, [], not, List, ◌∷◌, Some, inl, inr, refl, rules, subst, sym}
 use Rattle.std.specs.Prelude.{codes, IsTrue}
 use Rattle.std.specs.Str.{bytes_eq}
-use Rattle.litmus_text.specs.declared.config_line.ConfigLine.TheVariants as lines
+use Rattle.litmus_text.specs.declared.config_line.ConfigLine.TheVariants as config_lines
 use Rattle.litmus_text.specs.Table.{value_named}
 use Rattle.litmus_text.proofs.TableLemmas.{named}
 use Rattle.litmus_text.proofs.FieldLemmas.{is_no_field, no_field_name, field_name}
@@ -105,12 +105,12 @@ no_line version word words set other (forbid claims) h = other keywords.Forbid h
 -- no words write none
 pub no_empty_line : (version : Version) (line : Line) → WritesLine version [] line → ⊥
 unfolding WritesSetting
-no_empty_line version (setting (settings.Config (lines.Count count n))) h = h
-no_empty_line version (setting (settings.Config (lines.Policy policy))) h = h
-no_empty_line version (setting (settings.Config (lines.Misses kind))) h = h
-no_empty_line version (setting (settings.Config (lines.Exclusive is_on))) h = h
-no_empty_line version (setting (settings.Config (lines.Init w value))) h = h
-no_empty_line version (setting (settings.Config (lines.Counter w))) h = h
+no_empty_line version (setting (settings.Config (config_lines.Count count n))) h = h
+no_empty_line version (setting (settings.Config (config_lines.Policy policy))) h = h
+no_empty_line version (setting (settings.Config (config_lines.Misses kind))) h = h
+no_empty_line version (setting (settings.Config (config_lines.Exclusive is_on))) h = h
+no_empty_line version (setting (settings.Config (config_lines.Init w value))) h = h
+no_empty_line version (setting (settings.Config (config_lines.Counter w))) h = h
 no_empty_line version (setting (settings.Rounds n)) h = h
 no_empty_line version (setting (settings.Movers n)) h = h
 no_empty_line version (thread core) h = h

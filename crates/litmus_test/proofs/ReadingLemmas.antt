@@ -3,7 +3,7 @@ use Rattle.std.proofs.Common.{◌≡◌, ℕ, List, [], ◌∷◌, ◌++◌, len
 use Rattle.std.proofs.Common.{length-append, append_assoc}
 use Rattle.std.specs.Prelude.{Result, Ok, Err, OnOk}
 use Rattle.litmus_text.specs.declared.fault.TextFault.{TextFault}
-use Rattle.litmus_text.specs.declared.fault.TextFault.TheVariants as faults
+use Rattle.litmus_text.specs.declared.fault.TextFault.TheVariants as text_faults
 use Rattle.address_map.specs.declared.address.CoreId.{CoreId}
 use Rattle.address_map.specs.declared.request.Op.TheVariants as ops
 use Rattle.litmus_test.specs.declared.line.Line.{Line as ReadLine}
@@ -122,12 +122,12 @@ pub at_first_fault : (version : Version) (start said : Said) (all left : List (�
     (words : List (List ℕ)) (fault : TextFault)
     → IsReading version start said all ((number, words) ∷ left) → IsNoMemoryOr (IsNoNextLine version said words) fault
     → IsAtLine (λ n. n ≡ number) fault → IsAtLine (IsFirstFault (AreLines version start) all) fault
-at_first_fault version start said all left number words faults.NoMemory reading none at = tt
-at_first_fault version start said all left number words (faults.Line n fault) reading none at =
+at_first_fault version start said all left number words text_faults.NoMemory reading none at = tt
+at_first_fault version start said all left number words (text_faults.Line n fault) reading none at =
     subst (IsFirstFault (AreLines version start) all) (sym at)
     (first_fault version start said all left number words reading none)
-at_first_fault version start said all left number words (faults.Config error) reading none at = tt
-at_first_fault version start said all left number words faults.CannotWrite reading none at = tt
+at_first_fault version start said all left number words (text_faults.Config error) reading none at = tt
+at_first_fault version start said all left number words text_faults.CannotWrite reading none at = tt
 
 -- all statements were read
 pub reading_all : (version : Version) (start said : Said) (all : List (ℕ × List (List ℕ)))
@@ -141,10 +141,10 @@ reading_all version start said all reading =
 
 -- a fault that is no want of memory comes also where less is refused
 pub IsNoMemoryOr-weaker : (P Q : Type 0) (fault : TextFault) → (P → Q) → IsNoMemoryOr P fault → IsNoMemoryOr Q fault
-IsNoMemoryOr-weaker P Q faults.NoMemory f h = tt
-IsNoMemoryOr-weaker P Q (faults.Line number fault) f h = f h
-IsNoMemoryOr-weaker P Q (faults.Config error) f h = f h
-IsNoMemoryOr-weaker P Q faults.CannotWrite f h = absurd h
+IsNoMemoryOr-weaker P Q text_faults.NoMemory f h = tt
+IsNoMemoryOr-weaker P Q (text_faults.Line number fault) f h = f h
+IsNoMemoryOr-weaker P Q (text_faults.Config error) f h = f h
+IsNoMemoryOr-weaker P Q text_faults.CannotWrite f h = absurd h
 
 -- what holds where two facts do
 pub on_ok_two : {T E : Type 0} (r : Result T E) (P Q R : Type 0) → (P → Q → R) → OnOk r P → OnOk r Q → OnOk r R
@@ -298,11 +298,11 @@ fault_behind version start said all left number reading fault =
 pub at_fault_behind : (version : Version) (start said : Said) (all left : List (ℕ × List (List ℕ))) (fault : TextFault)
     → IsReading version start said all left → IsAtLine (IsFirstFault (AreLines version said) left) fault
     → IsAtLine (IsFirstFault (AreLines version start) all) fault
-at_fault_behind version start said all left faults.NoMemory reading at = tt
-at_fault_behind version start said all left (faults.Line n fault) reading at =
+at_fault_behind version start said all left text_faults.NoMemory reading at = tt
+at_fault_behind version start said all left (text_faults.Line n fault) reading at =
     fault_behind version start said all left n reading at
-at_fault_behind version start said all left (faults.Config error) reading at = tt
-at_fault_behind version start said all left faults.CannotWrite reading at = tt
+at_fault_behind version start said all left (text_faults.Config error) reading at = tt
+at_fault_behind version start said all left text_faults.CannotWrite reading at = tt
 
 pub says_nothing : (version : Version) (start said : Said) (all left : List (ℕ × List (List ℕ)))
     (s : ℕ × List (List ℕ))
@@ -364,15 +364,15 @@ other_test text number first rest version whole statements only test =
 pub at_fault : (statements rest : List (ℕ × List (List ℕ))) (number : ℕ) (first : List (List ℕ)) (version : Version)
     (fault : TextFault) → statements ≡ (number, first) ∷ rest → Writes first (parts_of_first version)
     → IsAtLine (IsFirstFault (AreLines version said_nothing) rest) fault → IsAtLine (IsFaultAt statements) fault
-at_fault statements rest number first version faults.NoMemory is begins at = tt
-at_fault statements rest number first version (faults.Line n fault) is begins at =
+at_fault statements rest number first version text_faults.NoMemory is begins at = tt
+at_fault statements rest number first version (text_faults.Line n fault) is begins at =
     subst (λ ss. IsFaultAt ss n) (sym is) (inr (version, begins, at))
-at_fault statements rest number first version (faults.Config error) is begins at = tt
-at_fault statements rest number first version faults.CannotWrite is begins at = tt
+at_fault statements rest number first version (text_faults.Config error) is begins at = tt
+at_fault statements rest number first version text_faults.CannotWrite is begins at = tt
 
 -- a fault that names no line names no wrong one
 pub at_no_line : (holds : ℕ → Type 0) (fault : TextFault) → IsAtLine (λ number. ⊥) fault → IsAtLine holds fault
-at_no_line holds faults.NoMemory at = tt
-at_no_line holds (faults.Line n fault) at = absurd at
-at_no_line holds (faults.Config error) at = tt
-at_no_line holds faults.CannotWrite at = tt
+at_no_line holds text_faults.NoMemory at = tt
+at_no_line holds (text_faults.Line n fault) at = absurd at
+at_no_line holds (text_faults.Config error) at = tt
+at_no_line holds text_faults.CannotWrite at = tt

@@ -6,9 +6,9 @@ use Rattle.std.specs.Prelude.{codes, IsTrue}
 use Rattle.litmus_text.specs.Form.{HasForm, IsFaultOf, IsFormFaultOf, Writes, one_part}
 use Rattle.litmus_text.specs.ConfigLine.{parts_of_config_line}
 use Rattle.litmus_text.specs.declared.config_line.ConfigLine.{ConfigLine}
-use Rattle.litmus_text.specs.declared.config_line.ConfigLine.TheVariants as lines
+use Rattle.litmus_text.specs.declared.config_line.ConfigLine.TheVariants as config_lines
 use Rattle.litmus_text.specs.declared.fault.LineFault.{LineFault}
-use Rattle.litmus_text.specs.declared.fault.LineFault.TheVariants as faults
+use Rattle.litmus_text.specs.declared.fault.LineFault.TheVariants as line_faults
 use Rattle.litmus_text.proofs.FaultLemmas.{fault_of_part, form_behind}
 use Rattle.litmus_text.proofs.FieldLemmas.{is_no_field, no_field_name}
 use Rattle.litmus_text.proofs.FormLemmas.{HasForm-Writes, no_field}
@@ -17,14 +17,14 @@ use Rattle.litmus_test.specs.declared.setting.Setting.TheVariants as settings
 use Rattle.litmus_test.specs.Line.{parts_of_setting}
 
 -- no words are none
-pub no_words_wrong : IsFormFaultOf parts_of_setting [] faults.NotACommand
+pub no_words_wrong : IsFormFaultOf parts_of_setting [] line_faults.NotACommand
 unfolding IsFaultOf
-no_words_wrong (settings.Config (lines.Count count n)) h = h
-no_words_wrong (settings.Config (lines.Policy policy)) h = h
-no_words_wrong (settings.Config (lines.Misses kind)) h = h
-no_words_wrong (settings.Config (lines.Exclusive is_on)) h = h
-no_words_wrong (settings.Config (lines.Init word value)) h = h
-no_words_wrong (settings.Config (lines.Counter word)) h = h
+no_words_wrong (settings.Config (config_lines.Count count n)) h = h
+no_words_wrong (settings.Config (config_lines.Policy policy)) h = h
+no_words_wrong (settings.Config (config_lines.Misses kind)) h = h
+no_words_wrong (settings.Config (config_lines.Exclusive is_on)) h = h
+no_words_wrong (settings.Config (config_lines.Init word value)) h = h
+no_words_wrong (settings.Config (config_lines.Counter word)) h = h
 no_words_wrong (settings.Rounds n) h = h
 no_words_wrong (settings.Movers n) h = h
 

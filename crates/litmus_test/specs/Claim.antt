@@ -34,8 +34,8 @@ pub record WritesClaims (words : List (List ℕ)) (claims : List (List ℕ × �
   pub few : length claims ≤ MOST_PAIRS
 
 -- the names and values of claims that were read
-abbrev pub claimed : Claim → List ℕ × ℕ
-claimed claim = (claim.name.now, claim.value)
+abbrev pub pair_of_claim : Claim → List ℕ × ℕ
+pair_of_claim claim = (claim.name.now, claim.value)
 
 abbrev pub claims_of : List Claim → List (List ℕ × ℕ)
-claims_of claims = map claimed claims
+claims_of claims = map pair_of_claim claims

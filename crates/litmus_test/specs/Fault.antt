@@ -10,7 +10,7 @@ use Rattle.litmus_text.specs.Table.{value_named}
 use Rattle.litmus_text.specs.declared.fault.LineFault.{LineFault}
 use Rattle.litmus_text.specs.declared.fault.LineFault.TheVariants as line_faults
 use Rattle.litmus_text.specs.declared.fault.TextFault.{TextFault}
-use Rattle.litmus_text.specs.declared.fault.TextFault.TheVariants as faults
+use Rattle.litmus_text.specs.declared.fault.TextFault.TheVariants as text_faults
 use Rattle.litmus_test.specs.declared.keyword.Keyword.{Keyword}
 use Rattle.litmus_test.specs.declared.keyword.Keyword.TheVariants as keywords
 use Rattle.litmus_test.specs.declared.setting.Setting.{Setting}
@@ -202,16 +202,17 @@ pub record IsConfigFault (version : Version) (start : Said) (statements : List (
 
 -- why the statements are read no further, where so much was said before; there may also be no memory
 abbrev pub IsFaultAmong : Version → Said → List (ℕ × List (List ℕ)) → TextFault → Type 0
-IsFaultAmong version start statements (faults.Line number fault) = IsFaultyLine version start statements number fault
-IsFaultAmong version start statements (faults.Config error) = IsConfigFault version start statements error
-IsFaultAmong version start statements faults.NoMemory = Unit {0}
-IsFaultAmong version start statements faults.CannotWrite = ⊥
+IsFaultAmong version start statements (text_faults.Line number fault) =
+    IsFaultyLine version start statements number fault
+IsFaultAmong version start statements (text_faults.Config error) = IsConfigFault version start statements error
+IsFaultAmong version start statements text_faults.NoMemory = Unit {0}
+IsFaultAmong version start statements text_faults.CannotWrite = ⊥
 
 -- Why a text, by its statements, is no litmus test: it says nothing or begins as none, or else why the others are read no
 -- further. There may also be no memory.
 abbrev pub IsNoTestFault : ℕ → TextFault → Type 0
-IsNoTestFault line (faults.Line number fault) = (number ≡ line) × (fault ≡ line_faults.NotALitmusText)
-IsNoTestFault line faults.NoMemory = Unit {0}
+IsNoTestFault line (text_faults.Line number fault) = (number ≡ line) × (fault ≡ line_faults.NotALitmusText)
+IsNoTestFault line text_faults.NoMemory = Unit {0}
 IsNoTestFault line other = ⊥
 
 abbrev pub IsFault : List (ℕ × List (List ℕ)) → TextFault → Type 0
@@ -225,20 +226,20 @@ IsFault (first ∷ rest) fault =
 
 -- what is wrong with the next statement, where so much was said
 abbrev pub IsNextFault : Version → Said → ℕ → List (List ℕ) → TextFault → Type 0
-IsNextFault version said line words (faults.Line number fault) =
+IsNextFault version said line words (text_faults.Line number fault) =
     (number ≡ line) × IsWrong version said words fault
-IsNextFault version said line words (faults.Config error) = ⊥
-IsNextFault version said line words faults.NoMemory = Unit {0}
-IsNextFault version said line words faults.CannotWrite = ⊥
+IsNextFault version said line words (text_faults.Config error) = ⊥
+IsNextFault version said line words text_faults.NoMemory = Unit {0}
+IsNextFault version said line words text_faults.CannotWrite = ⊥
 
 -- .. with a line in its place
 abbrev pub IsPlaceFault : Said → ℕ → Line → TextFault → Type 0
-IsPlaceFault said number line (faults.Line n fault) = (n ≡ number) × HasFault said line fault
-IsPlaceFault said number line (faults.Config error) = ⊥
-IsPlaceFault said number line faults.NoMemory = Unit {0}
-IsPlaceFault said number line faults.CannotWrite = ⊥
+IsPlaceFault said number line (text_faults.Line n fault) = (n ≡ number) × HasFault said line fault
+IsPlaceFault said number line (text_faults.Config error) = ⊥
+IsPlaceFault said number line text_faults.NoMemory = Unit {0}
+IsPlaceFault said number line text_faults.CannotWrite = ⊥
 
 -- .. with a configuration that is refused
 abbrev pub IsSettingsFault : Config → TextFault → Type 0
-IsSettingsFault config (faults.Config error) = first_fault config ≡ Some error
+IsSettingsFault config (text_faults.Config error) = first_fault config ≡ Some error
 IsSettingsFault config other = ⊥

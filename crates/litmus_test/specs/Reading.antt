@@ -2,7 +2,7 @@
 use Rattle.std.specs.Prelude.{◌≡◌, ℕ, ◌+◌, ◌≤◌, List, [], ◌++◌, length, Result, IfOk, IfErr, IsTrue}
 use Rattle.litmus_text.specs.declared.fault.LineFault.{LineFault}
 use Rattle.litmus_text.specs.declared.fault.TextFault.{TextFault}
-use Rattle.litmus_text.specs.declared.fault.TextFault.TheVariants as faults
+use Rattle.litmus_text.specs.declared.fault.TextFault.TheVariants as text_faults
 use Rattle.litmus_test.specs.declared.line.Line.{Line as ReadLine}
 use Rattle.litmus_test.specs.declared.preamble.Preamble.{Preamble}
 use Rattle.litmus_test.specs.declared.version.Version.{Version}
@@ -20,10 +20,10 @@ pub record ReadsAs (version : Version) (words : List (List ℕ)) (result : Resul
 
 -- why a text was read no further: there was no memory, or it is refused for this
 abbrev pub IsNoMemoryOr : Type 0 → TextFault → Type 0
-IsNoMemoryOr refused faults.NoMemory = Unit {0}
-IsNoMemoryOr refused (faults.Line number fault) = refused
-IsNoMemoryOr refused (faults.Config error) = refused
-IsNoMemoryOr refused faults.CannotWrite = ⊥
+IsNoMemoryOr refused text_faults.NoMemory = Unit {0}
+IsNoMemoryOr refused (text_faults.Line number fault) = refused
+IsNoMemoryOr refused (text_faults.Config error) = refused
+IsNoMemoryOr refused text_faults.CannotWrite = ⊥
 
 -- the words write no line that may come next
 abbrev pub IsNoNextLine : Version → Said → List (List ℕ) → Type 0

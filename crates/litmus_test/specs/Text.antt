@@ -6,7 +6,7 @@ use Rattle.std.specs.Str.{bytes_eq}
 use Rattle.std.specs.Str.Lines.{lines}
 use Rattle.address_map.specs.declared.address.CoreId.{CoreId}
 use Rattle.address_map.specs.declared.request.Op.TheVariants as ops
-use Rattle.litmus_text.specs.ConfigLine.{configured}
+use Rattle.litmus_text.specs.ConfigLine.{after_config_line}
 use Rattle.litmus_text.specs.Fault.{IsFirstFault}
 use Rattle.litmus_text.specs.Form.{Writes}
 use Rattle.litmus_text.specs.Settings.{default_settings}
@@ -61,7 +61,7 @@ last_steps (first ∷ next ∷ more) = last_steps (next ∷ more)
 
 -- one more setting
 abbrev pub said_setting : Said → Setting → Said
-said_setting said (settings.Config line) = record said { settings = configured said.settings line }
+said_setting said (settings.Config line) = record said { settings = after_config_line said.settings line }
 said_setting said (settings.Rounds n) = record said { rounds = n }
 said_setting said (settings.Movers n) = record said { movers = n }
 

@@ -11,7 +11,7 @@ use Rattle.litmus_text.specs.Access.{name_of_access}
 use Rattle.litmus_text.specs.Table.{value_named}
 use Rattle.litmus_text.specs.Command.{parts_of_access, parts_of_op}
 use Rattle.litmus_text.specs.declared.fault.LineFault.{LineFault}
-use Rattle.litmus_text.specs.declared.fault.LineFault.TheVariants as faults
+use Rattle.litmus_text.specs.declared.fault.LineFault.TheVariants as line_faults
 use Rattle.litmus_text.specs.Form.{Writes, HasForm, IsFaultOf, IsFormFaultOf, one_part, two_parts, three_parts}
 use Rattle.litmus_text.proofs.FaultLemmas.{form_behind}
 use Rattle.litmus_text.proofs.FormLemmas.{HasForm-Writes}
@@ -58,12 +58,12 @@ no_access name rest other (ops.Add delta) word w = other accesses.Add w.0
 no_access name rest other (ops.Cas expect new) word w = other accesses.Cas w.0
 
 -- .. so this is what is wrong with them
-pub nothing_fault : IsFormFaultOf parts_of_access [] faults.NotACommand
+pub nothing_fault : IsFormFaultOf parts_of_access [] line_faults.NotACommand
 unfolding IsFaultOf
 nothing_fault = λ access. form_of_nothing access.0 access.1
 
 pub unnamed_fault : (name : List ℕ) (rest : List (List ℕ)) → ((access : Access) → name ≢ name_of_access access)
-    → IsFormFaultOf parts_of_access (name ∷ rest) faults.NotACommand
+    → IsFormFaultOf parts_of_access (name ∷ rest) line_faults.NotACommand
 unfolding IsFaultOf
 unnamed_fault name rest other = λ access. no_access name rest other access.0 access.1
 

@@ -13,7 +13,7 @@ use Rattle.litmus_text.specs.declared.channel.Class.TheVariants as classes
 use Rattle.litmus_text.specs.Class.{name_of_class}
 use Rattle.litmus_text.specs.Command.{HasLineAndCore, HasPick, IsFaultOfPick, ReadsAsPick, parts_of_pick}
 use Rattle.litmus_text.specs.declared.fault.LineFault.{LineFault}
-use Rattle.litmus_text.specs.declared.fault.LineFault.TheVariants as faults
+use Rattle.litmus_text.specs.declared.fault.LineFault.TheVariants as line_faults
 use Rattle.litmus_text.specs.Form.{Part, Writes, HasForm, IsFaultOf, key, one_part, two_parts, three_parts}
 use Rattle.litmus_text.proofs.FaultLemmas.{fault_behind}
 use Rattle.litmus_text.proofs.FormLemmas.{HasForm-Writes}
@@ -42,13 +42,13 @@ no_channel name rest other (picks.Ack line to from) w = other classes.Ack w.0
 no_channel name rest other (picks.Home line) w = other classes.Home w.0
 
 -- .. so this is what is wrong with them
-pub nothing_fault : (config : Config) → IsFaultOfPick config [] faults.NotACommand
+pub nothing_fault : (config : Config) → IsFaultOfPick config [] line_faults.NotACommand
 unfolding IsFaultOf
 nothing_fault config = form_of_nothing
 
 pub unnamed_fault : (config : Config) (name : List ℕ) (rest : List (List ℕ))
     → ((class : Class) → name ≢ name_of_class class)
-    → IsFaultOfPick config (name ∷ rest) faults.NotACommand
+    → IsFaultOfPick config (name ∷ rest) line_faults.NotACommand
 unfolding IsFaultOf
 unnamed_fault config name rest other = no_channel name rest other
 

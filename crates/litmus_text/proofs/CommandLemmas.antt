@@ -17,7 +17,7 @@ use Rattle.slice_queues_message.specs.declared.channel.Pick.{Pick}
 use Rattle.litmus_text.specs.declared.command.Command.{Command}
 use Rattle.litmus_text.specs.declared.command.Command.TheVariants as commands
 use Rattle.litmus_text.specs.declared.fault.LineFault.{LineFault}
-use Rattle.litmus_text.specs.declared.fault.LineFault.TheVariants as faults
+use Rattle.litmus_text.specs.declared.fault.LineFault.TheVariants as line_faults
 use Rattle.litmus_text.specs.declared.parse.Verb.{Verb}
 use Rattle.litmus_text.specs.declared.parse.Verb.TheVariants as verbs
 use Rattle.litmus_text.specs.Command.{HasPick, HasTag, IsFaultOfCommand, IsInRange, IsRead, ReadsAs, Says, parts_of}
@@ -46,7 +46,7 @@ no_command name rest other (commands.Pump calls) w = other verbs.Pump w.0
 -- .. so this is what is wrong with them
 pub unnamed_fault : (config : Config) (name : List ℕ) (rest : List (List ℕ))
     → ((verb : Verb) → name ≢ name_of_verb verb)
-    → IsFaultOfCommand config (name ∷ rest) faults.NotACommand
+    → IsFaultOfCommand config (name ∷ rest) line_faults.NotACommand
 unfolding IsFaultOf
 unnamed_fault config name rest other = no_command name rest other
 
@@ -61,10 +61,10 @@ reads_none {config} {words} fault r is wrong =
 pub refuses : (config : Config) (words : List (List ℕ)) (fault : LineFault) → IsFaultOfCommand config words fault
     → (command : Command) → ¬ IsRead config words command
 unfolding IsFaultOf
-refuses config words faults.NotACommand wrong command read =
+refuses config words line_faults.NotACommand wrong command read =
     wrong command (HasForm-Writes words (parts_of command) read.written)
-refuses config words faults.BadNumber wrong command read = wrong.1 command (read.written, read.tag)
-refuses config words faults.OutOfRange wrong command read = wrong.1 command (read.written, read.tag) read.in_range
+refuses config words line_faults.BadNumber wrong command read = wrong.1 command (read.written, read.tag)
+refuses config words line_faults.OutOfRange wrong command read = wrong.1 command (read.written, read.tag) read.in_range
 refuses config words other wrong command read = wrong
 
 -- ---- what is wrong behind a verb is wrong with the command
@@ -218,7 +218,7 @@ issued core tag op word = commands.Issue core (record { op = op; word = record {
 
 -- there are fewer
 pub issue_short : {W : Type 0} (config : Config) (text : W → List ℕ) (words : List W) → length words < 2
-    → IsFaultOfCommand config (codes "issue" ∷ map text words) faults.NotACommand
+    → IsFaultOfCommand config (codes "issue" ∷ map text words) line_faults.NotACommand
 unfolding IsFaultOf
 issue_short config text [] few =
     λ c f. only_issue [] (λ z. HasForm (codes "issue" ∷ []) (parts_of z) → ⊥) (λ core request form. form.1) c f f
@@ -231,22 +231,22 @@ issue_short config text (word ∷ next ∷ more) few = absurd (omega arith)
 pub issue_access : (config : Config) (core tag : List ℕ) (access : List (List ℕ)) (fault : LineFault)
     → IsFormFaultOf parts_of_access access fault → IsFaultOfCommand config (codes "issue" ∷ core ∷ tag ∷ access) fault
 unfolding IsFaultOf
-issue_access config core tag access faults.NotACommand h =
+issue_access config core tag access line_faults.NotACommand h =
     λ c f. only_issue (core ∷ tag ∷ access) (λ z. HasForm (codes "issue" ∷ core ∷ tag ∷ access) (parts_of z) → ⊥)
     (λ k request form. h (request.op, request.word.0) form.1) c f f
-issue_access config core tag access faults.BadNumber h = (
+issue_access config core tag access line_faults.BadNumber h = (
   (issued (record { 0 = 0 }) 0 h.0.0.0 h.0.0.1, (refl, h.0.1)),
   λ c s. only_issue (core ∷ tag ∷ access) (λ z. Says (codes "issue" ∷ core ∷ tag ∷ access) z → ⊥)
       (λ k request t. h.1 (request.op, request.word.0) t.0.1.2.2) c
       (HasForm-Writes (codes "issue" ∷ core ∷ tag ∷ access) (parts_of c) s.0) s,
 )
-issue_access config core tag access faults.OutOfRange h = absurd (h.1 h.0.0 h.0.1 tt)
+issue_access config core tag access line_faults.OutOfRange h = absurd (h.1 h.0.0 h.0.1 tt)
 issue_access config core tag access other h = h
 
 -- the core or the tag is no number
 pub issue_number : (config : Config) (core tag : List ℕ) (access : List (List ℕ)) (op : Op) (word : ℕ)
     → Writes access (parts_of_op op word) → (IsNumber core → IsNumber tag → digits_value 10 tag < 256 → ⊥)
-    → (fault : LineFault) → fault ≡ faults.BadNumber
+    → (fault : LineFault) → fault ≡ line_faults.BadNumber
     → IsFaultOfCommand config (codes "issue" ∷ core ∷ tag ∷ access) fault
 unfolding IsFaultOf
 issue_number config core tag access op word written none fault is =
@@ -260,7 +260,7 @@ issue_number config core tag access op word written none fault is =
 -- the machine lacks the core
 pub issue_lacks : (config : Config) (core tag : List ℕ) (access : List (List ℕ)) (op : Op) (word n : ℕ)
     → Writes access (parts_of_op op word) → IsNumber core → n ≡ digits_value 10 core → IsNumber tag
-    → digits_value 10 tag < 256 → ¬ (n < config.cores) → (fault : LineFault) → fault ≡ faults.OutOfRange
+    → digits_value 10 tag < 256 → ¬ (n < config.cores) → (fault : LineFault) → fault ≡ line_faults.OutOfRange
     → IsFaultOfCommand config (codes "issue" ∷ core ∷ tag ∷ access) fault
 issue_lacks config core tag access op word n written number is tagged small none =
     lacks _ _ _ (issued (record { 0 = digits_value 10 core }) (digits_value 10 tag) op word)

@@ -3,7 +3,7 @@ use Rattle.std.proofs.Common.{◌≡◌, ℕ, List, [], ◌∷◌, Result, IsErr
 use Rattle.std.proofs.Common.{sym, subst, arith}
 use Rattle.std.proofs.lemmas.Result.{err_from_is_err_and}
 use Rattle.litmus_text.specs.declared.fault.LineFault.{LineFault}
-use Rattle.litmus_text.specs.declared.fault.LineFault.TheVariants as faults
+use Rattle.litmus_text.specs.declared.fault.LineFault.TheVariants as line_faults
 use Rattle.litmus_text.specs.Form.{Part, key, num, Writes, HasForm, IsFaultOf, IsFormFaultOf, one_part, two_parts}
 use Rattle.litmus_text.specs.Form.{three_parts}
 use Rattle.litmus_text.specs.Number.{IsNumber}
@@ -25,13 +25,16 @@ pub fault_of_part : {X Y : Type 0} (FormX SaysX HasX : X → Type 0) (FormY Says
     → ((x : X) → HasY (line x) → HasX x) → ((y : Y) → SaysY y → FormY y)
     → (fault : LineFault) → IsFaultOf FormX SaysX HasX fault → IsFaultOf FormY SaysY HasY fault
 unfolding IsFaultOf
-fault_of_part FormX SaysX HasX FormY SaysY HasY line only form formed says said has says_form faults.NotACommand h =
+fault_of_part FormX SaysX HasX FormY SaysY HasY line only form formed says said has says_form line_faults.NotACommand
+    h =
     λ y w. only (λ z. FormY z → ⊥) (λ x f. h x (formed x f)) y w w
-fault_of_part FormX SaysX HasX FormY SaysY HasY line only form formed says said has says_form faults.BadNumber h = (
+fault_of_part FormX SaysX HasX FormY SaysY HasY line only form formed says said has says_form line_faults.BadNumber h =
+    (
   (line h.0.0, form h.0.0 h.0.1),
   λ y s. only (λ z. SaysY z → ⊥) (λ x t. h.1 x (said x t)) y (says_form y s) s,
 )
-fault_of_part FormX SaysX HasX FormY SaysY HasY line only form formed says said has says_form faults.OutOfRange h = (
+fault_of_part FormX SaysX HasX FormY SaysY HasY line only form formed says said has says_form line_faults.OutOfRange h =
+    (
   (line h.0.0, says h.0.0 h.0.1),
   λ y s. only (λ z. SaysY z → HasY z → ⊥) (λ x t k. h.1 x (said x t) (has x k)) y (says_form y s) s,
 )
@@ -69,36 +72,36 @@ form_behind name words behind parts line only is =
 pub form_refuses : {X : Type 0} (parts : X → List Part) (words : List (List ℕ)) (fault : LineFault)
     → IsFormFaultOf parts words fault → (x : X) → ¬ Writes words (parts x)
 unfolding IsFaultOf
-form_refuses parts words faults.NotACommand wrong x written = wrong x (HasForm-Writes words (parts x) written)
-form_refuses parts words faults.BadNumber wrong x written = wrong.1 x written
-form_refuses parts words faults.OutOfRange wrong x written = wrong.1 x written tt
+form_refuses parts words line_faults.NotACommand wrong x written = wrong x (HasForm-Writes words (parts x) written)
+form_refuses parts words line_faults.BadNumber wrong x written = wrong.1 x written
+form_refuses parts words line_faults.OutOfRange wrong x written = wrong.1 x written tt
 form_refuses parts words other wrong x written = wrong
 
 -- whatever the machine has, a number that can't be read is at fault before that
 pub fault_of_form : {X : Type 0} (parts : X → List Part) (Has : X → Type 0) (words : List (List ℕ)) (fault : LineFault)
     → IsFormFaultOf parts words fault → IsFaultOf (λ x. HasForm words (parts x)) (λ x. Writes words (parts x)) Has fault
 unfolding IsFaultOf
-fault_of_form parts Has words faults.NotACommand h = h
-fault_of_form parts Has words faults.BadNumber h = h
-fault_of_form parts Has words faults.OutOfRange h = absurd (h.1 h.0.0 h.0.1 tt)
+fault_of_form parts Has words line_faults.NotACommand h = h
+fault_of_form parts Has words line_faults.BadNumber h = h
+fault_of_form parts Has words line_faults.OutOfRange h = absurd (h.1 h.0.0 h.0.1 tt)
 fault_of_form parts Has words other h = h
 
 -- words say a line that the machine lacks, and no other
 pub lacks : {X : Type 0} (Form Says Has : X → Type 0) (x : X) → Says x → ((y : X) → Says y → ¬ Has y)
     → (fault : LineFault)
-    → fault ≡ faults.OutOfRange → IsFaultOf Form Says Has fault
+    → fault ≡ line_faults.OutOfRange → IsFaultOf Form Says Has fault
 unfolding IsFaultOf
 lacks Form Says Has x says none fault is = subst (IsFaultOf Form Says Has) (sym is) ((x, says), none)
 
 pub lacks_one : (words : List (List ℕ)) (a : ℕ) (Has : ℕ → Type 0) → Writes words (num a ∷ [])
-    → ((n : ℕ) → Writes words (num n ∷ []) → n ≡ a) → ¬ Has a → (fault : LineFault) → fault ≡ faults.OutOfRange
+    → ((n : ℕ) → Writes words (num n ∷ []) → n ≡ a) → ¬ Has a → (fault : LineFault) → fault ≡ line_faults.OutOfRange
     → IsFaultOf (λ n. HasForm words (one_part n)) (λ n. Writes words (one_part n)) Has fault
 lacks_one words a Has written only none =
     lacks _ _ Has a written (λ n w has. none (subst Has (only n w) has))
 
 pub lacks_two : (words : List (List ℕ)) (a b : ℕ) (Has : ℕ × ℕ → Type 0) → Writes words (num a ∷ num b ∷ [])
     → ((n m : ℕ) → Writes words (num n ∷ num m ∷ []) → (n ≡ a) × (m ≡ b)) → ¬ Has (a, b) → (fault : LineFault)
-    → fault ≡ faults.OutOfRange
+    → fault ≡ line_faults.OutOfRange
     → IsFaultOf (λ p. HasForm words (two_parts p)) (λ p. Writes words (two_parts p)) Has fault
 lacks_two words a b Has written only none =
     lacks _ _ Has (a, b) written
@@ -108,7 +111,7 @@ lacks_two words a b Has written only none =
 pub lacks_three : (words : List (List ℕ)) (a b d : ℕ) (Has : ℕ × ℕ × ℕ → Type 0)
     → Writes words (num a ∷ num b ∷ num d ∷ [])
     → ((n m k : ℕ) → Writes words (num n ∷ num m ∷ num k ∷ []) → (n ≡ a) × (m ≡ b) × (k ≡ d)) → ¬ Has (a, b, d)
-    → (fault : LineFault) → fault ≡ faults.OutOfRange
+    → (fault : LineFault) → fault ≡ line_faults.OutOfRange
     → IsFaultOf (λ p. HasForm words (three_parts p)) (λ p. Writes words (three_parts p)) Has fault
 lacks_three words a b d Has written only none =
     lacks _ _ Has (a, b, d) written
@@ -134,7 +137,7 @@ number_at text (word ∷ words) (n ∷ ns) (suc i) other below written =
 
 -- one of two words is no number, or one of three
 pub no_pair : {W : Type 0} (text : W → List ℕ) (words : List W) (i : ℕ) (other : W) (fault : LineFault)
-    → length words ≡ 2 → i < length words → ¬ IsNumber (text (get_or words i other)) → fault ≡ faults.BadNumber
+    → length words ≡ 2 → i < length words → ¬ IsNumber (text (get_or words i other)) → fault ≡ line_faults.BadNumber
     → IsFormFaultOf two_parts (map text words) fault
 unfolding IsFaultOf
 no_pair text words i other fault two below none is =
@@ -144,7 +147,7 @@ no_pair text words i other fault two below none is =
     )
 
 pub no_three : {W : Type 0} (text : W → List ℕ) (words : List W) (i : ℕ) (other : W) (fault : LineFault)
-    → length words ≡ 3 → i < length words → ¬ IsNumber (text (get_or words i other)) → fault ≡ faults.BadNumber
+    → length words ≡ 3 → i < length words → ¬ IsNumber (text (get_or words i other)) → fault ≡ line_faults.BadNumber
     → IsFormFaultOf three_parts (map text words) fault
 unfolding IsFaultOf
 no_three text words i other fault three below none is =

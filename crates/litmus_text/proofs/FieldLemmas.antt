@@ -5,7 +5,7 @@ use Rattle.std.specs.Option.{is_some}
 use Rattle.std.specs.List.{list_all}
 use Rattle.std.specs.Str.{bytes_eq}
 use Rattle.litmus_text.specs.declared.config_line.ConfigLine.{ConfigLine}
-use Rattle.litmus_text.specs.declared.config_line.ConfigLine.TheVariants as lines
+use Rattle.litmus_text.specs.declared.config_line.ConfigLine.TheVariants as config_lines
 use Rattle.litmus_text.specs.declared.field.Count.TheVariants as counts
 use Rattle.litmus_text.specs.declared.field.Field.{Field}
 use Rattle.litmus_text.specs.declared.field.Field.TheVariants as fields
@@ -44,12 +44,12 @@ no_field_name word other is = fields_named is.0 (subst (λ w. IsTrue (is_no_fiel
 -- words that write a line that configures the machine begin with the name of a field
 pub field_name : (word : List ℕ) (words : List (List ℕ)) (line : ConfigLine)
     → Writes (word ∷ words) (parts_of_config_line line) → IsFieldName word
-field_name word words (lines.Count count n) h = (fields.Count count, h.0)
-field_name word words (lines.Policy policy) h = (fields.Policy, h.0)
-field_name word words (lines.Misses kind) h = (fields.Misses, h.0)
-field_name word words (lines.Exclusive is_on) h = (fields.Exclusive, h.0)
-field_name word words (lines.Init w value) h = (fields.Init, h.0)
-field_name word words (lines.Counter w) h = (fields.Counter, h.0)
+field_name word words (config_lines.Count count n) h = (fields.Count count, h.0)
+field_name word words (config_lines.Policy policy) h = (fields.Policy, h.0)
+field_name word words (config_lines.Misses kind) h = (fields.Misses, h.0)
+field_name word words (config_lines.Exclusive is_on) h = (fields.Exclusive, h.0)
+field_name word words (config_lines.Init w value) h = (fields.Init, h.0)
+field_name word words (config_lines.Counter w) h = (fields.Counter, h.0)
 
 -- the table of fields, by their names
 abbrev names : List (List ℕ × Field)

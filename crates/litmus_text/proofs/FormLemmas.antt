@@ -2,7 +2,7 @@
 use Rattle.std.proofs.Common.{◌≡◌, ℕ, ◌≢◌, List, [], ◌∷◌, length, map, refl, sym, ◌∙◌, ap, suc, arith}
 use Rattle.std.proofs.lemmas.List.{length-map}
 use Rattle.litmus_text.specs.declared.config_line.ConfigLine.{ConfigLine}
-use Rattle.litmus_text.specs.declared.config_line.ConfigLine.TheVariants as lines
+use Rattle.litmus_text.specs.declared.config_line.ConfigLine.TheVariants as config_lines
 use Rattle.litmus_text.specs.declared.field.Field.{Field}
 use Rattle.litmus_text.specs.declared.field.Field.TheVariants as fields
 use Rattle.litmus_text.specs.ConfigLine.{parts_of_config_line}
@@ -53,12 +53,12 @@ HasForm-Writes (word ∷ words) (num n ∷ parts) w = HasForm-Writes words parts
 -- words that begin with the name of no field have the form of no line that configures the machine
 pub no_field : (name : List ℕ) (rest : List (List ℕ)) → ((field : Field) → name ≢ name_of field)
     → (line : ConfigLine) → HasForm (name ∷ rest) (parts_of_config_line line) → ⊥
-no_field name rest other (lines.Count count n) w = other (fields.Count count) w.0
-no_field name rest other (lines.Policy policy) w = other fields.Policy w.0
-no_field name rest other (lines.Misses kind) w = other fields.Misses w.0
-no_field name rest other (lines.Exclusive is_on) w = other fields.Exclusive w.0
-no_field name rest other (lines.Init word value) w = other fields.Init w.0
-no_field name rest other (lines.Counter word) w = other fields.Counter w.0
+no_field name rest other (config_lines.Count count n) w = other (fields.Count count) w.0
+no_field name rest other (config_lines.Policy policy) w = other fields.Policy w.0
+no_field name rest other (config_lines.Misses kind) w = other fields.Misses w.0
+no_field name rest other (config_lines.Exclusive is_on) w = other fields.Exclusive w.0
+no_field name rest other (config_lines.Init word value) w = other fields.Init w.0
+no_field name rest other (config_lines.Counter word) w = other fields.Counter w.0
 
 -- and write none
 pub no_field_written : (name : List ℕ) (rest : List (List ℕ)) → ((field : Field) → name ≢ name_of field)

@@ -2,36 +2,36 @@
 use Rattle.std.specs.Prelude.{◌≡◌, ◌⊎◌, ℕ, Bool, true, false, List, [], ◌∷◌, ◌++◌, codes}
 use Rattle.address_map.specs.declared.config.Config.{Config}
 use Rattle.address_map.specs.declared.config.PolicyKind.{PolicyKind}
-use Rattle.address_map.specs.declared.config.PolicyKind.TheVariants as policies
+use Rattle.address_map.specs.declared.config.PolicyKind.TheVariants as policy_kinds
 use Rattle.litmus_text.specs.declared.policy.PolicyName.{PolicyName}
-use Rattle.litmus_text.specs.declared.policy.PolicyName.TheVariants as names
+use Rattle.litmus_text.specs.declared.policy.PolicyName.TheVariants as policy_names
 use Rattle.mshr_file.specs.declared.kind.MissKind.{MissKind}
-use Rattle.mshr_file.specs.declared.kind.MissKind.TheVariants as misses
+use Rattle.mshr_file.specs.declared.kind.MissKind.TheVariants as miss_kinds
 use Rattle.litmus_text.specs.declared.settings.Settings.{Settings}
 use Rattle.litmus_text.specs.declared.config_line.ConfigLine.{ConfigLine}
-use Rattle.litmus_text.specs.declared.config_line.ConfigLine.TheVariants as lines
+use Rattle.litmus_text.specs.declared.config_line.ConfigLine.TheVariants as config_lines
 use Rattle.litmus_text.specs.declared.fault.LineFault.{LineFault}
-use Rattle.litmus_text.specs.declared.fault.LineFault.TheVariants as faults
+use Rattle.litmus_text.specs.declared.fault.LineFault.TheVariants as line_faults
 use Rattle.litmus_text.specs.declared.field.Field.TheVariants as fields
 use Rattle.litmus_text.specs.Field.{name_of, with_count}
 use Rattle.litmus_text.specs.Form.{Part, key, num, Writes, IsFormFaultOf}
 
 -- how a replacement policy is called
 abbrev pub name_of_policy : PolicyName → List ℕ
-name_of_policy names.Lru = codes "lru"
-name_of_policy names.Fifo = codes "fifo"
-name_of_policy names.Random = codes "random"
+name_of_policy policy_names.Lru = codes "lru"
+name_of_policy policy_names.Fifo = codes "fifo"
+name_of_policy policy_names.Random = codes "random"
 
 -- how it is written
 abbrev pub parts_of_policy : PolicyKind → List Part
-parts_of_policy policies.Lru = key (codes "lru") ∷ []
-parts_of_policy policies.Fifo = key (codes "fifo") ∷ []
-parts_of_policy (policies.Random seed) = key (codes "random") ∷ num seed ∷ []
+parts_of_policy policy_kinds.Lru = key (codes "lru") ∷ []
+parts_of_policy policy_kinds.Fifo = key (codes "fifo") ∷ []
+parts_of_policy (policy_kinds.Random seed) = key (codes "random") ∷ num seed ∷ []
 
 -- how the miss registers are called
 abbrev pub name_of_misses : MissKind → List ℕ
-name_of_misses misses.Explicit = codes "explicit"
-name_of_misses misses.Inverted = codes "inverted"
+name_of_misses miss_kinds.Explicit = codes "explicit"
+name_of_misses miss_kinds.Inverted = codes "inverted"
 
 abbrev pub parts_of_misses : MissKind → List Part
 parts_of_misses kind = key (name_of_misses kind) ∷ []
@@ -46,29 +46,29 @@ parts_of_setting is_on = key (name_of_setting is_on) ∷ []
 
 -- each line begins with the name of its field
 abbrev pub parts_of_config_line : ConfigLine → List Part
-parts_of_config_line (lines.Count count n) = key (name_of (fields.Count count)) ∷ num n ∷ []
-parts_of_config_line (lines.Policy policy) = key (name_of fields.Policy) ∷ parts_of_policy policy
-parts_of_config_line (lines.Misses kind) = key (name_of fields.Misses) ∷ parts_of_misses kind
-parts_of_config_line (lines.Exclusive is_on) = key (name_of fields.Exclusive) ∷ parts_of_setting is_on
-parts_of_config_line (lines.Init word value) = key (name_of fields.Init) ∷ num word.0 ∷ num value ∷ []
-parts_of_config_line (lines.Counter word) = key (name_of fields.Counter) ∷ num word.0 ∷ []
+parts_of_config_line (config_lines.Count count n) = key (name_of (fields.Count count)) ∷ num n ∷ []
+parts_of_config_line (config_lines.Policy policy) = key (name_of fields.Policy) ∷ parts_of_policy policy
+parts_of_config_line (config_lines.Misses kind) = key (name_of fields.Misses) ∷ parts_of_misses kind
+parts_of_config_line (config_lines.Exclusive is_on) = key (name_of fields.Exclusive) ∷ parts_of_setting is_on
+parts_of_config_line (config_lines.Init word value) = key (name_of fields.Init) ∷ num word.0 ∷ num value ∷ []
+parts_of_config_line (config_lines.Counter word) = key (name_of fields.Counter) ∷ num word.0 ∷ []
 
 -- what is wrong with words that begin as such a line, behind the configuration: their form, or else their place
 abbrev pub IsLateFault : List (List ℕ) → LineFault → Type 0
 IsLateFault words fault =
     IsFormFaultOf parts_of_config_line words fault
-    ⊎ ((line : ConfigLine) × (Writes words (parts_of_config_line line) × (fault ≡ faults.LateConfiguration)))
+    ⊎ ((line : ConfigLine) × (Writes words (parts_of_config_line line) × (fault ≡ line_faults.LateConfiguration)))
 
 -- the configuration with what the line sets: initial values and counters add up
 abbrev pub with_line : Config → ConfigLine → Config
-with_line config (lines.Count count n) = with_count config count n
-with_line config (lines.Policy policy) = record config { policy = policy }
-with_line config (lines.Misses kind) = config
-with_line config (lines.Exclusive is_on) = record config { exclusive = is_on }
-with_line config (lines.Init word value) = record config { init = config.init ++ (word, value) ∷ [] }
-with_line config (lines.Counter word) = record config { counters = config.counters ++ word ∷ [] }
+with_line config (config_lines.Count count n) = with_count config count n
+with_line config (config_lines.Policy policy) = record config { policy = policy }
+with_line config (config_lines.Misses kind) = config
+with_line config (config_lines.Exclusive is_on) = record config { exclusive = is_on }
+with_line config (config_lines.Init word value) = record config { init = config.init ++ (word, value) ∷ [] }
+with_line config (config_lines.Counter word) = record config { counters = config.counters ++ word ∷ [] }
 
 -- what the line makes of the settings
-abbrev pub configured : Settings → ConfigLine → Settings
-configured settings (lines.Misses kind) = record settings { misses = kind }
-configured settings line = record settings { config = with_line settings.config line }
+abbrev pub after_config_line : Settings → ConfigLine → Settings
+after_config_line settings (config_lines.Misses kind) = record settings { misses = kind }
+after_config_line settings line = record settings { config = with_line settings.config line }

@@ -3,7 +3,7 @@ use Rattle.std.specs.Prelude.{◌≡◌, ℕ, List, [], ◌∷◌}
 use Rattle.std.specs.Str.Parse.{digits_value}
 use Rattle.litmus_text.specs.Number.{IsNumber}
 use Rattle.litmus_text.specs.declared.fault.LineFault.{LineFault}
-use Rattle.litmus_text.specs.declared.fault.LineFault.TheVariants as faults
+use Rattle.litmus_text.specs.declared.fault.LineFault.TheVariants as line_faults
 
 -- a place in a line: a keyword, or a number of this value
 pub data Part : Type 0 where
@@ -30,9 +30,9 @@ HasForm (word ∷ rest) (num n ∷ parts) = HasForm rest parts
 -- which the machine has. They have the form of none; or of one, but say none, since a number can't be read; or they say
 -- one, but none that the machine has.
 unfoldable pub IsFaultOf : {X : Type 0} → (X → Type 0) → (X → Type 0) → (X → Type 0) → LineFault → Type 0
-IsFaultOf {X} Form Says Has faults.NotACommand = (x : X) → ¬ Form x
-IsFaultOf {X} Form Says Has faults.BadNumber = ((x : X) × Form x) × ((x : X) → ¬ Says x)
-IsFaultOf {X} Form Says Has faults.OutOfRange = ((x : X) × Says x) × ((x : X) → Says x → ¬ Has x)
+IsFaultOf {X} Form Says Has line_faults.NotACommand = (x : X) → ¬ Form x
+IsFaultOf {X} Form Says Has line_faults.BadNumber = ((x : X) × Form x) × ((x : X) → ¬ Says x)
+IsFaultOf {X} Form Says Has line_faults.OutOfRange = ((x : X) × Says x) × ((x : X) → Says x → ¬ Has x)
 IsFaultOf Form Says Has fault = ⊥
 
 -- what is wrong with words that write none of these lines

@@ -28,7 +28,7 @@ pub enum ConfigLine {
 }
 
 impl ConfigLine {
-    ghost use Rattle.litmus_text.specs.ConfigLine.{IsLateFault, parts_of_config_line, configured};
+    ghost use Rattle.litmus_text.specs.ConfigLine.{IsLateFault, parts_of_config_line, after_config_line};
     ghost use Rattle.litmus_text.specs.Field.{IsFieldName};
     ghost use Rattle.litmus_text.specs.declared.config_line.ConfigLine.{ConfigLine};
 
@@ -80,7 +80,7 @@ impl ConfigLine {
     /// Sets what this line names. Of lines on one field the last counts, but initial values and counters
     /// add up, in the order of the lines. Only they take memory.
     pub fn set(self, settings: &mut Settings) -> Result<(), AllocError>
-        ensures ok { OnOk result (settings.new ≡ configured settings.old self) }
+        ensures ok { OnOk result (settings.new ≡ after_config_line settings.old self) }
         ensures err { OnErr result (settings.new ≡ settings.old) }
     {
         match self {

@@ -6,23 +6,24 @@ use Rattle.std.specs.Fmt.{WritesInCalls}
 use Rattle.std.proofs.lemmas.List.Elements.{All-push}
 use Rattle.litmus_outcomes.specs.Table.{IsTableOf, TableView}
 use Rattle.litmus_outcomes.specs.Text.{text_of}
-use Rattle.litmus_outcomes.specs.declared.sought.Sought.{Sought}
+use Rattle.litmus_outcomes.specs.declared.named_request.NamedRequest.{NamedRequest}
 use Rattle.litmus_test.specs.declared.test.LitmusTest.{LitmusTest}
 use Rattle.litmus_text.specs.declared.fault.TextFault.{TextFault}
-use Rattle.litmus_threads.specs.Round.{IsFoundOn, IsOutcomeOf, IsRunOf, IsTableFor, soughts_of}
+use Rattle.litmus_threads.specs.Round.{IsFoundOn, IsOutcomeOf, IsRunOf, IsTableFor, named_requests_of}
 use Rattle.litmus_threads.specs.Run.{HasStatus, IsEndOf, IsTold, text_of_stuck}
 use Rattle.litmus_threads.specs.declared.rounds.Run.{Run}
 use Rattle.litmus_threads.specs.declared.rounds.Run.TheVariants as runs
 
 -- One round more had an outcome of the test, and was counted.
 pub table-more : (test : LitmusTest) (round : ℕ) (old new : TableView) (values shown : List ℕ)
-    (soughts : List (Option Sought)) → shown ≡ values → soughts ≡ soughts_of test → IsTableFor test round old
-    → IsFoundOn test.config test.threads.items soughts values
+    (named_requests : List (Option NamedRequest)) → shown ≡ values → named_requests ≡ named_requests_of test →
+    IsTableFor test round old
+    → IsFoundOn test.config test.threads.items named_requests values
     → ((rounds : List (List ℕ)) → IsTableOf rounds old → IsTableOf (rounds ++ shown ∷ []) new)
     → IsTableFor test (round + 1) new
-table-more test round old new values shown soughts same named so_far found counted =
+table-more test round old new values shown named_requests same named so_far found counted =
     let own : IsOutcomeOf test values =
-    subst (λ (ss : List (Option Sought)). IsFoundOn test.config test.threads.items ss values) named found in
+    subst (λ (ss : List (Option NamedRequest)). IsFoundOn test.config test.threads.items ss values) named found in
     record {
       outcomes = so_far.outcomes ++ values ∷ [];
       table_is =

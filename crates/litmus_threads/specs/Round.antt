@@ -5,9 +5,9 @@ use Rattle.address_map.specs.declared.config.Config.{Config}
 use Rattle.core_thread_system.specs.Core.{CoreView}
 use Rattle.drain.specs.Audited.{IsAudited}
 use Rattle.drain.specs.declared.report.CounterValue.{CounterValue}
-use Rattle.litmus_outcomes.specs.Sought.{sought_of}
+use Rattle.litmus_outcomes.specs.NamedRequest.{named_request_of}
 use Rattle.litmus_outcomes.specs.Table.{IsTableOf, TableView}
-use Rattle.litmus_outcomes.specs.declared.sought.Sought.{Sought}
+use Rattle.litmus_outcomes.specs.declared.named_request.NamedRequest.{NamedRequest}
 use Rattle.litmus_test.specs.declared.test.LitmusTest.{LitmusTest}
 use Rattle.litmus_test.specs.declared.test.Thread.{Thread}
 use Rattle.litmus_threads.specs.Found.{IsOutcomeIn}
@@ -17,23 +17,24 @@ use Rattle.litmus_threads.specs.declared.rounds.Run.TheVariants as runs
 use Rattle.receipt_ledger.specs.declared.receipt.Receipt.{Receipt}
 
 -- the request of each name of a test
-abbrev pub soughts_of : LitmusTest → List (Option Sought)
-soughts_of test = map (sought_of test) (range_with_len 0 (length test.names.items))
+abbrev pub named_requests_of : LitmusTest → List (Option NamedRequest)
+named_requests_of test = map (named_request_of test) (range_with_len 0 (length test.names.items))
 
 -- The cores of a machine made what the threads say and nothing else, the machine was audited with them, and this is
 -- what the audit found: the outcome is told by a legal log of each slice.
-pub record IsFoundOn (c : Config) (threads : List Thread) (soughts : List (Option Sought)) (values : List ℕ) : Type 0
+pub record IsFoundOn (c : Config) (threads : List Thread) (named_requests : List (Option NamedRequest))
+    (values : List ℕ) : Type 0
   where
     pub cores : List CoreView
     pub receipts : List Receipt
     pub counters : List CounterValue
     pub made : HaveMadeAll c threads cores
     pub audited : IsAudited c cores receipts counters
-    pub found : IsOutcomeIn receipts counters soughts values
+    pub found : IsOutcomeIn receipts counters named_requests values
 
 -- an outcome of a test
 abbrev pub IsOutcomeOf : LitmusTest → List ℕ → Type 0
-IsOutcomeOf test values = IsFoundOn test.config test.threads.items (soughts_of test) values
+IsOutcomeOf test values = IsFoundOn test.config test.threads.items (named_requests_of test) values
 
 -- The table is of so many rounds, and each had an outcome of the test.
 pub record IsTableFor (test : LitmusTest) (rounds : ℕ) (table : TableView) : Type 0 where

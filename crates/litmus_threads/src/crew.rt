@@ -12,7 +12,7 @@ use litmus_test::Thread;
 use mshr_file::MissFile;
 use rand_core::SeedableRng;
 use rand_xoshiro::Xoshiro256PlusPlus;
-use slice_core_answer::Refused;
+use slice_answer::Refused;
 use std::alloc::{AllocError, Global};
 
 /// The cores of a machine: those that have a thread, each in a job, and the others.

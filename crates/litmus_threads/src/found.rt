@@ -2,23 +2,23 @@ ghost use Rattle.std.specs.Prelude.{◌≡◌, ◌++◌, IfOk, MatchOption, OnOk
 ghost use Rattle.litmus_threads.specs.Found.{HasReply, IsOutcomeIn, LacksReply, LacksAReply};
 
 use drain::{Audit, CounterValue};
-use litmus_outcomes::Sought;
+use litmus_outcomes::NamedRequest;
 use receipt_ledger::Receipt;
 use std::alloc::{AllocError, Global};
 
-/// The outcome that an audit found: the reply of each sought request, and then each counter's value. None where a
+/// The outcome that an audit found: the reply of each named request, and then each counter's value. None where a
 /// request has no receipt.
 pub(crate) fn outcome_of(
     alloc: Global,
-    soughts: &[Option<Sought>],
+    named_requests: &[Option<NamedRequest>],
     audit: &Audit,
 ) -> Result<Option<Vec<u64>>, AllocError>
-    ensures { IfOk result (λ found. MatchOption found (LacksAReply audit.now.receipts.items soughts.now)
-        (λ values. IsOutcomeIn audit.now.receipts.items audit.now.counters.items soughts.now values.items)) }
+    ensures { IfOk result (λ found. MatchOption found (LacksAReply audit.now.receipts.items named_requests.now)
+        (λ values. IsOutcomeIn audit.now.receipts.items audit.now.counters.items named_requests.now values.items)) }
 {
     let mut values = Vec::new(alloc);
-    for sought in soughts {
-        match reply_to(&audit.receipts, *sought) {
+    for named_request in named_requests {
+        match reply_to(&audit.receipts, *named_request) {
             Some(reply) => values.push(reply)?,
             None => return Ok(None),
         }
@@ -28,13 +28,13 @@ pub(crate) fn outcome_of(
 }
 
 // The reply of the request's receipt.
-fn reply_to(receipts: &[Receipt], sought: Option<Sought>) -> Option<u64>
-    ensures { MatchOption result (LacksReply receipts.now sought) (HasReply receipts.now sought) }
+fn reply_to(receipts: &[Receipt], named_request: Option<NamedRequest>) -> Option<u64>
+    ensures { MatchOption result (LacksReply receipts.now named_request) (HasReply receipts.now named_request) }
 {
-    let sought = sought?;
+    let named_request = named_request?;
     receipts
         .iter()
-        .find(|receipt| sought.is_of(receipt.slice, &receipt.entry))
+        .find(|receipt| named_request.is_of(receipt.slice, &receipt.entry))
         .map(|receipt| receipt.entry.reply)
 }
 

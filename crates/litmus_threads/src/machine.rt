@@ -25,7 +25,7 @@ pub(crate) fn play<R: Threads + Wait + Sync>(
     round: u64,
 ) -> Result<Option<Vec<u64>>, AllocError>
     ensures { IfOk result (λ found. IfSome found (λ values.
-        IsFoundOn test.now.config test.now.threads.items plan.now.soughts.items values.items)) }
+        IsFoundOn test.now.config test.now.threads.items plan.now.named_requests.items values.items)) }
 {
     match test.misses {
         MissKind::Explicit => on_machine::<ExplicitFile, R>(rt, test, plan, round),
@@ -41,7 +41,7 @@ fn on_machine<F: MissFile + Send, R: Threads + Wait + Sync>(
     round: u64,
 ) -> Result<Option<Vec<u64>>, AllocError>
     ensures { IfOk result (λ found. IfSome found (λ values.
-        IsFoundOn test.now.config test.now.threads.items plan.now.soughts.items values.items)) }
+        IsFoundOn test.now.config test.now.threads.items plan.now.named_requests.items values.items)) }
 {
     let config = test.config.try_clone(plan.alloc)?;
     let blanks = SystemBlanks::new(config.cores() as u64);
@@ -62,7 +62,7 @@ fn on_named<F: MissFile + Send, M: SystemKeys + Send + Sync, R: Threads + Wait +
     requires ledgers2 { AreLedgersOf M.setup (M.names 2) blanks.slice2 }
     requires ledgers3 { AreLedgersOf M.setup (M.names 3) blanks.slice3 }
     ensures { IfOk result (λ found. IfSome found (λ values.
-        IsFoundOn M.setup test.now.threads.items plan.now.soughts.items values.items)) }
+        IsFoundOn M.setup test.now.threads.items plan.now.named_requests.items values.items)) }
 {
     let (system, sets) = System::<F, All<M>>::build_checked(plan.alloc, config, blanks)?;
     let played = on_system(rt, &system, sets, test, plan, round);
@@ -81,7 +81,7 @@ fn on_system<F: MissFile + Send, M: SystemKeys + Send + Sync, R: Threads + Wait 
     round: u64,
 ) -> Result<Option<Vec<u64>>, AllocError>
     ensures { IfOk result (λ found. IfSome found (λ values.
-        IsFoundOn M.setup test.now.threads.items plan.now.soughts.items values.items)) }
+        IsFoundOn M.setup test.now.threads.items plan.now.named_requests.items values.items)) }
 {
     let mut crew = Crew::deal(plan.alloc, system, sets, &test.threads, plan.seed, round)?;
     let started = run_all(rt, system, &mut crew.jobs, plan.movers, &Open, plan.limit);
@@ -104,7 +104,7 @@ fn end<F: MissFile, M: SystemKeys, R: Wait>(
     plan: &Plan,
 ) -> Result<Option<Vec<u64>>, AllocError>
     ensures { IfOk result (λ found. IfSome found (λ values.
-        IsFoundOn M.setup test.now.threads.items plan.now.soughts.items values.items)) }
+        IsFoundOn M.setup test.now.threads.items plan.now.named_requests.items values.items)) }
 {
     let mut cores = cores;
     if drain(rt, system, &mut cores, plan.limit) == Drain::Stuck
@@ -113,7 +113,7 @@ fn end<F: MissFile, M: SystemKeys, R: Wait>(
         return Ok(None);
     }
     match audit(rt, plan.alloc, system, cores) {
-        Ok(audit) => outcome_of(plan.alloc, &plan.soughts, &audit),
+        Ok(audit) => outcome_of(plan.alloc, &plan.named_requests, &audit),
         Err(
             AuditFault {
                 error: AuditError::Memory,

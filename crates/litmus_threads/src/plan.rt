@@ -1,8 +1,8 @@
 ghost use Rattle.std.specs.Prelude.{◌≡◌, IfOk};
-ghost use Rattle.litmus_threads.specs.Round.{soughts_of};
+ghost use Rattle.litmus_threads.specs.Round.{named_requests_of};
 
 use core_thread::Movers;
-use litmus_outcomes::Sought;
+use litmus_outcomes::NamedRequest;
 use litmus_test::LitmusTest;
 use std::alloc::{AllocError, Global};
 
@@ -11,7 +11,7 @@ use std::alloc::{AllocError, Global};
 pub(crate) struct Plan {
     pub alloc: Global,
     /// The request of each name.
-    pub soughts: Vec<Option<Sought>>,
+    pub named_requests: Vec<Option<NamedRequest>>,
     /// The threads that move messages.
     pub movers: Movers,
     /// What the turns of all rounds are drawn from.
@@ -27,16 +27,16 @@ impl Plan {
         seed: u64,
         limit: u64,
     ) -> Result<Plan, AllocError>
-        ensures soughts { IfOk result (λ plan. plan.soughts.items ≡ soughts_of test.now) }
+        ensures named_requests { IfOk result (λ plan. plan.named_requests.items ≡ named_requests_of test.now) }
         ensures movers { IfOk result (λ plan. plan.movers.count ≡ test.now.movers) }
     {
-        let soughts = Sought::all(alloc, test)?;
+        let named_requests = NamedRequest::all(alloc, test)?;
         let Some(movers) = Movers::new(test.movers) else {
             unreachable!()
         };
         Ok(Plan {
             alloc,
-            soughts,
+            named_requests,
             movers,
             seed,
             limit,

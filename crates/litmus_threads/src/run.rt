@@ -6,7 +6,7 @@ ghost use Rattle.litmus_threads.specs.Run.{HasStatus, IsEndOf, IsTold};
 
 use super::rounds::{Run, run_test};
 use litmus_outcomes::write_table;
-use litmus_script::Answers;
+use litmus_script::TextWriter;
 use litmus_test::{LitmusTest, Progress};
 use litmus_text::TextFault;
 use std::alloc::Global;
@@ -40,7 +40,7 @@ fn tell<W: Write>(test: &LitmusTest<'_>, run: &Run, out: &mut W) -> Result<u8, T
     ensures status { IfOk result (HasStatus test.now run.now) }
     ensures fault { IfErr result IsOfRun }
 {
-    let mut answers = Answers { out };
+    let mut answers = TextWriter { out };
     match write_run(test, run, &mut answers) {
         Ok(()) => Ok(status_of(test, run)),
         Err(_) => Err(TextFault::CannotWrite),

@@ -10,7 +10,8 @@ use Rattle.std.proofs.lemmas.Option.{slice_get-get_or}
 use Rattle.litmus_test.specs.declared.test.Action.{Action}
 use Rattle.litmus_test.specs.declared.test.Action.TheVariants as actions
 use Rattle.litmus_test.specs.declared.test.Thread.{Thread}
-use Rattle.litmus_walk.specs.Done.{AreAtEnd, AreDone, GoesOn, HaveDone, asking, deeds_at, deeds_by, deeds_of, steps_of}
+use Rattle.litmus_walk.specs.Done.{AreAtEnd, AreDone, GoesOn, HaveDone, asking_steps, actions_at, actions_by}
+use Rattle.litmus_walk.specs.Done.{actions_of, steps_of}
 use Rattle.litmus_walk.specs.Drawn.{first_place}
 use Rattle.litmus_walk.specs.declared.place.Place.{Place}
 use Rattle.litmus_walk.specs.declared.place.StepPlace.{StepPlace}
@@ -66,25 +67,26 @@ steps-at (first ∷ places) (suc i) place is = steps-at places i place is
 
 -- ---- one call more, and one step more
 
-deeds-push : (number : ℕ) (calls : List Made) (made : Made)
-    → deeds_by number (calls ++ made ∷ []) ≡ deeds_by number calls ++ deeds_at number made.done made.step made.command
-deeds-push number [] made = append-nil (deeds_at number made.done made.step made.command)
-deeds-push number (call ∷ calls) made =
-    let first : List Action = deeds_at number call.done call.step call.command in
-    ap (λ rest. first ++ rest) (deeds-push number calls made)
-    ∙ sym (append_assoc first (deeds_by number calls) (deeds_at number made.done made.step made.command))
+actions-push : (number : ℕ) (calls : List Made) (made : Made)
+    → actions_by number (calls ++ made ∷ []) ≡ actions_by number calls
+    ++ actions_at number made.done made.step made.command
+actions-push number [] made = append-nil (actions_at number made.done made.step made.command)
+actions-push number (call ∷ calls) made =
+    let first : List Action = actions_at number call.done call.step call.command in
+    ap (λ rest. first ++ rest) (actions-push number calls made)
+    ∙ sym (append_assoc first (actions_by number calls) (actions_at number made.done made.step made.command))
 
-asking-append : (xs ys : List Action) → asking (xs ++ ys) ≡ asking xs ++ asking ys
+asking-append : (xs ys : List Action) → asking_steps (xs ++ ys) ≡ asking_steps xs ++ asking_steps ys
 asking-append [] ys = refl
 asking-append (actions.Access word op ∷ xs) ys = ap (λ rest. actions.Access word op ∷ rest) (asking-append xs ys)
 asking-append (actions.Settle ∷ xs) ys = asking-append xs ys
 asking-append (actions.Evict line ∷ xs) ys = ap (λ rest. actions.Evict line ∷ rest) (asking-append xs ys)
 
 asking-push : (steps : List Action) (i : ℕ) (step : Action) → slice_get steps i ≡ Some step
-    → asking (take (i + 1) steps) ≡ asking (take i steps) ++ asking (step ∷ [])
+    → asking_steps (take (i + 1) steps) ≡ asking_steps (take i steps) ++ asking_steps (step ∷ [])
 asking-push steps i step is =
     let (there, same) = found steps i step is in
-    ap asking (take_more steps i step there ∙ ap (λ s. take i steps ++ s ∷ []) same)
+    ap asking_steps (take_more steps i step there ∙ ap (λ s. take i steps ++ s ∷ []) same)
     ∙ asking-append (take i steps) (step ∷ [])
 
 -- ---- what was done
@@ -102,7 +104,7 @@ first-zeros (suc count) = (refl, first-zeros count)
 -- Nothing was done yet.
 pub done-none : (threads : List Thread) (steps : List ℕ) → AllByRecursion (λ s. s ≡ 0) steps → HaveDone threads steps []
 done-none threads steps zeros = λ number thread step is_thread is_step.
-    subst (λ s. [] ≡ asking (take s thread.steps.items)) (sym (zero-at steps number step zeros is_step)) refl
+    subst (λ s. [] ≡ asking_steps (take s thread.steps.items)) (sym (zero-at steps number step zeros is_step)) refl
 
 -- One thread more is at its end.
 pub at-end-more : (threads : List Thread) (steps : List ℕ) (i : ℕ) (d : Thread)
@@ -127,16 +129,16 @@ pub done-all : (threads : List Thread) (steps : List ℕ) (calls : List Made) �
     → AreAtEnd threads steps → AreDone threads calls
 done-all threads steps calls have ends = λ number thread is.
     have number thread (length thread.steps.items) is (ends number thread is)
-    ∙ ap asking (take-length thread.steps.items)
+    ∙ ap asking_steps (take-length thread.steps.items)
 
 -- A call that does no step.
 pub done-still : (threads : List Thread) (steps : List ℕ) (calls : List Made) (made : Made)
-    → ((number : ℕ) → deeds_at number made.done made.step made.command ≡ [])
+    → ((number : ℕ) → actions_at number made.done made.step made.command ≡ [])
     → GoesOn threads steps calls steps (calls ++ made ∷ [])
 done-still threads steps calls made none = λ have number thread step is_thread is_step.
-    deeds-push number calls made
-    ∙ ap (λ rest. deeds_by number calls ++ rest) (none number)
-    ∙ append-nil (deeds_by number calls)
+    actions-push number calls made
+    ∙ ap (λ rest. actions_by number calls ++ rest) (none number)
+    ∙ append-nil (actions_by number calls)
     ∙ have number thread step is_thread is_step
 
 -- A thread goes on behind the step at which it stands, by calls that do just this.
@@ -144,8 +146,8 @@ done-by : (threads : List Thread) (steps : List ℕ) (calls more : List Made) (a
     (thread : Thread) (action : Action)
     → slice_get threads at.thread ≡ Some thread → slice_get thread.steps.items at.step ≡ Some action
     → slice_get steps at.thread ≡ Some at.step
-    → deeds_by at.thread more ≡ deeds_by at.thread calls ++ asking (action ∷ [])
-    → ((number : ℕ) → (at.thread ≡ number → ⊥) → deeds_by number more ≡ deeds_by number calls)
+    → actions_by at.thread more ≡ actions_by at.thread calls ++ asking_steps (action ∷ [])
+    → ((number : ℕ) → (at.thread ≡ number → ⊥) → actions_by number more ≡ actions_by number calls)
     → GoesOn threads steps calls (slice_set steps at.thread (at.step + 1)) more
 done-by threads steps calls more at thread action is_thread is_step stands own others =
     λ have number other step other_is step_is. elim (cases_eq at.thread number) [
@@ -158,13 +160,13 @@ done-by threads steps calls more at thread action is_thread is_step stands own o
           let step_same : next ≡ step = some-is next step
           (sym (set-here steps at.thread at.step next stands) ∙ stood) in
           let thread_same : thread ≡ other = some-is thread other (sym is_thread ∙ its) in
-          let all : deeds_by at.thread more ≡ asking (take next thread.steps.items) =
+          let all : actions_by at.thread more ≡ asking_steps (take next thread.steps.items) =
           own
-          ∙ ap (λ before. before ++ asking (action ∷ [])) (have at.thread thread at.step is_thread stands)
+          ∙ ap (λ before. before ++ asking_steps (action ∷ [])) (have at.thread thread at.step is_thread stands)
           ∙ sym (asking-push thread.steps.items at.step action is_step) in
-          subst (λ n. deeds_by n more ≡ asking (take step other.steps.items)) same
-          (subst (λ s. deeds_by at.thread more ≡ asking (take s other.steps.items)) step_same
-          (subst (λ (t : Thread). deeds_by at.thread more ≡ asking (take next t.steps.items)) thread_same all))
+          subst (λ n. actions_by n more ≡ asking_steps (take step other.steps.items)) same
+          (subst (λ s. actions_by at.thread more ≡ asking_steps (take s other.steps.items)) step_same
+          (subst (λ (t : Thread). actions_by at.thread more ≡ asking_steps (take next t.steps.items)) thread_same all))
       | inr differ ↦
           others number differ
           ∙ have number other step other_is
@@ -174,21 +176,21 @@ done-by threads steps calls more at thread action is_thread is_step stands own o
 -- .. by one call
 pub done-made : (threads : List Thread) (steps : List ℕ) (calls : List Made) (made : Made)
     (at : StepPlace) (thread : Thread)
-    (action : Action) → made.step ≡ Some at → made.done ≡ true → deeds_of made.command ≡ asking (action ∷ [])
+    (action : Action) → made.step ≡ Some at → made.done ≡ true → actions_of made.command ≡ asking_steps (action ∷ [])
     → slice_get threads at.thread ≡ Some thread → slice_get thread.steps.items at.step ≡ Some action
     → slice_get steps at.thread ≡ Some at.step
     → GoesOn threads steps calls (slice_set steps at.thread (at.step + 1)) (calls ++ made ∷ [])
-done-made threads steps calls made at thread action noted done deed is_thread is_step stands =
-    let own : deeds_at at.thread made.done made.step made.command ≡ asking (action ∷ []) =
-    rw (done, noted, eq-eqb at.thread at.thread refl) deed in
-    let none : (number : ℕ) → (at.thread ≡ number → ⊥) → deeds_at number made.done made.step made.command ≡ [] =
+done-made threads steps calls made at thread action noted done acts is_thread is_step stands =
+    let own : actions_at at.thread made.done made.step made.command ≡ asking_steps (action ∷ []) =
+    rw (done, noted, eq-eqb at.thread at.thread refl) acts in
+    let none : (number : ℕ) → (at.thread ≡ number → ⊥) → actions_at number made.done made.step made.command ≡ [] =
     λ number differ. rw (done, noted, ne_eqb at.thread number differ) refl in
     done-by threads steps calls (calls ++ made ∷ []) at thread action is_thread is_step stands
-    (deeds-push at.thread calls made ∙ ap (λ rest. deeds_by at.thread calls ++ rest) own)
+    (actions-push at.thread calls made ∙ ap (λ rest. actions_by at.thread calls ++ rest) own)
     (λ number differ.
-    deeds-push number calls made
-    ∙ ap (λ rest. deeds_by number calls ++ rest) (none number differ)
-    ∙ append-nil (deeds_by number calls))
+    actions-push number calls made
+    ∙ ap (λ rest. actions_by number calls ++ rest) (none number differ)
+    ∙ append-nil (actions_by number calls))
 
 -- .. by none, where the step settles
 pub done-settled : (threads : List Thread) (steps : List ℕ) (calls : List Made) (at : StepPlace) (thread : Thread)
@@ -197,7 +199,7 @@ pub done-settled : (threads : List Thread) (steps : List ℕ) (calls : List Made
     → GoesOn threads steps calls (slice_set steps at.thread (at.step + 1)) calls
 done-settled threads steps calls at thread is_thread is_step stands =
     done-by threads steps calls calls at thread actions.Settle is_thread is_step stands
-    (sym (append-nil (deeds_by at.thread calls))) (λ number differ. refl)
+    (sym (append-nil (actions_by at.thread calls))) (λ number differ. refl)
 
 -- The access stalled, so its step isn't done.
 pub done-stalled : (threads : List Thread) (steps : List ℕ) (calls : List Made) (made : Made) (at : StepPlace)

@@ -5,7 +5,7 @@ use Rattle.address_map.specs.declared.address.LineAddr.{LineAddr}
 use Rattle.litmus_test.specs.declared.test.Thread.{Thread}
 use Rattle.rand_xoshiro.specs.SplitMix64.{splitmix_seed}
 use Rattle.rand_xoshiro.specs.Xoshiro256.{of_seed, plus_plus}
-use Rattle.litmus_walk.specs.Drawn.{Draws, MakesAll, drawn}
+use Rattle.litmus_walk.specs.Drawn.{Draws, MakesAll, drawn_move}
 use Rattle.litmus_walk.specs.Moves.{Goes, WalkState, moves_of}
 use Rattle.litmus_walk.specs.declared.moves.Move.{Move}
 
@@ -24,7 +24,7 @@ made_none threads lines generator state = λ end more makes. (more, makes, omega
 pub made_more : (threads : List Thread) (lines : List LineAddr) (first last after : List ℕ) (count : ℕ)
     (start now next : WalkState) (to : Move)
     → HasMade threads lines first last count start now
-    → drawn (plus_plus last).0 (moves_of threads lines now) ≡ Some to
+    → drawn_move (plus_plus last).0 (moves_of threads lines now) ≡ Some to
     → after ≡ (plus_plus last).1
     → Goes threads to now next
     → HasMade threads lines first after (count + 1) start next

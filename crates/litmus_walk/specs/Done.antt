@@ -2,7 +2,7 @@
 use Rattle.std.specs.Prelude.{◌≡◌, ℕ, ◌==◌, ◌&&◌, Bool, true, false, if◌then◌else◌, List, [], ◌∷◌, ◌++◌, Option, Some}
 use Rattle.std.specs.Prelude.{None, length, map, slice_get, take}
 use Rattle.litmus_script.specs.declared.answers.Issued.{Issued}
-use Rattle.litmus_script.specs.declared.answers.Issued.TheVariants as issues
+use Rattle.litmus_script.specs.declared.answers.Issued.TheVariants as issued_kinds
 use Rattle.litmus_test.specs.declared.test.Action.{Action}
 use Rattle.litmus_test.specs.declared.test.Action.TheVariants as actions
 use Rattle.litmus_test.specs.declared.test.Thread.{Thread}
@@ -14,31 +14,31 @@ use Rattle.litmus_walk.specs.declared.recorded.Made.{Made}
 
 -- an access is done that is performed or waits for messages; one that stalls is asked for again
 abbrev pub is_done : Issued → Bool
-is_done (issues.Done number reply) = true
-is_done (issues.Pending seq) = true
+is_done (issued_kinds.Done number reply) = true
+is_done (issued_kinds.Pending seq) = true
 is_done issued = false
 
 -- the steps that ask for something: one that settles asks for nothing
-abbrev pub asking : List Action → List Action
-asking [] = []
-asking (actions.Settle ∷ steps) = asking steps
-asking (step ∷ steps) = step ∷ asking steps
+abbrev pub asking_steps : List Action → List Action
+asking_steps [] = []
+asking_steps (actions.Settle ∷ steps) = asking_steps steps
+asking_steps (step ∷ steps) = step ∷ asking_steps steps
 
 -- the step that a command does
-abbrev pub deeds_of : Command → List Action
-deeds_of (commands.Issue core request) = actions.Access request.word request.op ∷ []
-deeds_of (commands.Evict core line) = actions.Evict line ∷ []
-deeds_of command = []
+abbrev pub actions_of : Command → List Action
+actions_of (commands.Issue core request) = actions.Access request.word request.op ∷ []
+actions_of (commands.Evict core line) = actions.Evict line ∷ []
+actions_of command = []
 
 -- .. where it is one of this thread, and is done
-abbrev pub deeds_at : ℕ → Bool → Option StepPlace → Command → List Action
-deeds_at thread done None command = []
-deeds_at thread done (Some at) command = if done && at.thread == thread then deeds_of command else []
+abbrev pub actions_at : ℕ → Bool → Option StepPlace → Command → List Action
+actions_at thread done None command = []
+actions_at thread done (Some at) command = if done && at.thread == thread then actions_of command else []
 
 -- the steps that the thread of this number has done by these calls, in order
-abbrev pub deeds_by : ℕ → List Made → List Action
-deeds_by thread [] = []
-deeds_by thread (made ∷ calls) = deeds_at thread made.done made.step made.command ++ deeds_by thread calls
+abbrev pub actions_by : ℕ → List Made → List Action
+actions_by thread [] = []
+actions_by thread (made ∷ calls) = actions_at thread made.done made.step made.command ++ actions_by thread calls
 
 -- the step at which each thread stands
 abbrev pub steps_of : List Place → List ℕ
@@ -49,13 +49,13 @@ abbrev pub HaveDone : List Thread → List ℕ → List Made → Type 0
 HaveDone threads steps calls =
     (number : ℕ) (thread : Thread) (step : ℕ) → slice_get threads number ≡ Some thread
     → slice_get steps number ≡ Some step
-    → deeds_by number calls ≡ asking (take step thread.steps.items)
+    → actions_by number calls ≡ asking_steps (take step thread.steps.items)
 
 -- Each thread has done all its steps that ask for something, in order and each once.
 abbrev pub AreDone : List Thread → List Made → Type 0
 AreDone threads calls =
     (number : ℕ) (thread : Thread) → slice_get threads number ≡ Some thread
-    → deeds_by number calls ≡ asking thread.steps.items
+    → actions_by number calls ≡ asking_steps thread.steps.items
 
 -- where they had done so, they have done so still
 abbrev pub GoesOn : List Thread → List ℕ → List Made → List ℕ → List Made → Type 0

@@ -37,15 +37,15 @@ abbrev pub lines_of : LitmusTest → List LineAddr
 lines_of test = named_lines [] test.threads.items
 
 -- the move that a word draws, each as likely as the others
-abbrev pub drawn : ℕ → List Move → Option Move
-drawn word moves = slice_get moves (word % length moves)
+abbrev pub drawn_move : ℕ → List Move → Option Move
+drawn_move word moves = slice_get moves (word % length moves)
 
 -- These moves are made, one after another. Each is drawn from those that may come next, by the next word of the
 -- generator that stands there.
 abbrev pub MakesAll : List Thread → List LineAddr → List ℕ → List Move → WalkState → WalkState → Type 0
 MakesAll threads lines generator [] old new = new ≡ old
 MakesAll threads lines generator (to ∷ more) old new =
-    (next : WalkState) × (drawn (plus_plus generator).0 (moves_of threads lines old) ≡ Some to)
+    (next : WalkState) × (drawn_move (plus_plus generator).0 (moves_of threads lines old) ≡ Some to)
     × Goes threads to old next × MakesAll threads lines (plus_plus generator).1 more next new
 
 -- the moves that the seed draws are made, up to where none may come next, or a million of them

@@ -13,7 +13,7 @@ use Rattle.address_map.specs.declared.request.Op.{Op}
 use Rattle.litmus_script.specs.Issued.{IsIssued}
 use Rattle.litmus_script.specs.Machine.{IsAnswered, log_at}
 use Rattle.litmus_script.specs.declared.answers.Issued.{Issued}
-use Rattle.litmus_script.specs.declared.answers.Issued.TheVariants as issues
+use Rattle.litmus_script.specs.declared.answers.Issued.TheVariants as issued_kinds
 use Rattle.litmus_test.specs.declared.test.Action.{Action}
 use Rattle.litmus_test.specs.declared.test.Action.TheVariants as actions
 use Rattle.litmus_test.specs.declared.test.Thread.{Thread}
@@ -25,12 +25,12 @@ use Rattle.litmus_walk.specs.declared.moves.Move.TheVariants as moves
 use Rattle.litmus_walk.specs.declared.place.Place.{Place}
 use Rattle.litmus_walk.specs.declared.place.StepPlace.{StepPlace}
 use Rattle.litmus_walk.specs.declared.walker.Reply.{Reply}
-use Rattle.slice_core.specs.declared.run.Call.TheVariants as calls
-use Rattle.slice_core.specs.declared.run.CallAnswer.TheVariants as answers
-use Rattle.slice_core_log.specs.declared.entry.Entry.{Entry}
+use Rattle.slice_core.specs.declared.run.Call.TheVariants as slice_calls
+use Rattle.slice_core.specs.declared.run.CallAnswer.TheVariants as call_answers
+use Rattle.slice_log.specs.declared.entry.Entry.{Entry}
 use Rattle.slice_core_plan.specs.Calls.{PartsView}
 use Rattle.slice_core_plan.specs.View.{View, channels_at}
-use Rattle.slice_core_log.specs.declared.entry.Numbered.{Numbered}
+use Rattle.slice_log.specs.declared.entry.Numbered.{Numbered}
 use Rattle.slice_queues.specs.Waiting.{line_waiting}
 use Rattle.slice_queues_message.specs.Pick.{line_of, pick_at}
 use Rattle.slice_queues_message.specs.declared.channel.Channel.{Channel}
@@ -100,13 +100,13 @@ moves_of threads lines state =
 -- ---- what a move does
 
 -- a thread's place is changed
-abbrev pub changed : ℕ → (Place → Place) → List Place → List Place
-changed thread change places =
+abbrev pub with_change_at : ℕ → (Place → Place) → List Place → List Place
+with_change_at thread change places =
     option_map_or (λ place. slice_set places thread (change place)) (slice_get places thread) places
 
 -- the thread goes on behind the step
 abbrev pub gone_behind : StepPlace → List Place → List Place
-gone_behind at places = changed at.thread (λ place. record place { step = at.step + 1 }) places
+gone_behind at places = with_change_at at.thread (λ place. record place { step = at.step + 1 }) places
 
 -- the thread waits for a reply under the tag, or no more
 abbrev pub with_waiting : ℕ → Bool → Place → Place
@@ -114,8 +114,9 @@ with_waiting tag waits place = record place { waits = slice_set place.waits tag 
 
 -- An access that is done at once goes on, one that is pending also waits for its reply, and any other is made again.
 abbrev pub after_access : Issued → StepPlace → ℕ → List Place → List Place
-after_access (issues.Done number reply) at tag places = gone_behind at places
-after_access (issues.Pending seq) at tag places = gone_behind at (changed at.thread (with_waiting tag true) places)
+after_access (issued_kinds.Done number reply) at tag places = gone_behind at places
+after_access (issued_kinds.Pending seq) at tag places =
+    gone_behind at (with_change_at at.thread (with_waiting tag true) places)
 after_access issued at tag places = places
 
 -- the access is asked for under this tag, if there is one
@@ -164,14 +165,14 @@ pub record Delivers (threads : List Thread) (pick : Pick) (old new : WalkState) 
 -- who was given a reply waits for it no more
 abbrev pub after_hand : ℕ → Option Numbered → List Place → List Place
 after_hand thread None places = places
-after_hand thread (Some given) places = changed thread (with_waiting given.entry.tag false) places
+after_hand thread (Some given) places = with_change_at thread (with_waiting given.entry.tag false) places
 
 -- the reply is handed out to its thread
 abbrev pub HandsTo : Option Thread → Reply → List Reply → WalkState → WalkState → Type 0
 HandsTo None reply left old new = new ≡ record old { replies = left }
 HandsTo (Some thread) reply left old new =
     (given : Option Numbered)
-    × IsAnswered (reply.line.0 % old.walk.config.slices) (calls.Hand thread.core) (answers.Hand given)
+    × IsAnswered (reply.line.0 % old.walk.config.slices) (slice_calls.Hand thread.core) (call_answers.Hand given)
     old.walk.slices new.walk.slices
     × Makes old.walk (record {
       command = commands.Hand thread.core (record { 0 = reply.line.0 % old.walk.config.slices });

@@ -14,7 +14,7 @@ use Rattle.litmus_walk.specs.Done.{is_done}
 use Rattle.litmus_walk.specs.declared.place.StepPlace.{StepPlace}
 use Rattle.litmus_walk.specs.declared.recorded.Made.{Made}
 use Rattle.mshr_file.specs.Miss.{Bound}
-use Rattle.slice_core.specs.declared.run.Call.TheVariants as calls
+use Rattle.slice_core.specs.declared.run.Call.TheVariants as slice_calls
 use Rattle.slice_core_plan.specs.Calls.{PartsView}
 use Rattle.slice_queues_message.specs.Pick.{line_of}
 
@@ -25,10 +25,10 @@ IsPlayed config (commands.Issue core request) done old new =
     (issued : Issued) × IsIssued ((line_of_word request.word).0 % config.slices) core request issued old new
     × (done ≡ is_done issued)
 IsPlayed config (commands.Evict core line) done old new =
-    IsMade (line.0 % config.slices) (calls.Evict core line) old new × (done ≡ true)
+    IsMade (line.0 % config.slices) (slice_calls.Evict core line) old new × (done ≡ true)
 IsPlayed config (commands.Deliver pick) done old new =
-    IsMade ((line_of pick).0 % config.slices) (calls.Deliver pick) old new
-IsPlayed config (commands.Hand core slice) done old new = IsMade slice.0 (calls.Hand core) old new
+    IsMade ((line_of pick).0 % config.slices) (slice_calls.Deliver pick) old new
+IsPlayed config (commands.Hand core slice) done old new = IsMade slice.0 (slice_calls.Hand core) old new
 IsPlayed config command done old new = ⊥
 
 -- the calls, made in this order, lead from the ones to the others

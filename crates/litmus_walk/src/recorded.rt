@@ -4,8 +4,8 @@ ghost use Rattle.address_map.specs.Config.{IsAllowed};
 ghost use Rattle.address_map.specs.Place.{line_of as line_of_word};
 ghost use Rattle.litmus_script.specs.Issued.{IsIssued};
 ghost use Rattle.litmus_script.specs.Machine.{IsAnswered, IsNewMachine, IsQuietWord, IsShownWord, log_at};
-ghost use Rattle.slice_core.specs.declared.run.Call.TheVariants as of_slice;
-ghost use Rattle.slice_core.specs.declared.run.CallAnswer.TheVariants as answers;
+ghost use Rattle.slice_core.specs.declared.run.Call.TheVariants as slice_calls;
+ghost use Rattle.slice_core.specs.declared.run.CallAnswer.TheVariants as call_answers;
 ghost use Rattle.litmus_text.specs.Command.{HasCore};
 ghost use Rattle.litmus_text.specs.declared.command.Command.TheVariants as commands;
 ghost use Rattle.slice_core_plan.specs.View.{IsQuiet};
@@ -136,7 +136,7 @@ impl<F: MissFile> Recorded<F> {
         requires slice { slice.0 < self.old.config.slices }
         ensures made { OnOk result (Makes self.old
             (record { command = commands.Hand core slice; step = None; done = true }) self.new) }
-        ensures answered { IfOk result (λ given. IsAnswered slice.0 (of_slice.Hand core) (answers.Hand given)
+        ensures answered { IfOk result (λ given. IsAnswered slice.0 (slice_calls.Hand core) (call_answers.Hand given)
             self.old.slices self.new.slices) }
     {
         self.push(Made::by_nobody(Command::Hand { core, slice }))?;

@@ -2,7 +2,7 @@ ghost use Rattle.std.specs.Prelude.{◌≡◌, [], All, IfNone, IfOk, IfSome, Is
 ghost use Rattle.rand_xoshiro.specs.Xoshiro256.{plus_plus};
 ghost use Rattle.slice_core_plan.specs.View.{IsQuiet};
 ghost use Rattle.litmus_walk.specs.Done.{AreDone, GoesOn, steps_of};
-ghost use Rattle.litmus_walk.specs.Drawn.{Draws, IsDrawn, drawn};
+ghost use Rattle.litmus_walk.specs.Drawn.{Draws, IsDrawn, drawn_move};
 ghost use Rattle.litmus_walk.specs.Moves.{state_of};
 ghost use Rattle.litmus_walk.specs.Walk.{IsWalkOf, Walks};
 
@@ -39,7 +39,7 @@ pub fn walk<F: MissFile>(
     ensures over { IfOk result (λ walked. IsTrue walked.over
         → All (λ state. IsQuiet state.view) walked.recorded.slices) }
     ensures done { IfOk result (λ walked. IsTrue walked.over → AreDone test.now.threads.items walked.recorded.calls) }
-    ensures drawn { IfOk result (λ walked. IsDrawn test.now (F.bound_by test.now.config) lines.now seed
+    ensures drawn_move { IfOk result (λ walked. IsDrawn test.now (F.bound_by test.now.config) lines.now seed
         walked.over walked.recorded) }
 {
     let config = test.config.try_clone(alloc)?;
@@ -82,7 +82,7 @@ fn walk_on<F: MissFile>(
 
 // One of the moves, each as likely as the others, by the generator's next word.
 fn draw(generator: &mut Xoshiro256PlusPlus, moves: &[Move]) -> Option<Move>
-    ensures some { IfSome result (λ to. drawn (plus_plus generator.old).0 moves.now ≡ Some to) }
+    ensures some { IfSome result (λ to. drawn_move (plus_plus generator.old).0 moves.now ≡ Some to) }
     ensures next { IfSome result (λ to. generator.new ≡ (plus_plus generator.old).1) }
     ensures none { IfNone result (moves.now ≡ []) }
 {

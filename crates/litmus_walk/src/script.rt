@@ -10,7 +10,7 @@ use super::place::StepPlace;
 use super::recorded::Made;
 use super::round::walk;
 use address_map::Checked;
-use litmus_script::Answers;
+use litmus_script::TextWriter;
 use litmus_test::LitmusTest;
 use litmus_text::TextFault;
 use mshr_file::{ExplicitFile, InvertedFile, MissFile, MissKind};
@@ -62,7 +62,7 @@ fn print_script<W: io::Write>(
         (text_of_script config.now misses calls.now)) }
     ensures fault { IfErr result IsOfRun }
 {
-    let mut answers = Answers { out };
+    let mut answers = TextWriter { out };
     match write_script(config, misses, calls, &mut answers) {
         Ok(()) => Ok(()),
         Err(_) => Err(TextFault::CannotWrite),

@@ -6,7 +6,7 @@ ghost use Rattle.litmus_text.specs.Command.{HasCore};
 ghost use Rattle.slice_core_plan.specs.View.{IsQuiet};
 ghost use Rattle.litmus_walk.specs.Done.{AreAtEnd, GoesOn, steps_of};
 ghost use Rattle.litmus_walk.specs.Drawn.{first_place};
-ghost use Rattle.litmus_walk.specs.Moves.{Accesses, Delivers, Goes, Hands, Steps, changed, free_tag, gone_behind, reply_to};
+ghost use Rattle.litmus_walk.specs.Moves.{Accesses, Delivers, Goes, Hands, Steps, with_change_at, free_tag, gone_behind, reply_to};
 ghost use Rattle.litmus_walk.specs.Moves.{state_of, with_waiting};
 ghost use Rattle.litmus_walk.specs.Walk.{Walks};
 
@@ -170,7 +170,7 @@ impl<F: MissFile> Walker<F> {
     fn set_waiting(&mut self, thread: usize, tag: u8, waits: bool)
         ensures recorded { self.new.recorded ≡ self.old.recorded }
         ensures steps { steps_of self.new.places.items ≡ steps_of self.old.places.items }
-        ensures places { self.new.places.items ≡ changed thread (with_waiting tag waits) self.old.places.items }
+        ensures places { self.new.places.items ≡ with_change_at thread (with_waiting tag waits) self.old.places.items }
         ensures replies { self.new.replies.items ≡ self.old.replies.items }
     {
         if let Some(place) = self.places.get_mut(thread) {

@@ -10,7 +10,7 @@ use mshr_file::ExplicitFile;
 use receipt_ledger::{Alone, Answer, Book, LearnError, Port, Receipt};
 use receipt_shares::{Blanks, SliceNames};
 use slice_core::SliceState;
-use slice_core_answer::{Delivered, Refused};
+use slice_answer::{Delivered, Refused};
 use slice_queues_message::Pick;
 use std::alloc::{AllocError, Global};
 use std::marker::Brand;

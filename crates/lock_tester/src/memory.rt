@@ -6,7 +6,7 @@ use address_map::{Checked, Op, Request, SliceId, WordAddr};
 use mshr_file::ExplicitFile;
 use receipt_ledger::{Alone, Answer, Port};
 use receipt_shares::{Blanks, SliceNames};
-use slice_core_answer::Refused;
+use slice_answer::Refused;
 use slice_lock::Slice;
 use slice_queues_message::Class;
 use std::alloc::AllocError;

@@ -9,7 +9,7 @@ use core_thread_system::{
 };
 use mshr_file::{ExplicitFile, MissFile};
 use receipt_ledger::{Answer, LearnError, Receipt};
-use slice_core_answer::{Evicted, Refused};
+use slice_answer::{Evicted, Refused};
 use std::alloc::{AllocError, Global};
 use std::fmt;
 use std::marker::Brand;

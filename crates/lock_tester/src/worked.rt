@@ -7,7 +7,7 @@ use mshr_file::ExplicitFile;
 use receipt_ledger::{Alone, Answer, Port, Receipt};
 use receipt_shares::{Blanks, SliceNames};
 use slice_core::SliceState;
-use slice_core_answer::{Delivered, DeliveredNext, Evicted};
+use slice_answer::{Delivered, DeliveredNext, Evicted};
 use slice_lock::{Question, Slice, Unsettled};
 use slice_queues_message::{Class, Pick};
 use std::alloc::AllocError;

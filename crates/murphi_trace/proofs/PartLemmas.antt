@@ -7,7 +7,7 @@ use Rattle.std.specs.Str.{bytes_eq}
 use Rattle.address_map.specs.declared.address.CoreId.{CoreId}
 use Rattle.bstr.specs.Find.{first_of, matches}
 use Rattle.bstr.specs.Text.{SplitsOnce}
-use Rattle.murphi_trace.specs.Fired.{before, behind, pair_of, parted}
+use Rattle.murphi_trace.specs.Fired.{before, behind, pair_of, parts_around}
 use Rattle.murphi_trace.specs.Rule.{core_of}
 
 abbrev pub core_at : ℕ → CoreId
@@ -15,8 +15,8 @@ core_at number = record { 0 = number }
 
 -- a text that is split at a mark is parted there
 pub is_parted : (mark text : List ℕ) (parts : Option (Bor (List ℕ) × Bor (List ℕ)))
-    → SplitsOnce text mark (first_of (matches text mark 0)) parts → option_map pair_of parts ≡ parted mark text
-unfolding parted
+    → SplitsOnce text mark (first_of (matches text mark 0)) parts → option_map pair_of parts ≡ parts_around mark text
+unfolding parts_around
 is_parted mark text None none = sym (ap (option_map (λ k. (take k text, drop (k + length mark) text))) none)
 is_parted mark text (Some parts) at =
     let same : pair_of parts ≡ (take at.0 text, drop (at.0 + length mark) text) = cc (at.2, at.3) in

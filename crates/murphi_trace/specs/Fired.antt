@@ -17,13 +17,14 @@ before mark text =
     if bytes_eq (drop (length text - length mark) text) mark then Some (take (length text - length mark) text) else None
 
 -- what stands before a mark's first place in a text, and behind it
-unfoldable pub parted : List ℕ → List ℕ → Option (List ℕ × List ℕ)
-parted mark text = option_map (λ k. (take k text, drop (k + length mark) text)) (first_of (matches text mark 0))
+unfoldable pub parts_around : List ℕ → List ℕ → Option (List ℕ × List ℕ)
+parts_around mark text = option_map (λ k. (take k text, drop (k + length mark) text)) (first_of (matches text mark 0))
 
 -- A line `Rule "NAME"CORES fired.` tells that a rule fired: its name, and for which cores, as `, c: 0, f: 1`.
 abbrev pub fired_by : List ℕ → Option (List ℕ × List ℕ)
 fired_by line =
-    option_and_then (parted (codes "\"")) (option_and_then (before (codes " fired.")) (behind (codes "Rule \"") line))
+    option_and_then
+        (parts_around (codes "\"")) (option_and_then (before (codes " fired.")) (behind (codes "Rule \"") line))
 
 -- the rules that fired, in order
 abbrev pub fired_in : List (List ℕ) → List (List ℕ × List ℕ)

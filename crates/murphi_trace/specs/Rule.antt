@@ -11,7 +11,7 @@ use Rattle.murphi_trace.specs.declared.event.Event.{Event}
 use Rattle.murphi_trace.specs.declared.event.Event.TheVariants as events
 use Rattle.murphi_trace.specs.declared.rule.Rule.{Rule}
 use Rattle.murphi_trace.specs.declared.rule.Rule.TheVariants as rules
-use Rattle.murphi_trace.specs.Fired.{behind, parted}
+use Rattle.murphi_trace.specs.Fired.{behind, parts_around}
 
 -- the model's one line
 abbrev pub the_line : LineAddr
@@ -26,7 +26,7 @@ abbrev pub core_in : List ℕ × List ℕ → Option CoreId
 core_in parts = core_of parts.1
 
 unfoldable pub core_behind : List ℕ → List ℕ → Option CoreId
-core_behind mark text = option_and_then core_in (parted mark text)
+core_behind mark text = option_and_then core_in (parts_around mark text)
 
 -- ---- a rule of a core's copy: `STATE, EVENT: what is done`
 
@@ -36,7 +36,7 @@ front_of text None = text
 front_of text (Some parts) = parts.0
 
 unfoldable pub first_part : List ℕ → List ℕ
-first_part text = front_of text (parted (codes ",") text)
+first_part text = front_of text (parts_around (codes ",") text)
 
 -- what the copy meets, by the names that rules have for it
 abbrev pub events_by_name : List (List ℕ × Event)
@@ -48,13 +48,13 @@ events_by_name =
 
 -- .. in front of what is done, behind the state
 abbrev pub behind_state : List ℕ × List ℕ → Option (List ℕ × List ℕ)
-behind_state parts = parted (codes ", ") parts.0
+behind_state parts = parts_around (codes ", ") parts.0
 
 abbrev pub event_called : List ℕ × List ℕ → Option Event
 event_called parts = value_named events_by_name (first_part parts.1)
 
 unfoldable pub event_of : List ℕ → Option Event
-event_of name = option_and_then event_called (option_and_then behind_state (parted (codes ": ") name))
+event_of name = option_and_then event_called (option_and_then behind_state (parts_around (codes ": ") name))
 
 -- what a core does at an event: an access of its own, or it takes a message, an acknowledgement from the core `f`
 abbrev pub acknowledged_to : CoreId → CoreId → Rule
@@ -86,17 +86,17 @@ request_or_home None = Some (rules.Deliver (picks.Home the_line))
 request_or_home (Some parts) = option_map request_of (core_of parts.1)
 
 unfoldable pub directory_event : List ℕ → Option Rule
-directory_event event = request_or_home (parted (codes " of ") event)
+directory_event event = request_or_home (parts_around (codes " of ") event)
 
 -- .. behind the entry, in front of what is done
 abbrev pub behind_entry : List ℕ × List ℕ → Option (List ℕ × List ℕ)
-behind_entry parts = parted (codes ": ") parts.1
+behind_entry parts = parts_around (codes ": ") parts.1
 
 abbrev pub event_in : List ℕ × List ℕ → Option Rule
 event_in parts = directory_event parts.0
 
 unfoldable pub directory_rule : List ℕ → Option Rule
-directory_rule told = option_and_then event_in (option_and_then behind_entry (parted (codes "; ") told))
+directory_rule told = option_and_then event_in (option_and_then behind_entry (parts_around (codes "; ") told))
 
 -- ---- both
 

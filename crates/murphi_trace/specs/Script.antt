@@ -14,12 +14,12 @@ use Rattle.litmus_text.specs.declared.config_line.ConfigLine.TheVariants as conf
 use Rattle.litmus_text.specs.declared.field.Count.TheVariants as counts
 use Rattle.litmus_text.specs.declared.fault.LineFault.TheVariants as line_faults
 use Rattle.litmus_text.specs.declared.fault.TextFault.{TextFault}
-use Rattle.litmus_text.specs.declared.fault.TextFault.TheVariants as faults
+use Rattle.litmus_text.specs.declared.fault.TextFault.TheVariants as text_faults
 use Rattle.script_text.specs.Line.{line_of_parts}
 use Rattle.script_text.specs.Settings.{text_of_lines}
 use Rattle.murphi_trace.specs.declared.rule.Rule.{Rule}
 use Rattle.murphi_trace.specs.declared.rule.Rule.TheVariants as rules
-use Rattle.murphi_trace.specs.Fired.{fired_by, fired_in, parted}
+use Rattle.murphi_trace.specs.Fired.{fired_by, fired_in, parts_around}
 use Rattle.murphi_trace.specs.Rule.{last_core, rule_of, the_line}
 
 -- ---- the steps of a run
@@ -47,7 +47,7 @@ greatest_core (step ∷ more) = max (last_core step.1) (greatest_core more)
 
 -- whether the exclusive state's message comes up
 abbrev pub names_data_e : List ℕ × List ℕ → Bool
-names_data_e fired = is_some (parted (codes "Data-E") fired.0)
+names_data_e fired = is_some (parts_around (codes "Data-E") fired.0)
 
 abbrev pub exclusive_line : Bool → List ConfigLine
 exclusive_line true = config_lines.Exclusive true ∷ []
@@ -117,8 +117,8 @@ is_trace text = list_any (λ line. is_some (fired_by line)) (lines text)
 
 -- why a text isn't written as a script: it is no trace, and nothing is written; or the output can't be written
 abbrev pub IsTraceFault : List ℕ → Option (List ℕ) → Option (List ℕ) → TextFault → Type 0
-IsTraceFault text before after (faults.Line number fault) =
+IsTraceFault text before after (text_faults.Line number fault) =
     (is_trace text ≡ false) × (number ≡ 1) × (fault ≡ line_faults.NotATrace) × (after ≡ before)
-IsTraceFault text before after (faults.Config error) = ⊥
-IsTraceFault text before after faults.NoMemory = ⊥
-IsTraceFault text before after faults.CannotWrite = is_trace text ≡ true
+IsTraceFault text before after (text_faults.Config error) = ⊥
+IsTraceFault text before after text_faults.NoMemory = ⊥
+IsTraceFault text before after text_faults.CannotWrite = is_trace text ≡ true

@@ -1,6 +1,6 @@
 //! What the lines of a trace tell.
 ghost use Rattle.std.specs.Prelude.{◌≡◌, codes, option_and_then, option_map};
-ghost use Rattle.murphi_trace.specs.Fired.{before, behind, fired_by, name_and_cores, pair_of, parted};
+ghost use Rattle.murphi_trace.specs.Fired.{before, behind, fired_by, name_and_cores, pair_of, parts_around};
 
 use bstr::ByteSlice;
 
@@ -54,7 +54,7 @@ fn in_front<'a>(text: &'a [u8], mark: &[u8]) -> Option<&'a [u8]>
 
 /// What stands before a mark's first place in a text, and behind it.
 pub(crate) fn parted<'a>(text: &'a [u8], mark: &[u8]) -> Option<(&'a [u8], &'a [u8])>
-    ensures { option_map pair_of result ≡ parted mark.now text.now }
+    ensures { option_map pair_of result ≡ parts_around mark.now text.now }
 {
     text.split_once_str(mark)
 }

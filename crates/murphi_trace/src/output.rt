@@ -9,7 +9,7 @@ ghost use Rattle.murphi_trace.specs.Fired.{name_and_cores};
 ghost use Rattle.murphi_trace.specs.Script.{comment_of, exclusive_line, machine_lines};
 
 use super::fired::Fired;
-use litmus_script::Answers;
+use litmus_script::TextWriter;
 use litmus_text::Command;
 use script_text::write_command;
 use stats_report::write_text;
@@ -21,7 +21,7 @@ pub(crate) fn put_machine<W: Write>(cores: u8, exclusive: bool, out: &mut W) -> 
     ensures { OnOk result (Appends (W.contents out.old) (W.contents out.new)
         (text_of_lines (machine_lines cores exclusive))) }
 {
-    let mut answers = Answers { out };
+    let mut answers = TextWriter { out };
     match write_machine(cores, exclusive, &mut answers) {
         Ok(()) => Ok(()),
         Err(error) => Err(error),
@@ -70,7 +70,7 @@ fn put<W: Write>(bytes: &[u8], out: &mut W) -> fmt::Result
 pub(crate) fn put_command<W: Write>(command: Command, out: &mut W) -> fmt::Result
     ensures { OnOk result (Appends (W.contents out.old) (W.contents out.new) (line_of_parts (parts_of command))) }
 {
-    let mut answers = Answers { out };
+    let mut answers = TextWriter { out };
     match write_command(command, &mut answers) {
         Ok(()) => Ok(()),
         Err(error) => Err(error),

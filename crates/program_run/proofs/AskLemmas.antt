@@ -6,13 +6,13 @@ use Rattle.litmus_script.specs.declared.answers.Issued.{Issued}
 use Rattle.program_text.specs.declared.programs.Access.{Access}
 use Rattle.slice_core_plan.specs.declared.decision.Decision.{Decision}
 use Rattle.program_run.specs.History.{History, HasSeen}
-use Rattle.program_run.specs.Run.{Accesses, AfterAnswer, Leads, RunnerView, decided, makes_room}
+use Rattle.program_run.specs.Run.{Accesses, AfterAnswer, Leads, RunnerView, decision_on, makes_room}
 use Rattle.program_run.specs.Run.{request_of, run_of, slice_of}
 
 -- an access that was asked for
 pub accesses : (old new : RunnerView) (number : ℕ) (core : CoreId) (access : Access) (decision : Decision)
     (issued : Issued)
-    → new.config ≡ old.config → decided old.config old.slices core access ≡ Some decision
+    → new.config ≡ old.config → decision_on old.config old.slices core access ≡ Some decision
     → IsIssued (slice_of old.config access) core (request_of access) issued old.slices new.slices
     → ((before : History) → HasSeen old.config before old.observer
     → (after : History) × HasSeen old.config after new.observer

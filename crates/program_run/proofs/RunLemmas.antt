@@ -9,7 +9,8 @@ use Rattle.rand_xoshiro.specs.SplitMix64.{splitmix_seed}
 use Rattle.rand_xoshiro.specs.Xoshiro256.{of_seed, plus_plus}
 use Rattle.program_run.specs.History.{History, HasSeen, no_history}
 use Rattle.program_run.specs.Run.{IsNewRunner, IsOver, IsProgramsRun, Leads, Makes, MakesAll, PrintsEnd, RunnerView}
-use Rattle.program_run.specs.Run.{RunState, Runs, asks_of, deliveries_of, drawn, moves_of, run_of, text_of, text_of_stuck}
+use Rattle.program_run.specs.Run.{RunState, Runs, asks_of, deliveries_of, drawn_move, moves_of, run_of, text_of}
+use Rattle.program_run.specs.Run.{text_of_stuck}
 use Rattle.program_run.specs.Tally.{TallyView}
 use Rattle.program_run.specs.declared.moves.Move.{Move}
 use Rattle.program_run.specs.declared.run.Form.{Form}
@@ -30,7 +31,8 @@ made_none config programs generator runner =
 pub made_more : (programs : List CoreProgram) (first last after : List ℕ) (count : ℕ) (start now next : RunnerView)
     (to : Move)
     → Leads (HasMade start.config programs first last count) start now
-    → drawn (plus_plus last).0 (asks_of now.config programs now.slices now.places ++ deliveries_of now.slices) ≡ Some to
+    → drawn_move (plus_plus last).0 (asks_of now.config programs now.slices now.places ++ deliveries_of now.slices)
+    ≡ Some to
     → after ≡ (plus_plus last).1
     → Leads (Makes now.config programs to) now next
     → Leads (HasMade start.config programs first after (count + 1)) start next
@@ -39,8 +41,8 @@ made_more programs first last after count start now next to made draws on makes 
   goes = λ before seen.
       let one = made.goes before seen in
       let two = makes.goes one.0 (subst (λ config. HasSeen config one.0 now.observer) (sym made.config) one.1) in
-      let drew : drawn (plus_plus last).0 (moves_of start.config programs (run_of now one.0)) ≡ Some to =
-      subst (λ config. drawn (plus_plus last).0 (asks_of config programs now.slices now.places
+      let drew : drawn_move (plus_plus last).0 (moves_of start.config programs (run_of now one.0)) ≡ Some to =
+      subst (λ config. drawn_move (plus_plus last).0 (asks_of config programs now.slices now.places
       ++ deliveries_of now.slices) ≡ Some to) made.config draws in
       let goes : Makes start.config programs to (run_of now one.0) (run_of next two.0) =
       subst (λ config. Makes config programs to (run_of now one.0) (run_of next two.0)) made.config two.2 in (

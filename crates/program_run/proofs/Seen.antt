@@ -17,11 +17,12 @@ use Rattle.miss_cause.specs.declared.cause.Event.{Event}
 use Rattle.miss_cause.specs.declared.cause.Event.TheVariants as events
 use Rattle.miss_cause.specs.declared.cause.Fate.{Fate}
 use Rattle.miss_cause.specs.declared.cause.Fate.TheVariants as fates
-use Rattle.program_run.specs.History.{History, HasSeen, after_miss, counting, has_line, has_place, is_held, noted}
+use Rattle.program_run.specs.History.{History, HasSeen, after_miss, after_count, has_line, has_place, is_held}
+use Rattle.program_run.specs.History.{after_event}
 use Rattle.program_run.specs.Tally.{TallyView, tally_after, tally_with}
 use Rattle.program_run.specs.declared.observer.Observer.{Observer}
 use Rattle.program_run.specs.declared.tally.Counted.{Counted}
-use Rattle.program_run.specs.declared.tally.Counted.TheVariants as counts_as
+use Rattle.program_run.specs.declared.tally.Counted.TheVariants as counted_kinds
 
 -- one more is counted behind the others
 pub counted_more : (tally : TallyView) (all : List Counted) (what : Counted)
@@ -53,7 +54,7 @@ pub noted_seen : (config : Config) (history : History) (event : Event) (old new 
     → (HasPlace old.memory.lines event → (before : List Event) → Recalls before old.memory
     → Recalls (event ∷ before) new.memory)
     → ((HasPlace old.memory.lines event → ⊥) → new.memory ≡ old.memory)
-    → HasSeen config history old → HasSeen config (noted config.lines event history) new
+    → HasSeen config history old → HasSeen config (after_event config.lines event history) new
 noted_seen config history event old new tally lines there nowhere seen =
     let place : Decides (has_place config.lines event) (HasPlace config.lines event) = place-decides config.lines
     event in
@@ -130,12 +131,13 @@ pub miss_seen : (config : Config) (history : History) (core : CoreId) (word : Wo
     (old new : Observer)
     → (core.0 < 64) × (word.0 < old.memory.lines * 8) → cause ≡ cause_of core.0 word.0 history.happened
     → HasSeen config history old
-    → HasSeen config (counting (counts_as.Miss core (line_of word) cause) history) new
+    → HasSeen config (after_count (counted_kinds.Miss core (line_of word) cause) history) new
     → HasSeen config (after_miss config.lines core word history) new
 miss_seen config history core word cause old new place is before after =
     when_true config (nat_lt core.0 64 && nat_lt word.0 (config.lines * 8)) _ history new
     ((word-decides config.lines core word).1 (subst (λ n. (core.0 < 64) × (word.0 < n * 8)) before.lines place))
-    (subst (λ (c : Cause). HasSeen config (counting (counts_as.Miss core (line_of word) c) history) new) is after)
+    (subst (λ (c : Cause). HasSeen config (after_count (counted_kinds.Miss core (line_of word) c) history) new) is
+    after)
 
 -- where there is no place for it there is no miss
 pub no_miss_seen : (config : Config) (history : History) (core : CoreId) (word : WordAddr) (observer : Observer)

@@ -3,7 +3,7 @@ use Rattle.std.proofs.Common.{◌≡◌, ℕ, ◌+◌, ◌-◌, ◌^◌, ◌<◌
 use Rattle.std.specs.Prelude.{sum_by}
 use Rattle.std.proofs.lemmas.List.{take_more}
 use Rattle.std.proofs.lemmas.List.Sums.{sum_by_push}
-use Rattle.stats_report.specs.Report.{capped}
+use Rattle.stats_report.specs.Report.{capped_sum}
 use Rattle.program_run.specs.declared.tally.Counts.{Counts}
 use Rattle.program_run.specs.Tally.{counts_together, total_by, totals_of}
 
@@ -13,7 +13,7 @@ min-again a b = omega arith
 
 -- with one more line a sum goes on from the sum before
 total_more : (count : Counts → ℕ) (xs : List Counts) (i : ℕ) (d : Counts) → i < length xs
-    → total_by count (take (i + 1) xs) ≡ capped (total_by count (take i xs) + count (get_or xs i d))
+    → total_by count (take (i + 1) xs) ≡ capped_sum (total_by count (take i xs) + count (get_or xs i d))
 total_more count xs i d within =
     let last : sum_by count (take (i + 1) xs) ≡ sum_by count (take i xs) + count (get_or xs i d) =
     ap (sum_by count) (take_more xs i d within) ∙ sum_by_push count (take i xs) (get_or xs i d) in
@@ -24,7 +24,7 @@ pub totals_more : (xs : List Counts) (i : ℕ) (d : Counts) → i < length xs
     → totals_of (take (i + 1) xs) ≡ counts_together (totals_of (take i xs)) (get_or xs i d)
 totals_more xs i d within =
     let more : (count : Counts → ℕ)
-    → total_by count (take (i + 1) xs) ≡ capped (total_by count (take i xs) + count (get_or xs i d)) =
+    → total_by count (take (i + 1) xs) ≡ capped_sum (total_by count (take i xs) + count (get_or xs i d)) =
     λ count. total_more count xs i d within in
     cc (
       more (λ line. line.hits),

@@ -14,16 +14,16 @@ use Rattle.miss_cause.specs.declared.cause.Event.{Event}
 use Rattle.miss_cause.specs.declared.cause.Event.TheVariants as events
 use Rattle.miss_cause.specs.declared.cause.Fate.{Fate}
 use Rattle.miss_cause.specs.declared.cause.Fate.TheVariants as fates
-use Rattle.slice_core_log.specs.declared.entry.Entry.{Entry}
+use Rattle.slice_log.specs.declared.entry.Entry.{Entry}
 use Rattle.slice_queues_message.specs.declared.channel.Pick.{Pick}
 use Rattle.slice_queues_message.specs.declared.channel.Pick.TheVariants as picks
-use Rattle.slice_queues_message.specs.declared.message.ForwardedMessage.TheVariants as forwards
+use Rattle.slice_queues_message.specs.declared.message.ForwardedMessage.TheVariants as forwarded_messages
 use Rattle.slice_queues_message.specs.declared.message.Message.{Message}
 use Rattle.slice_queues_message.specs.declared.message.Message.TheVariants as messages
 use Rattle.program_run.specs.Tally.{new_tally, tally_after}
 use Rattle.program_run.specs.declared.observer.Observer.{Observer}
 use Rattle.program_run.specs.declared.tally.Counted.{Counted}
-use Rattle.program_run.specs.declared.tally.Counted.TheVariants as counts_as
+use Rattle.program_run.specs.declared.tally.Counted.TheVariants as counted_kinds
 
 -- what happened, the newest first, and what was counted, in order
 pub record History : Type 0 where
@@ -48,13 +48,13 @@ has_place lines (events.Lost core line) = nat_lt core.0 64 && nat_lt line.0 line
 has_place lines (events.Wrote core word) = nat_lt core.0 64 && nat_lt word.0 (lines * 8)
 
 -- this happened, where there is a place for it
-abbrev pub noted : ℕ → Event → History → History
-noted lines event history =
+abbrev pub after_event : ℕ → Event → History → History
+after_event lines event history =
     if has_place lines event then record history { happened = event ∷ history.happened } else history
 
 -- this was counted
-abbrev pub counting : Counted → History → History
-counting what history = record history { counted = history.counted ++ what ∷ [] }
+abbrev pub after_count : Counted → History → History
+after_count what history = record history { counted = history.counted ++ what ∷ [] }
 
 -- ---- accesses
 
@@ -67,24 +67,25 @@ writes (ops.Cas expect new) reply = reply == expect
 
 abbrev pub after_write : ℕ → CoreId → WordAddr → Op → ℕ → History → History
 after_write lines core word op reply history =
-    if writes op reply then noted lines (events.Wrote core word) history else history
+    if writes op reply then after_event lines (events.Wrote core word) history else history
 
 -- an access was done at once
 abbrev pub after_hit : ℕ → CoreId → WordAddr → Op → ℕ → History → History
 after_hit lines core word op reply history =
-    after_write lines core word op reply (counting (counts_as.Hit core (line_of word)) history)
+    after_write lines core word op reply (after_count (counted_kinds.Hit core (line_of word)) history)
 
 -- a miss is counted under its cause, which the events so far come to
 abbrev pub after_miss : ℕ → CoreId → WordAddr → History → History
 after_miss lines core word history =
     if nat_lt core.0 64 && nat_lt word.0 (lines * 8)
-    then counting (counts_as.Miss core (line_of word) (cause_of core.0 word.0 history.happened)) history else history
+    then after_count (counted_kinds.Miss core (line_of word) (cause_of core.0 word.0 history.happened)) history else
+        history
 
 -- an access that had to wait is performed: its miss is counted, and its core has the line from now on
 abbrev pub after_performing : ℕ → Entry → History → History
 after_performing lines entry history =
     after_write lines entry.core entry.word entry.op entry.reply
-    (noted lines (events.Took entry.core (line_of entry.word)) (after_miss lines entry.core entry.word history))
+    (after_event lines (events.Took entry.core (line_of entry.word)) (after_miss lines entry.core entry.word history))
 
 -- ---- copies that go
 
@@ -101,18 +102,18 @@ has_line lines core line history =
 -- a line left to make room
 abbrev pub after_eviction : ℕ → CoreId → LineAddr → History → History
 after_eviction lines core line history =
-    noted lines (events.GaveUp core line) (counting (counts_as.Eviction core line) history)
+    after_event lines (events.GaveUp core line) (after_count (counted_kinds.Eviction core line) history)
 
 -- the message takes a copy away, for a core that writes
 abbrev pub takes_away : Option Message → Bool
-takes_away (Some (messages.Forwarded (forwards.Inv requester))) = true
-takes_away (Some (messages.Forwarded (forwards.FwdGetM requester))) = true
+takes_away (Some (messages.Forwarded (forwarded_messages.Inv requester))) = true
+takes_away (Some (messages.Forwarded (forwarded_messages.FwdGetM requester))) = true
 takes_away message = false
 
 -- who has the line loses it
 abbrev pub after_loss : ℕ → CoreId → LineAddr → History → History
 after_loss lines core line history =
-    if has_line lines core line history then noted lines (events.Lost core line) history else history
+    if has_line lines core line history then after_event lines (events.Lost core line) history else history
 
 abbrev pub after_taking : ℕ → Pick → Option Message → History → History
 after_taking lines (picks.Fwd line core) message history =
@@ -122,4 +123,4 @@ after_taking lines pick message history = history
 -- this message, which was in front at the pick, was delivered: it is counted, and may take a copy away
 abbrev pub after_message : ℕ → Pick → Option Message → History → History
 after_message lines pick message history =
-    after_taking lines pick message (counting (counts_as.Message pick) history)
+    after_taking lines pick message (after_count (counted_kinds.Message pick) history)

@@ -16,7 +16,7 @@ use Rattle.litmus_script.specs.Issued.{IsIssued}
 use Rattle.litmus_script.specs.Machine.{HasAt, IsAnswered, IsMade, IsNewMachine, log_at}
 use Rattle.litmus_script.specs.Play.{IsOfRun}
 use Rattle.litmus_script.specs.declared.answers.Issued.{Issued}
-use Rattle.litmus_script.specs.declared.answers.Issued.TheVariants as issues
+use Rattle.litmus_script.specs.declared.answers.Issued.TheVariants as issued_kinds
 use Rattle.litmus_text.specs.Statement.{statements_from}
 use Rattle.litmus_text.specs.declared.fault.TextFault.{TextFault}
 use Rattle.mshr_file.specs.Miss.{Bound}
@@ -26,18 +26,18 @@ use Rattle.program_text.specs.declared.programs.CoreProgram.{CoreProgram}
 use Rattle.rand_xoshiro.specs.SplitMix64.{splitmix_seed}
 use Rattle.rand_xoshiro.specs.Xoshiro256.{of_seed, plus_plus}
 use Rattle.slice_core.specs.Facts.{front_at}
-use Rattle.slice_core.specs.declared.run.Call.TheVariants as calls
-use Rattle.slice_core.specs.declared.run.CallAnswer.TheVariants as answers
-use Rattle.slice_core_answer.specs.declared.answer.Delivered.{Delivered}
-use Rattle.slice_core_answer.specs.declared.answer.Delivered.TheVariants as delivered
-use Rattle.slice_core_log.specs.declared.entry.Entry.{Entry}
+use Rattle.slice_core.specs.declared.run.Call.TheVariants as slice_calls
+use Rattle.slice_core.specs.declared.run.CallAnswer.TheVariants as call_answers
+use Rattle.slice_answer.specs.declared.answer.Delivered.{Delivered}
+use Rattle.slice_answer.specs.declared.answer.Delivered.TheVariants as delivered
+use Rattle.slice_log.specs.declared.entry.Entry.{Entry}
 use Rattle.slice_core_plan.specs.Decision.{decision_of}
 use Rattle.slice_core_plan.specs.Calls.{PartsView, next_pick}
 use Rattle.slice_core_plan.specs.View.{IsQuiet}
 use Rattle.slice_core_plan.specs.declared.decision.Decision.{Decision}
 use Rattle.slice_core_plan.specs.declared.decision.Decision.TheVariants as decisions
-use Rattle.slice_core_side.specs.declared.access.Access.TheVariants as accesses
-use Rattle.slice_core_side.specs.declared.access.Way.TheVariants as ways
+use Rattle.slice_core_cache.specs.declared.access.AccessKind.TheVariants as access_kinds
+use Rattle.slice_core_cache.specs.declared.access.Placement.TheVariants as placements
 use Rattle.slice_core_steps.specs.CoreLines.{last_written_back}
 use Rattle.slice_queues_message.specs.Pick.{channel_of, line_of as line_of_pick}
 use Rattle.slice_queues_message.specs.declared.channel.Class.TheVariants as classes
@@ -54,8 +54,8 @@ use Rattle.program_run.specs.declared.moves.Move.{Move}
 use Rattle.program_run.specs.declared.moves.Move.TheVariants as moves
 use Rattle.program_run.specs.declared.moves.Place.{Place}
 use Rattle.program_run.specs.declared.observer.Observer.{Observer}
-use Rattle.slice_core_answer.specs.declared.answer.Delivery.TheVariants as deliveries
-use Rattle.slice_core_answer.specs.declared.answer.Delivery.{Delivery}
+use Rattle.slice_answer.specs.declared.answer.Delivery.TheVariants as deliveries
+use Rattle.slice_answer.specs.declared.answer.Delivery.{Delivery}
 
 -- the states of the machine's slices, where each program stands, and what was seen
 pub record RunState : Type 0 where
@@ -96,20 +96,20 @@ decided_in None core access = None
 decided_in (Some state) core access = Some (decision_of state.view core (request_of access))
 
 -- what the machine decides of it
-abbrev pub decided : Config → List PartsView → CoreId → Access → Option Decision
-decided config slices core access = decided_in (slice_get slices (slice_of config access)) core access
+abbrev pub decision_on : Config → List PartsView → CoreId → Access → Option Decision
+decision_on config slices core access = decided_in (slice_get slices (slice_of config access)) core access
 
 -- it is neither refused nor put off
 abbrev pub is_taken : Option Decision → Bool
 is_taken None = false
 is_taken (Some (decisions.Refuse refused)) = false
-is_taken (Some (decisions.Access local (accesses.Stall stall))) = false
+is_taken (Some (decisions.Access local (access_kinds.Stall stall))) = false
 is_taken decision = true
 
 -- an access may be asked for
 abbrev pub may_be_asked : Config → List PartsView → Option (CoreId × Access) → Bool
 may_be_asked config slices None = false
-may_be_asked config slices (Some asked) = is_taken (decided config slices asked.0 asked.1)
+may_be_asked config slices (Some asked) = is_taken (decision_on config slices asked.0 asked.1)
 
 -- the program of this number may ask for its next access
 abbrev pub may_ask : Config → List CoreProgram → List PartsView → List Place → ℕ → Bool
@@ -143,7 +143,7 @@ gone_on number waits (Some place) places =
 
 -- another line has to leave for the access
 abbrev pub makes_room : Decision → Bool
-makes_room (decisions.Access local (accesses.Open next ask ways.Victim)) = true
+makes_room (decisions.Access local (access_kinds.PrimaryMiss next ask placements.Victim)) = true
 makes_room decision = false
 
 -- the line that the core's write-back buffer took in last, in the slice
@@ -164,10 +164,10 @@ after_room lines true state core history = after_leaving lines core (left_in sta
 -- What the answer to an access comes to: one that is done at once is a hit, and the core goes on; one that is pending
 -- makes it wait, and may have made room; and all others are nothing.
 abbrev pub AfterAnswer : Config → ℕ → CoreId → Access → Bool → Issued → RunState → RunState → Type 0
-AfterAnswer config number core access room (issues.Done place reply) old new =
+AfterAnswer config number core access room (issued_kinds.Done place reply) old new =
     (new.places ≡ gone_on number false (slice_get old.places number) old.places)
     × (new.history ≡ after_hit config.lines core access.word access.op reply old.history)
-AfterAnswer config number core access room (issues.Pending seq) old new =
+AfterAnswer config number core access room (issued_kinds.Pending seq) old new =
     (new.places ≡ gone_on number true (slice_get old.places number) old.places)
     × (new.history
     ≡ after_room config.lines room (slice_get new.slices (slice_of config access)) core old.history)
@@ -176,7 +176,7 @@ AfterAnswer config number core access room issued old new = (new.places ≡ old.
 -- the access was asked of the machine, which answered it
 pub record Accesses (config : Config) (number : ℕ) (core : CoreId) (access : Access) (old new : RunState) : Type 0 where
   pub decision : Decision
-  pub judged : decided config old.slices core access ≡ Some decision
+  pub judged : decision_on config old.slices core access ≡ Some decision
   pub issued : Issued
   pub asked : IsIssued (slice_of config access) core (request_of access) issued old.slices new.slices
   pub after : AfterAnswer config number core access (makes_room decision) issued old new
@@ -189,9 +189,9 @@ Asks config number (Some asked) old new = Accesses config number asked.0 asked.1
 -- ---- a delivery
 
 -- a core waits no more
-abbrev pub woken : Option ℕ → List Place → List Place
-woken None places = places
-woken (Some number) places = woken_at (slice_get places number)
+abbrev pub after_wake : Option ℕ → List Place → List Place
+after_wake None places = places
+after_wake (Some number) places = woken_at (slice_get places number)
   where
     woken_at : Option Place → List Place
     woken_at None = places
@@ -205,8 +205,8 @@ program_of programs core = position (λ program. program.core.0 == core.0) progr
 abbrev pub HandsOut : Bool → Config → List CoreProgram → ℕ → Entry → RunState → RunState → Type 0
 HandsOut false config programs slice entry old new = new ≡ old
 HandsOut true config programs slice entry old new =
-    IsMade slice (calls.Hand entry.core) old.slices new.slices
-    × (new.places ≡ woken (program_of programs entry.core) old.places)
+    IsMade slice (slice_calls.Hand entry.core) old.slices new.slices
+    × (new.places ≡ after_wake (program_of programs entry.core) old.places)
     × (new.history ≡ after_performing config.lines entry old.history)
 
 abbrev pub Performs : Config → List CoreProgram → ℕ → Option Entry → RunState → RunState → Type 0
@@ -235,7 +235,8 @@ pub record Delivers (config : Config) (programs : List CoreProgram) (pick : Pick
       (λ state. front ≡ front_at state.view (local_at state.view.lines (line_of_pick pick).0) (channel_of pick))
   pub answer : Delivered
   pub slices : List PartsView
-  pub answered : IsAnswered ((line_of_pick pick).0 % config.slices) (calls.Deliver pick) (answers.Deliver answer)
+  pub answered : IsAnswered ((line_of_pick pick).0 % config.slices) (slice_calls.Deliver pick)
+      (call_answers.Deliver answer)
       old.slices slices
   pub after : AfterDelivery config programs pick front answer slices old new
 
@@ -248,15 +249,15 @@ Makes config programs (moves.Ask number) old new =
 Makes config programs (moves.Deliver pick) old new = Delivers config programs pick old new
 
 -- the move that a word draws, each as likely as the others
-abbrev pub drawn : ℕ → List Move → Option Move
-drawn word moves = slice_get moves (word % length moves)
+abbrev pub drawn_move : ℕ → List Move → Option Move
+drawn_move word moves = slice_get moves (word % length moves)
 
 -- These moves are made, one after another. Each is drawn from those that may come next, by the next word of the
 -- generator that stands there.
 abbrev pub MakesAll : Config → List CoreProgram → List ℕ → List Move → RunState → RunState → Type 0
 MakesAll config programs generator [] old new = new ≡ old
 MakesAll config programs generator (to ∷ more) old new =
-    (next : RunState) × (drawn (plus_plus generator).0 (moves_of config programs old) ≡ Some to)
+    (next : RunState) × (drawn_move (plus_plus generator).0 (moves_of config programs old) ≡ Some to)
     × Makes config programs to old next × MakesAll config programs (plus_plus generator).1 more next new
 
 -- The moves that the seed draws are made, up to where none may come next, or 2^64 - 1 of them.

@@ -4,13 +4,13 @@ use Rattle.address_map.specs.declared.address.CoreId.{CoreId}
 use Rattle.address_map.specs.declared.address.LineAddr.{LineAddr}
 use Rattle.miss_cause.specs.declared.cause.Cause.{Cause}
 use Rattle.miss_cause.specs.declared.cause.Cause.TheVariants as causes
-use Rattle.slice_core_answer.specs.Stats.{counted, no_messages, one_more_message}
+use Rattle.slice_answer.specs.Stats.{next_count, no_messages, one_more_message}
 use Rattle.slice_queues_message.specs.Pick.{channel_of, line_of as line_of_pick}
 use Rattle.slice_queues_message.specs.declared.channel.Pick.{Pick}
 use Rattle.slice_queues_message.specs.declared.channel.Pick.TheVariants as picks
-use Rattle.stats_report.specs.Report.{capped, sum_of}
+use Rattle.stats_report.specs.Report.{capped_sum, sum_of}
 use Rattle.program_run.specs.declared.tally.Counted.{Counted}
-use Rattle.program_run.specs.declared.tally.Counted.TheVariants as counts_as
+use Rattle.program_run.specs.declared.tally.Counted.TheVariants as counted_kinds
 use Rattle.program_run.specs.declared.tally.Counts.{Counts}
 
 -- the counts of each core and of each line
@@ -39,18 +39,18 @@ new_tally cores lines = record { cores = replicate cores no_counts; lines = repl
 
 -- one more miss of this cause
 abbrev pub one_more_miss : Cause → Counts → Counts
-one_more_miss causes.Cold counts = record counts { cold = counted counts.cold }
-one_more_miss causes.Replaced counts = record counts { replaced = counted counts.replaced }
-one_more_miss causes.Upgrade counts = record counts { upgrade = counted counts.upgrade }
-one_more_miss causes.TrueSharing counts = record counts { true_sharing = counted counts.true_sharing }
-one_more_miss causes.FalseSharing counts = record counts { false_sharing = counted counts.false_sharing }
+one_more_miss causes.Cold counts = record counts { cold = next_count counts.cold }
+one_more_miss causes.Replaced counts = record counts { replaced = next_count counts.replaced }
+one_more_miss causes.Upgrade counts = record counts { upgrade = next_count counts.upgrade }
+one_more_miss causes.TrueSharing counts = record counts { true_sharing = next_count counts.true_sharing }
+one_more_miss causes.FalseSharing counts = record counts { false_sharing = next_count counts.false_sharing }
 
 -- one more of what is counted
 abbrev pub one_more : Counted → Counts → Counts
-one_more (counts_as.Hit core line) counts = record counts { hits = counted counts.hits }
-one_more (counts_as.Miss core line cause) counts = one_more_miss cause counts
-one_more (counts_as.Eviction core line) counts = record counts { evictions = counted counts.evictions }
-one_more (counts_as.Message pick) counts =
+one_more (counted_kinds.Hit core line) counts = record counts { hits = next_count counts.hits }
+one_more (counted_kinds.Miss core line cause) counts = one_more_miss cause counts
+one_more (counted_kinds.Eviction core line) counts = record counts { evictions = next_count counts.evictions }
+one_more (counted_kinds.Message pick) counts =
     record counts { messages = one_more_message (channel_of pick) counts.messages }
 
 -- the core of a message: the one that sent the request, or got any other; a block on its way home has none
@@ -63,17 +63,17 @@ core_of_message (picks.Home line) = None
 
 -- the core of which it is counted, if any
 abbrev pub core_of : Counted → Option CoreId
-core_of (counts_as.Hit core line) = Some core
-core_of (counts_as.Miss core line cause) = Some core
-core_of (counts_as.Eviction core line) = Some core
-core_of (counts_as.Message pick) = core_of_message pick
+core_of (counted_kinds.Hit core line) = Some core
+core_of (counted_kinds.Miss core line cause) = Some core
+core_of (counted_kinds.Eviction core line) = Some core
+core_of (counted_kinds.Message pick) = core_of_message pick
 
 -- the line of which it is counted
 abbrev pub line_of : Counted → LineAddr
-line_of (counts_as.Hit core line) = line
-line_of (counts_as.Miss core line cause) = line
-line_of (counts_as.Eviction core line) = line
-line_of (counts_as.Message pick) = line_of_pick pick
+line_of (counted_kinds.Hit core line) = line
+line_of (counted_kinds.Miss core line cause) = line
+line_of (counted_kinds.Eviction core line) = line
+line_of (counted_kinds.Message pick) = line_of_pick pick
 
 -- the counts at a place
 abbrev pub counts_at : List Counts → ℕ → Counts
@@ -104,28 +104,29 @@ tally_after tally (what ∷ more) = tally_after (tally_with tally what) more
 
 -- the misses of all causes
 abbrev pub misses_of : Counts → ℕ
-misses_of counts = capped (counts.cold + counts.replaced + counts.upgrade + counts.true_sharing + counts.false_sharing)
+misses_of counts =
+    capped_sum (counts.cold + counts.replaced + counts.upgrade + counts.true_sharing + counts.false_sharing)
 
 -- the accesses: hits and misses
 abbrev pub requests_of : Counts → ℕ
-requests_of counts = capped (counts.hits + misses_of counts)
+requests_of counts = capped_sum (counts.hits + misses_of counts)
 
 -- two counts together
 abbrev pub counts_together : Counts → Counts → Counts
 counts_together one other = record {
-  hits = capped (one.hits + other.hits);
-  cold = capped (one.cold + other.cold);
-  replaced = capped (one.replaced + other.replaced);
-  upgrade = capped (one.upgrade + other.upgrade);
-  true_sharing = capped (one.true_sharing + other.true_sharing);
-  false_sharing = capped (one.false_sharing + other.false_sharing);
-  evictions = capped (one.evictions + other.evictions);
+  hits = capped_sum (one.hits + other.hits);
+  cold = capped_sum (one.cold + other.cold);
+  replaced = capped_sum (one.replaced + other.replaced);
+  upgrade = capped_sum (one.upgrade + other.upgrade);
+  true_sharing = capped_sum (one.true_sharing + other.true_sharing);
+  false_sharing = capped_sum (one.false_sharing + other.false_sharing);
+  evictions = capped_sum (one.evictions + other.evictions);
   messages = sum_of one.messages other.messages;
 }
 
 -- one count of all lines together
 abbrev pub total_by : (Counts → ℕ) → List Counts → ℕ
-total_by count lines = capped (sum_by count lines)
+total_by count lines = capped_sum (sum_by count lines)
 
 -- all counts of all lines together
 abbrev pub totals_of : List Counts → Counts

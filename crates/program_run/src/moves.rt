@@ -3,14 +3,14 @@ ghost use Rattle.std.specs.List.{flat_map, range_with_len};
 ghost use Rattle.litmus_text.specs.Command.{HasCore};
 ghost use Rattle.slice_core_plan.specs.Calls.{next_pick};
 ghost use Rattle.slice_queues_message.specs.declared.channel.Class.TheVariants as classes;
-ghost use Rattle.program_run.specs.Run.{asks_of, decided, deliveries_of, is_taken, may_be_asked, next_by, next_of};
+ghost use Rattle.program_run.specs.Run.{asks_of, decision_on, deliveries_of, is_taken, may_be_asked, next_by, next_of};
 ghost use Rattle.program_run.specs.Run.{request_of};
 
 use address_map::{CoreId, Request};
 use litmus_script::Machine;
 use mshr_file::MissFile;
 use program_text::{Access, CoreProgram};
-use slice_core::{Access as Asked, Class, Decision, DeliveredNext, Pick, SliceState};
+use slice_core::{AccessKind, Class, Decision, DeliveredNext, Pick, SliceState};
 use std::alloc::AllocError;
 
 /// What may come next.
@@ -100,7 +100,7 @@ fn is_taken(decision: Decision) -> bool
 {
     !matches!(
         decision,
-        Decision::Refuse(_) | Decision::Access(_, Asked::Stall(_))
+        Decision::Refuse(_) | Decision::Access(_, AccessKind::Stall(_))
     )
 }
 
@@ -136,7 +136,7 @@ fn next_of_program(cores: usize, program: &CoreProgram, place: Place) -> Option<
 /// What the machine would decide of an access.
 pub(crate) fn decide<F: MissFile>(machine: &Machine<F>, core: CoreId, access: Access) -> Decision
     requires { HasCore machine.now.config core }
-    ensures { decided machine.now.config machine.now.slices.items core access ≡ Some result }
+    ensures { decision_on machine.now.config machine.now.slices.items core access ≡ Some result }
 {
     let slice = machine.slice_of(access.word.line());
     machine.slices[slice].decide(core, request_of(access))

@@ -11,10 +11,10 @@ ghost use Rattle.program_run.specs.History.{
   after_performing,
   after_taking,
   after_write,
-  counting,
+  after_count,
   has_line,
   no_history,
-  noted,
+  after_event,
   takes_away,
   writes,
 };
@@ -134,14 +134,14 @@ impl Observer {
 
     fn count(&mut self, what: Counted)
         ensures { (config : Config) (history : History) → HasSeen config history self.old
-            → HasSeen config (counting what history) self.new }
+            → HasSeen config (after_count what history) self.new }
     {
         self.tally.count(what);
     }
 
     fn note(&mut self, event: Event)
         ensures { (config : Config) (history : History) → HasSeen config history self.old
-            → HasSeen config (noted config.lines event history) self.new }
+            → HasSeen config (after_event config.lines event history) self.new }
     {
         self.memory.note(event);
     }

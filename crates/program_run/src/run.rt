@@ -6,14 +6,14 @@ ghost use Rattle.program_text.specs.Fault.{IsProgramText, programs_of, settings_
 ghost use Rattle.program_text.specs.declared.programs.Programs.{Programs};
 ghost use Rattle.litmus_script.specs.Play.{IsOfRun};
 ghost use Rattle.rand_xoshiro.specs.Xoshiro256.{plus_plus};
-ghost use Rattle.program_run.specs.Run.{IsProgramNotRun, IsProgramsRun, Leads, Runs, drawn, text_of, text_of_stuck};
+ghost use Rattle.program_run.specs.Run.{IsProgramNotRun, IsProgramsRun, Leads, Runs, drawn_move, text_of, text_of_stuck};
 
 use super::json::write_json;
 use super::moves::Move;
 use super::report::write_report;
 use super::runner::Runner;
 use super::tally::Tally;
-use litmus_script::Answers;
+use litmus_script::TextWriter;
 use litmus_text::TextFault;
 use mshr_file::{ExplicitFile, InvertedFile, MissFile, MissKind};
 use program_text::Programs;
@@ -114,7 +114,7 @@ fn run<F: MissFile>(
 
 // One of the moves, each as likely as the others, by the generator's next word.
 fn draw(generator: &mut Xoshiro256PlusPlus, moves: &[Move]) -> Option<Move>
-    ensures some { IfSome result (λ to. drawn (plus_plus generator.old).0 moves.now ≡ Some to) }
+    ensures some { IfSome result (λ to. drawn_move (plus_plus generator.old).0 moves.now ≡ Some to) }
     ensures next { IfSome result (λ to. generator.new ≡ (plus_plus generator.old).1) }
     ensures none { IfNone result (moves.now ≡ []) }
 {
@@ -134,7 +134,7 @@ fn print_report<W: Write>(
     ensures printed { OnOk result (Appends (W.contents out.old) (W.contents out.new) (text_of form tally.now seed)) }
     ensures fault { IfErr result IsOfRun }
 {
-    let mut answers = Answers { out };
+    let mut answers = TextWriter { out };
     match write_form(tally, seed, form, &mut answers) {
         Ok(()) => Ok(()),
         Err(_) => Err(TextFault::CannotWrite),
@@ -154,7 +154,7 @@ fn print_stuck<W: Write>(seed: u64, out: &mut W) -> Result<(), TextFault>
     ensures printed { OnOk result (Appends (W.contents out.old) (W.contents out.new) (text_of_stuck seed)) }
     ensures fault { IfErr result IsOfRun }
 {
-    let mut answers = Answers { out };
+    let mut answers = TextWriter { out };
     match write_stuck(seed, &mut answers) {
         Ok(()) => Ok(()),
         Err(_) => Err(TextFault::CannotWrite),

@@ -21,7 +21,7 @@ ghost use Rattle.program_run.specs.Run.{
   left_in,
   makes_room,
   program_of,
-  woken,
+  after_wake,
 };
 
 use super::moves::{Move, Place, decide, list_moves, next_access, request_of};
@@ -31,7 +31,7 @@ use address_map::{CoreId, LineAddr, SliceId};
 use litmus_script::{Issued, Machine};
 use mshr_file::MissFile;
 use program_text::{Access, CoreProgram, Programs};
-use slice_core::{Access as Asked, Decision, Delivered, Entry, Message, Pick, Way};
+use slice_core::{AccessKind, Decision, Delivered, Entry, Message, Pick, Placement};
 use std::alloc::{AllocError, Global};
 use std::marker::Model;
 
@@ -207,8 +207,8 @@ fn makes_room(decision: Decision) -> bool
         decision,
         Decision::Access(
             _,
-            Asked::Open {
-                way: Way::Victim,
+            AccessKind::PrimaryMiss {
+                placement: Placement::Victim,
                 ..
             }
         )
@@ -260,7 +260,7 @@ fn go_on(places: &mut Vec<Place>, number: usize, waits: bool)
 
 // The program of this number waits no more.
 fn wake(places: &mut Vec<Place>, number: Option<usize>)
-    ensures { places.new.items ≡ woken number places.old.items }
+    ensures { places.new.items ≡ after_wake number places.old.items }
 {
     let Some(number) = number else {
         return;

@@ -12,13 +12,13 @@ ghost use Rattle.program_run.specs.Tally.{
   requests_of,
   totals_of,
 };
-ghost use Rattle.slice_core_answer.specs.Stats.{one_more_message};
+ghost use Rattle.slice_answer.specs.Stats.{one_more_message};
 ghost use Rattle.slice_queues_message.specs.Pick.{channel_of};
 ghost use Rattle.stats_report.specs.Report.{sum_of};
 
 use address_map::{Checked, CoreId, LineAddr};
 use miss_cause::Cause;
-use slice_core_answer::MessageCounts;
+use slice_answer::MessageCounts;
 use slice_queues_message::Pick;
 use std::alloc::{AllocError, Global};
 use std::marker::Model;

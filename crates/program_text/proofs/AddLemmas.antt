@@ -10,7 +10,7 @@ use Rattle.program_text.specs.declared.reader.Reader.{Reader}
 use Rattle.program_text.specs.Fault.{program_of, programs_of}
 use Rattle.program_text.specs.Judged.{count_of}
 use Rattle.program_text.specs.Reading.{said_by}
-use Rattle.program_text.specs.Text.{Program, Said, ended, last_accesses, spread, with_accesses, written_out}
+use Rattle.program_text.specs.Text.{Program, Said, after_end, last_accesses, spread, with_accesses, written_out}
 use Rattle.program_text.proofs.BodyLemmas.{count_changed, count_spread}
 use Rattle.program_text.proofs.JudgedLemmas.{IsAccessible, length-with_accesses}
 
@@ -61,11 +61,11 @@ last_few (program ∷ earlier) =
 pub ended_said : (said : Said) (block : Block) (outer : List Block) (after : List Program)
     → said.blocks ≡ block ∷ outer → after ≡ with_accesses (written_out block.start block.times) said.programs
     → let new : Said = record { settings = said.settings; programs = after; blocks = outer } in
-    new ≡ ended said.blocks said
+    new ≡ after_end said.blocks said
 ended_said said block outer after stands is =
     subst
     (λ (bs : List Block).
-    let new : Said = record { settings = said.settings; programs = after; blocks = outer } in new ≡ ended bs said)
+    let new : Said = record { settings = said.settings; programs = after; blocks = outer } in new ≡ after_end bs said)
     (sym stands)
     (ap
     (λ (ps : List Program). let s : Said = record { settings = said.settings; programs = ps; blocks = outer } in s)
@@ -73,13 +73,13 @@ ended_said said block outer after stands is =
 
 pub ended_counted : (said : Said) (block : Block) (outer : List Block) (after : List Program)
     (accesses before next : ℕ) → said.blocks ≡ block ∷ outer → 1 ≤ length said.programs
-    → accesses ≡ count_of said.programs → count_of (ended said.blocks said).programs ≤ 1000000
+    → accesses ≡ count_of said.programs → count_of (after_end said.blocks said).programs ≤ 1000000
     → after ≡ with_accesses (written_out block.start block.times) said.programs → before ≡ last_accesses said.programs
     → next ≡ last_accesses after
     → (before ≤ accesses) × (accesses - before + next ≡ count_of after) × (accesses - before + next ≤ 1000000)
 ended_counted said block outer after accesses before next stands some count few is first last =
     let fits : count_of (with_accesses (written_out block.start block.times) said.programs) ≤ 1000000 =
-    subst (λ (bs : List Block). count_of (ended bs said).programs ≤ 1000000) stands few in
+    subst (λ (bs : List Block). count_of (after_end bs said).programs ≤ 1000000) stands few in
     let same = ap count_of is in
     let last_same = ap last_accesses is in
     let changed = count_changed (written_out block.start block.times) said.programs some in

@@ -4,7 +4,7 @@ use Rattle.std.specs.Prelude.{None, Some, reverse, slice_get}
 use Rattle.std.proofs.lemmas.List.{reverse-reverse}
 use Rattle.address_map.specs.Config.{first_fault}
 use Rattle.litmus_text.specs.declared.fault.LineFault.TheVariants as line_faults
-use Rattle.litmus_text.specs.declared.fault.TextFault.TheVariants as faults
+use Rattle.litmus_text.specs.declared.fault.TextFault.TheVariants as text_faults
 use Rattle.litmus_text.specs.declared.settings.Settings.{Settings}
 use Rattle.program_text.specs.declared.reader.Block.{Block}
 use Rattle.program_text.specs.declared.reader.Reader.{Reader}
@@ -18,7 +18,7 @@ use Rattle.program_text.proofs.JudgedLemmas.{ends_with, none_open}
 pub left_open : (all : List Statement) (reader : Reader) (block : Block) → IsReading all (said_by reader) []
     → first_fault reader.programs.config ≡ None
     → slice_get reader.blocks.items (length reader.blocks.items - 1) ≡ Some block
-    → IsFault all (faults.Line block.number line_faults.NotACommand)
+    → IsFault all (text_faults.Line block.number line_faults.NotACommand)
 unfolding said_by
 left_open all reader block reading checked at =
     let last = ends_with reader.blocks.items block at in

@@ -22,7 +22,8 @@ use Rattle.program_text.specs.Fault.{program_of}
 use Rattle.program_text.specs.Judged.{access_faults, count_of, fault_of, first_so, has_program, has_too_many, is_early}
 use Rattle.program_text.specs.Judged.{lacks_core, lacks_range, lacks_word}
 use Rattle.program_text.specs.Line.{begin, end, line_of, repeat}
-use Rattle.program_text.specs.Text.{Program, Said, ended, last_accesses, said_access, said_line, spread, with_accesses}
+use Rattle.program_text.specs.Text.{Program, Said, after_end, last_accesses, said_access, said_line, spread}
+use Rattle.program_text.specs.Text.{with_accesses}
 use Rattle.program_text.specs.Text.{written_out}
 use Rattle.program_text.proofs.BodyLemmas.{count_ended, count_spread}
 
@@ -143,13 +144,13 @@ accessible said first last op none =
 
 -- .. and so does the end of a block
 pub closes : (said : Said) → fault_of said end ≡ None
-    → (1 ≤ length said.blocks) × (count_of (ended said.blocks said).programs ≤ 1000000)
+    → (1 ≤ length said.blocks) × (count_of (after_end said.blocks said).programs ≤ 1000000)
 unfolding fault_of
 closes said none =
     let open_now = none_so _ _ _ none in
     let many = none_so _ _ _ open_now.1 in
     let other = eqb-false (length said.blocks) 0 open_now.0 in
-    (omega arith, ltb-false 1000000 (count_of (ended said.blocks said).programs) many.0)
+    (omega arith, ltb-false 1000000 (count_of (after_end said.blocks said).programs) many.0)
 
 -- a block is open, and ends
 pub record EndsWith (blocks : List Block) (last : Block) : Type 0 where
@@ -198,7 +199,7 @@ pub too_many_ended : (said : Said) (block : Block) (outer : List Block) (more : 
     → said.blocks ≡ block ∷ outer
     → 1 ≤ length said.programs → count_of said.programs ≤ 1000000
     → more ≡ min ((last_accesses said.programs - block.start) * (block.times - 1)) (2 ^ 64 - 1)
-    → nat_lt 1000000 (count_of said.programs + more) ≡ has_too_many (ended said.blocks said)
+    → nat_lt 1000000 (count_of said.programs + more) ≡ has_too_many (after_end said.blocks said)
 too_many_ended said block outer more stands some few is =
     rw stands
     (counts (count_of said.programs) _ (last_accesses said.programs - block.start) block.times more
@@ -233,7 +234,7 @@ pub or_else : (a b r : Bool) → false ≡ a → r ≡ b → r ≡ (a || b)
 or_else a b r e h = subst (λ x. r ≡ (x || b)) e h
 
 pub ended_none : (said : Said) → said.blocks ≡ [] → count_of said.programs ≤ 1000000
-    → false ≡ has_too_many (ended said.blocks said)
+    → false ≡ has_too_many (after_end said.blocks said)
 ended_none said none few = rw none (sym (le-ltb 1000000 (count_of said.programs) few))
 
 pub judged_access : (said : Said) (line : ReadLine) (range : Range) (op : Op) → line ≡ read_lines.Access range op
@@ -252,11 +253,11 @@ begun_access said first last op none =
     let same = length-with_accesses (λ accesses. accesses ++ spread first last op) said.programs in
     ne_eqb (length (said_access said first last op).programs) 0 (λ zero. omega (arith, may.some, same))
 
-begun_end : (blocks : List Block) (said : Said) → 1 ≤ length said.programs → is_early (ended blocks said) ≡ false
+begun_end : (blocks : List Block) (said : Said) → 1 ≤ length said.programs → is_early (after_end blocks said) ≡ false
 begun_end [] said some = ne_eqb (length said.programs) 0 (λ zero. omega arith)
 begun_end (block ∷ outer) said some =
     let same = length-with_accesses (written_out block.start block.times) said.programs in
-    ne_eqb (length (ended (block ∷ outer) said).programs) 0 (λ zero. omega (arith, some, same))
+    ne_eqb (length (after_end (block ∷ outer) said).programs) 0 (λ zero. omega (arith, some, same))
 
 -- a program was begun once a line was read that doesn't configure
 pub begun_line : (said : Said) (number : ℕ) (line : ReadLine) → (1 ≤ length said.blocks → 1 ≤ length said.programs)

@@ -6,7 +6,7 @@ use Rattle.litmus_text.proofs.FormLemmas.{wrong_count}
 use Rattle.litmus_text.specs.Field.{IsFieldName}
 use Rattle.litmus_text.specs.Form.{Part, Writes}
 use Rattle.litmus_text.specs.declared.config_line.ConfigLine.{ConfigLine}
-use Rattle.litmus_text.specs.declared.config_line.ConfigLine.TheVariants as lines
+use Rattle.litmus_text.specs.declared.config_line.ConfigLine.TheVariants as config_lines
 use Rattle.program_text.specs.declared.keyword.Keyword.{Keyword}
 use Rattle.program_text.specs.declared.keyword.Keyword.TheVariants as keywords
 use Rattle.program_text.specs.Keyword.{name_of_keyword}
@@ -89,12 +89,12 @@ no_line word words set other end h = other keywords.End h.0
 -- no words write none
 pub no_empty_line : (line : Line) → WritesLine [] line → ⊥
 unfolding WritesSetting
-no_empty_line (setting (lines.Count count n)) h = h
-no_empty_line (setting (lines.Policy policy)) h = h
-no_empty_line (setting (lines.Misses kind)) h = h
-no_empty_line (setting (lines.Exclusive is_on)) h = h
-no_empty_line (setting (lines.Init w value)) h = h
-no_empty_line (setting (lines.Counter w)) h = h
+no_empty_line (setting (config_lines.Count count n)) h = h
+no_empty_line (setting (config_lines.Policy policy)) h = h
+no_empty_line (setting (config_lines.Misses kind)) h = h
+no_empty_line (setting (config_lines.Exclusive is_on)) h = h
+no_empty_line (setting (config_lines.Init w value)) h = h
+no_empty_line (setting (config_lines.Counter w)) h = h
 no_empty_line (begin c) h = h
 no_empty_line (load first last) h = h
 no_empty_line (store first last value) h = h

@@ -7,13 +7,13 @@ use Rattle.std.specs.Str.Lines.{lines}
 use Rattle.address_map.specs.Config.{checked_of, first_fault}
 use Rattle.address_map.specs.declared.config.Config.{Config}
 use Rattle.address_map.specs.declared.config.ConfigError.{ConfigError}
-use Rattle.litmus_text.specs.ConfigLine.{IsLateFault, configured, parts_of_config_line}
+use Rattle.litmus_text.specs.ConfigLine.{IsLateFault, after_config_line, parts_of_config_line}
 use Rattle.litmus_text.specs.Form.{IsFormFaultOf, Writes}
 use Rattle.litmus_text.specs.Statement.{statements_from}
 use Rattle.litmus_text.specs.declared.config_line.ConfigLine.{ConfigLine}
 use Rattle.litmus_text.specs.declared.fault.LineFault.{LineFault}
 use Rattle.litmus_text.specs.declared.fault.TextFault.{TextFault}
-use Rattle.litmus_text.specs.declared.fault.TextFault.TheVariants as faults
+use Rattle.litmus_text.specs.declared.fault.TextFault.TheVariants as text_faults
 use Rattle.litmus_text.specs.declared.settings.Settings.{Settings}
 use Rattle.program_text.specs.declared.programs.Programs.{Programs}
 use Rattle.litmus_text.proofs.FaultLemmas.{form_refuses}
@@ -70,7 +70,7 @@ reading_line all left said s line written only may reading = record {
 -- the next line is at fault, and those before it aren't
 pub faulty : (all left : List Statement) (said : Said) (number : ℕ) (words : List (List ℕ)) (fault : LineFault)
     → IsReading all said ((number, words) ∷ left) → BeginsAsSetting words ⊎ (first_fault said.settings.config ≡ None)
-    → HasFault said words fault → IsFault all (faults.Line number fault)
+    → HasFault said words fault → IsFault all (text_faults.Line number fault)
 faulty all left said number words fault reading ready has = inl (record {
   before = reading.done;
   words = words;
@@ -107,7 +107,7 @@ setting_none (word ∷ words) begins none line written =
 pub reading_setting : (all left : List Statement) (old : Settings) (s : Statement) (x : ConfigLine)
     → BeginsAsSetting s.1 → Writes s.1 (parts_of_config_line x)
     → ((other : ConfigLine) → Writes s.1 (parts_of_config_line other) → other ≡ x)
-    → IsReading all (said_first old) (s ∷ left) → IsReading all (said_first (configured old x)) left
+    → IsReading all (said_first old) (s ∷ left) → IsReading all (said_first (after_config_line old x)) left
 unfolding WritesSetting fault_of first_so
 reading_setting all left old s x begins written only reading =
     reading_line all left (said_first old) s (setting x) written (setting_only s.1 x begins only) refl reading
@@ -125,14 +125,15 @@ malformed said words fault begins form =
 -- .. in its place, and with another line that writes nothing
 pub setting_fault : (all left : List Statement) (settings : Settings) (number : ℕ) (words : List (List ℕ))
     (fault : LineFault) → IsReading all (said_first settings) ((number, words) ∷ left) → BeginsAsSetting words
-    → IsFormFaultOf parts_of_config_line words fault → IsFault all (faults.Line number fault)
+    → IsFormFaultOf parts_of_config_line words fault → IsFault all (text_faults.Line number fault)
 setting_fault all left settings number words fault reading begins form =
     faulty all left (said_first settings) number words fault reading (inl begins)
     (malformed (said_first settings) words fault begins form)
 
 pub line_fault : (all left : List Statement) (said : Said) (number : ℕ) (words : List (List ℕ)) (fault : LineFault)
     → IsReading all said ((number, words) ∷ left) → first_fault said.settings.config ≡ None → ¬ BeginsAsSetting words
-    → ((line : Line) → WritesLine words line → ⊥) → IsFormFault words fault → IsFault all (faults.Line number fault)
+    → ((line : Line) → WritesLine words line → ⊥) → IsFormFault words fault →
+    IsFault all (text_faults.Line number fault)
 line_fault all left said number words fault reading checked begins none form =
     faulty all left said number words fault reading (inr checked)
     (inr (inr (record { begins = begins; none = none; form = form })))
@@ -155,13 +156,13 @@ late_fault said words fault begins begun late =
 pub place_fault : (all left : List Statement) (said : Said) (number : ℕ) (words : List (List ℕ)) (line : Line)
     (fault : TextFault) → IsReading all said ((number, words) ∷ left) → first_fault said.settings.config ≡ None
     → WritesLine words line → IsPlaceFault said number line fault → IsFault all fault
-place_fault all left said number words line (faults.Line n f) reading checked written at =
-    subst (λ k. IsFault all (faults.Line k f)) (sym at.0)
+place_fault all left said number words line (text_faults.Line n f) reading checked written at =
+    subst (λ k. IsFault all (text_faults.Line k f)) (sym at.0)
     (faulty all left said number words f reading (inr checked)
     (inl (record { line = line; written = written; judged = at.1 })))
-place_fault all left said number words line (faults.Config error) reading checked written at = absurd at
-place_fault all left said number words line faults.NoMemory reading checked written at = tt
-place_fault all left said number words line faults.CannotWrite reading checked written at = absurd at
+place_fault all left said number words line (text_faults.Config error) reading checked written at = absurd at
+place_fault all left said number words line text_faults.NoMemory reading checked written at = tt
+place_fault all left said number words line text_faults.CannotWrite reading checked written at = absurd at
 
 -- ---- the configuration
 
@@ -187,7 +188,7 @@ checked_err c error h = refused_from c error (first_fault c) (checked_of c) (sym
 
 pub config_fault : (all left : List Statement) (settings : Settings) (error : ConfigError)
     → IsReading all (said_first settings) left → BeginOtherwise left → first_fault settings.config ≡ Some error
-    → IsFault all (faults.Config error)
+    → IsFault all (text_faults.Config error)
 config_fault all left settings error reading others is = record {
   before = reading.done;
   rest = left;

@@ -9,7 +9,7 @@ use Rattle.litmus_text.specs.Statement.{statements_from}
 use Rattle.litmus_text.specs.declared.fault.LineFault.{LineFault}
 use Rattle.litmus_text.specs.declared.fault.LineFault.TheVariants as line_faults
 use Rattle.litmus_text.specs.declared.fault.TextFault.{TextFault}
-use Rattle.litmus_text.specs.declared.fault.TextFault.TheVariants as faults
+use Rattle.litmus_text.specs.declared.fault.TextFault.TheVariants as text_faults
 use Rattle.litmus_text.specs.declared.settings.Settings.{Settings}
 use Rattle.program_text.specs.declared.programs.CoreProgram.{CoreProgram}
 use Rattle.program_text.specs.declared.programs.Programs.{Programs}
@@ -115,7 +115,7 @@ pub record IsConfigFault (all : List Statement) (error : ConfigError) : Type 0 w
 
 -- why a text, by its statements, is read no further; there may also be no memory
 abbrev pub IsFault : List Statement → TextFault → Type 0
-IsFault all (faults.Line number fault) = IsFaultyLine all number fault ⊎ IsLeftOpen all number fault
-IsFault all (faults.Config error) = IsConfigFault all error
-IsFault all faults.NoMemory = Unit {0}
-IsFault all faults.CannotWrite = ⊥
+IsFault all (text_faults.Line number fault) = IsFaultyLine all number fault ⊎ IsLeftOpen all number fault
+IsFault all (text_faults.Config error) = IsConfigFault all error
+IsFault all text_faults.NoMemory = Unit {0}
+IsFault all text_faults.CannotWrite = ⊥

@@ -7,10 +7,10 @@ use Rattle.address_map.specs.declared.request.Op.{Op}
 use Rattle.address_map.specs.declared.request.Op.TheVariants as ops
 use Rattle.address_map.specs.declared.address.WordAddr.{WordAddr}
 use Rattle.litmus_text.specs.declared.fault.LineFault.{LineFault}
-use Rattle.litmus_text.specs.declared.fault.LineFault.TheVariants as faults
+use Rattle.litmus_text.specs.declared.fault.LineFault.TheVariants as line_faults
 use Rattle.program_text.specs.declared.programs.TheConstants.{MOST_ACCESSES, MOST_DEPTH}
 use Rattle.program_text.specs.Line.{Line, setting, begin, load, store, add, cas, repeat, end}
-use Rattle.program_text.specs.Text.{Program, Said, ended, said_access}
+use Rattle.program_text.specs.Text.{Program, Said, after_end, said_access}
 
 -- no program was begun, and no block is open
 abbrev pub is_early : Said → Bool
@@ -56,25 +56,25 @@ overwrites (ops.Cas expect new) = true
 -- what an access can have wrong, in order
 abbrev pub access_faults : Said → ℕ → ℕ → Op → List (Bool × LineFault)
 access_faults said first last op =
-    (is_early said, faults.NotACommand)
-    ∷ (lacks_range said.settings.config first last, faults.OutOfRange)
-    ∷ (has_too_many (said_access said first last op), faults.OutOfRange)
-    ∷ (overwrites op && has_counter said.settings.config first last, faults.StoreToACounter) ∷ []
+    (is_early said, line_faults.NotACommand)
+    ∷ (lacks_range said.settings.config first last, line_faults.OutOfRange)
+    ∷ (has_too_many (said_access said first last op), line_faults.OutOfRange)
+    ∷ (overwrites op && has_counter said.settings.config first last, line_faults.StoreToACounter) ∷ []
 
 -- what a line can have wrong, in order
 abbrev pub faults_of : Said → Line → List (Bool × LineFault)
-faults_of said (setting line) = (not (is_early said), faults.LateConfiguration) ∷ []
+faults_of said (setting line) = (not (is_early said), line_faults.LateConfiguration) ∷ []
 faults_of said (begin c) =
-    (not (is_closed said), faults.NotACommand)
-    ∷ (lacks_core said.settings.config c || has_program c said.programs, faults.OutOfRange) ∷ []
+    (not (is_closed said), line_faults.NotACommand)
+    ∷ (lacks_core said.settings.config c || has_program c said.programs, line_faults.OutOfRange) ∷ []
 faults_of said (load first last) = access_faults said first last ops.Load
 faults_of said (store first last value) = access_faults said first last (ops.Store value)
 faults_of said (add first last delta) = access_faults said first last (ops.Add delta)
 faults_of said (cas first last expect new) = access_faults said first last (ops.Cas expect new)
 faults_of said (repeat n) =
-    (is_early said, faults.NotACommand) ∷ (nat_le MOST_DEPTH (length said.blocks), faults.OutOfRange) ∷ []
+    (is_early said, line_faults.NotACommand) ∷ (nat_le MOST_DEPTH (length said.blocks), line_faults.OutOfRange) ∷ []
 faults_of said end =
-    (is_closed said, faults.NotACommand) ∷ (has_too_many (ended said.blocks said), faults.OutOfRange) ∷ []
+    (is_closed said, line_faults.NotACommand) ∷ (has_too_many (after_end said.blocks said), line_faults.OutOfRange) ∷ []
 
 -- the first of them that is so
 unfoldable pub first_so : List (Bool × LineFault) → Option LineFault

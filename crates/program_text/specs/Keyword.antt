@@ -2,7 +2,7 @@
 use Rattle.std.specs.Prelude.{◌≡◌, ◌≢◌, ℕ, List, [], ◌∷◌, Option, None, Some, codes, length}
 use Rattle.litmus_text.specs.Table.{value_named}
 use Rattle.litmus_text.specs.declared.fault.LineFault.{LineFault}
-use Rattle.litmus_text.specs.declared.fault.LineFault.TheVariants as faults
+use Rattle.litmus_text.specs.declared.fault.LineFault.TheVariants as line_faults
 use Rattle.program_text.specs.declared.keyword.Keyword.{Keyword}
 use Rattle.program_text.specs.declared.keyword.Keyword.TheVariants as keywords
 
@@ -33,15 +33,15 @@ words_behind keywords.End = 0
 
 -- where so many words are wanted: of as many one is no number, and of another number they are no command
 pub record IsCountFault (wanted : ℕ) (words : List (List ℕ)) (fault : LineFault) : Type 0 where
-  pub as_many : length words ≡ wanted → fault ≡ faults.BadNumber
-  pub other : length words ≢ wanted → fault ≡ faults.NotACommand
+  pub as_many : length words ≡ wanted → fault ≡ line_faults.BadNumber
+  pub other : length words ≢ wanted → fault ≡ line_faults.NotACommand
 
 -- .. behind this word
 abbrev pub IsKeywordFault : Option Keyword → List (List ℕ) → LineFault → Type 0
-IsKeywordFault None words fault = fault ≡ faults.NotACommand
+IsKeywordFault None words fault = fault ≡ line_faults.NotACommand
 IsKeywordFault (Some keyword) words fault = IsCountFault (words_behind keyword) words fault
 
 -- what is wrong with words that write no line of a program: their first word and their number are judged, then numbers
 abbrev pub IsFormFault : List (List ℕ) → LineFault → Type 0
-IsFormFault [] fault = fault ≡ faults.NotACommand
+IsFormFault [] fault = fault ≡ line_faults.NotACommand
 IsFormFault (name ∷ words) fault = IsKeywordFault (value_named keywords_by_name name) words fault

@@ -4,7 +4,7 @@ use Rattle.std.specs.List.{range_with_len}
 use Rattle.address_map.specs.declared.address.CoreId.{CoreId}
 use Rattle.address_map.specs.declared.request.Op.{Op}
 use Rattle.address_map.specs.declared.request.Op.TheVariants as ops
-use Rattle.litmus_text.specs.ConfigLine.{configured}
+use Rattle.litmus_text.specs.ConfigLine.{after_config_line}
 use Rattle.litmus_text.specs.Settings.{default_settings}
 use Rattle.litmus_text.specs.declared.settings.Settings.{Settings}
 use Rattle.program_text.specs.declared.programs.Access.{Access}
@@ -56,14 +56,14 @@ said_access said first last op =
     record said { programs = with_accesses (λ accesses. accesses ++ spread first last op) said.programs }
 
 -- the innermost block ends
-abbrev pub ended : List Block → Said → Said
-ended [] said = said
-ended (block ∷ outer) said =
+abbrev pub after_end : List Block → Said → Said
+after_end [] said = said
+after_end (block ∷ outer) said =
     record said { programs = with_accesses (written_out block.start block.times) said.programs; blocks = outer }
 
 -- what is said once the line with this number was read
 abbrev pub said_line : Said → ℕ → Line → Said
-said_line said number (setting line) = record said { settings = configured said.settings line }
+said_line said number (setting line) = record said { settings = after_config_line said.settings line }
 said_line said number (begin c) = record said { programs = (record { 0 = c }, []) ∷ said.programs }
 said_line said number (load first last) = said_access said first last ops.Load
 said_line said number (store first last value) = said_access said first last (ops.Store value)
@@ -71,4 +71,4 @@ said_line said number (add first last delta) = said_access said first last (ops.
 said_line said number (cas first last expect new) = said_access said first last (ops.Cas expect new)
 said_line said number (repeat n) =
     record said { blocks = record { number = number; times = n; start = last_accesses said.programs } ∷ said.blocks }
-said_line said number end = ended said.blocks said
+said_line said number end = after_end said.blocks said

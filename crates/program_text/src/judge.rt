@@ -9,7 +9,7 @@ ghost use Rattle.program_text.specs.Judged.{overwrites as overwrites_word};
 ghost use Rattle.program_text.specs.Line.{begin, end, line_of, repeat};
 ghost use Rattle.program_text.specs.Reading.{IsSoundReader, said_by};
 ghost use Rattle.address_map.specs.declared.request.Op.{Op};
-ghost use Rattle.program_text.specs.Text.{ended, said_access};
+ghost use Rattle.program_text.specs.Text.{after_end, said_access};
 ghost use Rattle.program_text.specs.declared.programs.TheConstants.{MOST_ACCESSES, MOST_DEPTH};
 
 use super::line::Line;
@@ -193,7 +193,7 @@ impl Reader {
     // Whether the innermost block makes too many accesses where it ends.
     fn repeats_too_often(&self) -> bool
         requires { IsSoundReader self.now }
-        ensures { result ≡ has_too_many (ended (said_by self.now).blocks (said_by self.now)) }
+        ensures { result ≡ has_too_many (after_end (said_by self.now).blocks (said_by self.now)) }
     {
         let blocks = self.blocks.as_slice();
         let Some(block) = blocks.last() else {

@@ -1,6 +1,6 @@
 ghost use Rattle.std.specs.Prelude.{◌≡◌, ◌↔◌, [], ◌∷◌, false, IfErr, IfOk, IsTrue, List, OnOk, map, None};
 ghost use Rattle.std.specs.Str.Lines.{lines};
-ghost use Rattle.litmus_text.specs.ConfigLine.{configured};
+ghost use Rattle.litmus_text.specs.ConfigLine.{after_config_line};
 ghost use Rattle.litmus_text.specs.Statement.{statements_from};
 ghost use Rattle.litmus_text.specs.declared.settings.Settings.{Settings};
 ghost use Rattle.program_text.specs.Fault.{BeginOtherwise, IsFault, IsProgramText, Statement as ReadStatement};
@@ -86,7 +86,7 @@ fn configure(settings: &mut Settings, statement: &Statement<'_>) -> Result<(), T
 }
 
 fn set(line: ConfigLine, settings: &mut Settings) -> Result<(), TextFault>
-    ensures said { OnOk result (settings.new ≡ configured settings.old line) }
+    ensures said { OnOk result (settings.new ≡ after_config_line settings.old line) }
     ensures fault { IfErr result (λ fault. fault ≡ TextFault.NoMemory) }
 {
     line.set(settings)?;

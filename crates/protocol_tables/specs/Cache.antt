@@ -9,11 +9,11 @@ use Rattle.cache_table.specs.Law.{asked_to_read, is_clean, is_eviction, is_load,
 use Rattle.cache_table.specs.Name.{name_of}
 use Rattle.cache_table.specs.Row.{row_of}
 use Rattle.cache_table.specs.declared.state.CopyState.{CopyState}
-use Rattle.cache_table.specs.declared.state.CopyState.TheVariants as states
+use Rattle.cache_table.specs.declared.state.CopyState.TheVariants as copy_states
 use Rattle.cache_table.specs.declared.row.CacheEvent.{CacheEvent}
-use Rattle.cache_table.specs.declared.row.CacheEvent.TheVariants as events
+use Rattle.cache_table.specs.declared.row.CacheEvent.TheVariants as cache_events
 use Rattle.cache_table.specs.declared.row.CacheSends.{CacheSends}
-use Rattle.cache_table.specs.declared.row.CacheSends.TheVariants as sends
+use Rattle.cache_table.specs.declared.row.CacheSends.TheVariants as cache_sends
 use Rattle.cache_table.specs.declared.row.Row.{Row}
 use Rattle.cache_table.specs.declared.row.Row.TheVariants as rows
 
@@ -21,21 +21,21 @@ use Rattle.cache_table.specs.declared.row.Row.TheVariants as rows
 
 -- what is sent, each behind the one before
 abbrev pub text_of_sends : CacheSends → List ℕ
-text_of_sends sends.Nothing = codes ""
-text_of_sends sends.GetS = codes "GetS; "
-text_of_sends sends.GetM = codes "GetM; "
-text_of_sends sends.PutS = codes "PutS; "
-text_of_sends sends.PutM = codes "PutM; "
-text_of_sends sends.InvAckToRequester = codes "Inv-Ack; "
-text_of_sends sends.DataToRequester = codes "Data(0); "
-text_of_sends sends.DataToRequesterAndHome = codes "Data(0), Data home; "
+text_of_sends cache_sends.Nothing = codes ""
+text_of_sends cache_sends.GetS = codes "GetS; "
+text_of_sends cache_sends.GetM = codes "GetM; "
+text_of_sends cache_sends.PutS = codes "PutS; "
+text_of_sends cache_sends.PutM = codes "PutM; "
+text_of_sends cache_sends.InvAckToRequester = codes "Inv-Ack; "
+text_of_sends cache_sends.DataToRequester = codes "Data(0); "
+text_of_sends cache_sends.DataToRequesterAndHome = codes "Data(0), Data home; "
 
 -- what is done where the row goes on: an access that sends nothing is a hit, and an acknowledgement is counted
-abbrev pub text_of_deed : CacheEvent → CacheSends → List ℕ
-text_of_deed events.Load sends.Nothing = codes "hit; "
-text_of_deed events.Write sends.Nothing = codes "hit; "
-text_of_deed (events.InvAck n k) sent = codes "k + 1; "
-text_of_deed event sent = text_of_sends sent
+abbrev pub text_of_effect : CacheEvent → CacheSends → List ℕ
+text_of_effect cache_events.Load cache_sends.Nothing = codes "hit; "
+text_of_effect cache_events.Write cache_sends.Nothing = codes "hit; "
+text_of_effect (cache_events.InvAck n k) sent = codes "k + 1; "
+text_of_effect event sent = text_of_sends sent
 
 -- where the table has no row: an eviction is refused, since there is no copy, and anything else never comes
 abbrev pub text_of_none : CacheEvent → List ℕ
@@ -43,7 +43,7 @@ text_of_none event = if is_eviction event then codes "not held" else codes "-"
 
 -- a row at an event: what is done, and the next state
 abbrev pub text_of_row : CacheEvent → Row → List ℕ
-text_of_row event (rows.Go next sent) = text_of_deed event sent ++ name_of next
+text_of_row event (rows.Go next sent) = text_of_effect event sent ++ name_of next
 text_of_row event rows.Blocked = codes "blocked"
 text_of_row event rows.NoEntry = text_of_none event
 
@@ -79,25 +79,26 @@ abbrev pub columns_of : List (Bor (List ℕ) × CacheEvent) → List Column
 columns_of columns = map (λ column. (column.0.now, column.1)) columns
 
 -- what a core does, and what is asked of it
-abbrev pub asked : List Column
-asked =
-    (codes "load", events.Load) ∷ (codes "write", events.Write) ∷ (codes "eviction", events.Eviction)
-    ∷ (codes "Fwd-GetS", events.FwdGetS) ∷ (codes "Fwd-GetM", events.FwdGetM) ∷ (codes "Inv", events.Inv)
-    ∷ (codes "Put-Ack", events.PutAck) ∷ []
+abbrev pub request_columns : List Column
+request_columns =
+    (codes "load", cache_events.Load) ∷ (codes "write", cache_events.Write) ∷ (codes "eviction", cache_events.Eviction)
+    ∷ (codes "Fwd-GetS", cache_events.FwdGetS) ∷ (codes "Fwd-GetM", cache_events.FwdGetM)
+    ∷ (codes "Inv", cache_events.Inv)
+    ∷ (codes "Put-Ack", cache_events.PutAck) ∷ []
 
 -- data as the only copy, which only the exclusive state brings
 abbrev pub only_copy : List Column
 only_copy =
-    (codes "Data-E (exclusive on), loads alone", events.DataE true)
-    ∷ (codes "Data-E (exclusive on), a write too", events.DataE false) ∷ []
+    (codes "Data-E (exclusive on), loads alone", cache_events.DataE true)
+    ∷ (codes "Data-E (exclusive on), a write too", cache_events.DataE false) ∷ []
 
 -- what answers a core
-abbrev pub answered : Bool → List Column
-answered exclusive =
-    (codes "Data, k = n", events.Data 1 1) ∷ (codes "Data, k < n", events.Data 1 0)
-    ∷ (codes "Data, k > n", events.Data 0 1)
-    ∷ (codes "Inv-Ack, k + 1 = n", events.InvAck 1 0) ∷ (codes "Inv-Ack, k + 1 < n", events.InvAck 2 0)
-    ∷ (codes "Inv-Ack, k + 1 > n", events.InvAck 0 0) ∷ (if exclusive then only_copy else [])
+abbrev pub answer_columns : Bool → List Column
+answer_columns exclusive =
+    (codes "Data, k = n", cache_events.Data 1 1) ∷ (codes "Data, k < n", cache_events.Data 1 0)
+    ∷ (codes "Data, k > n", cache_events.Data 0 1)
+    ∷ (codes "Inv-Ack, k + 1 = n", cache_events.InvAck 1 0) ∷ (codes "Inv-Ack, k + 1 < n", cache_events.InvAck 2 0)
+    ∷ (codes "Inv-Ack, k + 1 > n", cache_events.InvAck 0 0) ∷ (if exclusive then only_copy else [])
 
 -- the titles, and the line below them
 abbrev pub titles_of : List Column → List ℕ
@@ -114,8 +115,9 @@ heading_of columns = codes "| Cache |" ++ titles_of columns ++ codes "\n|---|" +
 -- the states in the order of the lines
 abbrev pub all_states : List CopyState
 all_states =
-    states.I ∷ states.IS_D ∷ states.IM_AD ∷ states.IM_A ∷ states.S ∷ states.SM_AD ∷ states.SM_A ∷ states.M ∷ states.E
-    ∷ states.MI_A ∷ states.SI_A ∷ states.II_A ∷ []
+    copy_states.I ∷ copy_states.IS_D ∷ copy_states.IM_AD ∷ copy_states.IM_A ∷ copy_states.S ∷ copy_states.SM_AD
+        ∷ copy_states.SM_A ∷ copy_states.M ∷ copy_states.E
+    ∷ copy_states.MI_A ∷ copy_states.SI_A ∷ copy_states.II_A ∷ []
 
 -- the setting without which no copy comes to the state
 abbrev pub setting_of : CopyState → List ℕ
@@ -144,4 +146,4 @@ part_of exclusive columns = heading_of columns ++ lines_of exclusive columns all
 
 -- both parts, with an empty line between them
 abbrev pub table_of : Bool → List ℕ
-table_of exclusive = part_of exclusive asked ++ codes "\n" ++ part_of exclusive (answered exclusive)
+table_of exclusive = part_of exclusive request_columns ++ codes "\n" ++ part_of exclusive (answer_columns exclusive)

@@ -8,13 +8,13 @@ use Rattle.address_map.specs.declared.address.CoreId.{CoreId}
 use Rattle.directory_table.specs.Name.{name_of}
 use Rattle.directory_table.specs.Row.{cell}
 use Rattle.directory_table.specs.declared.state.DirState.{DirState}
-use Rattle.directory_table.specs.declared.state.DirState.TheVariants as states
+use Rattle.directory_table.specs.declared.state.DirState.TheVariants as dir_states
 use Rattle.directory_table.specs.declared.row.DirEvent.{DirEvent}
-use Rattle.directory_table.specs.declared.row.DirEvent.TheVariants as events
+use Rattle.directory_table.specs.declared.row.DirEvent.TheVariants as dir_events
 use Rattle.directory_table.specs.declared.row.DirRow.{DirRow}
-use Rattle.directory_table.specs.declared.row.DirRow.TheVariants as rows
+use Rattle.directory_table.specs.declared.row.DirRow.TheVariants as dir_rows
 use Rattle.directory_table.specs.declared.row.DirSends.{DirSends}
-use Rattle.directory_table.specs.declared.row.DirSends.TheVariants as sends
+use Rattle.directory_table.specs.declared.row.DirSends.TheVariants as dir_sends
 use Rattle.protocol_tables.specs.declared.directory.Holders.{Holders}
 
 -- ---- cores
@@ -51,14 +51,14 @@ text_of_entry state None sharers =
 
 -- what is sent
 abbrev pub text_of_sends : DirSends → List ℕ
-text_of_sends sends.Nothing = codes ""
-text_of_sends (sends.Data acks) = codes "Data(" ++ decimal acks ++ codes "); "
-text_of_sends sends.DataE = codes "Data-E; "
-text_of_sends (sends.DataAndInv acks invalidated) =
+text_of_sends dir_sends.Nothing = codes ""
+text_of_sends (dir_sends.Data acks) = codes "Data(" ++ decimal acks ++ codes "); "
+text_of_sends dir_sends.DataE = codes "Data-E; "
+text_of_sends (dir_sends.DataAndInv acks invalidated) =
     codes "Data(" ++ decimal acks ++ codes "), Inv to " ++ text_of_cores (members invalidated) ++ codes "; "
-text_of_sends (sends.FwdGetS owner) = codes "Fwd-GetS to " ++ letter_of owner.0 ++ codes "; "
-text_of_sends (sends.FwdGetM owner) = codes "Fwd-GetM to " ++ letter_of owner.0 ++ codes "; "
-text_of_sends sends.PutAck = codes "Put-Ack; "
+text_of_sends (dir_sends.FwdGetS owner) = codes "Fwd-GetS to " ++ letter_of owner.0 ++ codes "; "
+text_of_sends (dir_sends.FwdGetM owner) = codes "Fwd-GetM to " ++ letter_of owner.0 ++ codes "; "
+text_of_sends dir_sends.PutAck = codes "Put-Ack; "
 
 -- whether the block becomes the home copy
 abbrev pub text_of_home : Bool → List ℕ
@@ -66,16 +66,16 @@ text_of_home writes = if writes then codes "block home; " else codes ""
 
 -- a row: what is sent, whether the home copy is written, and the entry afterwards
 abbrev pub text_of_row : DirRow → List ℕ
-text_of_row (rows.Go step) =
+text_of_row (dir_rows.Go step) =
     text_of_sends step.sends ++ (text_of_home step.writes_home ++ text_of_entry step.state step.owner step.sharers)
-text_of_row rows.Blocked = codes "blocked"
-text_of_row rows.NoEntry = codes "-"
+text_of_row dir_rows.Blocked = codes "blocked"
+text_of_row dir_rows.NoEntry = codes "-"
 
 -- ---- lines
 
 -- the events in the order of the columns
 abbrev pub all_events : List DirEvent
-all_events = events.GetS r ∷ events.GetM r ∷ events.PutS r ∷ events.PutM r ∷ events.DataHome ∷ []
+all_events = dir_events.GetS r ∷ dir_events.GetM r ∷ dir_events.PutS r ∷ dir_events.PutM r ∷ dir_events.DataHome ∷ []
 
 -- the heading, and the line below it
 abbrev pub heading : List ℕ
@@ -99,15 +99,15 @@ line_of exclusive setting holders =
     ++ cells_of exclusive holders all_events ++ codes "\n"
 
 -- entries of each kind
-abbrev pub shared : DirState → ℕ → Holders
-shared state sharers = record { state = state; owner = None; sharers = sharers }
+abbrev pub shared_entry : DirState → ℕ → Holders
+shared_entry state sharers = record { state = state; owner = None; sharers = sharers }
 
-abbrev pub owned : CoreId → Holders
-owned owner = record { state = states.M; owner = Some owner; sharers = 0 }
+abbrev pub owned_entry : CoreId → Holders
+owned_entry owner = record { state = dir_states.M; owner = Some owner; sharers = 0 }
 
 -- the one whose row the setting changes
 abbrev pub idle : Holders
-idle = shared states.I 0
+idle = shared_entry dir_states.I 0
 
 abbrev pub idle_lines : Bool → List ℕ
 idle_lines true = line_of false (codes " (exclusive off)") idle ++ line_of true (codes " (exclusive on)") idle
@@ -116,10 +116,12 @@ idle_lines false = line_of false (codes "") idle
 -- and the others
 abbrev pub samples : List Holders
 samples =
-    shared states.S (only x.0) ∷ shared states.S (with (only x.0) r.0) ∷ shared states.S (only r.0)
-    ∷ owned o ∷ owned r
-    ∷ shared states.S_D (with (only o.0) x.0) ∷ shared states.S_D (with (only o.0) r.0) ∷ shared states.S_D (only r.0)
-    ∷ shared states.S_D 0 ∷ []
+    shared_entry dir_states.S (only x.0) ∷ shared_entry dir_states.S (with (only x.0) r.0)
+        ∷ shared_entry dir_states.S (only r.0)
+    ∷ owned_entry o ∷ owned_entry r
+    ∷ shared_entry dir_states.S_D (with (only o.0) x.0) ∷ shared_entry dir_states.S_D (with (only o.0) r.0)
+    ∷ shared_entry dir_states.S_D (only r.0)
+    ∷ shared_entry dir_states.S_D 0 ∷ []
 
 abbrev pub lines_of : Bool → List Holders → List ℕ
 lines_of exclusive these = flat_map (line_of exclusive (codes "")) these

@@ -2,10 +2,10 @@
 
 ghost use Rattle.std.specs.Prelude.{◌≡◌, OnOk, option_map};
 ghost use Rattle.std.specs.Fmt.{WritesInCalls};
-ghost use Rattle.protocol_tables.specs.Cache.{all_states, answered, before_the_table, cells_of, columns_of, heading_of};
+ghost use Rattle.protocol_tables.specs.Cache.{all_states, answer_columns, before_the_table, cells_of, columns_of, heading_of};
 ghost use Rattle.protocol_tables.specs.Cache.{line_of, lines_of};
 ghost use Rattle.protocol_tables.specs.Cache.{needs_exclusive, part_of, rules_of, setting_of, shown_line, table_of};
-ghost use Rattle.protocol_tables.specs.Cache.{text_of_deed, text_of_none, text_of_sends, titles_of};
+ghost use Rattle.protocol_tables.specs.Cache.{text_of_effect, text_of_none, text_of_sends, titles_of};
 
 use cache_table::{CacheEvent, CacheSends, CopyState, Row, cache_row};
 use std::fmt;
@@ -60,7 +60,7 @@ static ANSWERED: [Column; 8] = [
 
 /// What answers a core under the setting.
 fn answered(exclusive: bool) -> &'static [Column]
-    ensures { columns_of result.now ≡ answered exclusive }
+    ensures { columns_of result.now ≡ answer_columns exclusive }
 {
     if exclusive { &ANSWERED } else { &ANSWERED[..6] }
 }
@@ -87,7 +87,7 @@ impl fmt::Display for Cell {
             return f.write_str("-");
         }
         match cache_row(self.state, self.event) {
-            Row::Go(next, sends) => write!(f, "{}{next}", text_of_deed(self.event, sends)),
+            Row::Go(next, sends) => write!(f, "{}{next}", text_of_effect(self.event, sends)),
             Row::Blocked => f.write_str("blocked"),
             Row::NoEntry => f.write_str(text_of_none(self.event)),
         }
@@ -125,8 +125,8 @@ const fn needs_exclusive(state: CopyState, event: CacheEvent) -> bool
 }
 
 /// What is done where a row goes on: an access that sends nothing is a hit, and an acknowledgement is counted.
-pub const fn text_of_deed(event: CacheEvent, sends: CacheSends) -> &'static str
-    ensures { result.now ≡ text_of_deed event sends }
+pub const fn text_of_effect(event: CacheEvent, sends: CacheSends) -> &'static str
+    ensures { result.now ≡ text_of_effect event sends }
 {
     match (event, sends) {
         (CacheEvent::Load | CacheEvent::Write, CacheSends::Nothing) => "hit; ",

@@ -6,7 +6,7 @@
 //! specs/Directory.antt). A call takes no memory, and fails only where its writer does.
 #![tactic(auto)]
 
-pub use cache::{text_of_deed, write_cache_table};
+pub use cache::{text_of_effect, write_cache_table};
 pub use directory::{Holders, text_of_home, write_directory_table};
 
 mod cache;

@@ -12,10 +12,10 @@ use Rattle.receipt_ledger.specs.Counted.{handed_out}
 use Rattle.receipt_shares.proofs.Totals.{together_assoc, totals_accepted, totals_append, totals_cons, totals_nil}
 use Rattle.address_map.specs.Place.{counters_of}
 use Rattle.receipt_shares.specs.Totals.{Totals, nothing, only_accepted, only_handed, together, totals}
-use Rattle.slice_core_log.proofs.Pushes.{slice_get-push}
-use Rattle.slice_core_log.specs.declared.entry.Entry.{Entry}
-use Rattle.slice_core_machine.specs.Machine.{Asked, Can, IsSame, Machine, Run, accept, after, entry_for, hand}
-use Rattle.slice_core_machine.specs.Machine.{new_machine, perform}
+use Rattle.slice_log.proofs.Pushes.{slice_get-push}
+use Rattle.slice_log.specs.declared.entry.Entry.{Entry}
+use Rattle.slice_core_machine.specs.SmallMachine.{Asked, Can, IsSame, SmallMachine, Run, accept, after, entry_for, hand}
+use Rattle.slice_core_machine.specs.SmallMachine.{new_small_machine, perform}
 
 -- one more that is handed out is counted as such, wherever it stands
 pub totals-one_more : (words : List WordAddr) (n : ℕ) (e : Entry) (old new : List Entry) → OneMore e old new
@@ -31,7 +31,7 @@ totals-one_more words n e old new one =
     ∙ ap (λ k. totals words k old) (zero-add n))
 
 -- Where nothing was asked for, the totals are nothing.
-pub new-booked : (c : Config) (slice : ℕ) → IsBooked c slice nothing new_machine
+pub new-booked : (c : Config) (slice : ℕ) → IsBooked c slice nothing new_small_machine
 new-booked c slice = record {
   waiting = [];
   marks = [];
@@ -41,11 +41,11 @@ new-booked c slice = record {
   logged = λ number e there. absurd (cc);
 }
 
-module _ (c : Config) (slice : ℕ) (t : Totals) (m : Machine) (booked : IsBooked c slice t m) where
+module _ (c : Config) (slice : ℕ) (t : Totals) (m : SmallMachine) (booked : IsBooked c slice t m) where
   abbrev counters : List WordAddr
   counters = counters_of c slice
 
-  pub same-booked : (n : Machine) → IsSame m n → IsBooked c slice t n
+  pub same-booked : (n : SmallMachine) → IsSame m n → IsBooked c slice t n
   same-booked n same = record {
     waiting = booked.waiting;
     marks = booked.marks;
@@ -115,7 +115,7 @@ module _ (c : Config) (slice : ℕ) (t : Totals) (m : Machine) (booked : IsBooke
 
 -- What is performed changes no totals.
 pub performs-booked : (initial : ℕ → ℕ) (c : Config) (slice : ℕ) (t : Totals) (requests : List Asked)
-    (m now : Machine)
+    (m now : SmallMachine)
     → IsBooked c slice t m → Run initial (map perform requests) m now → IsBooked c slice t now
 performs-booked initial c slice t [] m now booked run = same-booked c slice t m booked now run
 performs-booked initial c slice t (r ∷ requests) m now booked run =

@@ -9,14 +9,15 @@ use Rattle.std.proofs.lemmas.List.{length-append, length-set}
 use Rattle.std.proofs.lemmas.List.Edits.{length-remove}
 use Rattle.std.proofs.lemmas.List.Elements.{Contains-append_left, Contains-get_or, Contains-push, Contains-push_cases}
 use Rattle.std.proofs.lemmas.List.Quantifiers.{all_pairs_push, all_pairs_remove}
-use Rattle.slice_core_log.specs.declared.entry.Entry.{Entry}
-use Rattle.slice_core_machine.specs.Machine.{Asked, Can, IsSame, Machine, accept, after, entry_for, hand, new_machine}
-use Rattle.slice_core_machine.specs.Machine.{perform}
+use Rattle.slice_core_machine.specs.SmallMachine.{Asked, Can, IsSame, SmallMachine, accept, after, entry_for, hand}
+use Rattle.slice_core_machine.specs.SmallMachine.{new_small_machine}
+use Rattle.slice_core_machine.specs.SmallMachine.{perform}
+use Rattle.slice_log.specs.declared.entry.Entry.{Entry}
 use Rattle.receipt_ledger.proofs.Removed.{not-contained, still-contained, was-contained}
 use Rattle.receipt_ledger.specs.Counted.{AreMarked, is_handed}
 
 -- Where nothing was asked for, nothing waits and nothing is logged.
-pub new-counted : AreMarked new_machine [] []
+pub new-counted : AreMarked new_small_machine [] []
 new-counted = record {
   waits = λ r. (λ none. absurd none, λ there. let inside = there.1 in absurd (omega (arith, inside)));
   once = λ i j d before inside. absurd (omega (arith, inside));
@@ -24,9 +25,9 @@ new-counted = record {
   replies = λ number. (λ none. absurd none, λ waits. absurd (false≢true (sym waits)));
 }
 
-module _ (m : Machine) (waiting : List Asked) (marks : List Bool) (counted : AreMarked m waiting marks) where
+module _ (m : SmallMachine) (waiting : List Asked) (marks : List Bool) (counted : AreMarked m waiting marks) where
   -- A machine that is the same has the same counts.
-  pub same-counted : (n : Machine) → IsSame m n → AreMarked n waiting marks
+  pub same-counted : (n : SmallMachine) → IsSame m n → AreMarked n waiting marks
   same-counted n same = record {
     waits = λ r. (
       λ waits. (counted.waits r).0 ((same.waiting r).1 waits),

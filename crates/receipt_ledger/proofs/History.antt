@@ -12,7 +12,7 @@ use Rattle.receipt_ledger.specs.History.{AreHeld, AreHistory, HasAsked, HasRecei
 use Rattle.receipt_ledger.specs.History.{times}
 use Rattle.receipt_ledger.specs.Port.{PortView}
 use Rattle.receipt_ledger.specs.declared.receipt.Receipt.{Receipt}
-use Rattle.slice_core_log.specs.declared.entry.Entry.{Entry}
+use Rattle.slice_log.specs.declared.entry.Entry.{Entry}
 
 -- ---- places of a list
 

@@ -8,23 +8,23 @@ use Rattle.address_map.specs.declared.address.CoreId.{CoreId}
 use Rattle.address_map.specs.declared.address.Local.{Local}
 use Rattle.address_map.specs.declared.request.Request.{Request}
 use Rattle.receipt_ledger.specs.Booked.{stores_to}
-use Rattle.slice_core_answer.specs.declared.answer.Issue.{Issue}
-use Rattle.slice_core_answer.specs.declared.answer.Issue.TheVariants as issues
-use Rattle.slice_core_answer.specs.declared.answer.Refused.{Refused}
-use Rattle.slice_core_answer.specs.declared.answer.Refused.TheVariants as refusals
+use Rattle.slice_answer.specs.declared.answer.Issue.{Issue}
+use Rattle.slice_answer.specs.declared.answer.Issue.TheVariants as issues
+use Rattle.slice_answer.specs.declared.answer.Refused.{Refused}
+use Rattle.slice_answer.specs.declared.answer.Refused.TheVariants as refusals
+use Rattle.slice_core_cache.specs.Access.{access_of}
+use Rattle.slice_core_cache.specs.CoreCache.{tag_at}
+use Rattle.slice_core_cache.specs.Tags.{is_free}
+use Rattle.slice_core_cache.specs.declared.access.AccessKind.{AccessKind}
+use Rattle.slice_core_cache.specs.declared.access.AccessKind.TheVariants as access_kinds
 use Rattle.slice_core_plan.specs.Decision.{decision_at, decision_of, is_counter, overwrites}
 use Rattle.slice_core_plan.specs.Calls.{PartsView, AfterAccepting, AfterAccess, AfterIssue, IsAccepted, LacksMemory}
-use Rattle.slice_core_plan.specs.View.{View, side_at}
+use Rattle.slice_core_plan.specs.View.{View, cache_at}
 use Rattle.slice_core_plan.specs.declared.decision.Decision.{Decision}
 use Rattle.slice_core_plan.specs.declared.decision.Decision.TheVariants as decisions
-use Rattle.slice_core_side.specs.Access.{access_of}
-use Rattle.slice_core_side.specs.Side.{tag_at}
-use Rattle.slice_core_side.specs.Tags.{is_free}
-use Rattle.slice_core_side.specs.declared.access.Access.{Access}
-use Rattle.slice_core_side.specs.declared.access.Access.TheVariants as accesses
 
 -- An access passed the third test before it.
-third : (first second last : Bool) (one other why : Refused) (decision : Decision) (local : Local) (access : Access)
+third : (first second last : Bool) (one other why : Refused) (decision : Decision) (local : Local) (access : AccessKind)
     → (if first then decisions.Refuse one else if second then decisions.Refuse other
     else if last then decisions.Refuse why else decision) ≡ decisions.Access local access → last ≡ false
 third true second last one other why decision local access is = absurd (cc)
@@ -37,7 +37,7 @@ abbrev by_place : View → CoreId → Request → Option Local → Decision
 by_place v core request None = decisions.Refuse refusals.WrongSlice
 by_place v core request (Some local) = decision_at v core request local
 
-placed : (v : View) (core : CoreId) (request : Request) (local : Local) (access : Access) (past : Bool)
+placed : (v : View) (core : CoreId) (request : Request) (local : Local) (access : AccessKind) (past : Bool)
     (found : Option Local)
     → (if past then decisions.Refuse refusals.OutOfRange else by_place v core request found)
     ≡ decisions.Access local access
@@ -45,9 +45,9 @@ placed : (v : View) (core : CoreId) (request : Request) (local : Local) (access 
 placed v core request local access true found is = absurd (cc)
 placed v core request local access false None is = absurd (cc)
 placed v core request local access false (Some here) is =
-    third (not (nat_lt request.tag 64)) (not (is_free (tag_at (side_at v core) request.tag)))
+    third (not (nat_lt request.tag 64)) (not (is_free (tag_at (cache_at v core) request.tag)))
     (overwrites request.op && is_counter v request.word) refusals.TagRange refusals.TagBusy refusals.CounterStore
-    (decisions.Access here (access_of (side_at v core) here request.tag request.op)) local access is
+    (decisions.Access here (access_of (cache_at v core) here request.tag request.op)) local access is
 
 module _ (old : PartsView) (core : CoreId) (request : Request) (issue : Issue) (new : PartsView) where
   -- what an issue leaves that isn't refused, by what was decided
@@ -65,14 +65,14 @@ module _ (old : PartsView) (core : CoreId) (request : Request) (issue : Issue) (
 -- ---- done at once
 
 module _ (old : PartsView) (core : CoreId) (request : Request) (number : ℕ) (new : PartsView) where
-  logged : (local : Local) (access : Access) (room : ℕ) (issue : Issue) → issues.Done number ≡ issue
+  logged : (local : Local) (access : AccessKind) (room : ℕ) (issue : Issue) → issues.Done number ≡ issue
       → AfterAccepting access (record old { room = room }) core request local issue new → number ≡ length old.view.log
-  logged local (accesses.Stall stall) room issue is after = absurd (cc (is, after.0))
-  logged local (accesses.Hit place next silent) room issue is after = cc (is, after.0)
-  logged local accesses.Join room issue is after = absurd (cc (is, after.3.0))
-  logged local (accesses.Open next ask way) room issue is after = absurd (cc (is, after.3.0))
+  logged local (access_kinds.Stall stall) room issue is after = absurd (cc (is, after.0))
+  logged local (access_kinds.Hit way next silent) room issue is after = cc (is, after.0)
+  logged local access_kinds.SecondaryMiss room issue is after = absurd (cc (is, after.3.0))
+  logged local (access_kinds.PrimaryMiss next ask placement) room issue is after = absurd (cc (is, after.3.0))
 
-  let_in : (local : Local) (access : Access)
+  let_in : (local : Local) (access : AccessKind)
       → LacksMemory old (Ok (issues.Done number)) new
       ⊎ IsAccepted access old core request local (Ok (issues.Done number)) new
       → number ≡ length old.view.log
@@ -80,12 +80,14 @@ module _ (old : PartsView) (core : CoreId) (request : Request) (number : ℕ) (n
       ⊎_elim (λ lacks. absurd (cc (lacks.refused)))
       (λ is. logged local access is.0 is.1 (cc (is.4)) is.5) after
 
-  accessed : (local : Local) (access : Access) → AfterAccess access old core request local (Ok (issues.Done number)) new
+  accessed : (local : Local) (access : AccessKind) →
+      AfterAccess access old core request local (Ok (issues.Done number)) new
       → number ≡ length old.view.log
-  accessed local (accesses.Stall stall) after = absurd (cc (after.0))
-  accessed local (accesses.Hit place next silent) after = let_in local (accesses.Hit place next silent) after
-  accessed local accesses.Join after = let_in local accesses.Join after
-  accessed local (accesses.Open next ask way) after = let_in local (accesses.Open next ask way) after
+  accessed local (access_kinds.Stall stall) after = absurd (cc (after.0))
+  accessed local (access_kinds.Hit way next silent) after = let_in local (access_kinds.Hit way next silent) after
+  accessed local access_kinds.SecondaryMiss after = let_in local access_kinds.SecondaryMiss after
+  accessed local (access_kinds.PrimaryMiss next ask placement) after =
+      let_in local (access_kinds.PrimaryMiss next ask placement) after
 
   last : (decision : Decision) → by_decision old core request (issues.Done number) new decision
       → number ≡ length old.view.log

@@ -7,7 +7,7 @@ use Rattle.receipt_ledger.specs.Answers.{AfterAsking, AfterRequest, IsLastOf, Is
 use Rattle.receipt_ledger.specs.Port.{PortView, IsWithRoom, with_receipt, with_request}
 use Rattle.receipt_ledger.specs.declared.receipt.Answer.TheVariants as answers
 use Rattle.receipt_ledger.specs.declared.receipt.Receipt.{Receipt}
-use Rattle.slice_core_answer.specs.declared.answer.Issue.TheVariants as issues
+use Rattle.slice_answer.specs.declared.answer.Issue.TheVariants as issues
 
 pub last-pushed : (receipts : List Receipt) (r last : Receipt) → IsLastOf (receipts ++ r ∷ []) last → last ≡ r
 last-pushed receipts r last is =

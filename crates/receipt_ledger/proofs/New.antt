@@ -8,12 +8,12 @@ use Rattle.cache_array.specs.Set.{SetView, empty_set}
 use Rattle.receipt_ledger.specs.Booked.{IsTied}
 use Rattle.receipt_ledger.specs.Slice.{IsBuiltAs}
 use Rattle.slice_core.specs.Shape.{shape_of}
-use Rattle.slice_core_answer.specs.Stats.{StatsView}
-use Rattle.slice_core_side.specs.Side.{new_side}
-use Rattle.slice_core_side.specs.declared.copy.CacheCopy.{CacheCopy}
+use Rattle.slice_answer.specs.Stats.{StatsView}
+use Rattle.slice_core_cache.specs.CoreCache.{new_cache}
+use Rattle.slice_core_cache.specs.declared.copy.CacheCopy.{CacheCopy}
 use Rattle.receipt_shares.specs.Totals.{nothing}
-use Rattle.slice_core_machine.specs.Machine.{IsSame, new_machine}
-use Rattle.slice_core_machine.specs.Shows.{shown}
+use Rattle.slice_core_machine.specs.SmallMachine.{IsSame, new_small_machine}
+use Rattle.slice_core_machine.specs.Shows.{small_machine_of}
 use Rattle.slice_core_plan.specs.Calls.{IsNew, PartsView}
 
 map-replicate : {X Y : Type 0} (f : X → Y) (n : ℕ) (x : X) → map f (replicate n x) ≡ replicate n (f x)
@@ -21,7 +21,7 @@ map-replicate f zero x = refl
 map-replicate f (suc n) x = ap (λ ys. f x ∷ ys) (map-replicate f n x)
 
 -- A core that has asked for nothing yet is built as configured.
-new-part : (c : Config) (bound : Bound) (slice core : ℕ) → IsBuiltAs c (shape_of (new_side c bound slice core))
+new-part : (c : Config) (bound : Bound) (slice core : ℕ) → IsBuiltAs c (shape_of (new_cache c bound slice core))
 new-part c bound slice core = record {
   ways = map-replicate (λ (set : SetView CacheCopy). set.ways) c.sets (empty_set c.ways);
   policy = refl;
@@ -29,7 +29,7 @@ new-part c bound slice core = record {
 }
 
 pub new-tied : (c : Config) (bound : Bound) (slice : SliceId) (p : PartsView) → slice.0 < c.slices
-    → IsNew c bound slice p → IsSame new_machine (shown p.view) → IsTied c slice.0 nothing p
+    → IsNew c bound slice p → IsSame new_small_machine (small_machine_of p.view) → IsTied c slice.0 nothing p
 new-tied c bound slice p known is same = record {
   slice = record {
     allowed = is.allowed;
@@ -37,12 +37,12 @@ new-tied c bound slice p known is same = record {
     lines = is.lines;
     init = is.init;
     counters = is.counters;
-    cores = is.sides.count_is;
-    parts = λ core known. subst (λ side. IsBuiltAs c (shape_of side)) (sym (is.sides.each core.0 known))
+    cores = is.caches.count_is;
+    parts = λ core known. subst (λ cache. IsBuiltAs c (shape_of cache)) (sym (is.caches.each core.0 known))
         (new-part c bound slice.0 core.0);
     exclusive = is.exclusive;
   };
   reported = ap (λ (s : StatsView). s.exclusive) is.stats;
   booked =
-      same-booked c slice.0 nothing new_machine (new-booked c slice.0) (shown p.view) same;
+      same-booked c slice.0 nothing new_small_machine (new-booked c slice.0) (small_machine_of p.view) same;
 }

@@ -16,18 +16,18 @@ use Rattle.address_map.specs.declared.request.Request.{Request}
 use Rattle.receipt_ledger.proofs.Values.{word-here}
 use Rattle.receipt_ledger.specs.Answers.{IsAtSlice, IsJudged}
 use Rattle.receipt_ledger.specs.Booked.{stores_to}
-use Rattle.slice_core_answer.specs.declared.answer.Issue.{Issue}
-use Rattle.slice_core_answer.specs.declared.answer.Refused.{Refused}
-use Rattle.slice_core_answer.specs.declared.answer.Refused.TheVariants as refusals
+use Rattle.slice_answer.specs.declared.answer.Issue.{Issue}
+use Rattle.slice_answer.specs.declared.answer.Refused.{Refused}
+use Rattle.slice_answer.specs.declared.answer.Refused.TheVariants as refusals
+use Rattle.slice_core_cache.specs.Access.{access_of}
+use Rattle.slice_core_cache.specs.CoreCache.{tag_at}
+use Rattle.slice_core_cache.specs.Tags.{is_free}
+use Rattle.slice_core_cache.specs.declared.access.AccessKind.{AccessKind}
+use Rattle.slice_core_cache.specs.declared.access.AccessKind.TheVariants as access_kinds
 use Rattle.slice_core_plan.specs.Calls.{PartsView, AfterAccess, AfterIssue}
-use Rattle.slice_core_plan.specs.View.{side_at}
+use Rattle.slice_core_plan.specs.View.{cache_at}
 use Rattle.slice_core_plan.specs.declared.decision.Decision.{Decision}
 use Rattle.slice_core_plan.specs.declared.decision.Decision.TheVariants as decisions
-use Rattle.slice_core_side.specs.Access.{access_of}
-use Rattle.slice_core_side.specs.Side.{tag_at}
-use Rattle.slice_core_side.specs.Tags.{is_free}
-use Rattle.slice_core_side.specs.declared.access.Access.{Access}
-use Rattle.slice_core_side.specs.declared.access.Access.TheVariants as accesses
 
 somewhere : (found : Option Local) → found ≡ None → IsSome found → ⊥
 somewhere None is there = cc
@@ -91,18 +91,19 @@ module _ (c : Config) (number : ℕ) where
     lacking : answer ≡ Err refusals.Memory → Says request answer
     lacking is = subst (Says request) (sym is) tt
 
-    accessed : IsFit request → (local : Local) (access : Access) → AfterAccess access old core request local answer new
+    accessed : IsFit request → (local : Local) (access : AccessKind) →
+        AfterAccess access old core request local answer new
         → Says request answer
-    accessed fit local (accesses.Stall stall) after = accepted fit _ after.0
-    accessed fit local (accesses.Hit place next silent) after = elim after [
+    accessed fit local (access_kinds.Stall stall) after = accepted fit _ after.0
+    accessed fit local (access_kinds.Hit way next silent) after = elim after [
       | inl lacks ↦ lacking lacks.refused
       | inr is ↦ accepted fit _ is.4
     ]
-    accessed fit local accesses.Join after = elim after [
+    accessed fit local access_kinds.SecondaryMiss after = elim after [
       | inl lacks ↦ lacking lacks.refused
       | inr is ↦ accepted fit _ is.4
     ]
-    accessed fit local (accesses.Open next ask way) after = elim after [
+    accessed fit local (access_kinds.PrimaryMiss next ask placement) after = elim after [
       | inl lacks ↦ lacking lacks.refused
       | inr is ↦ accepted fit _ is.4
     ]
@@ -114,7 +115,7 @@ module _ (c : Config) (number : ℕ) where
 
     -- In the slice the tag is judged, and then what is done to a counter.
     tested : IsHere request → (small busy counter : Bool) → nat_lt request.tag 64 ≡ small
-        → stores_to (counters_of c number) request.op request.word ≡ counter → (local : Local) (access : Access)
+        → stores_to (counters_of c number) request.op request.word ≡ counter → (local : Local) (access : AccessKind)
         → by_decision (if not small then decisions.Refuse refusals.TagRange
         else if busy then decisions.Refuse refusals.TagBusy
         else if counter then decisions.Refuse refusals.CounterStore else decisions.Access local access)
@@ -133,9 +134,9 @@ module _ (c : Config) (number : ℕ) where
     by_place counters None = decisions.Refuse refusals.WrongSlice
     by_place counters (Some local) =
         if not (nat_lt request.tag 64) then decisions.Refuse refusals.TagRange
-        else if not (is_free (tag_at (side_at old.view core) request.tag)) then decisions.Refuse refusals.TagBusy
+        else if not (is_free (tag_at (cache_at old.view core) request.tag)) then decisions.Refuse refusals.TagBusy
         else if stores_to counters request.op request.word then decisions.Refuse refusals.CounterStore
-        else decisions.Access local (access_of (side_at old.view core) local request.tag request.op)
+        else decisions.Access local (access_of (cache_at old.view core) local request.tag request.op)
 
     placed : IsAllowed c → (past : Bool) (found : Option Local) → is_past own request.word ≡ past
         → local_at own (line_of request.word).0 ≡ found
@@ -148,9 +149,9 @@ module _ (c : Config) (number : ℕ) where
         subst (Says request) (sym after.0) (below, nowhere-own allowed request.word below at)
     placed allowed false (Some local) inside at after =
         tested (record { within = past-within allowed request.word inside; own = here-own request.word local at })
-        (nat_lt request.tag 64) (not (is_free (tag_at (side_at old.view core) request.tag)))
+        (nat_lt request.tag 64) (not (is_free (tag_at (cache_at old.view core) request.tag)))
         (stores_to (counters_of c number) request.op request.word) refl refl local
-        (access_of (side_at old.view core) local request.tag request.op) after
+        (access_of (cache_at old.view core) local request.tag request.op) after
 
     -- An answer is judged by its word, its tag and its access.
     pub issued-judged : IsAllowed c → old.view.lines ≡ own → old.view.counters ≡ counters_of c number

@@ -14,7 +14,7 @@ use Rattle.receipt_ledger.specs.declared.receipt.Receipt.{Receipt}
 use Rattle.receipt_shares.proofs.Totals.{totals_accepted, totals_nil, totals_push}
 use Rattle.address_map.specs.Place.{counters_of}
 use Rattle.receipt_shares.specs.Totals.{Amounts, Totals, nothing, only_accepted, only_handed, together, totals}
-use Rattle.slice_core_log.proofs.Pushes.{slice_get-push}
+use Rattle.slice_log.proofs.Pushes.{slice_get-push}
 
 -- amounts are their two parts
 pub amounts-same : (m n : ℕ) (t u : Totals) → m ≡ n → t ≡ u

@@ -17,25 +17,25 @@ use Rattle.receipt_ledger.specs.Slice.{IsBuiltAs, IsSliceOf}
 use Rattle.address_map.specs.Place.{counters_of, is_of_slice}
 use Rattle.receipt_shares.specs.Totals.{Totals, only_accepted, only_handed, together}
 use Rattle.slice_core.specs.Facts.{IsSameSlice}
-use Rattle.slice_core_answer.specs.declared.answer.Issue.{Issue}
-use Rattle.slice_core_answer.specs.declared.answer.Issue.TheVariants as issues
-use Rattle.slice_core_log.specs.Log.{initially}
-use Rattle.slice_core_log.specs.declared.entry.Entry.{Entry}
-use Rattle.slice_core_machine.specs.Machine.{Asked, accept, after, entry_for, hand, perform}
-use Rattle.slice_core_machine.specs.Shows.{Leads, Performs, issue_steps, next_of, shown}
-use Rattle.slice_core_log.specs.declared.entry.Numbered.{Numbered}
+use Rattle.slice_answer.specs.declared.answer.Issue.{Issue}
+use Rattle.slice_answer.specs.declared.answer.Issue.TheVariants as issues
+use Rattle.slice_log.specs.Log.{initially}
+use Rattle.slice_log.specs.declared.entry.Entry.{Entry}
+use Rattle.slice_core_machine.specs.SmallMachine.{Asked, accept, after, entry_for, hand, perform}
+use Rattle.slice_core_machine.specs.Shows.{Leads, Performs, issue_steps, next_of, small_machine_of}
+use Rattle.slice_log.specs.declared.entry.Numbered.{Numbered}
 use Rattle.slice_core_plan.specs.Calls.{AfterHand, AfterIssue, PartsView}
 use Rattle.slice_core.specs.Shape.{shape_of}
-use Rattle.slice_core_plan.specs.View.{no_side}
-use Rattle.slice_core_side.specs.Side.{SideView}
+use Rattle.slice_core_plan.specs.View.{no_cache}
+use Rattle.slice_core_cache.specs.CoreCache.{CoreCacheView}
 
 -- Where all parts have the same shapes, each has.
-pub same-part : (old new : List SideView) (core : ℕ) → map shape_of new ≡ map shape_of old
-    → shape_of (slice_index_or old core no_side) ≡ shape_of (slice_index_or new core no_side)
+pub same-part : (old new : List CoreCacheView) (core : ℕ) → map shape_of new ≡ map shape_of old
+    → shape_of (slice_index_or old core no_cache) ≡ shape_of (slice_index_or new core no_cache)
 same-part old new core same =
-    sym (get_or-map shape_of old core no_side)
-    ∙ ap (λ shapes. get_or shapes core (shape_of no_side)) (sym same)
-    ∙ get_or-map shape_of new core no_side
+    sym (get_or-map shape_of old core no_cache)
+    ∙ ap (λ shapes. get_or shapes core (shape_of no_cache)) (sym same)
+    ∙ get_or-map shape_of new core no_cache
 
 -- A later state of a slice is one of it.
 pub slice-kept : (c : Config) (number : ℕ) (old new : PartsView) → IsSliceOf c number old.view → IsSameSlice old new
@@ -48,7 +48,7 @@ slice-kept c number old new slice same = record {
   counters = same.counters ∙ slice.counters;
   cores = same.cores ∙ slice.cores;
   parts = λ core known.
-      subst (IsBuiltAs c) (same-part old.view.sides new.view.sides core.0 same.shapes) (slice.parts core known);
+      subst (IsBuiltAs c) (same-part old.view.caches new.view.caches core.0 same.shapes) (slice.parts core known);
   exclusive = same.exclusive ∙ slice.exclusive;
 }
 
@@ -58,7 +58,7 @@ module _ (c : Config) (number : ℕ) (t : Totals) (old new : PartsView) (tied : 
   same-tied same leads = record {
     slice = slice-kept c number old new tied.slice same;
     reported = same.reported ∙ tied.reported;
-    booked = same-booked c number t (shown old.view) tied.booked (shown new.view) leads.run;
+    booked = same-booked c number t (small_machine_of old.view) tied.booked (small_machine_of new.view) leads.run;
   }
 
   -- What a delivery performs changes no totals.
@@ -67,8 +67,8 @@ module _ (c : Config) (number : ℕ) (t : Totals) (old new : PartsView) (tied : 
     slice = slice-kept c number old new tied.slice same;
     reported = same.reported ∙ tied.reported;
     booked =
-        performs-booked (initially old.view.init) c number t performs.requests (shown old.view)
-        (shown new.view) tied.booked performs.leads.run;
+        performs-booked (initially old.view.init) c number t performs.requests (small_machine_of old.view)
+        (small_machine_of new.view) tied.booked performs.leads.run;
   }
 
   -- A reply that is handed out is one more entry of the totals.
@@ -77,14 +77,14 @@ module _ (c : Config) (number : ℕ) (t : Totals) (old new : PartsView) (tied : 
   hand-tied given e same leads there =
       let initial = initially old.view.init in
       let counters = counters_of c number in
-      let m = shown old.view in record {
+      let m = small_machine_of old.view in record {
         slice = slice-kept c number old new tied.slice same;
         reported = same.reported ∙ tied.reported;
         booked =
             same-booked c number (together t (only_handed counters e)) (after initial m (hand given))
             (hand-booked c number t m tied.booked initial given e leads.run.0
             (ap (λ log. slice_get log given) leads.run.1.log ∙ there))
-            (shown new.view) leads.run.1;
+            (small_machine_of new.view) leads.run.1;
       }
 
   module _ (core : CoreId) (request : Request) where
@@ -109,14 +109,15 @@ module _ (c : Config) (number : ℕ) (t : Totals) (old new : PartsView) (tied : 
     pending-tied seq step same leads =
         let initial = initially old.view.init in
         let counters = counters_of c number in
-        let m = shown old.view in
+        let m = small_machine_of old.view in
         let served = served-by (issues.Pending seq) step in
         record {
           slice = slice-kept c number old new tied.slice same;
           reported = same.reported ∙ tied.reported;
           booked =
               same-booked c number (together t (only_accepted 1)) (after initial m (accept asked))
-              (accept-booked c number t m tied.booked initial asked leads.run.0 served) (shown new.view) leads.run.1;
+              (accept-booked c number t m tied.booked initial asked leads.run.0 served) (small_machine_of new.view)
+              leads.run.1;
         }
 
     -- What is done at once is one more that was accepted, and one more entry.
@@ -128,7 +129,7 @@ module _ (c : Config) (number : ℕ) (t : Totals) (old new : PartsView) (tied : 
         let initial = initially old.view.init in
         let counters = counters_of c number in
         let served = served-by (issues.Done given) step in
-        let m = shown old.view in
+        let m = small_machine_of old.view in
         let more = together t (only_accepted 1) in
         let accepted = after initial m (accept asked) in
         let performed = after initial accepted (perform asked) in
@@ -142,7 +143,7 @@ module _ (c : Config) (number : ℕ) (t : Totals) (old new : PartsView) (tied : 
               (accept-booked c number t m tied.booked initial asked leads.run.0 served)
               initial asked leads.run.1.0)
               initial given e leads.run.1.1.0 (ap (λ log. slice_get log given) leads.run.1.1.1.log ∙ there))
-              (shown new.view) leads.run.1.1.1;
+              (small_machine_of new.view) leads.run.1.1.1;
         }
 
 -- What is done at once is logged last, as the entry of its request.

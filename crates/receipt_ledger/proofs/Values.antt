@@ -18,10 +18,10 @@ use Rattle.address_map.specs.declared.config.Config.{Config}
 use Rattle.address_map.specs.declared.request.Op.{Op}
 use Rattle.address_map.specs.declared.request.Op.TheVariants as ops
 use Rattle.receipt_ledger.specs.Booked.{stores_to}
-use Rattle.slice_core_log.proofs.Values.{value-push}
-use Rattle.slice_core_log.specs.Log.{added, named, stored, stored_by, value, value_past}
-use Rattle.slice_core_log.specs.declared.entry.Entry.{Entry}
 use Rattle.slice_core_plan.specs.Decision.{overwrites}
+use Rattle.slice_log.proofs.Values.{value-push}
+use Rattle.slice_log.specs.Log.{added_to, named, stored_to, stored_by, value, value_past}
+use Rattle.slice_log.specs.declared.entry.Entry.{Entry}
 
 -- ---- stores
 
@@ -48,7 +48,7 @@ found (first ∷ counters) (suc place) word there =
 
 -- What stores to no counter stores nothing to this one.
 pub spared : (counters : List WordAddr) (place : ℕ) (word : WordAddr) (e : Entry) → slice_get counters place ≡ Some word
-    → stores_to counters e.op e.word ≡ false → stored word.0 e ≡ None
+    → stores_to counters e.op e.word ≡ false → stored_to word.0 e ≡ None
 spared counters place word e there spares = by_word (e.word.0 == word.0) refl
   where
     writes : (op : Op) (b : Bool) → (overwrites op && b) ≡ false → b ≡ true → overwrites op ≡ false
@@ -75,22 +75,22 @@ value-none initial w = refl
 
 -- Where the entries store nothing to a word, its value is what it began with and what they add.
 pub value-added : (initial w : ℕ) (log : List Entry)
-    → ((k : ℕ) (e : Entry) → slice_get log k ≡ Some e → stored w e ≡ None)
+    → ((k : ℕ) (e : Entry) → slice_get log k ≡ Some e → stored_to w e ≡ None)
     → value initial log w ≡ (initial + named log w) % 2 ^ 64
 value-added initial w log none = along [] log (value-none initial w) none
   where
     along : (before rest : List Entry) → value initial before w ≡ (initial + named before w) % 2 ^ 64
-        → ((k : ℕ) (e : Entry) → slice_get rest k ≡ Some e → stored w e ≡ None)
+        → ((k : ℕ) (e : Entry) → slice_get rest k ≡ Some e → stored_to w e ≡ None)
         → value initial (before ++ rest) w ≡ (initial + named (before ++ rest) w) % 2 ^ 64
     along before [] so_far none = rw append-nil so_far
     along before (e ∷ rest) so_far none =
         let m = 2 ^ 64 in
         let step : value initial (before ++ e ∷ []) w ≡ (initial + named (before ++ e ∷ []) w) % m =
         value-push initial before e w
-        ∙ ap (λ s. value_past s (value initial before w) (added w e)) (none 0 e refl)
-        ∙ ap (λ n. (n + added w e) % m) so_far
-        ∙ mod-add-mod (initial + named before w) m (added w e)
-        ∙ ap (λ n. n % m) (let more = sum_by_push (added w) before e in omega (arith, more)) in
+        ∙ ap (λ s. value_past s (value initial before w) (added_to w e)) (none 0 e refl)
+        ∙ ap (λ n. (n + added_to w e) % m) so_far
+        ∙ mod-add-mod (initial + named before w) m (added_to w e)
+        ∙ ap (λ n. n % m) (let more = sum_by_push (added_to w) before e in omega (arith, more)) in
         subst (λ es. value initial es w ≡ (initial + named es w) % m) (append_assoc before (e ∷ []) rest)
         (along (before ++ e ∷ []) rest step (λ k. none (suc k)))
 

@@ -4,16 +4,16 @@ use Rattle.address_map.specs.declared.config.Config.{Config}
 use Rattle.receipt_ledger.specs.Booked.{IsTied}
 use Rattle.receipt_shares.specs.Totals.{Totals}
 use Rattle.slice_core.specs.Facts.{Holds}
+use Rattle.slice_core_cache.specs.CoreCache.{CoreCacheView}
 use Rattle.slice_core_plan.specs.Calls.{PartsView}
-use Rattle.slice_core_side.specs.Side.{SideView}
 
 -- the requests that were accepted, of all cores
-abbrev pub accepted_by : List SideView → ℕ
+abbrev pub accepted_by : List CoreCacheView → ℕ
 accepted_by [] = 0
-accepted_by (side ∷ sides) = side.accepted + accepted_by sides
+accepted_by (cache ∷ caches) = cache.accepted + accepted_by caches
 
 -- A book that belongs to a sound state counts as accepted what the state's cores had accepted.
 abbrev pub AcceptedAreTheCores : Type 0
 AcceptedAreTheCores =
     (c : Config) (number : ℕ) (t : Totals) (p : PartsView) → IsTied c number t p → Holds p
-    → t.accepted ≡ accepted_by p.view.sides
+    → t.accepted ≡ accepted_by p.view.caches

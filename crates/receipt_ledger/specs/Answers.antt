@@ -14,13 +14,13 @@ use Rattle.receipt_ledger.specs.declared.receipt.Answer.TheVariants as answers
 use Rattle.receipt_ledger.specs.declared.receipt.Receipt.{Receipt}
 use Rattle.address_map.specs.Place.{counters_of, is_of_slice}
 use Rattle.receipt_shares.specs.Totals.{Totals, only_accepted, only_handed, together}
-use Rattle.slice_core_answer.specs.declared.answer.Issue.{Issue}
-use Rattle.slice_core_answer.specs.declared.answer.Issue.TheVariants as issues
-use Rattle.slice_core_answer.specs.declared.answer.Refused.{Refused}
-use Rattle.slice_core_answer.specs.declared.answer.Refused.TheVariants as refusals
-use Rattle.slice_core_log.specs.declared.entry.Entry.{Entry}
-use Rattle.slice_core_log.specs.declared.entry.Numbered.{Numbered}
-use Rattle.slice_core_machine.specs.Machine.{Asked, Step, accept, hand, perform}
+use Rattle.slice_answer.specs.declared.answer.Issue.{Issue}
+use Rattle.slice_answer.specs.declared.answer.Issue.TheVariants as issues
+use Rattle.slice_answer.specs.declared.answer.Refused.{Refused}
+use Rattle.slice_answer.specs.declared.answer.Refused.TheVariants as refusals
+use Rattle.slice_log.specs.declared.entry.Entry.{Entry}
+use Rattle.slice_log.specs.declared.entry.Numbered.{Numbered}
+use Rattle.slice_core_machine.specs.SmallMachine.{Asked, Step, accept, hand, perform}
 use Rattle.slice_core_plan.specs.Calls.{PartsView, AfterHand, AfterIssue}
 
 -- The receipt is of the port's slice, and of a request that the port's core made.

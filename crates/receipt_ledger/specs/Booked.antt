@@ -8,9 +8,9 @@ use Rattle.receipt_ledger.specs.Counted.{AreMarked, handed_out}
 use Rattle.receipt_ledger.specs.Slice.{IsSliceOf}
 use Rattle.address_map.specs.Place.{counters_of, is_of_slice}
 use Rattle.receipt_shares.specs.Totals.{Totals, totals}
-use Rattle.slice_core_log.specs.declared.entry.Entry.{Entry}
-use Rattle.slice_core_machine.specs.Machine.{Asked, Machine}
-use Rattle.slice_core_machine.specs.Shows.{shown}
+use Rattle.slice_log.specs.declared.entry.Entry.{Entry}
+use Rattle.slice_core_machine.specs.SmallMachine.{Asked, SmallMachine}
+use Rattle.slice_core_machine.specs.Shows.{small_machine_of}
 use Rattle.slice_core_plan.specs.Decision.{overwrites}
 use Rattle.slice_core_plan.specs.Calls.{PartsView}
 
@@ -25,7 +25,7 @@ pub record IsServed (c : Config) (number : ℕ) (op : Op) (word : WordAddr) : Ty
 
 -- The totals are the machine's: the requests that it accepted, which wait or were performed; those handed out; and for
 -- each counter the whole-number sum of what these added. All are accesses that the slice of this number may perform.
-pub record IsBooked (c : Config) (number : ℕ) (t : Totals) (m : Machine) : Type 0 where
+pub record IsBooked (c : Config) (number : ℕ) (t : Totals) (m : SmallMachine) : Type 0 where
   pub waiting : List Asked
   pub marks : List Bool
   pub counted : AreMarked m waiting marks
@@ -38,4 +38,4 @@ pub record IsBooked (c : Config) (number : ℕ) (t : Totals) (m : Machine) : Typ
 pub record IsTied (c : Config) (number : ℕ) (t : Totals) (p : PartsView) : Type 0 where
   pub slice : IsSliceOf c number p.view
   pub reported : p.stats.exclusive ≡ c.exclusive
-  pub booked : IsBooked c number t (shown p.view)
+  pub booked : IsBooked c number t (small_machine_of p.view)

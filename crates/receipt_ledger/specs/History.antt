@@ -4,7 +4,7 @@ use Rattle.std.specs.Prelude.{slice_get, Contains, IsSomeAnd, MatchOption, Some}
 use Rattle.address_map.specs.declared.request.Request.{Request}
 use Rattle.receipt_ledger.specs.Port.{PortView}
 use Rattle.receipt_ledger.specs.declared.receipt.Receipt.{Receipt}
-use Rattle.slice_core_log.specs.declared.entry.Entry.{Entry}
+use Rattle.slice_log.specs.declared.entry.Entry.{Entry}
 
 -- the receipts of the ports
 abbrev pub receipts_in : List PortView → List Receipt

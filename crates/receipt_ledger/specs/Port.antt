@@ -8,7 +8,7 @@ use Rattle.receipt_ledger.specs.declared.receipt.Ask.{Ask}
 use Rattle.receipt_ledger.specs.declared.receipt.Receipt.{Receipt}
 use Rattle.address_map.specs.Place.{counters_of, is_of_slice}
 use Rattle.receipt_shares.specs.Totals.{Amounts, Totals, totals}
-use Rattle.slice_core_log.specs.declared.entry.Entry.{Entry}
+use Rattle.slice_log.specs.declared.entry.Entry.{Entry}
 
 -- how many requests and how many receipts a port can hold, whatever becomes of them, before a list has to grow
 pub record Room : Type 0 where

@@ -6,7 +6,7 @@ use Rattle.address_map.specs.declared.address.CoreId.{CoreId}
 use Rattle.address_map.specs.declared.config.Config.{Config}
 use Rattle.address_map.specs.Place.{counters_of, init_of}
 use Rattle.slice_core.specs.Shape.{Shape, shape_of}
-use Rattle.slice_core_plan.specs.View.{View, side_at}
+use Rattle.slice_core_plan.specs.View.{View, cache_at}
 
 -- A core's part is built as the machine is configured: so many sets of so many ways, replaced by this policy, and room
 -- for so many lines that leave.
@@ -22,6 +22,6 @@ pub record IsSliceOf (c : Config) (number : ℕ) (v : View) : Type 0 where
   pub lines : v.lines ≡ lines_of c (record { 0 = number })
   pub init : v.init ≡ init_of c number
   pub counters : v.counters ≡ counters_of c number
-  pub cores : length v.sides ≡ c.cores
-  pub parts : (core : CoreId) → core.0 < c.cores → IsBuiltAs c (shape_of (side_at v core))
+  pub cores : length v.caches ≡ c.cores
+  pub parts : (core : CoreId) → core.0 < c.cores → IsBuiltAs c (shape_of (cache_at v core))
   pub exclusive : v.exclusive ≡ c.exclusive

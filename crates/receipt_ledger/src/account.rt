@@ -7,7 +7,7 @@ ghost use Rattle.receipt_ledger.specs.History.{request_of};
 
 use super::receipt::{Ask, Receipt};
 use address_map::Request;
-use slice_core_log::Entry;
+use slice_log::Entry;
 use std::alloc::{AllocError, Global};
 use std::marker::Model;
 

@@ -9,7 +9,7 @@ ghost use Rattle.receipt_ledger.specs.Port.{HasRoom, IsEntryOf, with_request, wi
 ghost use Rattle.address_map.specs.Place.{counters_of};
 ghost use Rattle.receipt_shares.specs.Totals.{only_accepted, together};
 ghost use Rattle.slice_core.specs.Facts.{IsSameSlice};
-ghost use Rattle.slice_core_log.specs.declared.entry.Entry.{Entry};
+ghost use Rattle.slice_log.specs.declared.entry.Entry.{Entry};
 ghost use Rattle.slice_core_machine.specs.Shows.{Leads, issue_steps, next_of};
 
 use super::port::{Port, entry_at};
@@ -18,8 +18,8 @@ use address_map::{Request, SliceId, WordAddr};
 use mshr_file::MissFile;
 use receipt_shares::{Books, SliceNames};
 use slice_core::SliceState;
-use slice_core_answer::{Issue, Refused};
-use slice_core_log::Entry;
+use slice_answer::{Issue, Refused};
+use slice_log::Entry;
 use std::boxed::BoxedSlice;
 use std::marker::Model;
 

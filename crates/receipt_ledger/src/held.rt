@@ -8,7 +8,7 @@ use super::port::Port;
 use super::receipt::{Ask, Receipt};
 use address_map::SliceId;
 use receipt_shares::SliceNames;
-use slice_core_log::Entry;
+use slice_log::Entry;
 
 // Whether each entry of the log is held by the port of its core, as it was asked for.
 pub(crate) fn are_held<N: SliceNames, T: Lends<Port<N>, K>, const K: usize>(

@@ -3,8 +3,8 @@ ghost use Rattle.receipt_ledger.specs.Booked.{IsTied};
 ghost use Rattle.receipt_ledger.specs.Port.{AreFreshPorts};
 ghost use Rattle.receipt_shares.specs.Names.{AreLedgersOf};
 ghost use Rattle.receipt_shares.specs.Totals.{nothing};
-ghost use Rattle.slice_core_machine.specs.Machine.{IsSame, new_machine};
-ghost use Rattle.slice_core_machine.specs.Shows.{shown};
+ghost use Rattle.slice_core_machine.specs.SmallMachine.{IsSame, new_small_machine};
+ghost use Rattle.slice_core_machine.specs.Shows.{small_machine_of};
 ghost use Rattle.slice_core_plan.specs.Calls.{IsNew};
 
 use super::book::Book;
@@ -29,7 +29,7 @@ impl<N: SliceNames> Book<N> {
         requires number { slice.0 ≡ N.number }
         requires ledgers { AreLedgersOf N.setup N.names blanks }
         ensures state { IfOk result (λ r. IsNew config.now (F.bound_by config.now) slice r.0) }
-        ensures machine { IfOk result (λ r. IsSame new_machine (shown r.0.view)) }
+        ensures machine { IfOk result (λ r. IsSame new_small_machine (small_machine_of r.0.view)) }
         ensures tied { IfOk result (λ r. IsTied N.setup N.number r.1 r.0) }
         ensures ports { IfOk result (λ r. AreFreshPorts slice N.setup.cores r.2.items) }
     {

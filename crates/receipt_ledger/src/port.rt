@@ -11,7 +11,7 @@ use super::account::Account;
 use super::receipt::{Ask, Receipt};
 use address_map::{CoreId, Request, SliceId, WordAddr};
 use receipt_shares::{Books, Shares, SliceNames};
-use slice_core_log::Entry;
+use slice_log::Entry;
 use std::alloc::{AllocError, Global};
 use std::marker::Model;
 

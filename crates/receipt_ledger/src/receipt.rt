@@ -1,8 +1,8 @@
 ghost use Rattle.receipt_ledger.specs.Answers.{IsUndone, Tells};
 
 use address_map::{Request, SliceId};
-use slice_core_answer::{Issue, Refused, Stall};
-use slice_core_log::Entry;
+use slice_answer::{Issue, Refused, Stall};
+use slice_log::Entry;
 use std::fmt;
 
 /// A request that was accepted through a port.

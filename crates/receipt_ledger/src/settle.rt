@@ -5,7 +5,7 @@ ghost use Rattle.receipt_ledger.specs.Port.{held_by};
 ghost use Rattle.receipt_ledger.specs.Settled.{held_in, IsSettled};
 ghost use Rattle.address_map.specs.Place.{counters_of};
 ghost use Rattle.receipt_shares.specs.Totals.{together};
-ghost use Rattle.slice_core_log.specs.Log.{initially, value};
+ghost use Rattle.slice_log.specs.Log.{initially, value};
 ghost use Rattle.slice_core_plan.specs.View.{IsQuiet};
 
 use super::book::Book;

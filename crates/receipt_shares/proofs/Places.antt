@@ -11,19 +11,19 @@ use Rattle.address_map.specs.declared.address.WordAddr.{WordAddr}
 use Rattle.address_map.specs.declared.request.Op.{Op}
 use Rattle.address_map.specs.declared.request.Op.TheVariants as ops
 use Rattle.address_map.specs.Words.{IsAscendingBy}
-use Rattle.slice_core_log.specs.declared.entry.Entry.{Entry}
-use Rattle.slice_core_log.specs.Log.{added, added_by}
+use Rattle.slice_log.specs.declared.entry.Entry.{Entry}
+use Rattle.slice_log.specs.Log.{added_to, added_by}
 use Rattle.receipt_shares.specs.Sums.{zeros, only, sum_at, sums}
 use Rattle.receipt_shares.proofs.Sums.{sums_same, at_zeros, at_only, at_sums}
 
 -- what one entry adds to the counter at a place, by whether its word stands there
 added_at : (words : List WordAddr) (e : Entry) (k amount : ℕ)
-    → (k < length words → (w : WordAddr) → get_or words k w ≡ w → added w.0 e ≡ amount)
+    → (k < length words → (w : WordAddr) → get_or words k w ≡ w → added_to w.0 e ≡ amount)
     → (length words ≤ k → amount ≡ 0)
     → sum_at words (e ∷ []) k ≡ amount
 added_at words e k amount inside past =
     ⊎_elim
-    (λ found. rw found.2 (zero-add (added found.0.0 e) ∙ inside found.1 found.0 found.3))
+    (λ found. rw found.2 (zero-add (added_to found.0.0 e) ∙ inside found.1 found.0 found.3))
     (λ missing. rw missing.1 (sym (past missing.0)))
     (slice_get_cases words k).1
 
@@ -65,13 +65,13 @@ adds_nowhere words e none =
     (λ past. refl)
     ∙ sym (at_zeros k within))
   where
-    other : (w : WordAddr) → eqb w.0 e.word.0 ≡ false → added w.0 e ≡ 0
+    other : (w : WordAddr) → eqb w.0 e.word.0 ≡ false → added_to w.0 e ≡ 0
     other w differs = rw (ne_eqb e.word.0 w.0 (λ same. false≢true (sym differs ∙ eq-eqb w.0 e.word.0 (sym same)))) refl
 
 -- what an entry adds to the word at one place, where its own word stands at another or there
 added_there : (w : WordAddr) (e : Entry) (k place : ℕ)
     → (k ≡ place → w.0 ≡ e.word.0) → ((k ≡ place → ⊥) → w.0 ≡ e.word.0 → ⊥)
-    → added w.0 e ≡ (if k == place then added_by e.op else 0)
+    → added_to w.0 e ≡ (if k == place then added_by e.op else 0)
 added_there w e k place same apart =
     ⊎_elim
     (λ is. rw (eq-eqb k place is, eq-eqb e.word.0 w.0 (sym (same is))) refl)

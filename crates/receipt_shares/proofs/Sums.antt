@@ -6,8 +6,8 @@ use Rattle.std.specs.Option.{option_map_or}
 use Rattle.std.proofs.lemmas.Bool.{cases_lt}
 use Rattle.std.proofs.lemmas.List.Sums.{sum_by-append}
 use Rattle.address_map.specs.declared.address.WordAddr.{WordAddr}
-use Rattle.slice_core_log.specs.declared.entry.Entry.{Entry}
-use Rattle.slice_core_log.specs.Log.{named, added}
+use Rattle.slice_log.specs.declared.entry.Entry.{Entry}
+use Rattle.slice_log.specs.Log.{named, added_to}
 use Rattle.receipt_shares.specs.Sums.{Sums, at, table, zeros, plus, only, sum_at, sums}
 
 -- ---- the eight places
@@ -138,7 +138,7 @@ sum_at_append words es fs place = by_word (slice_get words place)
         → option_map_or (λ w. named (es ++ fs) w.0) word 0
         ≡ option_map_or (λ w. named es w.0) word 0 + option_map_or (λ w. named fs w.0) word 0
     by_word None = refl
-    by_word (Some w) = sum_by-append (added w.0) es fs
+    by_word (Some w) = sum_by-append (added_to w.0) es fs
 
 pub sums_append : (words : List WordAddr) (es fs : List Entry)
     → sums words (es ++ fs) ≡ plus (sums words es) (sums words fs)

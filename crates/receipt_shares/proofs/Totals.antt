@@ -1,7 +1,7 @@
 -- How totals add up, and what one more request makes of them.
 use Rattle.std.proofs.Common.{◌≡◌, ℕ, ◌+◌, List, [], ◌∷◌, ◌++◌, length, length-append, refl, sym, ap, ◌∙◌, arith}
 use Rattle.address_map.specs.declared.address.WordAddr.{WordAddr}
-use Rattle.slice_core_log.specs.declared.entry.Entry.{Entry}
+use Rattle.slice_log.specs.declared.entry.Entry.{Entry}
 use Rattle.receipt_shares.specs.Sums.{Sums, zeros, plus, sums}
 use Rattle.receipt_shares.specs.Totals.{Totals, totals, nothing, only_accepted, only_handed, together, IsWithin}
 use Rattle.receipt_shares.proofs.Sums.{plus_comm, plus_assoc, plus_zeros, plus_cancel, at_within, sums_append, sums_nil}

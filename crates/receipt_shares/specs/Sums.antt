@@ -2,8 +2,8 @@
 use Rattle.std.specs.Prelude.{ℕ, ◌+◌, ◌==◌, if◌then◌else◌, List, [], ◌∷◌, slice_get, slice_index_or}
 use Rattle.std.specs.Option.{option_map_or}
 use Rattle.address_map.specs.declared.address.WordAddr.{WordAddr}
-use Rattle.slice_core_log.specs.declared.entry.Entry.{Entry}
-use Rattle.slice_core_log.specs.Log.{named}
+use Rattle.slice_log.specs.declared.entry.Entry.{Entry}
+use Rattle.slice_log.specs.Log.{named}
 
 pub record Sums : Type 0 where
   pub c0 : ℕ

@@ -1,7 +1,7 @@
 -- What the ledgers of a slice count: the requests accepted, those handed out, and what these added to each counter.
 use Rattle.std.specs.Prelude.{ℕ, ◌+◌, ◌≤◌, List, [], ◌∷◌, length}
 use Rattle.address_map.specs.declared.address.WordAddr.{WordAddr}
-use Rattle.slice_core_log.specs.declared.entry.Entry.{Entry}
+use Rattle.slice_log.specs.declared.entry.Entry.{Entry}
 use Rattle.receipt_shares.specs.Sums.{Sums, at, zeros, plus, sums}
 
 -- whole numbers, which no machine word bounds

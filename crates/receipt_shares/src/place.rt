@@ -3,7 +3,7 @@ ghost use Rattle.address_map.specs.Words.{IsAscendingBy};
 ghost use Rattle.receipt_shares.specs.Sums.{zeros, only, sums};
 
 use address_map::{Op, WordAddr};
-use slice_core_log::Entry;
+use slice_log::Entry;
 
 // The place of the word among the counters.
 fn place_of(words: &[WordAddr], word: WordAddr) -> Option<usize>

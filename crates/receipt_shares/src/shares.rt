@@ -7,7 +7,7 @@ use super::counters::{CounterBooks, CounterShares, pour};
 use super::names::{Led, SliceNames};
 use super::place::addition;
 use address_map::WordAddr;
-use slice_core_log::Entry;
+use slice_log::Entry;
 use std::marker::Model;
 use std::sync::ledger::{Book, Share};
 

@@ -3,8 +3,8 @@ use Rattle.std.proofs.Common.{◌≡◌, ◌≢◌, ℕ, List, [], refl, subst, 
 use Rattle.script_explained.specs.Delivery.{delivery_of, text_of_made, text_of_next}
 use Rattle.slice_core_plan.specs.View.{View}
 use Rattle.slice_queues_message.specs.declared.channel.Pick.{Pick}
-use Rattle.slice_core_answer.specs.declared.answer.Delivery.TheVariants as deliveries
-use Rattle.slice_core_answer.specs.declared.answer.Delivery.{Delivery}
+use Rattle.slice_answer.specs.declared.answer.Delivery.TheVariants as deliveries
+use Rattle.slice_answer.specs.declared.answer.Delivery.{Delivery}
 
 -- where none could be made, nothing
 pub nothing_next : (slice : ℕ) (answer : Delivery Pick) (next : Delivery Pick) (old new : View) → answer ≡ next

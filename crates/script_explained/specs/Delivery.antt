@@ -10,10 +10,10 @@ use Rattle.litmus_text.specs.Command.{parts_of}
 use Rattle.litmus_text.specs.declared.command.Command.TheVariants as commands
 use Rattle.script_explained.specs.Look.{copy_at, entry_of, message_at}
 use Rattle.script_text.specs.Line.{text_of_parts}
-use Rattle.slice_core.specs.declared.run.Call.TheVariants as calls
-use Rattle.slice_core.specs.declared.run.CallAnswer.TheVariants as answers
-use Rattle.slice_core_answer.specs.Text.{text_of_delivered}
-use Rattle.slice_core_answer.specs.declared.answer.Delivered.{Delivered}
+use Rattle.slice_core.specs.declared.run.Call.TheVariants as slice_calls
+use Rattle.slice_core.specs.declared.run.CallAnswer.TheVariants as call_answers
+use Rattle.slice_answer.specs.Text.{text_of_delivered}
+use Rattle.slice_answer.specs.declared.answer.Delivered.{Delivered}
 use Rattle.slice_core_plan.specs.Calls.{PartsView, core_of}
 use Rattle.slice_core_plan.specs.Plan.{planned_at}
 use Rattle.slice_core_plan.specs.View.{View}
@@ -27,9 +27,9 @@ use Rattle.step_text.specs.declared.case.Event.TheVariants as events
 use Rattle.step_text.specs.declared.case.Who.{Who}
 use Rattle.step_text.specs.declared.case.Who.TheVariants as whos
 use Rattle.step_text.specs.declared.delivery.ExplainedDelivery.{ExplainedDelivery}
-use Rattle.step_text.specs.declared.deeds.Done.{Done}
-use Rattle.slice_core_answer.specs.declared.answer.Delivery.TheVariants as deliveries
-use Rattle.slice_core_answer.specs.declared.answer.Delivery.{Delivery}
+use Rattle.step_text.specs.declared.effects.Done.{Done}
+use Rattle.slice_answer.specs.declared.answer.Delivery.TheVariants as deliveries
+use Rattle.slice_answer.specs.declared.answer.Delivery.{Delivery}
 use Rattle.slice_core_plan.specs.declared.transition.Transition.{Transition}
 
 -- who takes the message in front of a channel of the slice with this number
@@ -76,7 +76,7 @@ told_of_delivery (Some delivery) = text_of_delivery delivery
 pub record ExplainsDelivery (slice : ℕ) (pick : Pick) (before after : Option (List ℕ))
     (old new : PartsView) : Type 0 where
   pub answer : Delivered
-  pub answered : Answers (calls.Deliver pick) (answers.Deliver answer) old new
+  pub answered : Answers (slice_calls.Deliver pick) (call_answers.Deliver answer) old new
   pub written : Adds before after (text_of_delivered answer ++ codes "   "
       ++ told_of_delivery (delivery_of slice pick old.view new.view))
 
@@ -95,5 +95,5 @@ text_of_next slice answer old new = []
 -- a state of a slice made its next delivery, where one could be made, and what there is to say of it was written
 pub record ExplainsNext (slice : ℕ) (answer : Delivery Pick) (before after : Option (List ℕ))
     (old new : PartsView) : Type 0 where
-  pub answered : Answers (calls.DeliverNext classes.Any) (answers.DeliverNext answer) old new
+  pub answered : Answers (slice_calls.DeliverNext classes.Any) (call_answers.DeliverNext answer) old new
   pub written : Appends before after (text_of_next slice answer old.view new.view)

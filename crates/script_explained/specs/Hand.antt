@@ -4,10 +4,10 @@ use Rattle.address_map.specs.declared.address.CoreId.{CoreId}
 use Rattle.litmus_script.specs.Answer.{text_of_handed}
 use Rattle.litmus_script.specs.Machine.{Answers}
 use Rattle.litmus_script.specs.Prints.{Adds}
-use Rattle.slice_core.specs.declared.run.Call.TheVariants as calls
-use Rattle.slice_core.specs.declared.run.CallAnswer.TheVariants as answers
-use Rattle.slice_core_log.specs.declared.entry.Numbered.{Numbered}
+use Rattle.slice_core.specs.declared.run.Call.TheVariants as slice_calls
+use Rattle.slice_core.specs.declared.run.CallAnswer.TheVariants as call_answers
 use Rattle.slice_core_plan.specs.Calls.{PartsView}
+use Rattle.slice_log.specs.declared.entry.Numbered.{Numbered}
 use Rattle.step_text.specs.Performed.{text_of_performed}
 
 abbrev pub told_of_hand : CoreId → Option Numbered → List ℕ
@@ -17,5 +17,5 @@ told_of_hand core (Some given) = text_of_performed given.entry
 -- a state of a slice handed out a reply of the core, or had none, and this was written with what is said of it
 pub record ExplainsHand (core : CoreId) (before after : Option (List ℕ)) (old new : PartsView) : Type 0 where
   pub answer : Option Numbered
-  pub answered : Answers (calls.Hand core) (answers.Hand answer) old new
+  pub answered : Answers (slice_calls.Hand core) (call_answers.Hand answer) old new
   pub written : Adds before after (text_of_handed answer ++ codes "   " ++ told_of_hand core answer)

@@ -5,12 +5,12 @@ use Rattle.address_map.specs.declared.address.CoreId.{CoreId}
 use Rattle.address_map.specs.declared.address.LineAddr.{LineAddr}
 use Rattle.address_map.specs.declared.address.Local.{Local}
 use Rattle.cache_table.specs.declared.state.CopyState.{CopyState}
-use Rattle.cache_table.specs.declared.state.CopyState.TheVariants as copies
+use Rattle.cache_table.specs.declared.state.CopyState.TheVariants as copy_states
 use Rattle.directory_table.specs.declared.state.DirState.{DirState}
-use Rattle.directory_table.specs.declared.state.DirState.TheVariants as entries
+use Rattle.directory_table.specs.declared.state.DirState.TheVariants as dir_states
 use Rattle.slice_core.specs.Facts.{front_at}
-use Rattle.slice_core_plan.specs.View.{View, entry_at, side_at}
-use Rattle.slice_core_side.specs.Side.{state_of}
+use Rattle.slice_core_cache.specs.CoreCache.{state_of}
+use Rattle.slice_core_plan.specs.View.{View, entry_at, cache_at}
 use Rattle.slice_queues_message.specs.Pick.{channel_of, line_of}
 use Rattle.slice_queues_message.specs.declared.channel.Pick.{Pick}
 use Rattle.slice_queues_message.specs.declared.message.Message.{Message}
@@ -20,15 +20,15 @@ abbrev pub copy_at : View → LineAddr → CoreId → CopyState
 copy_at v line core = by_line (local_at v.lines line.0)
   where
     by_line : Option Local → CopyState
-    by_line None = copies.I
-    by_line (Some local) = state_of (side_at v core) local
+    by_line None = copy_states.I
+    by_line (Some local) = state_of (cache_at v core) local
 
 -- the state of the directory's entry of a line
 abbrev pub entry_of : View → LineAddr → DirState
 entry_of v line = by_line (local_at v.lines line.0)
   where
     by_line : Option Local → DirState
-    by_line None = entries.I
+    by_line None = dir_states.I
     by_line (Some local) = (entry_at v local).state
 
 -- the message in front of a channel

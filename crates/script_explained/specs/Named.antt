@@ -8,35 +8,35 @@ use Rattle.cache_table.specs.Name.{name_of}
 use Rattle.cache_table.specs.declared.state.CopyState.{CopyState}
 use Rattle.script_explained.specs.Look.{copy_at}
 use Rattle.script_explained.specs.declared.named.Named.{Named}
-use Rattle.script_explained.specs.declared.named.Named.TheVariants as named
-use Rattle.slice_core_answer.specs.declared.answer.Stall.{Stall}
-use Rattle.slice_core_answer.specs.declared.answer.Stall.TheVariants as stalls
+use Rattle.script_explained.specs.declared.named.Named.TheVariants as named_kinds
+use Rattle.slice_answer.specs.declared.answer.Stall.{Stall}
+use Rattle.slice_answer.specs.declared.answer.Stall.TheVariants as stalls
+use Rattle.slice_core_cache.specs.declared.access.AccessKind.TheVariants as access_kinds
+use Rattle.slice_core_cache.specs.declared.access.Placement.TheVariants as placements
 use Rattle.slice_core_plan.specs.View.{View}
 use Rattle.slice_core_plan.specs.declared.decision.Decision.{Decision}
 use Rattle.slice_core_plan.specs.declared.decision.Decision.TheVariants as decisions
-use Rattle.slice_core_side.specs.declared.access.Access.TheVariants as accesses
-use Rattle.slice_core_side.specs.declared.access.Way.TheVariants as ways
 use Rattle.slice_core_steps.specs.CoreLines.{core_lines, last_written_back}
-use Rattle.slice_core_steps.specs.declared.core_lines.CoreLines.TheVariants as stands
+use Rattle.slice_core_steps.specs.declared.core_lines.CoreLines.TheVariants as core_lineses
 
 -- Which copies stand in the way of an access, by what is decided of it: for want of a register those that wait, for
 -- want of a way those of its set, for want of room in the write-back buffer those that leave; and the victim of a miss.
 abbrev pub named_by_stall : LineAddr → Stall → Named
-named_by_stall line stalls.NoRegister = named.Lines stands.Waiting
-named_by_stall line stalls.NoWay = named.Lines (stands.InSetOf line)
-named_by_stall line stalls.WriteBackFull = named.Lines stands.Leaving
-named_by_stall line stall = named.Nothing
+named_by_stall line stalls.NoRegister = named_kinds.Lines core_lineses.Waiting
+named_by_stall line stalls.NoWay = named_kinds.Lines (core_lineses.InSetOf line)
+named_by_stall line stalls.WriteBackFull = named_kinds.Lines core_lineses.Leaving
+named_by_stall line stall = named_kinds.Nothing
 
 abbrev pub named_by : LineAddr → Decision → Named
-named_by line (decisions.Access local (accesses.Stall stall)) = named_by_stall line stall
-named_by line (decisions.Access local (accesses.Open next ask ways.Victim)) = named.Victim
-named_by line decision = named.Nothing
+named_by line (decisions.Access local (access_kinds.Stall stall)) = named_by_stall line stall
+named_by line (decisions.Access local (access_kinds.PrimaryMiss next ask placements.Victim)) = named_kinds.Victim
+named_by line decision = named_kinds.Nothing
 
 -- The lines of these copies. A victim is what the core's write-back buffer took in last.
 abbrev pub named_lines : Named → View → CoreId → List LineAddr
-named_lines named.Nothing v core = []
-named_lines named.Victim v core = option_to_list (last_written_back v core)
-named_lines (named.Lines which) v core = core_lines v core which
+named_lines named_kinds.Nothing v core = []
+named_lines named_kinds.Victim v core = option_to_list (last_written_back v core)
+named_lines (named_kinds.Lines which) v core = core_lines v core which
 
 -- these are their numbers, in ascending order
 pub record AreNamed (which : Named) (v : View) (core : CoreId) (numbers : List ℕ) : Type 0 where
@@ -45,7 +45,7 @@ pub record AreNamed (which : Named) (v : View) (core : CoreId) (numbers : List �
 
 -- the state of a copy, to which a victim has just gone
 abbrev pub text_of_state : Named → CopyState → List ℕ
-text_of_state named.Victim state = codes " to " ++ name_of state
+text_of_state named_kinds.Victim state = codes " to " ++ name_of state
 text_of_state which state = codes " " ++ name_of state
 
 -- the copy of a line

@@ -12,14 +12,14 @@ use Rattle.litmus_text.specs.declared.command.Command.TheVariants as commands
 use Rattle.script_explained.specs.declared.unrest.Unrest.{Unrest}
 use Rattle.script_explained.specs.declared.unrest.Unrest.TheVariants as unrests
 use Rattle.script_text.specs.Line.{text_of_parts}
-use Rattle.slice_core_plan.specs.View.{View, side_at}
-use Rattle.slice_core_side.specs.Side.{tag_at}
-use Rattle.slice_core_side.specs.Tags.{is_performed}
+use Rattle.slice_core_cache.specs.CoreCache.{tag_at}
+use Rattle.slice_core_cache.specs.Tags.{is_performed}
+use Rattle.slice_core_plan.specs.View.{View, cache_at}
 
 -- the replies of a core that aren't handed out, of these tags
 abbrev pub replies_from : View → CoreId → List ℕ → List Unrest
 replies_from v core tags =
-    map (λ tag. unrests.Reply core tag) (filter (λ tag. is_performed (tag_at (side_at v core) tag)) tags)
+    map (λ tag. unrests.Reply core tag) (filter (λ tag. is_performed (tag_at (cache_at v core) tag)) tags)
 
 -- .. of all tags
 abbrev pub replies_of : View → CoreId → List Unrest
@@ -31,7 +31,7 @@ replies_in v cores = flat_map (λ core. replies_of v (record { 0 = core })) core
 
 -- the first message in flight, and where there is none, the first reply that isn't handed out: core by core, tag by tag
 abbrev pub first_unrest : View → Option Unrest
-first_unrest v = slice_get (map unrests.Message (picks_of v) ++ replies_in v (range_with_len 0 (length v.sides))) 0
+first_unrest v = slice_get (map unrests.Message (picks_of v) ++ replies_in v (range_with_len 0 (length v.caches))) 0
 
 abbrev pub text_of_unrest : Unrest → List ℕ
 text_of_unrest (unrests.Message pick) =

@@ -7,15 +7,15 @@ ghost use Rattle.litmus_script.specs.Play.{IsOfRun};
 ghost use Rattle.script_explained.specs.Delivery.{ExplainsDelivery, ExplainsNext, case_at, delivery_at, done_at};
 ghost use Rattle.script_explained.specs.Delivery.{text_of_made, told_of_delivery, who_takes};
 ghost use Rattle.slice_core.specs.Facts.{IsSameSlice};
-ghost use Rattle.slice_core_answer.specs.Text.{text_of_delivered};
+ghost use Rattle.slice_answer.specs.Text.{text_of_delivered};
 ghost use Rattle.slice_core_plan.specs.Calls.{core_of, next_pick};
-ghost use Rattle.slice_core_answer.specs.declared.answer.Delivery.TheVariants as deliveries;
+ghost use Rattle.slice_answer.specs.declared.answer.Delivery.TheVariants as deliveries;
 ghost use Rattle.slice_queues_message.specs.Pick.{channel_of};
 ghost use Rattle.slice_queues_message.specs.declared.channel.Class.TheVariants as classes;
 
 use super::look;
 use address_map::CoreId;
-use litmus_script::{Answers, written};
+use litmus_script::{TextWriter, written};
 use litmus_text::TextFault;
 use mshr_file::MissFile;
 use script_text::Delivery;
@@ -42,7 +42,7 @@ pub(crate) fn deliver<F: MissFile, W: Write>(
     let delivered = state.deliver(pick);
     let done = done(state, first, pick);
     let told = told(slice, pick, case, plan, done);
-    let mut answers = Answers { out };
+    let mut answers = TextWriter { out };
     written(write(delivered, told, &mut answers))
 }
 
@@ -92,7 +92,7 @@ fn tell_made<W: Write>(pick: Pick, told: Option<ExplainedDelivery>, out: &mut W)
     ensures told { OnOk result (Appends (W.contents out.old) (W.contents out.new) (text_of_made pick told)) }
     ensures fault { IfErr result IsOfRun }
 {
-    let mut answers = Answers { out };
+    let mut answers = TextWriter { out };
     written(write_made(pick, told, &mut answers))
 }
 

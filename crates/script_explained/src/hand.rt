@@ -6,7 +6,7 @@ ghost use Rattle.script_explained.specs.Hand.{ExplainsHand, told_of_hand};
 ghost use Rattle.slice_core.specs.Facts.{IsSameSlice};
 
 use address_map::CoreId;
-use litmus_script::{Answers, written};
+use litmus_script::{TextWriter, written};
 use litmus_text::TextFault;
 use mshr_file::MissFile;
 use slice_core::{Numbered, SliceState};
@@ -20,13 +20,13 @@ pub(crate) fn hand<F: MissFile, W: Write>(
     core: CoreId,
     out: &mut W,
 ) -> Result<(), TextFault>
-    requires { core.0 < length state.old.view.sides }
+    requires { core.0 < length state.old.view.caches }
     ensures same { IsSameSlice state.old state.new }
     ensures told { OnOk result (ExplainsHand core (W.contents out.old) (W.contents out.new) state.old state.new) }
     ensures fault { IfErr result IsOfRun }
 {
     let handed = state.hand(core);
-    let mut answers = Answers { out };
+    let mut answers = TextWriter { out };
     written(write(core, handed, &mut answers))
 }
 

@@ -4,14 +4,14 @@ ghost use Rattle.litmus_script.specs.Answer.{WritesLine, text_of_issued};
 ghost use Rattle.litmus_script.specs.Play.{IsOfRun};
 ghost use Rattle.script_explained.specs.Issue.{ExplainsEviction, ExplainsIssue, eviction_of, issue_at, named_by_answer};
 ghost use Rattle.script_explained.specs.Named.{text_of_copies};
+ghost use Rattle.slice_answer.specs.Text.{text_of_evicted};
 ghost use Rattle.slice_core.specs.Facts.{IsSameSlice};
-ghost use Rattle.slice_core_answer.specs.Text.{text_of_evicted};
 ghost use Rattle.step_text.specs.Issue.{text_of_eviction, text_of_issue};
 
 use super::look;
 use super::named::{Named, named_lines, write_copies};
 use address_map::{CoreId, LineAddr, Request};
-use litmus_script::{Answers, Issued, written};
+use litmus_script::{TextWriter, Issued, written};
 use litmus_text::TextFault;
 use mshr_file::MissFile;
 use slice_core::{CoreLines, Evicted, Pick, SliceState};
@@ -29,7 +29,7 @@ pub(crate) fn issue<F: MissFile, W: Write>(
     request: Request,
     out: &mut W,
 ) -> Result<(), TextFault>
-    requires { core.0 < length state.old.view.sides }
+    requires { core.0 < length state.old.view.caches }
     ensures same { IsSameSlice state.old state.new }
     ensures told { OnOk result (ExplainsIssue slice core request (W.contents out.old) (W.contents out.new)
         state.old state.new) }
@@ -39,7 +39,7 @@ pub(crate) fn issue<F: MissFile, W: Write>(
     let which = Named::of(request.word.line(), decided.decision);
     let issued = litmus_script::issue(state, core, request)?;
     let lines = named_lines(alloc, which, state, core)?;
-    let mut answers = Answers { out };
+    let mut answers = TextWriter { out };
     let asked = Asked {
         core,
         issued,
@@ -63,7 +63,7 @@ fn decided<F: MissFile>(
     core: CoreId,
     request: Request,
 ) -> Issue
-    requires { core.0 < length state.now.view.sides }
+    requires { core.0 < length state.now.view.caches }
     ensures { result ≡ issue_at slice state.now.view core request }
 {
     Issue {
@@ -108,7 +108,7 @@ pub(crate) fn evict<F: MissFile, W: Write>(
     line: LineAddr,
     out: &mut W,
 ) -> Result<(), TextFault>
-    requires { core.0 < length state.old.view.sides }
+    requires { core.0 < length state.old.view.caches }
     ensures same { IsSameSlice state.old state.new }
     ensures told { OnOk result (ExplainsEviction slice core line (W.contents out.old) (W.contents out.new)
         state.old state.new) }
@@ -133,7 +133,7 @@ pub(crate) fn evict<F: MissFile, W: Write>(
     let Ok(lines) = named_lines(alloc, which, state, core) else {
         return Err(TextFault::NoMemory);
     };
-    let mut answers = Answers { out };
+    let mut answers = TextWriter { out };
     written(write_eviction(state, core, evicted, which, lines.as_slice(), &mut answers))
 }
 

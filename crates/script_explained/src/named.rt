@@ -7,7 +7,7 @@ ghost use Rattle.script_explained.specs.Named.{AreNamed};
 use super::look;
 use address_map::{CoreId, LineAddr};
 use mshr_file::MissFile;
-use slice_core::{Access, CopyState, CoreLines, Decision, SliceState, Stall, Way};
+use slice_core::{AccessKind, CopyState, CoreLines, Decision, SliceState, Stall, Placement};
 use std::alloc::{AllocError, Global};
 use std::fmt;
 use std::fmt::Write;
@@ -28,19 +28,19 @@ impl Named {
         ensures { result ≡ named_by line decision }
     {
         match decision {
-            Decision::Access(_, Access::Stall(Stall::NoRegister)) => Named::Lines(
+            Decision::Access(_, AccessKind::Stall(Stall::NoRegister)) => Named::Lines(
                 CoreLines::Waiting,
             ),
-            Decision::Access(_, Access::Stall(Stall::NoWay)) => Named::Lines(CoreLines::InSetOf(
+            Decision::Access(_, AccessKind::Stall(Stall::NoWay)) => Named::Lines(CoreLines::InSetOf(
                 line,
             )),
-            Decision::Access(_, Access::Stall(Stall::WriteBackFull)) => Named::Lines(
+            Decision::Access(_, AccessKind::Stall(Stall::WriteBackFull)) => Named::Lines(
                 CoreLines::Leaving,
             ),
             Decision::Access(
                 _,
-                Access::Open {
-                    way: Way::Victim,
+                AccessKind::PrimaryMiss {
+                    placement: Placement::Victim,
                     ..
                 },
             ) => Named::Victim,
@@ -56,7 +56,7 @@ pub(crate) fn named_lines<F: MissFile>(
     state: &SliceState<F>,
     core: CoreId,
 ) -> Result<Vec<u64>, AllocError>
-    requires { core.0 < length state.now.view.sides }
+    requires { core.0 < length state.now.view.caches }
     ensures { IfOk result (λ lines. AreNamed which state.now.view core lines.items) }
 {
     let lines = lines_of(alloc, which, state, core)?;
@@ -72,7 +72,7 @@ fn lines_of<F: MissFile>(
     state: &SliceState<F>,
     core: CoreId,
 ) -> Result<Vec<LineAddr>, AllocError>
-    requires { core.0 < length state.now.view.sides }
+    requires { core.0 < length state.now.view.caches }
     ensures { IfOk result (λ lines. lines.items ≡ named_lines which state.now.view core) }
 {
     match which {

@@ -9,7 +9,7 @@ ghost use Rattle.script_explained.specs.Issue.{ExplainsIssue};
 
 use super::{delivery, hand, issue, unrest};
 use address_map::{Checked, CoreId, LineAddr, Request, SliceId, WordAddr};
-use litmus_script::{Answers, Deliverer, Machine, Player, pump_slices, write_pumped, written};
+use litmus_script::{TextWriter, Deliverer, Machine, Player, pump_slices, write_pumped, written};
 use litmus_text::{Command, Statement, TextFault};
 use mshr_file::MissFile;
 use slice_core::{DeliveredNext, Pick};
@@ -182,7 +182,7 @@ impl<F: MissFile> Explained<F> {
             self.old.machine.slices.items self.new.machine.slices.items (W.contents out.old) (W.contents out.new)) }
     {
         let pumped = pump_slices(self, calls, out)?;
-        let mut answers = Answers { out };
+        let mut answers = TextWriter { out };
         written(write_pumped(pumped, &mut answers))
     }
 

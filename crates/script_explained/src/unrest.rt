@@ -7,7 +7,7 @@ ghost use Rattle.litmus_script.specs.Prints.{Adds};
 ghost use Rattle.script_explained.specs.Unrest.{first_unrest, replies_in, replies_of, told_of_word};
 
 use address_map::{Checked, CoreId};
-use litmus_script::{Answers, written};
+use litmus_script::{TextWriter, written};
 use litmus_text::TextFault;
 use mshr_file::MissFile;
 use script_text::Delivery;
@@ -51,13 +51,13 @@ pub(crate) fn write_word<F: MissFile, W: Write>(
     shown: Option<u64>,
     out: &mut W,
 ) -> Result<(), TextFault>
-    requires { length state.now.view.sides ≡ config.now.cores }
+    requires { length state.now.view.caches ≡ config.now.cores }
     ensures told { OnOk result (Adds (W.contents out.old) (W.contents out.new)
         (text_of_word shown ++ told_of_word shown (first_unrest state.now.view))) }
     ensures fault { IfErr result IsOfRun }
 {
     let unrest = first(config, state);
-    let mut answers = Answers { out };
+    let mut answers = TextWriter { out };
     written(write(shown, unrest, &mut answers))
 }
 
@@ -74,7 +74,7 @@ fn write<W: fmt::Write>(shown: Option<u64>, unrest: Option<Unrest>, out: &mut W)
 
 /// The first message in flight, and where there is none, the first reply that isn't handed out.
 fn first<F: MissFile>(config: &Checked, state: &SliceState<F>) -> Option<Unrest>
-    requires { length state.now.view.sides ≡ config.now.cores }
+    requires { length state.now.view.caches ≡ config.now.cores }
     ensures { result ≡ first_unrest state.now.view }
 {
     match state.waiting().next() {
@@ -84,8 +84,8 @@ fn first<F: MissFile>(config: &Checked, state: &SliceState<F>) -> Option<Unrest>
 }
 
 fn first_reply<F: MissFile>(config: &Checked, state: &SliceState<F>) -> Option<Unrest>
-    requires { length state.now.view.sides ≡ config.now.cores }
-    ensures { result ≡ slice_get (replies_in state.now.view (range_with_len 0 (length state.now.view.sides))) 0 }
+    requires { length state.now.view.caches ≡ config.now.cores }
+    ensures { result ≡ slice_get (replies_in state.now.view (range_with_len 0 (length state.now.view.caches))) 0 }
 {
     for core in 0..config.cores() {
         let reply = first_reply_of(state, CoreId(core as u8));
@@ -97,7 +97,7 @@ fn first_reply<F: MissFile>(config: &Checked, state: &SliceState<F>) -> Option<U
 }
 
 fn first_reply_of<F: MissFile>(state: &SliceState<F>, core: CoreId) -> Option<Unrest>
-    requires { core.0 < length state.now.view.sides }
+    requires { core.0 < length state.now.view.caches }
     ensures { result ≡ slice_get (replies_of state.now.view core) 0 }
 {
     for tag in 0..64 {

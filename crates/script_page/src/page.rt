@@ -17,7 +17,7 @@ use super::frame::{HEAD, TAIL};
 use super::json::write_json;
 use super::player::Paged;
 use address_map::Checked;
-use litmus_script::{Answers, Commands, Machine, Script, written};
+use litmus_script::{TextWriter, Commands, Machine, Script, written};
 use litmus_text::TextFault;
 use mshr_file::{ExplicitFile, InvertedFile, MissFile, MissKind};
 use protocol_tables::{write_cache_table, write_directory_table};
@@ -108,7 +108,7 @@ fn steps<F: MissFile, W: Write>(
         Ok(()) => end(out),
         Err(fault) => {
             // where this can't be written either, there is nobody left to tell
-            let _ = end_at(&fault, &mut Answers { out });
+            let _ = end_at(&fault, &mut TextWriter { out });
             Err(fault)
         }
     }
@@ -121,7 +121,7 @@ fn begin<W: Write>(alloc: Global, script: &[u8], out: &mut W) -> Result<(), Text
 {
     let cache = cache_table(alloc)?;
     let directory = directory_table(alloc)?;
-    let mut answers = Answers { out };
+    let mut answers = TextWriter { out };
     written(write_begin(script, cache.as_slice(), directory.as_slice(), &mut answers))
 }
 
@@ -160,7 +160,7 @@ fn cache_table(alloc: Global) -> Result<Vec<u8>, TextFault>
 fn print_cache_table<W: Write>(out: &mut W) -> fmt::Result
     ensures { OnOk result (Appends (W.contents out.old) (W.contents out.new) (cache_table true)) }
 {
-    let mut answers = Answers { out };
+    let mut answers = TextWriter { out };
     write_cache_table(true, &mut answers)
 }
 
@@ -179,7 +179,7 @@ fn directory_table(alloc: Global) -> Result<Vec<u8>, TextFault>
 fn print_directory_table<W: Write>(out: &mut W) -> fmt::Result
     ensures { OnOk result (Appends (W.contents out.old) (W.contents out.new) (directory_table true)) }
 {
-    let mut answers = Answers { out };
+    let mut answers = TextWriter { out };
     write_directory_table(true, &mut answers)
 }
 
@@ -188,7 +188,7 @@ fn end<W: Write>(out: &mut W) -> Result<(), TextFault>
     ensures ended { OnOk result (Appends (W.contents out.old) (W.contents out.new) text_of_end) }
     ensures fault { IfErr result IsOfRun }
 {
-    let mut answers = Answers { out };
+    let mut answers = TextWriter { out };
     written(write_end(&mut answers))
 }
 

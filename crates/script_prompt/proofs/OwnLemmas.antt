@@ -16,7 +16,7 @@ use Rattle.litmus_text.specs.Form.{Part, key, num, HasForm, IsFaultOf, IsFormFau
 use Rattle.litmus_text.specs.Form.{three_parts, two_parts}
 use Rattle.litmus_text.specs.Number.{IsNumber}
 use Rattle.litmus_text.specs.declared.fault.LineFault.{LineFault}
-use Rattle.litmus_text.specs.declared.fault.LineFault.TheVariants as faults
+use Rattle.litmus_text.specs.declared.fault.LineFault.TheVariants as line_faults
 use Rattle.script_prompt.specs.Own.{HasOwn, HasSlice, IsFaultOfOwn, ReadsAsOwn, parts_of, parts_of_access}
 use Rattle.script_prompt.specs.Own.{parts_of_slice}
 use Rattle.script_prompt.specs.declared.own.Own.{Own}
@@ -33,9 +33,10 @@ reads_none {config} {said} fault r is wrong =
 pub refuses : (config : Config) (said : List (List ℕ)) (fault : LineFault) → IsFaultOfOwn config said fault
     → (own : Own) → Writes said (parts_of own) → ¬ HasOwn config own
 unfolding IsFaultOf
-refuses config said faults.NotACommand wrong own written has = wrong own (HasForm-Writes said (parts_of own) written)
-refuses config said faults.BadNumber wrong own written has = wrong.1 own written
-refuses config said faults.OutOfRange wrong own written has = wrong.1 own written has
+refuses config said line_faults.NotACommand wrong own written has =
+    wrong own (HasForm-Writes said (parts_of own) written)
+refuses config said line_faults.BadNumber wrong own written has = wrong.1 own written
+refuses config said line_faults.OutOfRange wrong own written has = wrong.1 own written has
 refuses config said other wrong own written has = wrong
 
 -- ---- what is wrong behind a word is wrong with the line
@@ -149,35 +150,35 @@ cas_fault config words =
     (λ P h. only_cas words P (λ core word expect new. h (core.0, word.0, expect, new))) (λ p. refl) (λ p has. has)
 
 -- nothing stands behind `cas`
-pub cas_alone : (config : Config) → IsFaultOfOwn config (codes "cas" ∷ []) faults.NotACommand
+pub cas_alone : (config : Config) → IsFaultOfOwn config (codes "cas" ∷ []) line_faults.NotACommand
 unfolding IsFaultOf
-cas_alone config = cas_fault config [] faults.NotACommand (λ p form. form)
+cas_alone config = cas_fault config [] line_faults.NotACommand (λ p form. form)
 
 -- the numbers behind the core are at fault
 pub cas_numbers : (config : Config) (core : List ℕ) (others : List (List ℕ)) (fault : LineFault)
     → IsFormFaultOf three_parts others fault → IsFaultOfOwn config (codes "cas" ∷ core ∷ others) fault
 unfolding IsFaultOf
-cas_numbers config core others faults.NotACommand h =
-    cas_fault config (core ∷ others) faults.NotACommand (λ p form. h (p.1, p.2, p.3) form)
-cas_numbers config core others faults.BadNumber h =
-    cas_fault config (core ∷ others) faults.BadNumber
+cas_numbers config core others line_faults.NotACommand h =
+    cas_fault config (core ∷ others) line_faults.NotACommand (λ p form. h (p.1, p.2, p.3) form)
+cas_numbers config core others line_faults.BadNumber h =
+    cas_fault config (core ∷ others) line_faults.BadNumber
     (((0, h.0.0.0, h.0.0.1, h.0.0.2), h.0.1), λ p w. h.1 (p.1, p.2, p.3) w.2)
-cas_numbers config core others faults.OutOfRange h = absurd (h.1 h.0.0 h.0.1 tt)
+cas_numbers config core others line_faults.OutOfRange h = absurd (h.1 h.0.0 h.0.1 tt)
 cas_numbers config core others other h = h
 
 -- the core is no number
 pub cas_number : (config : Config) (core : List ℕ) (others : List (List ℕ)) (a b d : ℕ)
     → Writes others (three_parts (a, b, d)) → ¬ IsNumber core
-    → IsFaultOfOwn config (codes "cas" ∷ core ∷ others) faults.BadNumber
+    → IsFaultOfOwn config (codes "cas" ∷ core ∷ others) line_faults.BadNumber
 unfolding IsFaultOf
 cas_number config core others a b d written none =
-    cas_fault config (core ∷ others) faults.BadNumber
+    cas_fault config (core ∷ others) line_faults.BadNumber
     (((0, a, b, d), HasForm-Writes others (three_parts (a, b, d)) written), λ p w. none w.0)
 
 -- the machine lacks the core
 pub cas_lacks : (config : Config) (core : List ℕ) (others : List (List ℕ)) (a b d n : ℕ)
     → Writes others (three_parts (a, b, d)) → IsNumber core → n ≡ digits_value 10 core → ¬ (n < config.cores)
-    → (fault : LineFault) → fault ≡ faults.OutOfRange → IsFaultOfOwn config (codes "cas" ∷ core ∷ others) fault
+    → (fault : LineFault) → fault ≡ line_faults.OutOfRange → IsFaultOfOwn config (codes "cas" ∷ core ∷ others) fault
 cas_lacks config core others a b d n written number is none fault out =
     cas_fault config (core ∷ others) fault
     (lacks _ _ (λ p. HasFirst config p.0) (digits_value 10 core, a, b, d) (number, refl, written)
@@ -233,7 +234,7 @@ quit_fault config words =
 -- ---- behind `save` stands one name
 
 -- nothing stands there
-pub save_alone : (config : Config) → IsFaultOfOwn config (codes "save" ∷ []) faults.NotACommand
+pub save_alone : (config : Config) → IsFaultOfOwn config (codes "save" ∷ []) line_faults.NotACommand
 unfolding IsFaultOf
 save_alone config =
     λ own f. only_save [] (λ o. HasForm (codes "save" ∷ []) (parts_of o) → ⊥) (λ name form. form.1) own f f
@@ -242,10 +243,10 @@ save_alone config =
 pub save_more : (config : Config) (name : List ℕ) (more : List (List ℕ)) (fault : LineFault)
     → IsFormFaultOf no_parts more fault → IsFaultOfOwn config (codes "save" ∷ name ∷ more) fault
 unfolding IsFaultOf
-save_more config name more faults.NotACommand h =
+save_more config name more line_faults.NotACommand h =
     λ own f. only_save (name ∷ more) (λ o. HasForm (codes "save" ∷ name ∷ more) (parts_of o) → ⊥)
     (λ file form. h tt form.1.1) own f f
-save_more config name [] faults.BadNumber h = absurd (h.1 tt tt)
-save_more config name (next ∷ more) faults.BadNumber h = absurd h.0.1
-save_more config name more faults.OutOfRange h = absurd (h.1 h.0.0 h.0.1 tt)
+save_more config name [] line_faults.BadNumber h = absurd (h.1 tt tt)
+save_more config name (next ∷ more) line_faults.BadNumber h = absurd h.0.1
+save_more config name more line_faults.OutOfRange h = absurd (h.1 h.0.0 h.0.1 tt)
 save_more config name more other h = h

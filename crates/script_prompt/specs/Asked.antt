@@ -6,7 +6,7 @@ use Rattle.litmus_text.specs.Form.{Writes}
 use Rattle.litmus_text.specs.declared.fault.LineFault.{LineFault}
 use Rattle.script_prompt.specs.Own.{HasOwn, IsFaultOfOwn, name_of, parts_of}
 use Rattle.script_prompt.specs.declared.asked.Asked.{Asked}
-use Rattle.script_prompt.specs.declared.asked.Asked.TheVariants as asks
+use Rattle.script_prompt.specs.declared.asked.Asked.TheVariants as asked_kinds
 use Rattle.script_prompt.specs.declared.own.Word.{Word}
 
 -- the first word is one of the prompt's own
@@ -21,10 +21,10 @@ BeginsAsOther (name ∷ rest) = (¬ BeginsAsConfig (name ∷ rest)) × ((word : 
 
 -- the words ask for this, and the machine has what a word of the prompt's own names
 abbrev pub Asks : Config → List (List ℕ) → Asked → Type 0
-Asks config said asks.Nothing = said ≡ []
-Asks config said asks.Configuration = BeginsAsConfig said
-Asks config said asks.Command = BeginsAsOther said
-Asks config said (asks.Own own) = Writes said (parts_of own) × HasOwn config own
+Asks config said asked_kinds.Nothing = said ≡ []
+Asks config said asked_kinds.Configuration = BeginsAsConfig said
+Asks config said asked_kinds.Command = BeginsAsOther said
+Asks config said (asked_kinds.Own own) = Writes said (parts_of own) × HasOwn config own
 
 -- what is wrong with words that ask for nothing: they begin with a word of the prompt's own, and what is wrong with
 -- them as such a line

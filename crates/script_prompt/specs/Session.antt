@@ -13,7 +13,7 @@ use Rattle.mshr_file.specs.Miss.{Bound}
 use Rattle.script_explained.specs.Explains.{Explainingly, IsExplained}
 use Rattle.slice_core_plan.specs.Calls.{PartsView}
 use Rattle.script_prompt.specs.declared.kinds.AnySession.{AnySession}
-use Rattle.script_prompt.specs.declared.kinds.AnySession.TheVariants as sessions
+use Rattle.script_prompt.specs.declared.kinds.AnySession.TheVariants as any_sessions
 
 -- The words write this command. It is done, its answer is printed with what happened, and the script goes on with the
 -- line.
@@ -59,16 +59,16 @@ pub record IsAfter (script : List ℕ) (config : Config) (slices : List PartsVie
 
 -- what a session has
 abbrev pub config_of : AnySession → Config
-config_of (sessions.Explicit session) = session.player.machine.config
-config_of (sessions.Inverted session) = session.player.machine.config
+config_of (any_sessions.Explicit session) = session.player.machine.config
+config_of (any_sessions.Inverted session) = session.player.machine.config
 
 abbrev pub slices_of : AnySession → List PartsView
-slices_of (sessions.Explicit session) = session.player.machine.slices.items
-slices_of (sessions.Inverted session) = session.player.machine.slices.items
+slices_of (any_sessions.Explicit session) = session.player.machine.slices.items
+slices_of (any_sessions.Inverted session) = session.player.machine.slices.items
 
 abbrev pub script_of : AnySession → List ℕ
-script_of (sessions.Explicit session) = session.script.items
-script_of (sessions.Inverted session) = session.script.items
+script_of (any_sessions.Explicit session) = session.script.items
+script_of (any_sessions.Inverted session) = session.script.items
 
 -- ---- a script that is played anew
 

@@ -35,7 +35,7 @@ fn free_tag_in<F: MissFile>(
     op: Op,
     word: WordAddr,
 ) -> Option<u8>
-    requires { core.0 < length state.now.view.sides }
+    requires { core.0 < length state.now.view.caches }
     ensures { IsLowestFree state.now.view core op word result }
 {
     for tag in 0..TAGS {

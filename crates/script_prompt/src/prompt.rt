@@ -7,7 +7,7 @@ use super::help::HELP;
 use super::kinds::AnySession;
 use super::own::Own;
 use super::saver::Saver;
-use litmus_script::{Answers, written};
+use litmus_script::{TextWriter, written};
 use litmus_text::{Statement, Statements, TextFault};
 use std::alloc::Global;
 use std::fmt::Write as _;
@@ -66,7 +66,7 @@ fn is_ended(text: &[u8]) -> bool
 
 /// Writes the mark, and all that waits to be written.
 fn show<W: Write>(mark: &str, out: &mut W) -> Result<(), TextFault> {
-    let mut answers = Answers { out };
+    let mut answers = TextWriter { out };
     written(answers.write_str(mark))?;
     match out.flush() {
         Ok(()) => Ok(()),
@@ -130,7 +130,7 @@ impl Prompt {
             Asked::Configuration => self.configure(statement.line, out),
             Asked::Own(Own::Save(name)) => self.save(name, out, saver),
             Asked::Own(Own::Help) => {
-                let mut answers = Answers { out };
+                let mut answers = TextWriter { out };
                 written(answers.write_str(HELP))
             }
             _ => Ok(()),
@@ -174,7 +174,7 @@ impl Prompt {
         let (Some(left), Some(gone)) = (script.get(..first), script.get(first..)) else {
             return Ok(());
         };
-        let mut answers = Answers { out };
+        let mut answers = TextWriter { out };
         if gone.is_empty() {
             return written(writeln!(answers, "nothing to undo"));
         }
@@ -193,7 +193,7 @@ impl Prompt {
         out: &mut W,
         saver: &mut S,
     ) -> Result<(), TextFault> {
-        let mut answers = Answers { out };
+        let mut answers = TextWriter { out };
         let Ok(name) = str::from_utf8(name) else {
             return written(writeln!(answers, "fault: cannot write a file of this name"));
         };
@@ -223,7 +223,7 @@ fn last_line(text: &[u8]) -> usize
 
 /// Says what is wrong with a line of the prompt. A fault that isn't the line's is handed on.
 fn tell<W: Write>(fault: TextFault, out: &mut W) -> Result<(), TextFault> {
-    let mut answers = Answers { out };
+    let mut answers = TextWriter { out };
     match fault {
         TextFault::Line { fault, .. } => written(writeln!(answers, "fault: {fault}")),
         TextFault::Config(error) => written(writeln!(answers, "fault: config {error}")),

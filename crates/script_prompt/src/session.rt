@@ -11,7 +11,7 @@ use super::asked::{Asked, read_asked};
 use super::machine;
 use super::own::Own;
 use address_map::{Checked, CoreId, Op, Request, SliceId, WordAddr};
-use litmus_script::{Answers, Player, written};
+use litmus_script::{TextWriter, Player, written};
 use litmus_text::{Command, Statement, Statements, TextFault, parse_command};
 use mshr_file::MissFile;
 use script_explained::Explained;
@@ -104,10 +104,10 @@ impl<F: MissFile> Session<F> {
             self.new.player.machine.slices.items self.old.script.items self.new.script.items) }
     {
         let mut line = Vec::new(self.player.alloc);
-        let Ok(()) = write_command(command, &mut Answers { out: &mut line }) else {
+        let Ok(()) = write_command(command, &mut TextWriter { out: &mut line }) else {
             return Err(TextFault::NoMemory);
         };
-        let mut answers = Answers { out };
+        let mut answers = TextWriter { out };
         written(answers.write_bytes(&line))?;
         if let Some(statement) = Statements::of(&line).next() {
             self.play(&statement, out)?;
@@ -152,7 +152,7 @@ impl<F: MissFile> Session<F> {
             }
             None => {
                 let number = core.0;
-                let mut answers = Answers { out };
+                let mut answers = TextWriter { out };
                 written(writeln!(answers, "no tag of core {number} is free"))
             }
         }
@@ -174,7 +174,7 @@ impl<F: MissFile> Session<F> {
             self.play_own(Command::Deliver(pick), out)?;
             return self.hand_out(&before, out);
         }
-        let mut answers = Answers { out };
+        let mut answers = TextWriter { out };
         written(match next {
             DeliveredNext::Broken(cell) => writeln!(answers, "broken {cell}"),
             DeliveredNext::Nothing => writeln!(answers, "nothing   no message waits"),

@@ -5,7 +5,7 @@ use Rattle.address_map.specs.declared.address.WordAddr.{WordAddr}
 use Rattle.address_map.specs.declared.config.Config.{Config}
 use Rattle.litmus_text.specs.ConfigLine.{parts_of_config_line}
 use Rattle.litmus_text.specs.declared.config_line.ConfigLine.{ConfigLine}
-use Rattle.litmus_text.specs.declared.config_line.ConfigLine.TheVariants as lines
+use Rattle.litmus_text.specs.declared.config_line.ConfigLine.TheVariants as config_lines
 use Rattle.mshr_file.specs.declared.kind.MissKind.{MissKind}
 use Rattle.script_text.specs.Line.{line_of_parts}
 use Rattle.script_text.specs.Settings.{counts_of, init_line, lines_of_settings, text_of_lines}
@@ -15,21 +15,22 @@ line_of line = line_of_parts (parts_of_config_line line)
 
 -- first the numbers, then what is named, then initial values and counters
 pub settings_text : (c : Config) (misses : MissKind) → text_of_lines (lines_of_settings c misses) ≡
-    text_of_lines (counts_of c) ++ (line_of (lines.Policy c.policy) ++ (line_of (lines.Misses misses)
-    ++ (line_of (lines.Exclusive c.exclusive) ++ (text_of_lines (map init_line c.init)
-    ++ text_of_lines (map lines.Counter c.counters)))))
+    text_of_lines (counts_of c) ++ (line_of (config_lines.Policy c.policy) ++ (line_of (config_lines.Misses misses)
+    ++ (line_of (config_lines.Exclusive c.exclusive) ++ (text_of_lines (map init_line c.init)
+    ++ text_of_lines (map config_lines.Counter c.counters)))))
 settings_text c misses =
     let init = map init_line c.init in
-    let counters = map lines.Counter c.counters in
-    let behind = lines.Policy c.policy ∷ lines.Misses misses ∷ lines.Exclusive c.exclusive ∷ (init ++ counters) in
+    let counters = map config_lines.Counter c.counters in
+    let behind = config_lines.Policy c.policy ∷ config_lines.Misses misses ∷ config_lines.Exclusive c.exclusive
+        ∷ (init ++ counters) in
     let first : text_of_lines (counts_of c ++ behind) ≡ text_of_lines (counts_of c) ++ text_of_lines behind =
     flat_map-append line_of (counts_of c) behind in
     let last : text_of_lines (init ++ counters) ≡ text_of_lines init ++ text_of_lines counters =
     flat_map-append line_of init counters in
     first
     ∙ ap (λ (rest : List ℕ). text_of_lines (counts_of c)
-    ++ (line_of (lines.Policy c.policy) ++ (line_of (lines.Misses misses)
-    ++ (line_of (lines.Exclusive c.exclusive) ++ rest)))) last
+    ++ (line_of (config_lines.Policy c.policy) ++ (line_of (config_lines.Misses misses)
+    ++ (line_of (config_lines.Exclusive c.exclusive) ++ rest)))) last
 
 -- the line of an initial value, in the pieces in which it is written
 pub init_text : (pair : WordAddr × ℕ) (rest : List ℕ) → line_of (init_line pair) ++ rest ≡

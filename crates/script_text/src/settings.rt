@@ -1,7 +1,7 @@
 ghost use Rattle.std.specs.Prelude.{OnOk, map};
 ghost use Rattle.std.specs.Fmt.{WritesInCalls};
 ghost use Rattle.litmus_text.specs.ConfigLine.{parts_of_config_line};
-ghost use Rattle.litmus_text.specs.declared.config_line.ConfigLine.TheVariants as lines;
+ghost use Rattle.litmus_text.specs.declared.config_line.ConfigLine.TheVariants as config_lines;
 ghost use Rattle.script_text.specs.Line.{line_of_parts};
 ghost use Rattle.script_text.specs.Settings.{counts_of, init_line, lines_of_settings, text_of_lines};
 
@@ -46,7 +46,7 @@ fn write_counts<W: Write>(config: &Checked, out: &mut W) -> fmt::Result
 
 fn write_policy<W: Write>(policy: PolicyKind, out: &mut W) -> fmt::Result
     ensures { OnOk result (WritesInCalls W.write_str_gives out.old
-        (line_of_parts (parts_of_config_line (lines.Policy policy))) out.new) }
+        (line_of_parts (parts_of_config_line (config_lines.Policy policy))) out.new) }
 {
     match policy {
         PolicyKind::Lru => writeln!(out, "policy lru"),
@@ -57,7 +57,7 @@ fn write_policy<W: Write>(policy: PolicyKind, out: &mut W) -> fmt::Result
 
 fn write_misses<W: Write>(misses: MissKind, out: &mut W) -> fmt::Result
     ensures { OnOk result (WritesInCalls W.write_str_gives out.old
-        (line_of_parts (parts_of_config_line (lines.Misses misses))) out.new) }
+        (line_of_parts (parts_of_config_line (config_lines.Misses misses))) out.new) }
 {
     match misses {
         MissKind::Explicit => writeln!(out, "misses explicit"),
@@ -67,7 +67,7 @@ fn write_misses<W: Write>(misses: MissKind, out: &mut W) -> fmt::Result
 
 fn write_exclusive<W: Write>(exclusive: bool, out: &mut W) -> fmt::Result
     ensures { OnOk result (WritesInCalls W.write_str_gives out.old
-        (line_of_parts (parts_of_config_line (lines.Exclusive exclusive))) out.new) }
+        (line_of_parts (parts_of_config_line (config_lines.Exclusive exclusive))) out.new) }
 {
     if exclusive {
         writeln!(out, "exclusive on")
@@ -88,7 +88,7 @@ fn write_init<W: Write>(init: &[(WordAddr, u64)], out: &mut W) -> fmt::Result
 
 fn write_counters<W: Write>(counters: &[WordAddr], out: &mut W) -> fmt::Result
     ensures { OnOk result (WritesInCalls W.write_str_gives out.old
-        (text_of_lines (map lines.Counter counters.now)) out.new) }
+        (text_of_lines (map config_lines.Counter counters.now)) out.new) }
 {
     for counter in counters {
         let counter = counter.0;

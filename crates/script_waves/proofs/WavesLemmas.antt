@@ -13,11 +13,11 @@ use Rattle.litmus_script.specs.Play.{PlaysAll, PlaysUpTo}
 use Rattle.litmus_text.specs.declared.fault.TextFault.{TextFault}
 use Rattle.script_waves.specs.Values.{name_of_channel, names_of, text_behind, text_of_entry, text_of_mail}
 use Rattle.script_waves.specs.Values.{text_of_place, text_of_states, text_of_waiting}
-use Rattle.script_waves.specs.Waves.{Shown, Ticks, begun}
+use Rattle.script_waves.specs.Waves.{Shown, Ticks, shown_first}
 use Rattle.slice_core.specs.Facts.{AreWaitingAt, ShowsLine}
 use Rattle.slice_core_plan.specs.Calls.{PartsView}
 use Rattle.slice_core_plan.specs.View.{View, channels_at, entry_at}
-use Rattle.slice_core_side.specs.Side.{state_of}
+use Rattle.slice_core_cache.specs.CoreCache.{state_of}
 use Rattle.slice_core_steps.specs.declared.line_view.LineView.{LineView}
 use Rattle.slice_queues.specs.Waiting.{line_waiting}
 use Rattle.slice_queues_message.specs.declared.channel.Channel.{Channel}
@@ -82,17 +82,17 @@ mail_text v line (Some local) waiting waits = ap (text_of_waiting line) waits.0
 -- ---- a run
 
 module _ (config other : Config) (commands : List (ℕ × List (List ℕ))) (now : Shown) (start : List PartsView)
-    (before after : Option (List ℕ)) (one : other ≡ config) (fresh : now ≡ begun start) where
+    (before after : Option (List ℕ)) (one : other ≡ config) (fresh : now ≡ shown_first start) where
   -- what was played from the beginning
   pub played_from : (end : Shown) → PlaysAll (Ticks config) other commands now end before after
-      → PlaysAll (Ticks config) config commands (begun start) end before after
+      → PlaysAll (Ticks config) config commands (shown_first start) end before after
   played_from end played =
       subst (λ (s : Shown). PlaysAll (Ticks config) config commands s end before after) fresh
       (subst (λ (c : Config). PlaysAll (Ticks config) c commands now end before after) one played)
 
   -- .. up to a fault
   pub stopped_from : (fault : TextFault) → PlaysUpTo (Ticks config) other commands now before after fault
-      → PlaysUpTo (Ticks config) config commands (begun start) before after fault
+      → PlaysUpTo (Ticks config) config commands (shown_first start) before after fault
   stopped_from fault stopped =
       subst (λ (s : Shown). PlaysUpTo (Ticks config) config commands s before after fault) fresh
       (subst (λ (c : Config). PlaysUpTo (Ticks config) c commands now before after fault) one stopped)

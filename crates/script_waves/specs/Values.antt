@@ -12,9 +12,9 @@ use Rattle.directory_table.specs.Name.{name_of as name_of_dir}
 use Rattle.directory_table.specs.declared.state.DirState.{DirState}
 use Rattle.script_waves.specs.Signals.{code_of}
 use Rattle.script_waves.specs.declared.signal.Signal.TheVariants as signals
+use Rattle.slice_core_cache.specs.CoreCache.{state_of}
 use Rattle.slice_core_plan.specs.Calls.{PartsView}
 use Rattle.slice_core_plan.specs.View.{View, channels_at, entry_at}
-use Rattle.slice_core_side.specs.Side.{state_of}
 use Rattle.slice_queues.specs.Waiting.{line_waiting}
 use Rattle.slice_queues_message.specs.declared.channel.Channel.{Channel}
 use Rattle.slice_queues_message.specs.declared.channel.Channel.TheVariants as channels
@@ -67,7 +67,7 @@ abbrev pub text_of_place : View → LineAddr → Option Local → List ℕ
 text_of_place v line None = []
 text_of_place v line (Some local) =
     text_of_entry line (entry_at v local).state
-    ++ (text_of_states line 0 (map (λ side. state_of side local) v.sides) ++ text_of_mail v line (Some local))
+    ++ (text_of_states line 0 (map (λ cache. state_of cache local) v.caches) ++ text_of_mail v line (Some local))
 
 -- what a slice has of a line of its own
 abbrev pub text_at : View → LineAddr → List ℕ

@@ -44,8 +44,8 @@ abbrev pub Ticks : Config → Shown → List ℕ → Command → Option (List �
 Ticks config old line command before after new = IsTick config line command old new before after
 
 -- nothing was played yet
-abbrev pub begun : List PartsView → Shown
-begun slices = record { slices = slices; named = []; played = 0 }
+abbrev pub shown_first : List PartsView → Shown
+shown_first slices = record { slices = slices; named = []; played = 0 }
 
 -- the signals of these lines are written, then these values of them, and the time at which the last ones end
 pub record IsWritten (cores : ℕ) (named : List LineAddr) (ticks : List ℕ) (time : ℕ)
@@ -62,7 +62,7 @@ pub record HasWaves (config : Config) (commands : List (ℕ × List (List ℕ)))
     (before after : Option (List ℕ)) : Type 0 where
   pub end : Shown
   pub ticks : List ℕ
-  pub played : PlaysAll (Ticks config) config commands (begun start) end (Some []) (Some ticks)
+  pub played : PlaysAll (Ticks config) config commands (shown_first start) end (Some []) (Some ticks)
   pub written : IsWritten config.cores end.named ticks (next end.played) before after
 
 -- .. on a new machine
@@ -83,7 +83,7 @@ IsWaves all before after =
 pub record WavesStopAt (config : Config) (commands : List (ℕ × List (List ℕ))) (start : List PartsView)
     (fault : TextFault) : Type 0 where
   pub ticks : Option (List ℕ)
-  pub stopped : PlaysUpTo (Ticks config) config commands (begun start) (Some []) ticks fault
+  pub stopped : PlaysUpTo (Ticks config) config commands (shown_first start) (Some []) ticks fault
 
 -- why a script has no waves: as in scripts, or they couldn't be written
 abbrev pub IsWavesFault : List (ℕ × List (List ℕ)) → TextFault → Type 0

@@ -10,7 +10,7 @@ ghost use Rattle.script_waves.specs.Waves.{text_of_tick};
 use super::command::{write_command, write_time};
 use super::values::write_lines;
 use address_map::{Checked, LineAddr};
-use litmus_script::{Answers, Machine, Player, written};
+use litmus_script::{TextWriter, Machine, Player, written};
 use litmus_text::{Command, Statement, TextFault};
 use mshr_file::MissFile;
 use script_page::note_line;
@@ -54,7 +54,7 @@ impl<F: MissFile> Player for Waved<F> {
         self.answer(command)?;
         self.name(command)?;
         self.played = self.played.wrapping_add(1);
-        let mut answers = Answers { out };
+        let mut answers = TextWriter { out };
         written(self.write_tick(statement.line, &mut answers))
     }
 }

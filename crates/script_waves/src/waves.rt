@@ -15,7 +15,7 @@ use super::command::write_time;
 use super::header::write_header;
 use super::player::Waved;
 use address_map::{Checked, LineAddr};
-use litmus_script::{Answers, Commands, Machine, Script, written};
+use litmus_script::{TextWriter, Commands, Machine, Script, written};
 use litmus_text::TextFault;
 use mshr_file::{ExplicitFile, InvertedFile, MissFile, MissKind};
 use stats_report::write_text;
@@ -112,7 +112,7 @@ fn begin<W: Write>(cores: usize, named: &[LineAddr], out: &mut W) -> Result<(), 
     ensures header { OnOk result (Appends (W.contents out.old) (W.contents out.new) (text_of_header cores named.now)) }
     ensures fault { IfErr result IsOfRun }
 {
-    let mut answers = Answers { out };
+    let mut answers = TextWriter { out };
     written(write_header(cores, named, &mut answers))
 }
 
@@ -130,6 +130,6 @@ fn end<W: Write>(time: u64, out: &mut W) -> Result<(), TextFault>
     ensures ended { OnOk result (Appends (W.contents out.old) (W.contents out.new) (text_of_time time)) }
     ensures fault { IfErr result IsOfRun }
 {
-    let mut answers = Answers { out };
+    let mut answers = TextWriter { out };
     written(write_time(time, &mut answers))
 }

@@ -10,25 +10,25 @@ use Rattle.cache_array.specs.Array.{IsArray, held_at as array_at}
 use Rattle.cache_table.specs.declared.row.CacheSends.{CacheSends}
 use Rattle.cache_table.specs.declared.state.CopyState.{CopyState}
 use Rattle.mshr_file.specs.Miss.{targets_of}
-use Rattle.slice_core_answer.specs.Stats.{after_message}
-use Rattle.slice_core_answer.specs.declared.answer.Delivered.{Delivered}
-use Rattle.slice_core_answer.specs.declared.answer.Delivered.TheVariants as delivered
+use Rattle.slice_answer.specs.Stats.{after_message}
+use Rattle.slice_answer.specs.declared.answer.Delivered.{Delivered}
+use Rattle.slice_answer.specs.declared.answer.Delivered.TheVariants as delivered
 use Rattle.slice_core_plan.specs.Calls.{PartsView, core_of, filled_by, AfterDeliverNext, AfterDelivery, AfterPlan}
 use Rattle.slice_core_plan.specs.Calls.{Settles, local_in, IsDone, Moves}
 use Rattle.slice_core_plan.specs.Plan.{plan_of, planned_in}
 use Rattle.slice_core_plan.specs.Sends.{cache_sent, directory_sent}
 use Rattle.slice_core_plan.specs.Steps.{asked_by, after_directory, after_forwarded, after_home, after_settling}
-use Rattle.slice_core_plan.specs.View.{View, channels_at, entry_at, first_word, side_at, with_entry, with_side}
+use Rattle.slice_core_plan.specs.View.{View, channels_at, entry_at, first_word, cache_at, with_entry, with_cache}
 use Rattle.slice_core_plan.specs.View.{IsShaped}
-use Rattle.slice_core_side.specs.Copy.{is_gone, no_copy}
-use Rattle.slice_core_side.specs.Perform.{asks_to_write, entries_of, performed_in, tags_after}
-use Rattle.slice_core_side.specs.Side.{SideView, array_copy, copy_of}
-use Rattle.slice_core_side.specs.Steps as sides
-use Rattle.slice_core_side.specs.Steps.{acknowledged}
-use Rattle.slice_core_side.specs.declared.copy.CacheCopy.{CacheCopy}
+use Rattle.slice_core_cache.specs.Copy.{is_gone, no_copy}
+use Rattle.slice_core_cache.specs.Perform.{asks_to_write, entries_of, performed_in, tags_after}
+use Rattle.slice_core_cache.specs.CoreCache.{CoreCacheView, array_copy, copy_of}
+use Rattle.slice_core_cache.specs.Steps as caches
+use Rattle.slice_core_cache.specs.Steps.{copy_after_ack}
+use Rattle.slice_core_cache.specs.declared.copy.CacheCopy.{CacheCopy}
 use Rattle.slice_core.proofs.AccountsKept.{HasSame, Keeps, counts-before, keeps-from_sound, keeps-posted, keeps-settled}
-use Rattle.slice_core.proofs.AccountsKept.{keeps-side, keeps-ring}
-use Rattle.slice_core_machine.proofs.Planned.{held-at_place, is_for_copy, place_in, planned-core, planned-place}
+use Rattle.slice_core.proofs.AccountsKept.{keeps-cache, keeps-ring}
+use Rattle.slice_core_machine.proofs.Planned.{held-at_way, is_for_copy, way_in, planned-core, planned-way}
 use Rattle.slice_core.proofs.CountedLines.{cores-asked, cores-cache, cores-directory, cores-taken}
 use Rattle.slice_core.proofs.CountedStats.{counts-same, same-message}
 use Rattle.slice_core.proofs.CountedSteps.{after_step, shaped-channels, shaped-entry}
@@ -39,74 +39,76 @@ use Rattle.slice_queues_message.specs.declared.channel.Channel.{Channel}
 use Rattle.slice_queues_message.specs.declared.channel.Channel.TheVariants as channels
 use Rattle.slice_queues_message.specs.declared.channel.Class.{Class}
 use Rattle.slice_queues_message.specs.declared.channel.Pick.{Pick}
-use Rattle.slice_core_answer.specs.declared.answer.Delivery.TheVariants as deliveries
-use Rattle.slice_core_answer.specs.declared.answer.Delivery.{Delivery}
+use Rattle.slice_answer.specs.declared.answer.Delivery.TheVariants as deliveries
+use Rattle.slice_answer.specs.declared.answer.Delivery.{Delivery}
 use Rattle.slice_core_plan.specs.Plan.{ack_move, fill_move, forwarded_move}
 use Rattle.slice_core_plan.specs.declared.transition.Transition.TheVariants as transitions
 use Rattle.slice_core_plan.specs.declared.transition.Transition.{Transition}
 
 -- ---- a copy that goes on
 
-same-if : (b : Bool) (old one other : SideView) → HasSame old one → HasSame old other
+same-if : (b : Bool) (old one other : CoreCacheView) → HasSame old one → HasSame old other
     → HasSame old (if b then one else other)
 same-if true old one other first second = first
 same-if false old one other first second = second
 
 -- Its requests are as they were, wherever it stands.
-same-advance : (side : SideView) (local : Local) (next : CopyState) → HasSame side (sides.after_advance side local next)
-same-advance side local next =
-    same-if (is_some (array_at side.array local)) side (sides.advanced_in_array side local next)
-    (sides.advanced_in_buffer side local next)
-    (same-if (is_gone next) side _ _ (record { misses = refl; tags = refl; accepted = refl })
+same-advance : (cache : CoreCacheView) (local : Local) (next : CopyState) →
+    HasSame cache (caches.after_advance cache local next)
+same-advance cache local next =
+    same-if (is_some (array_at cache.array local)) cache (caches.advanced_in_array cache local next)
+    (caches.advanced_in_buffer cache local next)
+    (same-if (is_gone next) cache _ _ (record { misses = refl; tags = refl; accepted = refl })
     (record { misses = refl; tags = refl; accepted = refl }))
-    (same-if (is_gone next) side _ _ (record { misses = refl; tags = refl; accepted = refl })
+    (same-if (is_gone next) cache _ _ (record { misses = refl; tags = refl; accepted = refl })
     (record { misses = refl; tags = refl; accepted = refl }))
 
 -- The array holds the copy that was put there.
-put-there : (side : SideView) (local : Local) (copy : CacheCopy) → IsArray side.array
-    → IsSome (array_at side.array local) → array_copy (sides.after_change side local copy) local ≡ copy
-put-there side local copy sound held =
-    ap (λ (found : Option CacheCopy). unwrap_or found no_copy) (written_held side.array local sound copy held)
+put-there : (cache : CoreCacheView) (local : Local) (copy : CacheCopy) → IsArray cache.array
+    → IsSome (array_at cache.array local) → array_copy (caches.after_change cache local copy) local ≡ copy
+put-there cache local copy sound held =
+    ap (λ (found : Option CacheCopy). unwrap_or found no_copy) (written_held cache.array local sound copy held)
 
 module _ (old : PartsView) (local : Local) (channel : Channel) (new : PartsView) (keeps : Keeps old) where
   -- ---- the directory's rows
 
-  moved : (view : View) → view.lines ≡ old.view.lines → view.sides ≡ old.view.sides → view.log ≡ old.view.log
+  moved : (view : View) → view.lines ≡ old.view.lines → view.caches ≡ old.view.caches → view.log ≡ old.view.log
       → IsShaped view → Moves old local channel view new → Keeps new
-  moved view lines sides log shaped is =
+  moved view lines caches log shaped is =
       subst Keeps (sym is)
       (keeps-ring _ _
-      (keeps-posted old view (after_message old.stats channel) lines sides log (same-message old channel) shaped keeps))
+      (keeps-posted old view (after_message old.stats channel) lines caches log (same-message old channel) shaped
+      keeps))
 
   -- ---- a core's copy
 
-  forwarded : (core requester : CoreId) (next : CopyState) (sent : CacheSends) → core.0 < length old.view.sides
+  forwarded : (core requester : CoreId) (next : CopyState) (sent : CacheSends) → core.0 < length old.view.caches
       → Moves old local channel (after_forwarded old.view local core next sent requester) new → Keeps new
   forwarded core requester next sent known is =
-      let side = sides.after_advance (side_at old.view core) local next in
+      let cache = caches.after_advance (cache_at old.view core) local next in
       let before = counts-before old core keeps.counted known in
-      let block = (copy_of (side_at old.view core) local).block in
+      let block = (copy_of (cache_at old.view core) local).block in
       let line = after_take (channels_at old.view local) (channels.Fwd core) in
-      let went = keeps-side old core side old.stats known (same-advance (side_at old.view core) local next)
-      (counts-same old core before.0 (side_at old.view core).accepted before.1) keeps in
+      let went = keeps-cache old core cache old.stats known (same-advance (cache_at old.view core) local next)
+      (counts-same old core before.0 (cache_at old.view core).accepted before.1) keeps in
       subst Keeps (sym is)
       (keeps-ring _ _
-      (keeps-posted (record old { view = with_side old.view core side })
+      (keeps-posted (record old { view = with_cache old.view core cache })
       (after_forwarded old.view local core next sent requester) (after_message old.stats channel) refl refl refl
-      (same-message (record old { view = with_side old.view core side }) channel)
-      (shaped-channels (with_side old.view core side) local (cache_sent line core requester block sent)
+      (same-message (record old { view = with_cache old.view core cache }) channel)
+      (shaped-channels (with_cache old.view core cache) local (cache_sent line core requester block sent)
       (cores-cache line core requester block sent ∙ cores-taken (channels_at old.view local) (channels.Fwd core))
       went.counted.shaped) went))
 
-  settled : (core : CoreId) (copy : CacheCopy) → core.0 < length old.view.sides
-      → IsArray (side_at old.view core).array → IsSome (array_at (side_at old.view core).array local)
+  settled : (core : CoreId) (copy : CacheCopy) → core.0 < length old.view.caches
+      → IsArray (cache_at old.view core).array → IsSome (array_at (cache_at old.view core).array local)
       → Settles old local core channel copy new → Keeps new
   settled core copy known sound held after =
-      let side = side_at old.view core in
-      let targets = targets_of side.misses local.0 in
+      let cache = cache_at old.view core in
+      let targets = targets_of cache.misses local.0 in
       let taken = performed_in copy.state targets in
       let misses = after.0 in
-      let now = sides.after_settle (sides.after_change side local copy) local (length old.view.log) misses in
+      let now = caches.after_settle (caches.after_change cache local copy) local (length old.view.log) misses in
       let step =
       after_step old core now (old.view.log ++ entries_of core (first_word old.view local) copy.block taken)
       old.stats (old.pending - length taken) old.room in
@@ -114,8 +116,8 @@ module _ (old : PartsView) (local : Local) (channel : Channel) (new : PartsView)
       let went : Keeps step =
       keeps-settled old core now local copy.block (first_word old.view local) taken known after.1 after.2
       (first (line_at old.view.lines local).0)
-      (ap (λ (c : CacheCopy). tags_after side.tags (length old.view.log) (performed_in c.state targets))
-      (put-there side local copy sound held)) refl keeps in
+      (ap (λ (c : CacheCopy). tags_after cache.tags (length old.view.log) (performed_in c.state targets))
+      (put-there cache local copy sound held)) refl keeps in
       subst Keeps (sym after.3)
       (keeps-ring _ _
       (keeps-posted step (after_settling old.view local core channel copy misses) (after_message old.stats channel) refl
@@ -139,15 +141,15 @@ keeps-plan plan old local channel answer new sound = by plan
     keeps = keeps-from_sound old sound
 
     known : (other : Delivery Transition) → plan_of old.view local channel ≡ other → is_for_copy other ≡ true
-        → (core_of channel).0 < length old.view.sides
+        → (core_of channel).0 < length old.view.caches
     known other is copies =
         planned-core old.view local sound.counted.shaped channel (ap is_for_copy is ∙ copies)
 
-    held : (other : Delivery Transition) (place : ℕ) → plan_of old.view local channel ≡ other → place_in other ≡ Some place
-        → IsSome (array_at (side_at old.view (core_of channel)).array local)
-    held other place is found =
-        held-at_place (side_at old.view (core_of channel)) local place
-        (planned-place old.view local channel place (ap place_in is ∙ found))
+    held : (other : Delivery Transition) (way : ℕ) → plan_of old.view local channel ≡ other → way_in other ≡ Some way
+        → IsSome (array_at (cache_at old.view (core_of channel)).array local)
+    held other way is found =
+        held-at_way (cache_at old.view (core_of channel)) local way
+        (planned-way old.view local channel way (ap way_in is ∙ found))
 
     by : (other : Delivery Transition) → plan_of old.view local channel ≡ other → AfterPlan other old local channel answer new
         → Keeps new
@@ -172,15 +174,17 @@ keeps-plan plan old local channel answer new sound = by plan
         (known (forwarded_move step.next step.sends step.requester) is refl) after.1
     by (deliveries.Moved (transitions.Fill step)) is after =
         let core = core_of channel in
-        let there = known (fill_move step.place step.next) is refl in
+        let there = known (fill_move step.way step.next) is refl in
         settled old local channel new keeps core
-        (filled_by (array_copy (side_at old.view core) local) (core_at (channels_at old.view local) core.0).data step.next)
-        there (sound.links.kept core there).array (held (fill_move step.place step.next) step.place is refl) after.1
+        (filled_by (array_copy (cache_at old.view core) local) (core_at (channels_at old.view local) core.0).data
+        step.next)
+        there (sound.links.kept core there).array (held (fill_move step.way step.next) step.way is refl) after.1
     by (deliveries.Moved (transitions.Acknowledge step)) is after =
         let core = core_of channel in
-        let there = known (ack_move step.place step.next) is refl in
-        settled old local channel new keeps core (acknowledged (array_copy (side_at old.view core) local) step.next) there
-        (sound.links.kept core there).array (held (ack_move step.place step.next) step.place is refl) after.1
+        let there = known (ack_move step.way step.next) is refl in
+        settled old local channel new keeps core (copy_after_ack (array_copy (cache_at old.view core) local) step.next)
+            there
+        (sound.links.kept core there).array (held (ack_move step.way step.next) step.way is refl) after.1
 
 -- ---- the calls
 

@@ -4,21 +4,21 @@ use Rattle.address_map.specs.Locator.{local_at}
 use Rattle.address_map.specs.declared.address.CoreId.{CoreId}
 use Rattle.address_map.specs.declared.address.LineAddr.{LineAddr}
 use Rattle.address_map.specs.declared.address.Local.{Local}
-use Rattle.slice_core_answer.specs.Stats.{after_eviction}
-use Rattle.slice_core_answer.specs.declared.answer.Evicted.{Evicted}
-use Rattle.slice_core_answer.specs.declared.answer.Evicted.TheVariants as evictions
+use Rattle.slice_answer.specs.Stats.{after_eviction}
+use Rattle.slice_answer.specs.declared.answer.Evicted.{Evicted}
+use Rattle.slice_answer.specs.declared.answer.Evicted.TheVariants as evictions
 use Rattle.slice_core_plan.specs.Calls.{PartsView, AfterEvict}
 use Rattle.slice_core_plan.specs.Steps.{after_evict}
-use Rattle.slice_core_plan.specs.View.{side_at}
-use Rattle.slice_core_side.specs.Access.{evicted_of}
-use Rattle.slice_core_side.specs.Side.{array_copy}
-use Rattle.slice_core_side.specs.Steps as sides
+use Rattle.slice_core_plan.specs.View.{cache_at}
+use Rattle.slice_core_cache.specs.Access.{evicted_of}
+use Rattle.slice_core_cache.specs.CoreCache.{array_copy}
+use Rattle.slice_core_cache.specs.Steps as caches
 use Rattle.slice_core.proofs.AccountsIssue.{keeps-leaving}
 use Rattle.slice_core.proofs.AccountsKept.{Keeps, keeps-ring}
 use Rattle.slice_queues.specs.Ring.{with_listed}
 
 module _ (old : PartsView) (core : CoreId) (line : LineAddr) (answer : Evicted) (new : PartsView)
-    (keeps : Keeps old) (known : core.0 < length old.view.sides) where
+    (keeps : Keeps old) (known : core.0 < length old.view.caches) where
   -- what is left of the slice, by the answer
   abbrev by_answer : Local → Evicted → Type 0
   by_answer local evictions.Evicting =
@@ -33,14 +33,14 @@ module _ (old : PartsView) (core : CoreId) (line : LineAddr) (answer : Evicted) 
   -- what an eviction answers and leaves, by the line's place
   abbrev by_line : Option Local → Type 0
   by_line None = (answer ≡ evictions.NotHeld) × (new ≡ old)
-  by_line (Some local) = (answer ≡ evicted_of (side_at old.view core) local) × by_answer local answer
+  by_line (Some local) = (answer ≡ evicted_of (cache_at old.view core) local) × by_answer local answer
 
   answered : (local : Local) (given : Evicted) → by_answer local given → Keeps new
   answered local evictions.Evicting after =
-      let side = side_at old.view core in
+      let cache = cache_at old.view core in
       subst Keeps (sym after)
       (keeps-ring _ _
-      (keeps-leaving old core (sides.after_evict side local) local (sides.put_of (array_copy side local)) known
+      (keeps-leaving old core (caches.after_evict cache local) local (caches.put_of (array_copy cache local)) known
       (record { misses = refl; tags = refl; accepted = refl }) keeps))
   answered local evictions.Busy after = subst Keeps (sym after) keeps
   answered local evictions.NotHeld after = subst Keeps (sym after) keeps

@@ -5,21 +5,21 @@ use Rattle.std.proofs.lemmas.Bool.{cases_lt, le-ltb}
 use Rattle.std.proofs.lemmas.List.{get_or_past}
 use Rattle.std.proofs.lemmas.Option.{get_or_from_slice_get}
 use Rattle.address_map.specs.declared.address.CoreId.{CoreId}
-use Rattle.slice_core_log.specs.Log.{IsOrdered}
-use Rattle.slice_core_log.specs.declared.entry.Entry.{Entry}
-use Rattle.slice_core_log.specs.declared.entry.Numbered.{Numbered}
+use Rattle.slice_core_cache.specs.CoreCache.{CoreCacheView}
 use Rattle.slice_core_plan.specs.Calls.{PartsView, AfterHand}
-use Rattle.slice_core_plan.specs.View.{View, no_side, side_at}
-use Rattle.slice_core_side.specs.Side.{SideView}
+use Rattle.slice_core_plan.specs.View.{View, no_cache, cache_at}
 use Rattle.slice_core_standing.proofs.Grown.{no_entry-standings}
 use Rattle.slice_core_standing.specs.Standing.{standings}
+use Rattle.slice_log.specs.Log.{IsOrdered}
+use Rattle.slice_log.specs.declared.entry.Entry.{Entry}
+use Rattle.slice_log.specs.declared.entry.Numbered.{Numbered}
 use Rattle.slice_core.proofs.LinksSettling.{waits-held}
 use Rattle.slice_core.specs.Facts.{CountsAccepted, HasOneRegister, TagsName, IsStanding}
 use Rattle.slice_core.specs.Sound.{HasAccounts, HasLinks, IsSound}
 
 -- A core that isn't there has nothing.
-pub side-missing : (v : View) (core : CoreId) → length v.sides ≤ core.0 → side_at v core ≡ no_side
-side-missing v core past = get_or_past v.sides core.0 no_side past
+pub cache-missing : (v : View) (core : CoreId) → length v.caches ≤ core.0 → cache_at v core ≡ no_cache
+cache-missing v core past = get_or_past v.caches core.0 no_cache past
 
 abbrev one_if : Bool → ℕ
 one_if b = if b then 1 else 0
@@ -29,18 +29,18 @@ pub standing-from_accounts : (v : View) → HasAccounts v → IsStanding v
 standing-from_accounts v has = record {
   once = λ core seq.
       ⊎_elim (λ known. (has.accounts core known).standing.once seq) (λ past. missing core seq past)
-      (cases_lt core.0 (length v.sides));
+      (cases_lt core.0 (length v.caches));
 }
   where
     none : (seq : ℕ) → one_if (nat_lt seq 0) ≡ 0
     none seq = let not_below = le-ltb seq 0 (omega arith) in rw not_below refl
 
-    missing : (core : CoreId) (seq : ℕ) → length v.sides ≤ core.0
-        → standings (side_at v core).misses v.log core.0 seq ≡ one_if (nat_lt seq (side_at v core).accepted)
+    missing : (core : CoreId) (seq : ℕ) → length v.caches ≤ core.0
+        → standings (cache_at v core).misses v.log core.0 seq ≡ one_if (nat_lt seq (cache_at v core).accepted)
     missing core seq past =
-        ap (λ (s : SideView). standings s.misses v.log core.0 seq) (side-missing v core past)
+        ap (λ (s : CoreCacheView). standings s.misses v.log core.0 seq) (cache-missing v core past)
         ∙ no_entry-standings core.0 seq v.log (has.absent core.0 past) ∙ sym (none seq)
-        ∙ ap (λ (s : SideView). one_if (nat_lt seq s.accepted)) (sym (side-missing v core past))
+        ∙ ap (λ (s : CoreCacheView). one_if (nat_lt seq s.accepted)) (sym (cache-missing v core past))
 
 pub tags-from_accounts : (v : View) → HasAccounts v → TagsName v
 tags-from_accounts v has = record {
@@ -54,7 +54,7 @@ registers-from v has links = record {
   waits = links.waits;
   own = λ core local known missed.
       links.own core local known
-      (waits-held (side_at v core) local (links.kept core known) (links.waits core local known ∙ missed));
+      (waits-held (cache_at v core) local (links.kept core known) (links.waits core local known ∙ missed));
 }
 
 module _ (p : PartsView) (sound : IsSound p) where
@@ -74,7 +74,7 @@ module _ (p : PartsView) (sound : IsSound p) where
   counted = sound.counted.accepted
 
   -- What is handed out to a core is an entry that it asked for.
-  pub handed-core : (core : CoreId) (answer : Option Numbered) (new : PartsView) → core.0 < length p.view.sides
+  pub handed-core : (core : CoreId) (answer : Option Numbered) (new : PartsView) → core.0 < length p.view.caches
       → AfterHand p core answer new → IfSome answer (λ (given : Numbered). given.entry.core ≡ core)
   handed-core core None new known after = tt
   handed-core core (Some given) new known after =

@@ -4,8 +4,8 @@ use Rattle.address_map.specs.Locator.{line_at, local_at}
 use Rattle.address_map.specs.Place.{line_of as line_of_word}
 use Rattle.address_map.specs.declared.address.Local.{Local}
 use Rattle.address_map.specs.declared.address.WordAddr.{WordAddr}
-use Rattle.slice_core_answer.specs.declared.answer.Cell.{Cell}
-use Rattle.slice_core_answer.specs.declared.answer.Delivered.{Delivered}
+use Rattle.slice_answer.specs.declared.answer.Cell.{Cell}
+use Rattle.slice_answer.specs.declared.answer.Delivered.{Delivered}
 use Rattle.slice_core_coherence.proofs.KeptByCalls.{located}
 use Rattle.slice_core_coherence.specs.Whole.{IsAddressed, IsWhole}
 use Rattle.slice_core_coherence.proofs.Bounded as bounds
@@ -22,14 +22,14 @@ use Rattle.slice_core_coherence.proofs.BlocksAccesses.{word_of_line}
 use Rattle.slice_core_coherence.proofs.BlocksCalls.{line_located}
 use Rattle.slice_core_coherence.proofs.Current.{newest, reached_without}
 use Rattle.slice_core_coherence.proofs.QuietNewest.{quiet_newest}
-use Rattle.slice_core_log.specs.Log.{initially, value}
+use Rattle.slice_log.specs.Log.{initially, value}
 use Rattle.slice_core.specs.Sound.{IsSound}
 use Rattle.slice_queues_message.specs.Pick.{channel_of, line_of}
 use Rattle.slice_queues_message.specs.declared.channel.Channel.{Channel}
 use Rattle.slice_queues_message.specs.declared.channel.Class.{Class}
 use Rattle.slice_queues_message.specs.declared.channel.Pick.{Pick}
-use Rattle.slice_core_answer.specs.declared.answer.Delivery.TheVariants as deliveries
-use Rattle.slice_core_answer.specs.declared.answer.Delivery.{Delivery}
+use Rattle.slice_answer.specs.declared.answer.Delivery.TheVariants as deliveries
+use Rattle.slice_answer.specs.declared.answer.Delivery.{Delivery}
 use Rattle.slice_core_plan.specs.declared.transition.Transition.{Transition}
 
 -- What a sound slice is at its outside.

@@ -16,14 +16,14 @@ use Rattle.mshr_file.specs.declared.registers.Register.{Register}
 use Rattle.mshr_file.proofs.LinesWaited.{register_waits}
 use Rattle.slice_core.proofs.AccountsFacts.{registers}
 use Rattle.slice_core.specs.Sound.{IsSound}
+use Rattle.slice_core_cache.specs.declared.copy.CacheCopy.{CacheCopy}
 use Rattle.slice_core_plan.specs.Parts.{PartsView}
-use Rattle.slice_core_plan.specs.View.{side_at}
-use Rattle.slice_core_side.specs.declared.copy.CacheCopy.{CacheCopy}
+use Rattle.slice_core_plan.specs.View.{cache_at}
 use Rattle.slice_core_steps.specs.CoreLines.{places_of, set_of}
 use Rattle.slice_core_steps.specs.declared.core_lines.CoreLines.{CoreLines}
-use Rattle.slice_core_steps.specs.declared.core_lines.CoreLines.TheVariants as which
+use Rattle.slice_core_steps.specs.declared.core_lines.CoreLines.TheVariants as core_lineses
 use Rattle.writeback_buffer.specs.Buffer.{held_at as buffer_at, is_of}
-use Rattle.writeback_buffer.specs.declared.entry.Entry.{Entry}
+use Rattle.writeback_buffer.specs.declared.pending.PendingWriteBack.{PendingWriteBack}
 
 -- what holds of each element's line holds of each line
 each : {X : Type 0} (P : Local → Type 0) (line_in : X → Local) (xs : List X)
@@ -34,30 +34,33 @@ each P line_in (x ∷ xs) holds =
     (each P line_in xs (λ place other at. holds (suc place) other at))
 
 -- the line of each entry is found in the buffer
-entry_held : (entries : List Entry) (place : ℕ) (entry : Entry) → slice_get entries place ≡ Some entry
+entry_held : (entries : List PendingWriteBack) (place : ℕ) (entry : PendingWriteBack) → slice_get entries place
+    ≡ Some entry
     → IsSome (buffer_at entries entry.line.0)
 entry_held [] place entry at = (cc)
 entry_held (first ∷ rest) zero entry at =
     let same : first ≡ entry = (cc) in
-    let is : is_of entry.line.0 first ≡ true = eq-eqb first.line.0 entry.line.0 (ap (λ (e : Entry). e.line.0) same) in
+    let is : is_of entry.line.0 first ≡ true =
+        eq-eqb first.line.0 entry.line.0 (ap (λ (e : PendingWriteBack). e.line.0) same) in
     rw is refl
 entry_held (first ∷ rest) (suc place) entry at =
     ⊎_elim (λ here. rw here refl) (λ elsewhere. rw elsewhere (entry_held rest place entry at))
     (cases_Bool (is_of entry.line.0 first))
 
-module _ (p : PartsView) (sound : IsSound p) (core : CoreId) (known : core.0 < length p.view.sides) where
+module _ (p : PartsView) (sound : IsSound p) (core : CoreId) (known : core.0 < length p.view.caches) where
   in_set : (line : Option Local) → All (λ local. local.0 < p.view.lines.lines) (set_of p.view core line)
   in_set None = All-nil _
-  in_set (Some local) = each _ (λ (slot : Slot CacheCopy). slot.line) (slots_at (side_at p.view core).array local)
+  in_set (Some local) = each _ (λ (slot : Slot CacheCopy). slot.line) (slots_at (cache_at p.view core).array local)
       (λ place slot at.
-      let held = (slot_held (side_at p.view core).array local place slot (sound.links.kept core known).array at).1 in
+      let held = (slot_held (cache_at p.view core).array local place slot (sound.links.kept core known).array at).1 in
       sound.links.own core slot.line known (ap is_some held))
 
   pub own_places : (lines : CoreLines) → All (λ local. local.0 < p.view.lines.lines) (places_of p.view core lines)
-  own_places which.Waiting = each _ (λ (register : Register). register.line) (side_at p.view core).misses
+  own_places core_lineses.Waiting = each _ (λ (register : Register). register.line) (cache_at p.view core).misses
       (λ place register at. (registers p sound).own core register.line known
-      (register_waits (side_at p.view core).misses place register ((registers p sound).single core known) at))
-  own_places which.Leaving = each _ (λ (entry : Entry). entry.line) (side_at p.view core).buffer.entries
+      (register_waits (cache_at p.view core).misses place register ((registers p sound).single core known) at))
+  own_places core_lineses.Leaving =
+      each _ (λ (entry : PendingWriteBack). entry.line) (cache_at p.view core).buffer.write_backs
       (λ place entry at. sound.links.leaves core entry.line known
-      (entry_held (side_at p.view core).buffer.entries place entry at))
-  own_places (which.InSetOf line) = in_set (local_at p.view.lines line.0)
+      (entry_held (cache_at p.view core).buffer.write_backs place entry at))
+  own_places (core_lineses.InSetOf line) = in_set (local_at p.view.lines line.0)

@@ -6,7 +6,7 @@ use Rattle.address_map.specs.CoreSet.{has}
 use Rattle.address_map.specs.declared.address.CoreId.{CoreId}
 use Rattle.address_map.specs.declared.block.Block.{Block}
 use Rattle.cache_table.specs.declared.row.CacheSends.{CacheSends}
-use Rattle.cache_table.specs.declared.row.CacheSends.TheVariants as sends
+use Rattle.cache_table.specs.declared.row.CacheSends.TheVariants as cache_sends
 use Rattle.directory_table.specs.declared.row.DirSends.{DirSends}
 use Rattle.directory_table.specs.declared.row.DirSends.TheVariants as dir_sends
 use Rattle.slice_core_plan.specs.Sends.{cache_sent, directory_sent}
@@ -15,11 +15,11 @@ use Rattle.slice_queues.specs.Line.{LineChannels, after_invalidating, after_send
 use Rattle.slice_queues.specs.Line.{with_invalidation}
 use Rattle.slice_queues_message.specs.declared.channel.Channel.{Channel}
 use Rattle.slice_queues_message.specs.declared.channel.Channel.TheVariants as channels
-use Rattle.slice_queues_message.specs.declared.message.DataMessage.TheVariants as replies
-use Rattle.slice_queues_message.specs.declared.message.ForwardedMessage.TheVariants as forwards
+use Rattle.slice_queues_message.specs.declared.message.DataMessage.TheVariants as data_messages
+use Rattle.slice_queues_message.specs.declared.message.ForwardedMessage.TheVariants as forwarded_messages
 use Rattle.slice_queues_message.specs.declared.message.Message.{Message}
 use Rattle.slice_queues_message.specs.declared.message.Message.TheVariants as messages
-use Rattle.slice_queues_message.specs.declared.message.RequestMessage.TheVariants as requests
+use Rattle.slice_queues_message.specs.declared.message.RequestMessage.TheVariants as request_messages
 
 pub cores-sent : (line : LineChannels) (channel : Channel) (message : Message)
     → length (after_send line channel message).cores ≡ length line.cores
@@ -48,33 +48,33 @@ pub cores-directory : (line : LineChannels) (core : CoreId) (block : Block) (sen
     → length (directory_sent line core block sent).cores ≡ length line.cores
 cores-directory line core block dir_sends.Nothing = refl
 cores-directory line core block (dir_sends.Data acks) =
-    cores-sent line (channels.Data core) (messages.Data (replies.Data block acks))
+    cores-sent line (channels.Data core) (messages.Data (data_messages.Data block acks))
 cores-directory line core block dir_sends.DataE =
-    cores-sent line (channels.Data core) (messages.Data (replies.DataE block))
+    cores-sent line (channels.Data core) (messages.Data (data_messages.DataE block))
 cores-directory line core block (dir_sends.DataAndInv acks invalidated) =
-    let reply = messages.Data (replies.Data block acks) in
+    let reply = messages.Data (data_messages.Data block acks) in
     cores-invalidated (after_send line (channels.Data core) reply) invalidated core
     ∙ cores-sent line (channels.Data core) reply
 cores-directory line core block (dir_sends.FwdGetS owner) =
-    cores-sent line (channels.Fwd owner) (messages.Forwarded (forwards.FwdGetS core))
+    cores-sent line (channels.Fwd owner) (messages.Forwarded (forwarded_messages.FwdGetS core))
 cores-directory line core block (dir_sends.FwdGetM owner) =
-    cores-sent line (channels.Fwd owner) (messages.Forwarded (forwards.FwdGetM core))
+    cores-sent line (channels.Fwd owner) (messages.Forwarded (forwarded_messages.FwdGetM core))
 cores-directory line core block dir_sends.PutAck =
-    cores-sent line (channels.Fwd core) (messages.Forwarded forwards.PutAck)
+    cores-sent line (channels.Fwd core) (messages.Forwarded forwarded_messages.PutAck)
 
 pub cores-cache : (line : LineChannels) (core requester : CoreId) (block : Block) (sent : CacheSends)
     → length (cache_sent line core requester block sent).cores ≡ length line.cores
-cores-cache line core requester block sends.DataToRequester =
-    cores-sent line (channels.Data requester) (messages.Data (replies.Data block 0))
-cores-cache line core requester block sends.DataToRequesterAndHome =
-    let reply = messages.Data (replies.Data block 0) in
+cores-cache line core requester block cache_sends.DataToRequester =
+    cores-sent line (channels.Data requester) (messages.Data (data_messages.Data block 0))
+cores-cache line core requester block cache_sends.DataToRequesterAndHome =
+    let reply = messages.Data (data_messages.Data block 0) in
     cores-sent (after_send line (channels.Data requester) reply) channels.Home (messages.Home block)
     ∙ cores-sent line (channels.Data requester) reply
-cores-cache line core requester block sends.InvAckToRequester =
+cores-cache line core requester block cache_sends.InvAckToRequester =
     cores-sent line (channels.Ack requester core) messages.InvAck
 cores-cache line core requester block sent = refl
 
 pub cores-asked : (asks : Bool) (line : LineChannels) (core : CoreId)
     → length (asked_by asks line core).cores ≡ length line.cores
-cores-asked true line core = cores-sent line (channels.Req core) (messages.Request requests.GetM)
+cores-asked true line core = cores-sent line (channels.Req core) (messages.Request request_messages.GetM)
 cores-asked false line core = refl

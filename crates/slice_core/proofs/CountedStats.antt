@@ -4,29 +4,29 @@ use Rattle.std.proofs.lemmas.Bool.{cases_eq}
 use Rattle.std.proofs.lemmas.List.{get_or-set_other, get_or-set_same, length-set}
 use Rattle.std.proofs.lemmas.List.Sums.{count_by-le-length, get_or-le-sum_by}
 use Rattle.address_map.specs.declared.address.CoreId.{CoreId}
-use Rattle.slice_core_answer.specs.Stats.{accepted_of, after_eviction, after_hit, after_message, after_primary}
-use Rattle.slice_core_answer.specs.Stats.{after_secondary, after_stall, counted, counts_of, no_counts, with_counts}
-use Rattle.slice_core_answer.specs.declared.answer.Stall.{Stall}
-use Rattle.slice_core_answer.specs.declared.stats.CoreStats.{CoreStats}
+use Rattle.slice_answer.specs.Stats.{accepted_of, after_eviction, after_hit, after_message, after_primary}
+use Rattle.slice_answer.specs.Stats.{after_secondary, after_stall, next_count, counts_of, no_counts, with_counts}
+use Rattle.slice_answer.specs.declared.answer.Stall.{Stall}
+use Rattle.slice_answer.specs.declared.stats.CoreStats.{CoreStats}
 use Rattle.slice_core_plan.specs.Calls.{PartsView}
-use Rattle.slice_core_plan.specs.View.{no_side, side_at}
-use Rattle.slice_core_side.specs.Side.{SideView}
-use Rattle.slice_core_standing.specs.Standing.{is_of, waiting}
+use Rattle.slice_core_plan.specs.View.{no_cache, cache_at}
+use Rattle.slice_core_cache.specs.CoreCache.{CoreCacheView}
+use Rattle.slice_core_standing.specs.Standing.{is_of, target_count}
 use Rattle.slice_core.proofs.CountedSteps.{Counts, CountsSame}
 use Rattle.slice_core.specs.Sound.{HasAccounts, HasFittingCounts}
 use Rattle.slice_queues_message.specs.declared.channel.Channel.{Channel}
 
 -- No more targets wait for a core than wait in all.
-pub waiting-within : (p : PartsView) (core : CoreId) → HasFittingCounts p → core.0 < length p.view.sides
-    → waiting (side_at p.view core).misses ≤ p.pending
+pub waiting-within : (p : PartsView) (core : CoreId) → HasFittingCounts p → core.0 < length p.view.caches
+    → target_count (cache_at p.view core).misses ≤ p.pending
 waiting-within p core c known =
-    let one = get_or-le-sum_by (λ (s : SideView). waiting s.misses) p.view.sides core.0 no_side known in
+    let one = get_or-le-sum_by (λ (s : CoreCacheView). target_count s.misses) p.view.caches core.0 no_cache known in
     let all = c.pending in
     omega (arith, one, all)
 
 -- What a core had accepted waits or was performed, so there was room for it.
 pub accepted-within : (p : PartsView) (core : CoreId) → HasFittingCounts p → HasAccounts p.view
-    → core.0 < length p.view.sides → (side_at p.view core).accepted < 2 ^ 63
+    → core.0 < length p.view.caches → (cache_at p.view core).accepted < 2 ^ 63
 accepted-within p core c has known =
     let all = (has.accounts core known).standing.counted in
     let wait = waiting-within p core c known in
@@ -45,7 +45,7 @@ counts-with p core counts accepted known are = record {
 }
 
 -- A number below 2 ^ 63 is counted on.
-counted-on : (n : ℕ) → n < 2 ^ 63 → counted n ≡ n + 1
+counted-on : (n : ℕ) → n < 2 ^ 63 → next_count n ≡ n + 1
 counted-on n small = omega (arith, small)
 
 module _ (p : PartsView) (core : CoreId) (known : core.0 < length p.stats.cores) (accepted : ℕ)
@@ -65,7 +65,7 @@ module _ (p : PartsView) (core : CoreId) (known : core.0 < length p.stats.cores)
       (one_more (counts_of p.stats core).hits (counts_of p.stats core).primary (counts_of p.stats core).secondary are)
     where
       one_more : (hits primary secondary : ℕ) → hits + primary + secondary ≡ accepted
-          → counted hits + primary + secondary ≡ accepted + 1
+          → next_count hits + primary + secondary ≡ accepted + 1
       one_more hits primary secondary all =
           let on = counted-on hits (omega (arith, all, small)) in
           omega (arith, all, on)
@@ -76,7 +76,7 @@ module _ (p : PartsView) (core : CoreId) (known : core.0 < length p.stats.cores)
       (one_more (counts_of p.stats core).hits (counts_of p.stats core).primary (counts_of p.stats core).secondary are)
     where
       one_more : (hits primary secondary : ℕ) → hits + primary + secondary ≡ accepted
-          → hits + counted primary + secondary ≡ accepted + 1
+          → hits + next_count primary + secondary ≡ accepted + 1
       one_more hits primary secondary all =
           let on = counted-on primary (omega (arith, all, small)) in
           omega (arith, all, on)
@@ -87,7 +87,7 @@ module _ (p : PartsView) (core : CoreId) (known : core.0 < length p.stats.cores)
       (one_more (counts_of p.stats core).hits (counts_of p.stats core).primary (counts_of p.stats core).secondary are)
     where
       one_more : (hits primary secondary : ℕ) → hits + primary + secondary ≡ accepted
-          → hits + primary + counted secondary ≡ accepted + 1
+          → hits + primary + next_count secondary ≡ accepted + 1
       one_more hits primary secondary all =
           let on = counted-on secondary (omega (arith, all, small)) in
           omega (arith, all, on)

@@ -7,35 +7,35 @@ use Rattle.std.proofs.lemmas.List.Sums.{sum_by-set}
 use Rattle.address_map.specs.declared.address.CoreId.{CoreId}
 use Rattle.address_map.specs.declared.address.Local.{Local}
 use Rattle.directory_table.specs.declared.state.DirEntry.{DirEntry}
-use Rattle.slice_core_answer.specs.Stats.{StatsView, accepted_of, counts_of}
-use Rattle.slice_core_log.specs.declared.entry.Entry.{Entry}
+use Rattle.slice_answer.specs.Stats.{StatsView, accepted_of, counts_of}
+use Rattle.slice_log.specs.declared.entry.Entry.{Entry}
 use Rattle.slice_core_plan.specs.Calls.{PartsView}
-use Rattle.slice_core_plan.specs.View.{View, channels_at, no_side, side_at, with_channels, with_entry, with_side}
+use Rattle.slice_core_plan.specs.View.{View, channels_at, no_cache, cache_at, with_channels, with_entry, with_cache}
 use Rattle.slice_core_plan.specs.View.{IsShaped}
-use Rattle.slice_core_side.specs.Side.{SideView}
-use Rattle.slice_core_standing.specs.Standing.{waiting}
+use Rattle.slice_core_cache.specs.CoreCache.{CoreCacheView}
+use Rattle.slice_core_standing.specs.Standing.{target_count}
 use Rattle.slice_core.specs.Sound.{HasFittingCounts}
 use Rattle.slice_queues.specs.Line.{LineChannels, empty_line}
 
--- ---- one core's side
+-- ---- one core's cache
 
-module _ (v : View) (core : CoreId) (side : SideView) (known : core.0 < length v.sides) where
-  -- A core's new side is what is found there.
-  pub side-here : (other : CoreId) → other.0 ≡ core.0 → side_at (with_side v core side) other ≡ side
-  side-here other same =
-      ap (λ n. get_or (slice_set v.sides core.0 side) n no_side) same
-      ∙ get_or-set_same v.sides core.0 side no_side known
+module _ (v : View) (core : CoreId) (cache : CoreCacheView) (known : core.0 < length v.caches) where
+  -- A core's new cache is what is found there.
+  pub cache-here : (other : CoreId) → other.0 ≡ core.0 → cache_at (with_cache v core cache) other ≡ cache
+  cache-here other same =
+      ap (λ n. get_or (slice_set v.caches core.0 cache) n no_cache) same
+      ∙ get_or-set_same v.caches core.0 cache no_cache known
 
   -- Another core has what it had.
-  pub side-there : (other : CoreId) → other.0 ≢ core.0 → side_at (with_side v core side) other ≡ side_at v other
-  side-there other apart = get_or-set_other v.sides core.0 other.0 side no_side apart
+  pub cache-there : (other : CoreId) → other.0 ≢ core.0 → cache_at (with_cache v core cache) other ≡ cache_at v other
+  cache-there other apart = get_or-set_other v.caches core.0 other.0 cache no_cache apart
 
 -- ---- a step of one core
 
--- the slice after a step of one core: its side, what was performed, and what is counted of it
-abbrev pub after_step : PartsView → CoreId → SideView → List Entry → StatsView → ℕ → ℕ → PartsView
-after_step p core side log stats pending room = record p {
-  view = record (with_side p.view core side) { log = log };
+-- the slice after a step of one core: its cache, what was performed, and what is counted of it
+abbrev pub after_step : PartsView → CoreId → CoreCacheView → List Entry → StatsView → ℕ → ℕ → PartsView
+after_step p core cache log stats pending room = record p {
+  view = record (with_cache p.view core cache) { log = log };
   stats = stats;
   pending = pending;
   room = room;
@@ -49,13 +49,13 @@ pub record Counts (p : PartsView) (core : CoreId) (accepted : ℕ) (stats : Stat
       → accepted_of (counts_of stats other) ≡ accepted_of (counts_of p.stats other)
 
 -- A core's step leaves the counts right where as many wait as wait in its registers, and the log has room for them.
-pub counted-step : (p : PartsView) (core : CoreId) (side : SideView) (log : List Entry) (stats : StatsView)
+pub counted-step : (p : PartsView) (core : CoreId) (cache : CoreCacheView) (log : List Entry) (stats : StatsView)
     (pending room : ℕ)
-    → HasFittingCounts p → core.0 < length p.view.sides
-    → pending + waiting (side_at p.view core).misses ≡ p.pending + waiting side.misses
-    → length log + pending ≤ room → room < 2 ^ 63 → Counts p core side.accepted stats
-    → HasFittingCounts (after_step p core side log stats pending room)
-counted-step p core side log stats pending room c known waits fits bounded counts = record {
+    → HasFittingCounts p → core.0 < length p.view.caches
+    → pending + target_count (cache_at p.view core).misses ≡ p.pending + target_count cache.misses
+    → length log + pending ≤ room → room < 2 ^ 63 → Counts p core cache.accepted stats
+    → HasFittingCounts (after_step p core cache log stats pending room)
+counted-step p core cache log stats pending room c known waits fits bounded counts = record {
   shaped = record {
     entries = c.shaped.entries;
     lines = c.shaped.lines;
@@ -67,27 +67,27 @@ counted-step p core side log stats pending room c known waits fits bounded count
   stats = counts.sized ∙ c.stats ∙ sym long;
   pending =
       let before = c.pending in
-      let sums = sum_by-set (λ (s : SideView). waiting s.misses) p.view.sides core.0 side no_side known in
+      let sums = sum_by-set (λ (s : CoreCacheView). target_count s.misses) p.view.caches core.0 cache no_cache known in
       omega (arith, before, sums, waits);
   room = fits;
   bounded = bounded;
   accepted = λ other inside. ⊎_elim (here other) (there other (omega (arith, inside, long))) (cases_eq other.0 core.0);
 }
   where
-    long : length (slice_set p.view.sides core.0 side) ≡ length p.view.sides
-    long = length-set p.view.sides core.0 side
+    long : length (slice_set p.view.caches core.0 cache) ≡ length p.view.caches
+    long = length-set p.view.caches core.0 cache
 
     here : (other : CoreId) → other.0 ≡ core.0
-        → accepted_of (counts_of stats other) ≡ (side_at (with_side p.view core side) other).accepted
+        → accepted_of (counts_of stats other) ≡ (cache_at (with_cache p.view core cache) other).accepted
     here other same =
         ap (λ n. accepted_of (counts_of stats (record { 0 = n }))) same ∙ counts.here
-        ∙ sym (ap (λ (s : SideView). s.accepted) (side-here p.view core side known other same))
+        ∙ sym (ap (λ (s : CoreCacheView). s.accepted) (cache-here p.view core cache known other same))
 
-    there : (other : CoreId) → other.0 < length p.view.sides → other.0 ≢ core.0
-        → accepted_of (counts_of stats other) ≡ (side_at (with_side p.view core side) other).accepted
+    there : (other : CoreId) → other.0 < length p.view.caches → other.0 ≢ core.0
+        → accepted_of (counts_of stats other) ≡ (cache_at (with_cache p.view core cache) other).accepted
     there other inside apart =
         counts.others other apart ∙ c.accepted other inside
-        ∙ sym (ap (λ (s : SideView). s.accepted) (side-there p.view core side known other apart))
+        ∙ sym (ap (λ (s : CoreCacheView). s.accepted) (cache-there p.view core cache known other apart))
 
 -- ---- channels and entries of a line
 
@@ -102,7 +102,7 @@ shaped-channels v local line sized shaped = record {
 }
   where
     here : (other : Local) → other.0 < v.lines.lines → other.0 ≡ local.0
-        → length (channels_at (with_channels v local line) other).cores ≡ length v.sides
+        → length (channels_at (with_channels v local line) other).cores ≡ length v.caches
     here other inside same =
         let all = shaped.lines in
         ap (λ n. length (get_or (slice_set v.channels local.0 line) n (empty_line 0)).cores) same
@@ -111,7 +111,7 @@ shaped-channels v local line sized shaped = record {
         ∙ sized ∙ shaped.cores local (omega (arith, inside, same))
 
     there : (other : Local) → other.0 < v.lines.lines → other.0 ≢ local.0
-        → length (channels_at (with_channels v local line) other).cores ≡ length v.sides
+        → length (channels_at (with_channels v local line) other).cores ≡ length v.caches
     there other inside apart =
         ap (λ (l : LineChannels). length l.cores)
         (get_or-set_other v.channels local.0 other.0 line (empty_line 0) apart) ∙ shaped.cores other inside
@@ -128,19 +128,19 @@ pub record CountsSame (p : PartsView) (stats : StatsView) : Type 0 where
   pub sized : length stats.cores ≡ length p.stats.cores
   pub each : (core : CoreId) → accepted_of (counts_of stats core) ≡ accepted_of (counts_of p.stats core)
 
--- A view with the same sides, log and lines has the same counts then.
+-- A view with the same caches, log and lines has the same counts then.
 pub counted-posted : (p : PartsView) (view : View) (stats : StatsView)
-    → view.lines ≡ p.view.lines → view.sides ≡ p.view.sides → view.log ≡ p.view.log
+    → view.lines ≡ p.view.lines → view.caches ≡ p.view.caches → view.log ≡ p.view.log
     → CountsSame p stats → IsShaped view → HasFittingCounts p
     → HasFittingCounts (record p { view = view; stats = stats })
-counted-posted p view stats lines sides log same shaped c = record {
+counted-posted p view stats lines caches log same shaped c = record {
   shaped = shaped;
   machine = rw lines c.machine;
-  some_core = rw sides c.some_core;
-  cores = rw sides c.cores;
-  stats = rw sides (same.sized ∙ c.stats);
-  pending = rw sides c.pending;
+  some_core = rw caches c.some_core;
+  cores = rw caches c.cores;
+  stats = rw caches (same.sized ∙ c.stats);
+  pending = rw caches c.pending;
   room = rw log c.room;
   bounded = c.bounded;
-  accepted = λ core inside. rw sides (same.each core ∙ c.accepted core (rw sides at inside));
+  accepted = λ core inside. rw caches (same.each core ∙ c.accepted core (rw caches at inside));
 }

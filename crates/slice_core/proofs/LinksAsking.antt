@@ -6,32 +6,33 @@ use Rattle.address_map.specs.declared.block.Block.{Block}
 use Rattle.address_map.specs.declared.request.Op.{Op}
 use Rattle.address_map.specs.declared.request.Op.TheVariants as ops
 use Rattle.cache_table.specs.CopyState.{is_leaving, is_waiting}
-use Rattle.cache_table.specs.Row.{row_of, counted}
-use Rattle.cache_table.specs.declared.row.CacheEvent.TheVariants as events
+use Rattle.cache_table.specs.Row.{row_of, row_by_count}
+use Rattle.cache_table.specs.declared.row.CacheEvent.TheVariants as cache_events
 use Rattle.cache_table.specs.declared.row.CacheSends.{CacheSends}
-use Rattle.cache_table.specs.declared.row.CacheSends.TheVariants as sends
+use Rattle.cache_table.specs.declared.row.CacheSends.TheVariants as cache_sends
 use Rattle.cache_table.specs.declared.row.Row.{Row}
 use Rattle.cache_table.specs.declared.row.Row.TheVariants as rows
 use Rattle.cache_table.specs.declared.state.CopyState.{CopyState}
-use Rattle.cache_table.specs.declared.state.CopyState.TheVariants as states
+use Rattle.cache_table.specs.declared.state.CopyState.TheVariants as copy_states
 use Rattle.slice_core_coherence.proofs.Accesses.{sends_for}
 use Rattle.slice_core_plan.specs.Steps.{request_of}
-use Rattle.slice_core_side.specs.Access.{event_of}
-use Rattle.slice_core_side.specs.Copy.{may_leave}
-use Rattle.slice_core_side.specs.Kept.{stands_in_array}
-use Rattle.slice_core_side.specs.Steps.{next_by, put_by}
-use Rattle.slice_core_side.specs.declared.access.Ask.{Ask}
-use Rattle.slice_core_side.specs.declared.access.Ask.TheVariants as asks
+use Rattle.slice_core_cache.specs.Access.{event_of}
+use Rattle.slice_core_cache.specs.Copy.{may_leave}
+use Rattle.slice_core_cache.specs.Kept.{stands_in_array}
+use Rattle.slice_core_cache.specs.Steps.{next_by, put_by}
+use Rattle.slice_core_cache.specs.declared.access.Ask.{Ask}
+use Rattle.slice_core_cache.specs.declared.access.Ask.TheVariants as asks
 use Rattle.slice_core.specs.Sound.{has_sent}
 use Rattle.slice_queues_message.specs.declared.message.RequestMessage.{RequestMessage}
-use Rattle.slice_queues_message.specs.declared.message.RequestMessage.TheVariants as requests
+use Rattle.slice_queues_message.specs.declared.message.RequestMessage.TheVariants as request_messages
 
 -- ---- tests over all states
 
 unfoldable pub each_state : (CopyState → Bool) → Bool
 each_state p =
-    p states.I && p states.IS_D && p states.IM_AD && p states.IM_A && p states.S && p states.SM_AD && p states.SM_A
-    && p states.M && p states.E && p states.MI_A && p states.SI_A && p states.II_A
+    p copy_states.I && p copy_states.IS_D && p copy_states.IM_AD && p copy_states.IM_A && p copy_states.S
+        && p copy_states.SM_AD && p copy_states.SM_A
+    && p copy_states.M && p copy_states.E && p copy_states.MI_A && p copy_states.SI_A && p copy_states.II_A
 
 pub left : (a b : Bool) → (a && b) ≡ true → a ≡ true
 left a b e = (and_parts a b e).0
@@ -41,24 +42,25 @@ right a b e = (and_parts a b e).1
 
 pub each_state-at : (p : CopyState → Bool) → each_state p ≡ true → (s : CopyState) → p s ≡ true
 unfolding each_state
-each_state-at p e states.I =
+each_state-at p e copy_states.I =
     left _ _ (left _ _ (left _ _
     (left _ _ (left _ _ (left _ _ (left _ _ (left _ _ (left _ _ (left _ _ (left _ _ e))))))))))
-each_state-at p e states.IS_D =
+each_state-at p e copy_states.IS_D =
     right _ _ (left _ _ (left _ _
     (left _ _ (left _ _ (left _ _ (left _ _ (left _ _ (left _ _ (left _ _ (left _ _ e))))))))))
-each_state-at p e states.IM_AD =
+each_state-at p e copy_states.IM_AD =
     right _ _ (left _ _ (left _ _ (left _ _ (left _ _ (left _ _ (left _ _ (left _ _ (left _ _ (left _ _ e)))))))))
-each_state-at p e states.IM_A =
+each_state-at p e copy_states.IM_A =
     right _ _ (left _ _ (left _ _ (left _ _ (left _ _ (left _ _ (left _ _ (left _ _ (left _ _ e))))))))
-each_state-at p e states.S = right _ _ (left _ _ (left _ _ (left _ _ (left _ _ (left _ _ (left _ _ (left _ _ e)))))))
-each_state-at p e states.SM_AD = right _ _ (left _ _ (left _ _ (left _ _ (left _ _ (left _ _ (left _ _ e))))))
-each_state-at p e states.SM_A = right _ _ (left _ _ (left _ _ (left _ _ (left _ _ (left _ _ e)))))
-each_state-at p e states.M = right _ _ (left _ _ (left _ _ (left _ _ (left _ _ e))))
-each_state-at p e states.E = right _ _ (left _ _ (left _ _ (left _ _ e)))
-each_state-at p e states.MI_A = right _ _ (left _ _ (left _ _ e))
-each_state-at p e states.SI_A = right _ _ (left _ _ e)
-each_state-at p e states.II_A = right _ _ e
+each_state-at p e copy_states.S =
+    right _ _ (left _ _ (left _ _ (left _ _ (left _ _ (left _ _ (left _ _ (left _ _ e)))))))
+each_state-at p e copy_states.SM_AD = right _ _ (left _ _ (left _ _ (left _ _ (left _ _ (left _ _ (left _ _ e))))))
+each_state-at p e copy_states.SM_A = right _ _ (left _ _ (left _ _ (left _ _ (left _ _ (left _ _ e)))))
+each_state-at p e copy_states.M = right _ _ (left _ _ (left _ _ (left _ _ (left _ _ e))))
+each_state-at p e copy_states.E = right _ _ (left _ _ (left _ _ (left _ _ e)))
+each_state-at p e copy_states.MI_A = right _ _ (left _ _ (left _ _ e))
+each_state-at p e copy_states.SI_A = right _ _ (left _ _ e)
+each_state-at p e copy_states.II_A = right _ _ e
 
 -- the second where the first holds
 unfoldable pub implies : Bool → Bool → Bool
@@ -95,13 +97,14 @@ unfolding goes_to
 goes_to-at p row next sent passes is = subst (λ r. goes_to p r ≡ true) is passes
 
 pub goes_to-counted : (p : CopyState → CacheSends → Bool) (come n : ℕ) (waits : CopyState) →
-    p states.M sends.Nothing ≡ true →
-    p waits sends.Nothing ≡ true → goes_to p (counted come n waits) ≡ true
+    p copy_states.M cache_sends.Nothing ≡ true →
+    p waits cache_sends.Nothing ≡ true → goes_to p (row_by_count come n waits) ≡ true
 unfolding goes_to
 goes_to-counted p come n waits last more = by (come == n) (nat_lt come n)
   where
     by : (a b : Bool) →
-        goes_to p (if a then rows.Go states.M sends.Nothing else if b then rows.Go waits sends.Nothing else
+        goes_to p (if a then rows.Go copy_states.M cache_sends.Nothing else if b then
+            rows.Go waits cache_sends.Nothing else
         rows.NoEntry) ≡ true
     by true b = last
     by false true = more
@@ -110,15 +113,15 @@ goes_to-counted p come n waits last more = by (come == n) (nat_lt come n)
 -- ---- requests
 
 -- what holds of each kind of request holds of every one
-pub each_request-at : (p : Option RequestMessage → Bool) → p None ≡ true → p (Some requests.GetS) ≡ true →
-    p (Some requests.GetM) ≡ true → p (Some requests.PutS) ≡ true →
-    ((block : Block) → p (Some (requests.PutM block)) ≡ true) →
+pub each_request-at : (p : Option RequestMessage → Bool) → p None ≡ true → p (Some request_messages.GetS) ≡ true →
+    p (Some request_messages.GetM) ≡ true → p (Some request_messages.PutS) ≡ true →
+    ((block : Block) → p (Some (request_messages.PutM block)) ≡ true) →
     (request : Option RequestMessage) → p request ≡ true
 each_request-at p n s m t u None = n
-each_request-at p n s m t u (Some requests.GetS) = s
-each_request-at p n s m t u (Some requests.GetM) = m
-each_request-at p n s m t u (Some requests.PutS) = t
-each_request-at p n s m t u (Some (requests.PutM block)) = u block
+each_request-at p n s m t u (Some request_messages.GetS) = s
+each_request-at p n s m t u (Some request_messages.GetM) = m
+each_request-at p n s m t u (Some request_messages.PutS) = t
+each_request-at p n s m t u (Some (request_messages.PutM block)) = u block
 
 -- nothing is asked for a copy of which nothing is left over
 pub sent-none : (state : CopyState) → has_sent state None ≡ true
@@ -129,32 +132,34 @@ sent-none state = each_state-at (λ s. has_sent s None) refl state
 
 -- the copy stays in the array, waits no more than before, and has sent what it had
 unfoldable hits : CopyState → Option RequestMessage → CopyState → CacheSends → Bool
-hits state request next sends.Nothing =
+hits state request next cache_sends.Nothing =
     (stands_in_array next && agree (is_waiting next) (is_waiting state))
     && implies (has_sent state request) (has_sent next request)
 hits state request next _ = true
 
 hit-load : (state : CopyState) (request : Option RequestMessage) →
-    goes_to (hits state request) (row_of state events.Load) ≡ true
+    goes_to (hits state request) (row_of state cache_events.Load) ≡ true
 unfolding each_state hits goes_to implies agree
 hit-load state =
-    each_request-at (λ r. goes_to (hits state r) (row_of state events.Load))
-    (each_state-at (λ s. goes_to (hits s None) (row_of s events.Load)) refl state)
-    (each_state-at (λ s. goes_to (hits s (Some requests.GetS)) (row_of s events.Load)) refl state)
-    (each_state-at (λ s. goes_to (hits s (Some requests.GetM)) (row_of s events.Load)) refl state)
-    (each_state-at (λ s. goes_to (hits s (Some requests.PutS)) (row_of s events.Load)) refl state)
-    (λ b. each_state-at (λ s. goes_to (hits s (Some (requests.PutM b))) (row_of s events.Load)) refl state)
+    each_request-at (λ r. goes_to (hits state r) (row_of state cache_events.Load))
+    (each_state-at (λ s. goes_to (hits s None) (row_of s cache_events.Load)) refl state)
+    (each_state-at (λ s. goes_to (hits s (Some request_messages.GetS)) (row_of s cache_events.Load)) refl state)
+    (each_state-at (λ s. goes_to (hits s (Some request_messages.GetM)) (row_of s cache_events.Load)) refl state)
+    (each_state-at (λ s. goes_to (hits s (Some request_messages.PutS)) (row_of s cache_events.Load)) refl state)
+    (λ b. each_state-at (λ s. goes_to (hits s (Some (request_messages.PutM b))) (row_of s cache_events.Load)) refl
+    state)
 
 hit-write : (state : CopyState) (request : Option RequestMessage) →
-    goes_to (hits state request) (row_of state events.Write) ≡ true
+    goes_to (hits state request) (row_of state cache_events.Write) ≡ true
 unfolding each_state hits goes_to implies agree
 hit-write state =
-    each_request-at (λ r. goes_to (hits state r) (row_of state events.Write))
-    (each_state-at (λ s. goes_to (hits s None) (row_of s events.Write)) refl state)
-    (each_state-at (λ s. goes_to (hits s (Some requests.GetS)) (row_of s events.Write)) refl state)
-    (each_state-at (λ s. goes_to (hits s (Some requests.GetM)) (row_of s events.Write)) refl state)
-    (each_state-at (λ s. goes_to (hits s (Some requests.PutS)) (row_of s events.Write)) refl state)
-    (λ b. each_state-at (λ s. goes_to (hits s (Some (requests.PutM b))) (row_of s events.Write)) refl state)
+    each_request-at (λ r. goes_to (hits state r) (row_of state cache_events.Write))
+    (each_state-at (λ s. goes_to (hits s None) (row_of s cache_events.Write)) refl state)
+    (each_state-at (λ s. goes_to (hits s (Some request_messages.GetS)) (row_of s cache_events.Write)) refl state)
+    (each_state-at (λ s. goes_to (hits s (Some request_messages.GetM)) (row_of s cache_events.Write)) refl state)
+    (each_state-at (λ s. goes_to (hits s (Some request_messages.PutS)) (row_of s cache_events.Write)) refl state)
+    (λ b. each_state-at (λ s. goes_to (hits s (Some (request_messages.PutM b))) (row_of s cache_events.Write)) refl
+    state)
 
 hit-row : (op : Op) (state : CopyState) (request : Option RequestMessage) →
     goes_to (hits state request) (row_of state (event_of op)) ≡ true
@@ -170,10 +175,10 @@ pub record HitsOn (state next : CopyState) (request : Option RequestMessage) : T
   pub sent : has_sent state request ≡ true → has_sent next request ≡ true
 
 pub hits_on : (op : Op) (state next : CopyState) (request : Option RequestMessage) →
-    row_of state (event_of op) ≡ rows.Go next sends.Nothing → HitsOn state next request
+    row_of state (event_of op) ≡ rows.Go next cache_sends.Nothing → HitsOn state next request
 unfolding hits
 hits_on op state next request is =
-    let all = goes_to-at (hits state request) (row_of state (event_of op)) next sends.Nothing
+    let all = goes_to-at (hits state request) (row_of state (event_of op)) next cache_sends.Nothing
     (hit-row op state request) is in
     let first = left (stands_in_array next && agree (is_waiting next) (is_waiting state))
     (implies (has_sent state request) (has_sent next request)) all in record {
@@ -184,17 +189,17 @@ hits_on op state next request is =
 
 -- the copy waits, and has sent what it asks for
 unfoldable opens : CopyState → CacheSends → Bool
-opens next sends.GetS = (stands_in_array next && is_waiting next) && has_sent next (Some requests.GetS)
-opens next sends.GetM = (stands_in_array next && is_waiting next) && has_sent next (Some requests.GetM)
+opens next cache_sends.GetS = (stands_in_array next && is_waiting next) && has_sent next (Some request_messages.GetS)
+opens next cache_sends.GetM = (stands_in_array next && is_waiting next) && has_sent next (Some request_messages.GetM)
 opens next _ = true
 
-opens-load : (state : CopyState) → goes_to opens (row_of state events.Load) ≡ true
+opens-load : (state : CopyState) → goes_to opens (row_of state cache_events.Load) ≡ true
 unfolding each_state opens goes_to
-opens-load = each_state-at (λ s. goes_to opens (row_of s events.Load)) refl
+opens-load = each_state-at (λ s. goes_to opens (row_of s cache_events.Load)) refl
 
-opens-write : (state : CopyState) → goes_to opens (row_of state events.Write) ≡ true
+opens-write : (state : CopyState) → goes_to opens (row_of state cache_events.Write) ≡ true
 unfolding each_state opens goes_to
-opens-write = each_state-at (λ s. goes_to opens (row_of s events.Write)) refl
+opens-write = each_state-at (λ s. goes_to opens (row_of s cache_events.Write)) refl
 
 opens-row : (op : Op) (state : CopyState) → goes_to opens (row_of state (event_of op)) ≡ true
 opens-row ops.Load = opens-load
@@ -212,15 +217,17 @@ pub opens_to : (op : Op) (state next : CopyState) (ask : Ask) →
     row_of state (event_of op) ≡ rows.Go next (sends_for ask) → OpensTo next ask
 unfolding opens
 opens_to op state next asks.GetS is =
-    let all = goes_to-at opens (row_of state (event_of op)) next sends.GetS (opens-row op state) is in
-    let first = left (stands_in_array next && is_waiting next) (has_sent next (Some requests.GetS)) all in record {
+    let all = goes_to-at opens (row_of state (event_of op)) next cache_sends.GetS (opens-row op state) is in
+    let first = left (stands_in_array next && is_waiting next) (has_sent next (Some request_messages.GetS)) all in
+        record {
       stands = left _ (is_waiting next) first;
       waits = right (stands_in_array next) _ first;
       sent = right (stands_in_array next && is_waiting next) _ all;
     }
 opens_to op state next asks.GetM is =
-    let all = goes_to-at opens (row_of state (event_of op)) next sends.GetM (opens-row op state) is in
-    let first = left (stands_in_array next && is_waiting next) (has_sent next (Some requests.GetM)) all in record {
+    let all = goes_to-at opens (row_of state (event_of op)) next cache_sends.GetM (opens-row op state) is in
+    let first = left (stands_in_array next && is_waiting next) (has_sent next (Some request_messages.GetM)) all in
+        record {
       stands = left _ (is_waiting next) first;
       waits = right (stands_in_array next) _ first;
       sent = right (stands_in_array next && is_waiting next) _ all;
@@ -231,9 +238,10 @@ opens_to op state next asks.GetM is =
 unfoldable pub leaves : Block → CopyState → Bool
 leaves block state =
     implies (may_leave state)
-    ((is_leaving (next_by state (row_of state events.Eviction))
-    && not (is_waiting (next_by state (row_of state events.Eviction))))
-    && (has_sent (next_by state (row_of state events.Eviction)) (Some (put_by block (row_of state events.Eviction)))
+    ((is_leaving (next_by state (row_of state cache_events.Eviction))
+    && not (is_waiting (next_by state (row_of state cache_events.Eviction))))
+    && (has_sent (next_by state (row_of state cache_events.Eviction))
+    (Some (put_by block (row_of state cache_events.Eviction)))
     && not (is_waiting state)))
 
 -- A copy that leaves waits for nothing, before and then, and its Put was sent.
@@ -248,11 +256,12 @@ not-false true e = cc
 not-false false e = refl
 
 pub leaves_by : (block : Block) (state : CopyState) → may_leave state ≡ true →
-    LeavesBy state (next_by state (row_of state events.Eviction)) (put_by block (row_of state events.Eviction))
+    LeavesBy state (next_by state (row_of state cache_events.Eviction))
+        (put_by block (row_of state cache_events.Eviction))
 unfolding each_state leaves implies
 leaves_by block state may =
-    let next = next_by state (row_of state events.Eviction) in
-    let put = put_by block (row_of state events.Eviction) in
+    let next = next_by state (row_of state cache_events.Eviction) in
+    let put = put_by block (row_of state cache_events.Eviction) in
     let tested : leaves block state ≡ true = each_state-at (leaves block) refl state in
     let all = implies-at (may_leave state) _ tested may in
     let first = left (is_leaving next && not (is_waiting next)) (has_sent next (Some put) && not (is_waiting state))

@@ -7,19 +7,19 @@ use Rattle.address_map.specs.declared.address.Local.{Local}
 use Rattle.address_map.specs.declared.block.Block.{Block}
 use Rattle.directory_table.specs.Row.{cell, row_of as dir_row_of}
 use Rattle.directory_table.specs.declared.row.DirEvent.{DirEvent}
-use Rattle.directory_table.specs.declared.row.DirEvent.TheVariants as events
+use Rattle.directory_table.specs.declared.row.DirEvent.TheVariants as dir_events
 use Rattle.directory_table.specs.declared.row.DirRow.{DirRow}
-use Rattle.directory_table.specs.declared.row.DirRow.TheVariants as rows
+use Rattle.directory_table.specs.declared.row.DirRow.TheVariants as dir_rows
 use Rattle.directory_table.specs.declared.row.DirStep.{DirStep}
 use Rattle.directory_table.specs.declared.state.DirEntry.{DirEntry}
 use Rattle.directory_table.specs.declared.state.DirState.{DirState}
-use Rattle.directory_table.specs.declared.state.DirState.TheVariants as states
+use Rattle.directory_table.specs.declared.state.DirState.TheVariants as dir_states
 use Rattle.slice_core_plan.specs.Plan.{by_home_row, event_of_request, home_plan, plan_of}
 use Rattle.slice_core_plan.specs.Sends.{directory_room, directory_sent}
 use Rattle.slice_core_plan.specs.Steps.{after_directory, after_home, block_in}
-use Rattle.slice_core_plan.specs.View.{View, channels_at, entry_at, no_entry, side_at, with_channels, with_entry}
+use Rattle.slice_core_plan.specs.View.{View, channels_at, entry_at, no_entry, cache_at, with_channels, with_entry}
 use Rattle.slice_core_plan.specs.View.{IsShaped}
-use Rattle.slice_core_side.specs.Side.{state_of}
+use Rattle.slice_core_cache.specs.CoreCache.{state_of}
 use Rattle.slice_core.proofs.LinksFrame.{placed, same_local}
 use Rattle.slice_core.proofs.LinksRequests.{asked, asked-directory_sent, asked-taken, asked-taken_other}
 use Rattle.slice_core.proofs.LinksAsking.{sent-none}
@@ -27,9 +27,9 @@ use Rattle.slice_core.specs.Sound.{HasLinks, has_sent}
 use Rattle.slice_queues.specs.Line.{LineChannels, after_take, core_at, empty_line}
 use Rattle.slice_queues_message.specs.declared.channel.Channel.TheVariants as channels
 use Rattle.slice_queues_message.specs.declared.message.RequestMessage.{RequestMessage}
-use Rattle.slice_queues_message.specs.declared.message.RequestMessage.TheVariants as requests
-use Rattle.slice_core_answer.specs.declared.answer.Delivery.TheVariants as deliveries
-use Rattle.slice_core_answer.specs.declared.answer.Delivery.{Delivery}
+use Rattle.slice_queues_message.specs.declared.message.RequestMessage.TheVariants as request_messages
+use Rattle.slice_answer.specs.declared.answer.Delivery.TheVariants as deliveries
+use Rattle.slice_answer.specs.declared.answer.Delivery.{Delivery}
 use Rattle.slice_core_plan.specs.Plan.{directory_move, home_move}
 use Rattle.slice_core_plan.specs.declared.transition.Transition.TheVariants as transitions
 use Rattle.slice_core_plan.specs.declared.transition.Transition.{Transition}
@@ -38,17 +38,17 @@ use Rattle.slice_core_plan.specs.declared.transition.Transition.{Transition}
 
 -- the owner that a row leaves, if it leaves one, has the property
 abbrev pub OwnerOf : (CoreId → Type 0) → DirRow → Type 0
-OwnerOf P (rows.Go step) = IfSome step.owner P
-OwnerOf P rows.Blocked = Unit {0}
-OwnerOf P rows.NoEntry = Unit {0}
+OwnerOf P (dir_rows.Go step) = IfSome step.owner P
+OwnerOf P dir_rows.Blocked = Unit {0}
+OwnerOf P dir_rows.NoEntry = Unit {0}
 
 -- the core that an event names has the property
 abbrev pub NamedBy : (CoreId → Type 0) → DirEvent → Type 0
-NamedBy P (events.GetS core) = P core
-NamedBy P (events.GetM core) = P core
-NamedBy P (events.PutS core) = P core
-NamedBy P (events.PutM core) = P core
-NamedBy P events.DataHome = Unit {0}
+NamedBy P (dir_events.GetS core) = P core
+NamedBy P (dir_events.GetM core) = P core
+NamedBy P (dir_events.PutS core) = P core
+NamedBy P (dir_events.PutM core) = P core
+NamedBy P dir_events.DataHome = Unit {0}
 
 -- a row of two
 either-owner : (P : CoreId → Type 0) (b : Bool) (one other : DirRow) → OwnerOf P one → OwnerOf P other →
@@ -60,87 +60,87 @@ either-owner P false one other first second = second
 pub cell-owner : (P : CoreId → Type 0) (exclusive : Bool) (state : DirState) (owner : Option CoreId) (sharers : ℕ)
     (event : DirEvent) →
     IfSome owner P → NamedBy P event → OwnerOf P (cell exclusive state owner sharers event)
-cell-owner P true states.I owner sharers (events.GetS core) was asks = asks
-cell-owner P true states.I owner sharers (events.GetM core) was asks = asks
-cell-owner P true states.I owner sharers (events.PutS core) was asks = was
-cell-owner P true states.I owner sharers (events.PutM core) was asks = was
-cell-owner P true states.I owner sharers events.DataHome was asks = tt
-cell-owner P true states.S owner sharers (events.GetS core) was asks = was
-cell-owner P true states.S owner sharers (events.GetM core) was asks = asks
-cell-owner P true states.S owner sharers (events.PutS core) was asks = was
-cell-owner P true states.S owner sharers (events.PutM core) was asks = was
-cell-owner P true states.S owner sharers events.DataHome was asks = tt
-cell-owner P true states.M (Some owner) sharers (events.GetS core) was asks =
+cell-owner P true dir_states.I owner sharers (dir_events.GetS core) was asks = asks
+cell-owner P true dir_states.I owner sharers (dir_events.GetM core) was asks = asks
+cell-owner P true dir_states.I owner sharers (dir_events.PutS core) was asks = was
+cell-owner P true dir_states.I owner sharers (dir_events.PutM core) was asks = was
+cell-owner P true dir_states.I owner sharers dir_events.DataHome was asks = tt
+cell-owner P true dir_states.S owner sharers (dir_events.GetS core) was asks = was
+cell-owner P true dir_states.S owner sharers (dir_events.GetM core) was asks = asks
+cell-owner P true dir_states.S owner sharers (dir_events.PutS core) was asks = was
+cell-owner P true dir_states.S owner sharers (dir_events.PutM core) was asks = was
+cell-owner P true dir_states.S owner sharers dir_events.DataHome was asks = tt
+cell-owner P true dir_states.M (Some owner) sharers (dir_events.GetS core) was asks =
     either-owner P (owner.0 == core.0) _ _ tt tt
-cell-owner P true states.M (Some owner) sharers (events.GetM core) was asks =
+cell-owner P true dir_states.M (Some owner) sharers (dir_events.GetM core) was asks =
     either-owner P (owner.0 == core.0) _ _ tt asks
-cell-owner P true states.M (Some owner) sharers (events.PutS core) was asks =
+cell-owner P true dir_states.M (Some owner) sharers (dir_events.PutS core) was asks =
     either-owner P (owner.0 == core.0) _ _ tt was
-cell-owner P true states.M (Some owner) sharers (events.PutM core) was asks =
+cell-owner P true dir_states.M (Some owner) sharers (dir_events.PutM core) was asks =
     either-owner P (owner.0 == core.0) _ _ tt was
-cell-owner P true states.M (Some owner) sharers events.DataHome was asks = tt
-cell-owner P true states.M None sharers (events.GetS core) was asks = tt
-cell-owner P true states.M None sharers (events.GetM core) was asks = tt
-cell-owner P true states.M None sharers (events.PutS core) was asks = tt
-cell-owner P true states.M None sharers (events.PutM core) was asks = tt
-cell-owner P true states.M None sharers events.DataHome was asks = tt
-cell-owner P true states.S_D owner sharers (events.GetS core) was asks = tt
-cell-owner P true states.S_D owner sharers (events.GetM core) was asks = tt
-cell-owner P true states.S_D owner sharers (events.PutS core) was asks = was
-cell-owner P true states.S_D owner sharers (events.PutM core) was asks = was
-cell-owner P true states.S_D owner sharers events.DataHome was asks = was
-cell-owner P false states.I owner sharers (events.GetS core) was asks = was
-cell-owner P false states.I owner sharers (events.GetM core) was asks = asks
-cell-owner P false states.I owner sharers (events.PutS core) was asks = was
-cell-owner P false states.I owner sharers (events.PutM core) was asks = was
-cell-owner P false states.I owner sharers events.DataHome was asks = tt
-cell-owner P false states.S owner sharers (events.GetS core) was asks = was
-cell-owner P false states.S owner sharers (events.GetM core) was asks = asks
-cell-owner P false states.S owner sharers (events.PutS core) was asks = was
-cell-owner P false states.S owner sharers (events.PutM core) was asks = was
-cell-owner P false states.S owner sharers events.DataHome was asks = tt
-cell-owner P false states.M (Some owner) sharers (events.GetS core) was asks =
+cell-owner P true dir_states.M (Some owner) sharers dir_events.DataHome was asks = tt
+cell-owner P true dir_states.M None sharers (dir_events.GetS core) was asks = tt
+cell-owner P true dir_states.M None sharers (dir_events.GetM core) was asks = tt
+cell-owner P true dir_states.M None sharers (dir_events.PutS core) was asks = tt
+cell-owner P true dir_states.M None sharers (dir_events.PutM core) was asks = tt
+cell-owner P true dir_states.M None sharers dir_events.DataHome was asks = tt
+cell-owner P true dir_states.S_D owner sharers (dir_events.GetS core) was asks = tt
+cell-owner P true dir_states.S_D owner sharers (dir_events.GetM core) was asks = tt
+cell-owner P true dir_states.S_D owner sharers (dir_events.PutS core) was asks = was
+cell-owner P true dir_states.S_D owner sharers (dir_events.PutM core) was asks = was
+cell-owner P true dir_states.S_D owner sharers dir_events.DataHome was asks = was
+cell-owner P false dir_states.I owner sharers (dir_events.GetS core) was asks = was
+cell-owner P false dir_states.I owner sharers (dir_events.GetM core) was asks = asks
+cell-owner P false dir_states.I owner sharers (dir_events.PutS core) was asks = was
+cell-owner P false dir_states.I owner sharers (dir_events.PutM core) was asks = was
+cell-owner P false dir_states.I owner sharers dir_events.DataHome was asks = tt
+cell-owner P false dir_states.S owner sharers (dir_events.GetS core) was asks = was
+cell-owner P false dir_states.S owner sharers (dir_events.GetM core) was asks = asks
+cell-owner P false dir_states.S owner sharers (dir_events.PutS core) was asks = was
+cell-owner P false dir_states.S owner sharers (dir_events.PutM core) was asks = was
+cell-owner P false dir_states.S owner sharers dir_events.DataHome was asks = tt
+cell-owner P false dir_states.M (Some owner) sharers (dir_events.GetS core) was asks =
     either-owner P (owner.0 == core.0) _ _ tt tt
-cell-owner P false states.M (Some owner) sharers (events.GetM core) was asks =
+cell-owner P false dir_states.M (Some owner) sharers (dir_events.GetM core) was asks =
     either-owner P (owner.0 == core.0) _ _ tt asks
-cell-owner P false states.M (Some owner) sharers (events.PutS core) was asks =
+cell-owner P false dir_states.M (Some owner) sharers (dir_events.PutS core) was asks =
     either-owner P (owner.0 == core.0) _ _ tt was
-cell-owner P false states.M (Some owner) sharers (events.PutM core) was asks =
+cell-owner P false dir_states.M (Some owner) sharers (dir_events.PutM core) was asks =
     either-owner P (owner.0 == core.0) _ _ tt was
-cell-owner P false states.M (Some owner) sharers events.DataHome was asks = tt
-cell-owner P false states.M None sharers (events.GetS core) was asks = tt
-cell-owner P false states.M None sharers (events.GetM core) was asks = tt
-cell-owner P false states.M None sharers (events.PutS core) was asks = tt
-cell-owner P false states.M None sharers (events.PutM core) was asks = tt
-cell-owner P false states.M None sharers events.DataHome was asks = tt
-cell-owner P false states.S_D owner sharers (events.GetS core) was asks = tt
-cell-owner P false states.S_D owner sharers (events.GetM core) was asks = tt
-cell-owner P false states.S_D owner sharers (events.PutS core) was asks = was
-cell-owner P false states.S_D owner sharers (events.PutM core) was asks = was
-cell-owner P false states.S_D owner sharers events.DataHome was asks = was
+cell-owner P false dir_states.M (Some owner) sharers dir_events.DataHome was asks = tt
+cell-owner P false dir_states.M None sharers (dir_events.GetS core) was asks = tt
+cell-owner P false dir_states.M None sharers (dir_events.GetM core) was asks = tt
+cell-owner P false dir_states.M None sharers (dir_events.PutS core) was asks = tt
+cell-owner P false dir_states.M None sharers (dir_events.PutM core) was asks = tt
+cell-owner P false dir_states.M None sharers dir_events.DataHome was asks = tt
+cell-owner P false dir_states.S_D owner sharers (dir_events.GetS core) was asks = tt
+cell-owner P false dir_states.S_D owner sharers (dir_events.GetM core) was asks = tt
+cell-owner P false dir_states.S_D owner sharers (dir_events.PutS core) was asks = was
+cell-owner P false dir_states.S_D owner sharers (dir_events.PutM core) was asks = was
+cell-owner P false dir_states.S_D owner sharers dir_events.DataHome was asks = was
 
 -- the owner that a plan leaves, if it leaves one, is a core
 abbrev pub IsOwnedPlan : View → Delivery Transition → Type 0
-IsOwnedPlan v (deliveries.Moved (transitions.Directory step)) = IfSome step.owner (λ core. core.0 < length v.sides)
-IsOwnedPlan v (deliveries.Moved (transitions.Home step)) = IfSome step.owner (λ core. core.0 < length v.sides)
+IsOwnedPlan v (deliveries.Moved (transitions.Directory step)) = IfSome step.owner (λ core. core.0 < length v.caches)
+IsOwnedPlan v (deliveries.Moved (transitions.Home step)) = IfSome step.owner (λ core. core.0 < length v.caches)
 IsOwnedPlan v plan = Unit {0}
 
 module _ (v : View) (local : Local) (links : HasLinks v) (within : local.0 < v.lines.lines) where
-  owned_request : (core : CoreId) → core.0 < length v.sides → IsOwnedPlan v (plan_of v local (channels.Req core))
+  owned_request : (core : CoreId) → core.0 < length v.caches → IsOwnedPlan v (plan_of v local (channels.Req core))
   owned_request core there = by (asked (channels_at v local) core.0) refl
     where
-      named : (message : RequestMessage) → NamedBy (λ owner. owner.0 < length v.sides) (event_of_request core message)
-      named requests.GetS = there
-      named requests.GetM = there
-      named requests.PutS = there
-      named (requests.PutM block) = there
+      named : (message : RequestMessage) → NamedBy (λ owner. owner.0 < length v.caches) (event_of_request core message)
+      named request_messages.GetS = there
+      named request_messages.GetM = there
+      named request_messages.PutS = there
+      named (request_messages.PutM block) = there
 
       by_row : (message : RequestMessage) → asked (channels_at v local) core.0 ≡ Some message → (row : DirRow) →
           dir_row_of v.exclusive (entry_at v local) (event_of_request core message) ≡ row →
-          OwnerOf (λ owner. owner.0 < length v.sides) row → IsOwnedPlan v (plan_of v local (channels.Req core))
-      by_row message is rows.Blocked e owned = rw (is, e) tt
-      by_row message is rows.NoEntry e owned = rw (is, e) tt
-      by_row message is (rows.Go step) e owned =
+          OwnerOf (λ owner. owner.0 < length v.caches) row → IsOwnedPlan v (plan_of v local (channels.Req core))
+      by_row message is dir_rows.Blocked e owned = rw (is, e) tt
+      by_row message is dir_rows.NoEntry e owned = rw (is, e) tt
+      by_row message is (dir_rows.Go step) e owned =
           by_room (directory_room (channels_at v local) core step.sends) refl
         where
           by_room : (room : Bool) → directory_room (channels_at v local) core step.sends ≡ room →
@@ -153,23 +153,24 @@ module _ (v : View) (local : Local) (links : HasLinks v) (within : local.0 < v.l
       by None is = rw is tt
       by (Some message) is =
           by_row message is (dir_row_of v.exclusive (entry_at v local) (event_of_request core message)) refl
-          (cell-owner (λ owner. owner.0 < length v.sides) v.exclusive (entry_at v local).state (entry_at v local).owner
+          (cell-owner (λ owner. owner.0 < length v.caches) v.exclusive (entry_at v local).state (entry_at v local).owner
           (entry_at v local).sharers (event_of_request core message) (links.owned local within) (named message))
 
   owned_home : IsOwnedPlan v (home_plan v local)
   owned_home = by (is_some (channels_at v local).home)
     where
-      row : (r : DirRow) → OwnerOf (λ owner. owner.0 < length v.sides) r → IsOwnedPlan v (by_home_row r)
-      row (rows.Go step) owned = owned
-      row rows.Blocked owned = tt
-      row rows.NoEntry owned = tt
+      row : (r : DirRow) → OwnerOf (λ owner. owner.0 < length v.caches) r → IsOwnedPlan v (by_home_row r)
+      row (dir_rows.Go step) owned = owned
+      row dir_rows.Blocked owned = tt
+      row dir_rows.NoEntry owned = tt
 
       by : (waits : Bool) → IsOwnedPlan v
-          (if waits then by_home_row (dir_row_of v.exclusive (entry_at v local) events.DataHome) else deliveries.Nothing)
+          (if waits then by_home_row (dir_row_of v.exclusive (entry_at v local) dir_events.DataHome) else
+          deliveries.Nothing)
       by true =
-          row (dir_row_of v.exclusive (entry_at v local) events.DataHome)
-          (cell-owner (λ owner. owner.0 < length v.sides) v.exclusive (entry_at v local).state (entry_at v local).owner
-          (entry_at v local).sharers events.DataHome (links.owned local within) tt)
+          row (dir_row_of v.exclusive (entry_at v local) dir_events.DataHome)
+          (cell-owner (λ owner. owner.0 < length v.caches) v.exclusive (entry_at v local).state (entry_at v local).owner
+          (entry_at v local).sharers dir_events.DataHome (links.owned local within) tt)
       by false = tt
 
 -- ---- the steps
@@ -178,8 +179,8 @@ module _ (v : View) (local : Local) (links : HasLinks v) (within : local.0 < v.l
 -- its
 -- copy.
 pub links_entry : (v : View) (local : Local) (entry : DirEntry) (line : LineChannels) → IsShaped v → HasLinks v →
-    local.0 < v.lines.lines → IfSome entry.owner (λ owner. owner.0 < length v.sides) →
-    ((core : CoreId) → core.0 < length v.sides → has_sent (state_of (side_at v core) local) (asked line core.0)
+    local.0 < v.lines.lines → IfSome entry.owner (λ owner. owner.0 < length v.caches) →
+    ((core : CoreId) → core.0 < length v.caches → has_sent (state_of (cache_at v core) local) (asked line core.0)
     ≡ true) →
     HasLinks (with_channels (with_entry v local entry) local line)
 links_entry v local entry line shaped links within owned sent = record {
@@ -188,22 +189,23 @@ links_entry v local entry line shaped links within owned sent = record {
   leaves = links.leaves;
   waits = links.waits;
   sent = λ core l there inside.
-      placed (λ (c : LineChannels). has_sent (state_of (side_at v core) l) (asked c core.0) ≡ true) v.channels local.0
+      placed (λ (c : LineChannels). has_sent (state_of (cache_at v core) l) (asked c core.0) ≡ true) v.channels local.0
       l.0 line
       (empty_line 0) (subst (λ n. local.0 < n) (sym shaped.lines) within)
       (λ same.
-      subst (λ (k : Local). has_sent (state_of (side_at v core) k) (asked line core.0) ≡ true)
+      subst (λ (k : Local). has_sent (state_of (cache_at v core) k) (asked line core.0) ≡ true)
       (sym (same_local l local same))
       (sent core there))
       (λ apart. links.sent core l there inside);
   owned = λ l inside.
-      placed (λ (e : DirEntry). IfSome e.owner (λ owner. owner.0 < length v.sides)) v.entries local.0 l.0 entry no_entry
+      placed (λ (e : DirEntry). IfSome e.owner (λ owner. owner.0 < length v.caches)) v.entries local.0 l.0 entry
+          no_entry
       (subst (λ n. local.0 < n) (sym shaped.entries) within) (λ same. owned) (λ apart. links.owned l inside);
 }
 
 module _ (v : View) (local : Local) (shaped : IsShaped v) (links : HasLinks v) (within : local.0 < v.lines.lines) where
   -- A request that the directory takes keeps the links: nothing is asked for the core's copy then.
-  pub links_directory : (core : CoreId) (step : DirStep) → core.0 < length v.sides →
+  pub links_directory : (core : CoreId) (step : DirStep) → core.0 < length v.caches →
       plan_of v local (channels.Req core) ≡ directory_move step → HasLinks (after_directory v local core step)
   links_directory core step there is =
       let entry = entry_at v local in
@@ -214,7 +216,7 @@ module _ (v : View) (local : Local) (shaped : IsShaped v) (links : HasLinks v) (
       (directory_sent taken core entry.home step.sends) shaped links within
       (subst (IsOwnedPlan v) is (owned_request v local links within core there))
       (λ other inside.
-      let copy = state_of (side_at v other) local in
+      let copy = state_of (cache_at v other) local in
       elim (cases_eq other.0 core.0) [
         | inl same ↦
             let none : asked (directory_sent taken core entry.home step.sends) other.0 ≡ None =

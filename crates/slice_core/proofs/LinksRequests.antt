@@ -8,7 +8,7 @@ use Rattle.address_map.specs.CoreSet.{has}
 use Rattle.address_map.specs.declared.address.CoreId.{CoreId}
 use Rattle.address_map.specs.declared.block.Block.{Block}
 use Rattle.cache_table.specs.declared.row.CacheSends.{CacheSends}
-use Rattle.cache_table.specs.declared.row.CacheSends.TheVariants as sends
+use Rattle.cache_table.specs.declared.row.CacheSends.TheVariants as cache_sends
 use Rattle.directory_table.specs.declared.row.DirSends.{DirSends}
 use Rattle.directory_table.specs.declared.row.DirSends.TheVariants as dir_sends
 use Rattle.slice_core_plan.specs.Sends.{cache_sent, directory_sent}
@@ -20,11 +20,11 @@ use Rattle.slice_queues.specs.Line.{CoreChannels, LineChannels, no_messages, cor
 use Rattle.slice_queues.specs.Line.{after_invalidating, with_invalidation}
 use Rattle.slice_queues_message.specs.declared.channel.Channel.TheVariants as channels
 use Rattle.slice_queues_message.specs.declared.message.DataMessage.{DataMessage}
-use Rattle.slice_queues_message.specs.declared.message.DataMessage.TheVariants as replies
+use Rattle.slice_queues_message.specs.declared.message.DataMessage.TheVariants as data_messages
 use Rattle.slice_queues_message.specs.declared.message.ForwardedMessage.{ForwardedMessage}
 use Rattle.slice_queues_message.specs.declared.message.Message.TheVariants as messages
 use Rattle.slice_queues_message.specs.declared.message.RequestMessage.{RequestMessage}
-use Rattle.slice_queues_message.specs.declared.message.RequestMessage.TheVariants as requests
+use Rattle.slice_queues_message.specs.declared.message.RequestMessage.TheVariants as request_messages
 
 -- what the core with this number asks of the directory
 abbrev pub asked : LineChannels → ℕ → Option RequestMessage
@@ -113,7 +113,7 @@ asked-directory_sent line core other block dir_sends.Nothing = refl
 asked-directory_sent line core other block (dir_sends.Data acks) = asked-data line core other _
 asked-directory_sent line core other block dir_sends.DataE = asked-data line core other _
 asked-directory_sent line core other block (dir_sends.DataAndInv acks invalidated) =
-    let reply = replies.Data block acks in
+    let reply = data_messages.Data block acks in
     asked-invalidating (after_send line (channels.Data core) (messages.Data reply)) core other invalidated
     ∙ asked-data line core other reply
 asked-directory_sent line core other block (dir_sends.FwdGetS owner) = asked-forwarded line owner other _
@@ -123,23 +123,23 @@ asked-directory_sent line core other block dir_sends.PutAck = asked-forwarded li
 -- Nothing that a row of the cache's table sends from a core that answers is a request.
 pub asked-cache_sent : (line : LineChannels) (core requester : CoreId) (other : ℕ) (block : Block) (sent : CacheSends) →
     asked (cache_sent line core requester block sent) other ≡ asked line other
-asked-cache_sent line core requester other block sends.DataToRequester = asked-data line requester other _
-asked-cache_sent line core requester other block sends.DataToRequesterAndHome = asked-data line requester other _
-asked-cache_sent line core requester other block sends.InvAckToRequester = asked-ack line requester other core
-asked-cache_sent line core requester other block sends.Nothing = refl
-asked-cache_sent line core requester other block sends.GetS = refl
-asked-cache_sent line core requester other block sends.GetM = refl
-asked-cache_sent line core requester other block sends.PutS = refl
-asked-cache_sent line core requester other block sends.PutM = refl
+asked-cache_sent line core requester other block cache_sends.DataToRequester = asked-data line requester other _
+asked-cache_sent line core requester other block cache_sends.DataToRequesterAndHome = asked-data line requester other _
+asked-cache_sent line core requester other block cache_sends.InvAckToRequester = asked-ack line requester other core
+asked-cache_sent line core requester other block cache_sends.Nothing = refl
+asked-cache_sent line core requester other block cache_sends.GetS = refl
+asked-cache_sent line core requester other block cache_sends.GetM = refl
+asked-cache_sent line core requester other block cache_sends.PutS = refl
+asked-cache_sent line core requester other block cache_sends.PutM = refl
 
 -- Where the right to write is asked for, that is what the core asks for.
 pub asked-asked_by : (write : Bool) (line : LineChannels) (core : CoreId) → core.0 < length line.cores →
     asked (asked_by write line core) core.0 ≡ asked_then write (asked line core.0)
 unfolding asked_then
-asked-asked_by true line core there = asked-sent line core there requests.GetM
+asked-asked_by true line core there = asked-sent line core there request_messages.GetM
 asked-asked_by false line core there = refl
 
 pub asked-asked_by_other : (write : Bool) (line : LineChannels) (core : CoreId) (other : ℕ) → other ≢ core.0 →
     asked (asked_by write line core) other ≡ asked line other
-asked-asked_by_other true line core other apart = asked-sent_other line core other apart requests.GetM
+asked-asked_by_other true line core other apart = asked-sent_other line core other apart request_messages.GetM
 asked-asked_by_other false line core other apart = refl

@@ -12,26 +12,26 @@ use Rattle.address_map.specs.declared.block.Block.{Block}
 use Rattle.cache_array.specs.Array.{held_at as array_at}
 use Rattle.cache_table.specs.CopyState.{is_leaving, is_waiting}
 use Rattle.cache_table.specs.Row.{row_of}
-use Rattle.cache_table.specs.declared.row.CacheEvent.TheVariants as events
+use Rattle.cache_table.specs.declared.row.CacheEvent.TheVariants as cache_events
 use Rattle.cache_table.specs.declared.row.CacheSends.{CacheSends}
 use Rattle.cache_table.specs.declared.row.Row.{Row}
 use Rattle.cache_table.specs.declared.row.Row.TheVariants as rows
 use Rattle.cache_table.specs.declared.state.CopyState.{CopyState}
-use Rattle.cache_table.specs.declared.state.CopyState.TheVariants as states
+use Rattle.cache_table.specs.declared.state.CopyState.TheVariants as copy_states
 use Rattle.mshr_file.specs.Miss.{is_waited, targets_of, TakesTargets}
 use Rattle.mshr_file.specs.declared.registers.Register.{Register}
 use Rattle.slice_core_plan.specs.Calls.{filled_by}
 use Rattle.slice_core_plan.specs.Plan.{event_of_data, plan_of, stands_at}
 use Rattle.slice_core_plan.specs.Steps.{after_settling, asked_by}
-use Rattle.slice_core_plan.specs.View.{View, channels_at, side_at, IsShaped}
-use Rattle.slice_core_side.proofs.Found.{changes-change, changes-settle, kept-after_change}
-use Rattle.slice_core_side.proofs.Lines.{ChangesLine}
-use Rattle.slice_core_side.specs.Copy.{found_in, no_copy}
-use Rattle.slice_core_side.specs.Kept.{IsKept, stands_in_array}
-use Rattle.slice_core_side.specs.Perform.{asks_to_write, block_after, left_in, performed_in, settled_state}
-use Rattle.slice_core_side.specs.Side.{SideView, array_copy, copy_of, state_of}
-use Rattle.slice_core_side.specs.Steps.{after_change, after_settle, settled_copy, settled}
-use Rattle.slice_core_side.specs.declared.copy.CacheCopy.{CacheCopy}
+use Rattle.slice_core_plan.specs.View.{View, channels_at, cache_at, IsShaped}
+use Rattle.slice_core_cache.proofs.Found.{changes-change, changes-settle, kept-after_change}
+use Rattle.slice_core_cache.proofs.Lines.{ChangesLine}
+use Rattle.slice_core_cache.specs.Copy.{found_in, no_copy}
+use Rattle.slice_core_cache.specs.Kept.{IsKept, stands_in_array}
+use Rattle.slice_core_cache.specs.Perform.{asks_to_write, block_after, left_in, performed_in, settled_state}
+use Rattle.slice_core_cache.specs.CoreCache.{CoreCacheView, array_copy, copy_of, state_of}
+use Rattle.slice_core_cache.specs.Steps.{after_change, after_settle, settled_copy, copy_after_settle}
+use Rattle.slice_core_cache.specs.declared.copy.CacheCopy.{CacheCopy}
 use Rattle.slice_core.proofs.LinksFrame.{links_logged, links_step}
 use Rattle.slice_core.proofs.LinksRequests.{asked, asked-ack_taken, asked-asked_by, asked-asked_by_other}
 use Rattle.slice_core.proofs.LinksRequests.{asked-data_taken}
@@ -43,14 +43,14 @@ use Rattle.slice_queues.specs.Line.{after_take, core_at}
 use Rattle.slice_queues_message.specs.declared.channel.Channel.{Channel}
 use Rattle.slice_queues_message.specs.declared.channel.Channel.TheVariants as channels
 use Rattle.slice_queues_message.specs.declared.message.DataMessage.{DataMessage}
-use Rattle.slice_queues_message.specs.declared.message.DataMessage.TheVariants as replies
+use Rattle.slice_queues_message.specs.declared.message.DataMessage.TheVariants as data_messages
 use Rattle.slice_queues_message.specs.declared.message.RequestMessage.{RequestMessage}
 use Rattle.target_list.specs.Target.{is_load}
 use Rattle.target_list.specs.declared.target.Target.{Target}
 use Rattle.writeback_buffer.specs.Buffer.{held_at as buffer_at}
-use Rattle.writeback_buffer.specs.declared.entry.Leaving.{Leaving}
-use Rattle.slice_core_answer.specs.declared.answer.Delivery.TheVariants as deliveries
-use Rattle.slice_core_answer.specs.declared.answer.Delivery.{Delivery}
+use Rattle.writeback_buffer.specs.declared.pending.Leaving.{Leaving}
+use Rattle.slice_answer.specs.declared.answer.Delivery.TheVariants as deliveries
+use Rattle.slice_answer.specs.declared.answer.Delivery.{Delivery}
 use Rattle.slice_core_plan.specs.Plan.{ack_move, fill_move}
 use Rattle.slice_core_plan.specs.declared.transition.Transition.TheVariants as transitions
 use Rattle.slice_core_plan.specs.declared.transition.Transition.{Transition}
@@ -58,9 +58,10 @@ use Rattle.slice_core_plan.specs.declared.transition.Transition.{Transition}
 -- ---- the copy
 
 -- a copy that waits stands in the array
-pub waits-held : (side : SideView) (local : Local) → IsKept side → is_waiting (state_of side local) ≡ true →
-    IsSome (array_at side.array local)
-waits-held side local kept = by (array_at side.array local) (buffer_at side.buffer.entries local.0) (kept.leaving local)
+pub waits-held : (cache : CoreCacheView) (local : Local) → IsKept cache → is_waiting (state_of cache local) ≡ true →
+    IsSome (array_at cache.array local)
+waits-held cache local kept =
+    by (array_at cache.array local) (buffer_at cache.buffer.write_backs local.0) (kept.leaving local)
   where
     by : (copy : Option CacheCopy) (leaving : Option Leaving) → IfSome leaving (λ l. is_leaving l.state ≡ true) →
         is_waiting (found_in copy leaving).state ≡ true → IsSome copy
@@ -71,18 +72,18 @@ waits-held side local kept = by (array_at side.array local) (buffer_at side.buff
 -- what is performed and what is left are all targets
 performed-left : (state : CopyState) (targets : List Target) →
     performed_in state targets ++ left_in state targets ≡ targets
-performed-left states.S targets = take-append-drop (prefix_len is_load targets) targets
-performed-left states.M targets = append-nil targets
-performed-left states.E targets = append-nil targets
-performed-left states.IS_D targets = refl
-performed-left states.IM_AD targets = refl
-performed-left states.IM_A targets = refl
-performed-left states.SM_AD targets = refl
-performed-left states.SM_A targets = refl
-performed-left states.I targets = refl
-performed-left states.MI_A targets = refl
-performed-left states.SI_A targets = refl
-performed-left states.II_A targets = refl
+performed-left copy_states.S targets = take-append-drop (prefix_len is_load targets) targets
+performed-left copy_states.M targets = append-nil targets
+performed-left copy_states.E targets = append-nil targets
+performed-left copy_states.IS_D targets = refl
+performed-left copy_states.IM_AD targets = refl
+performed-left copy_states.IM_A targets = refl
+performed-left copy_states.SM_AD targets = refl
+performed-left copy_states.SM_A targets = refl
+performed-left copy_states.I targets = refl
+performed-left copy_states.MI_A targets = refl
+performed-left copy_states.SI_A targets = refl
+performed-left copy_states.II_A targets = refl
 
 -- a settled copy's state
 state-settled : (copy : CacheCopy) (block : Block) (state : CopyState) → (settled_copy copy block state).state ≡ state
@@ -93,22 +94,22 @@ state-settled copy block state = by (is_waiting copy.state)
     by true = refl
     by false = refl
 
-module _ (side : SideView) (local : Local) (kept : IsKept side) (held : IsSome (array_at side.array local))
+module _ (cache : CoreCacheView) (local : Local) (kept : IsKept cache) (held : IsSome (array_at cache.array local))
     (copy : CacheCopy)
     (stands : stands_in_array copy.state ≡ true) where
-  changed : array_copy (after_change side local copy) local ≡ copy
-  changed = ap (λ o. unwrap_or o no_copy) (changes-change side local kept held copy).in_array
+  changed : array_copy (after_change cache local copy) local ≡ copy
+  changed = ap (λ o. unwrap_or o no_copy) (changes-change cache local kept held copy).in_array
 
   -- of the line array and buffer hold the settled copy
   pub changes-both : (number : ℕ) (misses : List Register) →
-      ChangesLine side (after_settle (after_change side local copy) local number misses) local
-      (Some (settled (targets_of side.misses local.0) copy)) None
+      ChangesLine cache (after_settle (after_change cache local copy) local number misses) local
+      (Some (copy_after_settle (targets_of cache.misses local.0) copy)) None
   changes-both number misses =
-      let first = changes-change side local kept held copy in
-      let second = changes-settle (after_change side local copy) local
-      (kept-after_change side local kept held copy stands)
+      let first = changes-change cache local kept held copy in
+      let second = changes-settle (after_change cache local copy) local
+      (kept-after_change cache local kept held copy stands)
       (ap is_some first.in_array) number misses in record {
-        in_array = second.in_array ∙ ap (λ c. Some (settled (targets_of side.misses local.0) c)) changed;
+        in_array = second.in_array ∙ ap (λ c. Some (copy_after_settle (targets_of cache.misses local.0) c)) changed;
         in_buffer = second.in_buffer;
         array_others = λ other apart. second.array_others other apart ∙ first.array_others other apart;
         buffer_others = λ other apart. second.buffer_others other apart ∙ first.buffer_others other apart;
@@ -119,25 +120,25 @@ module _ (side : SideView) (local : Local) (kept : IsKept side) (held : IsSome (
 -- ---- the step
 
 module _ (v : View) (local : Local) (core : CoreId) (shaped : IsShaped v) (links : HasLinks v)
-    (there : core.0 < length v.sides) (within : local.0 < v.lines.lines) where
+    (there : core.0 < length v.caches) (within : local.0 < v.lines.lines) where
   -- A copy that waited, and that has come to its state by the message of a channel, keeps the links once it has
   -- settled.
   links_settling : (channel : Channel) (copy : CacheCopy) (misses : List Register) →
-      is_waiting (state_of (side_at v core) local) ≡ true → stands_in_array copy.state ≡ true →
+      is_waiting (state_of (cache_at v core) local) ≡ true → stands_in_array copy.state ≡ true →
       has_sent copy.state (asked (channels_at v local) core.0) ≡ true →
       ((other : ℕ) → asked (after_take (channels_at v local) channel) other ≡ asked (channels_at v local) other) →
       core.0 < length (after_take (channels_at v local) channel).cores →
-      TakesTargets (side_at v core).misses misses local.0
-      (performed_in copy.state (targets_of (side_at v core).misses local.0)) →
+      TakesTargets (cache_at v core).misses misses local.0
+      (performed_in copy.state (targets_of (cache_at v core).misses local.0)) →
       HasLinks (after_settling v local core channel copy misses)
   links_settling channel copy misses waited stands sent taken lined takes =
-      let side = side_at v core in
+      let cache = cache_at v core in
       let kept = links.kept core there in
-      let held = waits-held side local kept waited in
-      let targets = targets_of side.misses local.0 in
+      let held = waits-held cache local kept waited in
+      let targets = targets_of cache.misses local.0 in
       let line = after_take (channels_at v local) channel in
       let write = asks_to_write copy.state targets in
-      let new = settled targets copy in
+      let new = copy_after_settle targets copy in
       let left = left_in copy.state targets in
       let state : new.state ≡ settled_state copy.state left =
       state-settled copy (block_after copy.block (performed_in copy.state targets)) (settled_state copy.state left) in
@@ -146,11 +147,11 @@ module _ (v : View) (local : Local) (core : CoreId) (shaped : IsShaped v) (links
       append_cancel_left (performed_in copy.state targets) left (targets_of misses local.0)
       (performed-left copy.state targets ∙ takes.here) in
       links_logged _ _
-      (links_step v core local (after_settle (after_change side local copy) local (length v.log) misses)
+      (links_step v core local (after_settle (after_change cache local copy) local (length v.log) misses)
       (asked_by write line core)
       (Some new) None
       (record {
-        changes = changes-both side local kept held copy stands (length v.log) misses;
+        changes = changes-both cache local kept held copy stands (length v.log) misses;
         fits = ap stands_in_array state ∙ settled-stands copy.state targets stands;
         misses = takes.others;
         requests = λ other apart. asked-asked_by_other write line core other apart ∙ taken other;
@@ -168,13 +169,13 @@ module _ (v : View) (local : Local) (core : CoreId) (shaped : IsShaped v) (links
 -- what is known of a plan for data by its row: the copy waited for them, and its request was taken
 abbrev pub IsFilling : View → Local → CoreId → Delivery Transition → Type 0
 IsFilling v local core (deliveries.Moved (transitions.Fill step)) =
-    ComesTo (state_of (side_at v core) local) step.next None × (asked (channels_at v local) core.0 ≡ None)
+    ComesTo (state_of (cache_at v core) local) step.next None × (asked (channels_at v local) core.0 ≡ None)
 IsFilling v local core plan = Unit {0}
 
 -- and of one for an acknowledgement
 abbrev pub IsCounting : View → Local → CoreId → Delivery Transition → Type 0
 IsCounting v local core (deliveries.Moved (transitions.Acknowledge step)) =
-    ComesTo (state_of (side_at v core) local) step.next (asked (channels_at v local) core.0)
+    ComesTo (state_of (cache_at v core) local) step.next (asked (channels_at v local) core.0)
 IsCounting v local core plan = Unit {0}
 
 module _ (v : View) (local : Local) (core : CoreId) where
@@ -182,16 +183,16 @@ module _ (v : View) (local : Local) (core : CoreId) where
   data-planned = by (core_at (channels_at v local) core.0).data refl
     where
       comes : (message : DataMessage) (next : CopyState) (sent : CacheSends) →
-          row_of (state_of (side_at v core) local) (event_of_data v local core message) ≡ rows.Go next sent →
-          ComesTo (state_of (side_at v core) local) next None
-      comes (replies.Data block acks) next sent e =
-          comes_by_data acks (copy_of (side_at v core) local).counted (state_of (side_at v core) local) next sent e
-      comes (replies.DataE block) next sent e =
-          comes_by_exclusive (list_all is_load (targets_of (side_at v core).misses local.0))
-          (state_of (side_at v core) local) next sent e
+          row_of (state_of (cache_at v core) local) (event_of_data v local core message) ≡ rows.Go next sent →
+          ComesTo (state_of (cache_at v core) local) next None
+      comes (data_messages.Data block acks) next sent e =
+          comes_by_data acks (copy_of (cache_at v core) local).counted (state_of (cache_at v core) local) next sent e
+      comes (data_messages.DataE block) next sent e =
+          comes_by_exclusive (list_all is_load (targets_of (cache_at v core).misses local.0))
+          (state_of (cache_at v core) local) next sent e
 
       by_row : (message : DataMessage) → (core_at (channels_at v local) core.0).data ≡ Some message → (row : Row) →
-          row_of (state_of (side_at v core) local) (event_of_data v local core message) ≡ row →
+          row_of (state_of (cache_at v core) local) (event_of_data v local core message) ≡ row →
           IsFilling v local core (plan_of v local (channels.Data core))
       by_row message is rows.NoEntry e = rw (is, e) tt
       by_row message is rows.Blocked e = rw (is, e) tt
@@ -199,43 +200,44 @@ module _ (v : View) (local : Local) (core : CoreId) where
           by_place (asked (channels_at v local) core.0) refl (stands_at v local core) refl
         where
           by_place : (request : Option RequestMessage) → asked (channels_at v local) core.0 ≡ request →
-              (place : Option ℕ) → stands_at v local core ≡ place →
+              (way : Option ℕ) → stands_at v local core ≡ way →
               IsFilling v local core (plan_of v local (channels.Data core))
-          by_place (Some request) waits place stands = rw (is, e, waits) tt
+          by_place (Some request) waits way stands = rw (is, e, waits) tt
           by_place None none None stands = rw (is, e, none, stands) tt
-          by_place None none (Some place) stands = rw (is, e, none, stands) (comes message next sent e, none)
+          by_place None none (Some way) stands = rw (is, e, none, stands) (comes message next sent e, none)
 
       by : (front : Option DataMessage) → (core_at (channels_at v local) core.0).data ≡ front →
           IsFilling v local core (plan_of v local (channels.Data core))
       by None is = rw is tt
       by (Some message) is =
-          by_row message is (row_of (state_of (side_at v core) local) (event_of_data v local core message)) refl
+          by_row message is (row_of (state_of (cache_at v core) local) (event_of_data v local core message)) refl
 
   ack-planned : (from : CoreId) → IsCounting v local core (plan_of v local (channels.Ack core from))
   ack-planned from = by (has (core_at (channels_at v local) core.0).acks from.0) refl
     where
       by_row : has (core_at (channels_at v local) core.0).acks from.0 ≡ true → (row : Row) →
-          row_of (state_of (side_at v core) local)
-          (events.InvAck (copy_of (side_at v core) local).wants (copy_of (side_at v core) local).counted) ≡ row →
+          row_of (state_of (cache_at v core) local)
+          (cache_events.InvAck (copy_of (cache_at v core) local).wants (copy_of (cache_at v core) local).counted)
+          ≡ row →
           IsCounting v local core (plan_of v local (channels.Ack core from))
       by_row is rows.NoEntry e = rw (is, e) tt
       by_row is rows.Blocked e = rw (is, e) tt
       by_row is (rows.Go next sent) e = by_place (stands_at v local core) refl
         where
-          by_place : (place : Option ℕ) → stands_at v local core ≡ place →
+          by_place : (way : Option ℕ) → stands_at v local core ≡ way →
               IsCounting v local core (plan_of v local (channels.Ack core from))
           by_place None stands = rw (is, e, stands) tt
-          by_place (Some place) stands =
+          by_place (Some way) stands =
               rw (is, e, stands)
-              (comes_by_ack (copy_of (side_at v core) local).wants (copy_of (side_at v core) local).counted
-              (state_of (side_at v core) local) next sent (asked (channels_at v local) core.0) e)
+              (comes_by_ack (copy_of (cache_at v core) local).wants (copy_of (cache_at v core) local).counted
+              (state_of (cache_at v core) local) next sent (asked (channels_at v local) core.0) e)
 
       by : (waits : Bool) → has (core_at (channels_at v local) core.0).acks from.0 ≡ waits →
           IsCounting v local core (plan_of v local (channels.Ack core from))
       by true is =
           by_row is
-          (row_of (state_of (side_at v core) local)
-          (events.InvAck (copy_of (side_at v core) local).wants (copy_of (side_at v core) local).counted)) refl
+          (row_of (state_of (cache_at v core) local)
+          (cache_events.InvAck (copy_of (cache_at v core) local).wants (copy_of (cache_at v core) local).counted)) refl
       by false is = rw is tt
 
 -- ---- the messages
@@ -244,16 +246,16 @@ module _ (v : View) (local : Local) (core : CoreId) where
 pub state-filled_by : (copy : CacheCopy) (message : Option DataMessage) (next : CopyState) →
     (filled_by copy message next).state ≡ next
 state-filled_by copy None next = refl
-state-filled_by copy (Some (replies.Data block acks)) next = refl
-state-filled_by copy (Some (replies.DataE block)) next = refl
+state-filled_by copy (Some (data_messages.Data block acks)) next = refl
+state-filled_by copy (Some (data_messages.DataE block)) next = refl
 
 module _ (v : View) (local : Local) (core : CoreId) (shaped : IsShaped v) (links : HasLinks v)
-    (there : core.0 < length v.sides) (within : local.0 < v.lines.lines) where
+    (there : core.0 < length v.caches) (within : local.0 < v.lines.lines) where
   -- Data that a core takes keep the links.
   pub links_fill : (place : ℕ) (next : CopyState) (copy : CacheCopy) (misses : List Register) →
       plan_of v local (channels.Data core) ≡ fill_move place next → copy.state ≡ next →
-      TakesTargets (side_at v core).misses misses local.0
-      (performed_in copy.state (targets_of (side_at v core).misses local.0)) →
+      TakesTargets (cache_at v core).misses misses local.0
+      (performed_in copy.state (targets_of (cache_at v core).misses local.0)) →
       HasLinks (after_settling v local core (channels.Data core) copy misses)
   links_fill place next copy misses is state takes =
       let line = channels_at v local in
@@ -268,8 +270,8 @@ module _ (v : View) (local : Local) (core : CoreId) (shaped : IsShaped v) (links
   -- An acknowledgement that a core takes keeps the links.
   pub links_acknowledge : (from : CoreId) (place : ℕ) (next : CopyState) (copy : CacheCopy) (misses : List Register) →
       plan_of v local (channels.Ack core from) ≡ ack_move place next → copy.state ≡ next →
-      TakesTargets (side_at v core).misses misses local.0
-      (performed_in copy.state (targets_of (side_at v core).misses local.0)) →
+      TakesTargets (cache_at v core).misses misses local.0
+      (performed_in copy.state (targets_of (cache_at v core).misses local.0)) →
       HasLinks (after_settling v local core (channels.Ack core from) copy misses)
   links_acknowledge from place next copy misses is state takes =
       let line = channels_at v local in

@@ -3,27 +3,27 @@
 use Rattle.std.proofs.Common.{◌≡◌, ℕ, ◌+◌, Bool, true, false, not, if◌then◌else◌, ◌&&◌, ◌||◌, Option, Some, None, List}
 use Rattle.std.proofs.Common.{[], ◌∷◌, refl, sym, is_some}
 use Rattle.cache_table.specs.CopyState.{is_leaving, is_waiting}
-use Rattle.cache_table.specs.Row.{row_of, counted}
-use Rattle.cache_table.specs.declared.row.CacheEvent.TheVariants as events
-use Rattle.cache_table.specs.declared.row.CacheSends.TheVariants as sends
+use Rattle.cache_table.specs.Row.{row_of, row_by_count}
+use Rattle.cache_table.specs.declared.row.CacheEvent.TheVariants as cache_events
+use Rattle.cache_table.specs.declared.row.CacheSends.TheVariants as cache_sends
 use Rattle.cache_table.specs.declared.row.CacheSends.{CacheSends}
 use Rattle.cache_table.specs.declared.row.Row.TheVariants as rows
 use Rattle.cache_table.specs.declared.row.Row.{Row}
-use Rattle.cache_table.specs.declared.state.CopyState.TheVariants as states
+use Rattle.cache_table.specs.declared.state.CopyState.TheVariants as copy_states
 use Rattle.cache_table.specs.declared.state.CopyState.{CopyState}
 use Rattle.mshr_file.specs.Miss.{is_waited}
 use Rattle.slice_core.proofs.LinksAsking.{agree, agree-at, each_request-at, each_state, each_state-at, goes_to}
 use Rattle.slice_core.proofs.LinksAsking.{goes_to-at, goes_to-counted, implies, implies-at, leaves, left, not-false}
 use Rattle.slice_core.proofs.LinksAsking.{right}
 use Rattle.slice_core.specs.Sound.{has_sent}
+use Rattle.slice_core_cache.specs.Access.{is_idle}
+use Rattle.slice_core_cache.specs.Copy.{is_gone}
+use Rattle.slice_core_cache.specs.Kept.{stands_in_array}
+use Rattle.slice_core_cache.specs.Perform.{asks_to_write, left_in, settled_state}
 use Rattle.slice_core_plan.specs.Plan.{event_of_forwarded, is_put_ack}
-use Rattle.slice_core_side.specs.Access.{is_idle}
-use Rattle.slice_core_side.specs.Copy.{is_gone}
-use Rattle.slice_core_side.specs.Kept.{stands_in_array}
-use Rattle.slice_core_side.specs.Perform.{asks_to_write, left_in, settled_state}
-use Rattle.slice_queues_message.specs.declared.message.ForwardedMessage.TheVariants as forwards
+use Rattle.slice_queues_message.specs.declared.message.ForwardedMessage.TheVariants as forwarded_messages
 use Rattle.slice_queues_message.specs.declared.message.ForwardedMessage.{ForwardedMessage}
-use Rattle.slice_queues_message.specs.declared.message.RequestMessage.TheVariants as requests
+use Rattle.slice_queues_message.specs.declared.message.RequestMessage.TheVariants as request_messages
 use Rattle.slice_queues_message.specs.declared.message.RequestMessage.{RequestMessage}
 use Rattle.target_list.specs.Target.{behind_loads}
 use Rattle.target_list.specs.declared.target.Target.{Target}
@@ -42,34 +42,47 @@ goes_on acked state request next sent =
 goes_on-row : (message : ForwardedMessage) (state : CopyState) (request : Option RequestMessage) →
     goes_to (goes_on (is_put_ack message) state request) (row_of state (event_of_forwarded message)) ≡ true
 unfolding each_state goes_on goes_to implies agree
-goes_on-row (forwards.FwdGetS core) state =
-    each_request-at (λ r. goes_to (goes_on false state r) (row_of state events.FwdGetS))
-    (each_state-at (λ s. goes_to (goes_on false s None) (row_of s events.FwdGetS)) refl state)
-    (each_state-at (λ s. goes_to (goes_on false s (Some requests.GetS)) (row_of s events.FwdGetS)) refl state)
-    (each_state-at (λ s. goes_to (goes_on false s (Some requests.GetM)) (row_of s events.FwdGetS)) refl state)
-    (each_state-at (λ s. goes_to (goes_on false s (Some requests.PutS)) (row_of s events.FwdGetS)) refl state)
-    (λ b. each_state-at (λ s. goes_to (goes_on false s (Some (requests.PutM b))) (row_of s events.FwdGetS)) refl state)
-goes_on-row (forwards.FwdGetM core) state =
-    each_request-at (λ r. goes_to (goes_on false state r) (row_of state events.FwdGetM))
-    (each_state-at (λ s. goes_to (goes_on false s None) (row_of s events.FwdGetM)) refl state)
-    (each_state-at (λ s. goes_to (goes_on false s (Some requests.GetS)) (row_of s events.FwdGetM)) refl state)
-    (each_state-at (λ s. goes_to (goes_on false s (Some requests.GetM)) (row_of s events.FwdGetM)) refl state)
-    (each_state-at (λ s. goes_to (goes_on false s (Some requests.PutS)) (row_of s events.FwdGetM)) refl state)
-    (λ b. each_state-at (λ s. goes_to (goes_on false s (Some (requests.PutM b))) (row_of s events.FwdGetM)) refl state)
-goes_on-row (forwards.Inv core) state =
-    each_request-at (λ r. goes_to (goes_on false state r) (row_of state events.Inv))
-    (each_state-at (λ s. goes_to (goes_on false s None) (row_of s events.Inv)) refl state)
-    (each_state-at (λ s. goes_to (goes_on false s (Some requests.GetS)) (row_of s events.Inv)) refl state)
-    (each_state-at (λ s. goes_to (goes_on false s (Some requests.GetM)) (row_of s events.Inv)) refl state)
-    (each_state-at (λ s. goes_to (goes_on false s (Some requests.PutS)) (row_of s events.Inv)) refl state)
-    (λ b. each_state-at (λ s. goes_to (goes_on false s (Some (requests.PutM b))) (row_of s events.Inv)) refl state)
-goes_on-row forwards.PutAck state =
-    each_request-at (λ r. goes_to (goes_on true state r) (row_of state events.PutAck))
-    (each_state-at (λ s. goes_to (goes_on true s None) (row_of s events.PutAck)) refl state)
-    (each_state-at (λ s. goes_to (goes_on true s (Some requests.GetS)) (row_of s events.PutAck)) refl state)
-    (each_state-at (λ s. goes_to (goes_on true s (Some requests.GetM)) (row_of s events.PutAck)) refl state)
-    (each_state-at (λ s. goes_to (goes_on true s (Some requests.PutS)) (row_of s events.PutAck)) refl state)
-    (λ b. each_state-at (λ s. goes_to (goes_on true s (Some (requests.PutM b))) (row_of s events.PutAck)) refl state)
+goes_on-row (forwarded_messages.FwdGetS core) state =
+    each_request-at (λ r. goes_to (goes_on false state r) (row_of state cache_events.FwdGetS))
+    (each_state-at (λ s. goes_to (goes_on false s None) (row_of s cache_events.FwdGetS)) refl state)
+    (each_state-at (λ s. goes_to (goes_on false s (Some request_messages.GetS)) (row_of s cache_events.FwdGetS)) refl
+    state)
+    (each_state-at (λ s. goes_to (goes_on false s (Some request_messages.GetM)) (row_of s cache_events.FwdGetS)) refl
+    state)
+    (each_state-at (λ s. goes_to (goes_on false s (Some request_messages.PutS)) (row_of s cache_events.FwdGetS)) refl
+    state)
+    (λ b. each_state-at
+    (λ s. goes_to (goes_on false s (Some (request_messages.PutM b))) (row_of s cache_events.FwdGetS)) refl state)
+goes_on-row (forwarded_messages.FwdGetM core) state =
+    each_request-at (λ r. goes_to (goes_on false state r) (row_of state cache_events.FwdGetM))
+    (each_state-at (λ s. goes_to (goes_on false s None) (row_of s cache_events.FwdGetM)) refl state)
+    (each_state-at (λ s. goes_to (goes_on false s (Some request_messages.GetS)) (row_of s cache_events.FwdGetM)) refl
+    state)
+    (each_state-at (λ s. goes_to (goes_on false s (Some request_messages.GetM)) (row_of s cache_events.FwdGetM)) refl
+    state)
+    (each_state-at (λ s. goes_to (goes_on false s (Some request_messages.PutS)) (row_of s cache_events.FwdGetM)) refl
+    state)
+    (λ b. each_state-at
+    (λ s. goes_to (goes_on false s (Some (request_messages.PutM b))) (row_of s cache_events.FwdGetM)) refl state)
+goes_on-row (forwarded_messages.Inv core) state =
+    each_request-at (λ r. goes_to (goes_on false state r) (row_of state cache_events.Inv))
+    (each_state-at (λ s. goes_to (goes_on false s None) (row_of s cache_events.Inv)) refl state)
+    (each_state-at (λ s. goes_to (goes_on false s (Some request_messages.GetS)) (row_of s cache_events.Inv)) refl state)
+    (each_state-at (λ s. goes_to (goes_on false s (Some request_messages.GetM)) (row_of s cache_events.Inv)) refl state)
+    (each_state-at (λ s. goes_to (goes_on false s (Some request_messages.PutS)) (row_of s cache_events.Inv)) refl state)
+    (λ b. each_state-at (λ s. goes_to (goes_on false s (Some (request_messages.PutM b))) (row_of s cache_events.Inv))
+    refl state)
+goes_on-row forwarded_messages.PutAck state =
+    each_request-at (λ r. goes_to (goes_on true state r) (row_of state cache_events.PutAck))
+    (each_state-at (λ s. goes_to (goes_on true s None) (row_of s cache_events.PutAck)) refl state)
+    (each_state-at (λ s. goes_to (goes_on true s (Some request_messages.GetS)) (row_of s cache_events.PutAck)) refl
+    state)
+    (each_state-at (λ s. goes_to (goes_on true s (Some request_messages.GetM)) (row_of s cache_events.PutAck)) refl
+    state)
+    (each_state-at (λ s. goes_to (goes_on true s (Some request_messages.PutS)) (row_of s cache_events.PutAck)) refl
+    state)
+    (λ b. each_state-at (λ s. goes_to (goes_on true s (Some (request_messages.PutM b))) (row_of s cache_events.PutAck))
+    refl state)
 
 -- A copy that answers a forwarded message stays where it stands unless nothing is left of it. It waits as before, and
 -- has
@@ -130,76 +143,82 @@ comes_to state next sent request row tested is =
       sent = implies-at _ _ (right (is_waiting state && stands_in_array next) kept all);
     }
 
-data-row : (n k : ℕ) (state : CopyState) → goes_to (comes state None) (row_of state (events.Data n k)) ≡ true
+data-row : (n k : ℕ) (state : CopyState) → goes_to (comes state None) (row_of state (cache_events.Data n k)) ≡ true
 unfolding goes_to comes implies
-data-row n k states.IM_AD = goes_to-counted (comes states.IM_AD None) k n states.IM_A refl refl
-data-row n k states.SM_AD = goes_to-counted (comes states.SM_AD None) k n states.SM_A refl refl
-data-row n k states.IS_D = refl
-data-row n k states.I = refl
-data-row n k states.IM_A = refl
-data-row n k states.S = refl
-data-row n k states.SM_A = refl
-data-row n k states.M = refl
-data-row n k states.E = refl
-data-row n k states.MI_A = refl
-data-row n k states.SI_A = refl
-data-row n k states.II_A = refl
+data-row n k copy_states.IM_AD = goes_to-counted (comes copy_states.IM_AD None) k n copy_states.IM_A refl refl
+data-row n k copy_states.SM_AD = goes_to-counted (comes copy_states.SM_AD None) k n copy_states.SM_A refl refl
+data-row n k copy_states.IS_D = refl
+data-row n k copy_states.I = refl
+data-row n k copy_states.IM_A = refl
+data-row n k copy_states.S = refl
+data-row n k copy_states.SM_A = refl
+data-row n k copy_states.M = refl
+data-row n k copy_states.E = refl
+data-row n k copy_states.MI_A = refl
+data-row n k copy_states.SI_A = refl
+data-row n k copy_states.II_A = refl
 
-exclusive-row : (loads : Bool) (state : CopyState) → goes_to (comes state None) (row_of state (events.DataE loads))
+exclusive-row : (loads : Bool) (state : CopyState) →
+    goes_to (comes state None) (row_of state (cache_events.DataE loads))
     ≡ true
 unfolding each_state goes_to comes implies
-exclusive-row true = each_state-at (λ s. goes_to (comes s None) (row_of s (events.DataE true))) refl
-exclusive-row false = each_state-at (λ s. goes_to (comes s None) (row_of s (events.DataE false))) refl
+exclusive-row true = each_state-at (λ s. goes_to (comes s None) (row_of s (cache_events.DataE true))) refl
+exclusive-row false = each_state-at (λ s. goes_to (comes s None) (row_of s (cache_events.DataE false))) refl
 
 pub comes_by_data : (n k : ℕ) (state next : CopyState) (sent : CacheSends) →
-    row_of state (events.Data n k) ≡ rows.Go next sent → ComesTo state next None
-comes_by_data n k state next sent = comes_to state next sent None (row_of state (events.Data n k)) (data-row n k state)
+    row_of state (cache_events.Data n k) ≡ rows.Go next sent → ComesTo state next None
+comes_by_data n k state next sent =
+    comes_to state next sent None (row_of state (cache_events.Data n k)) (data-row n k state)
 
 pub comes_by_exclusive : (loads : Bool) (state next : CopyState) (sent : CacheSends) →
-    row_of state (events.DataE loads) ≡ rows.Go next sent → ComesTo state next None
+    row_of state (cache_events.DataE loads) ≡ rows.Go next sent → ComesTo state next None
 comes_by_exclusive loads state next sent =
-    comes_to state next sent None (row_of state (events.DataE loads)) (exclusive-row loads state)
+    comes_to state next sent None (row_of state (cache_events.DataE loads)) (exclusive-row loads state)
 
 ack-counts : (state : CopyState) (waits : CopyState) (come n : ℕ) →
-    ((request : Option RequestMessage) → comes state request states.M sends.Nothing ≡ true) →
-    ((request : Option RequestMessage) → comes state request waits sends.Nothing ≡ true) →
-    (request : Option RequestMessage) → goes_to (comes state request) (counted come n waits) ≡ true
+    ((request : Option RequestMessage) → comes state request copy_states.M cache_sends.Nothing ≡ true) →
+    ((request : Option RequestMessage) → comes state request waits cache_sends.Nothing ≡ true) →
+    (request : Option RequestMessage) → goes_to (comes state request) (row_by_count come n waits) ≡ true
 ack-counts state waits come n last more request =
     goes_to-counted (comes state request) come n waits (last request) (more request)
 
 ack-row : (n k : ℕ) (state : CopyState) (request : Option RequestMessage) →
-    goes_to (comes state request) (row_of state (events.InvAck n k)) ≡ true
+    goes_to (comes state request) (row_of state (cache_events.InvAck n k)) ≡ true
 unfolding goes_to comes implies
-ack-row n k states.IM_A =
-    ack-counts states.IM_A states.IM_A (k + 1) n
-    (each_request-at (λ r. comes states.IM_A r states.M sends.Nothing) refl refl refl refl (λ b. refl))
-    (each_request-at (λ r. comes states.IM_A r states.IM_A sends.Nothing) refl refl refl refl (λ b. refl))
-ack-row n k states.SM_A =
-    ack-counts states.SM_A states.SM_A (k + 1) n
-    (each_request-at (λ r. comes states.SM_A r states.M sends.Nothing) refl refl refl refl (λ b. refl))
-    (each_request-at (λ r. comes states.SM_A r states.SM_A sends.Nothing) refl refl refl refl (λ b. refl))
-ack-row n k states.IM_AD =
-    each_request-at (λ r. comes states.IM_AD r states.IM_AD sends.Nothing) refl refl refl refl (λ b. refl)
-ack-row n k states.SM_AD =
-    each_request-at (λ r. comes states.SM_AD r states.SM_AD sends.Nothing) refl refl refl refl (λ b. refl)
-ack-row n k states.IS_D = λ request. refl
-ack-row n k states.I = λ request. refl
-ack-row n k states.S = λ request. refl
-ack-row n k states.M = λ request. refl
-ack-row n k states.E = λ request. refl
-ack-row n k states.MI_A = λ request. refl
-ack-row n k states.SI_A = λ request. refl
-ack-row n k states.II_A = λ request. refl
+ack-row n k copy_states.IM_A =
+    ack-counts copy_states.IM_A copy_states.IM_A (k + 1) n
+    (each_request-at (λ r. comes copy_states.IM_A r copy_states.M cache_sends.Nothing) refl refl refl refl (λ b. refl))
+    (each_request-at (λ r. comes copy_states.IM_A r copy_states.IM_A cache_sends.Nothing) refl refl refl refl
+    (λ b. refl))
+ack-row n k copy_states.SM_A =
+    ack-counts copy_states.SM_A copy_states.SM_A (k + 1) n
+    (each_request-at (λ r. comes copy_states.SM_A r copy_states.M cache_sends.Nothing) refl refl refl refl (λ b. refl))
+    (each_request-at (λ r. comes copy_states.SM_A r copy_states.SM_A cache_sends.Nothing) refl refl refl refl
+    (λ b. refl))
+ack-row n k copy_states.IM_AD =
+    each_request-at (λ r. comes copy_states.IM_AD r copy_states.IM_AD cache_sends.Nothing) refl refl refl refl
+        (λ b. refl)
+ack-row n k copy_states.SM_AD =
+    each_request-at (λ r. comes copy_states.SM_AD r copy_states.SM_AD cache_sends.Nothing) refl refl refl refl
+        (λ b. refl)
+ack-row n k copy_states.IS_D = λ request. refl
+ack-row n k copy_states.I = λ request. refl
+ack-row n k copy_states.S = λ request. refl
+ack-row n k copy_states.M = λ request. refl
+ack-row n k copy_states.E = λ request. refl
+ack-row n k copy_states.MI_A = λ request. refl
+ack-row n k copy_states.SI_A = λ request. refl
+ack-row n k copy_states.II_A = λ request. refl
 
 pub comes_by_ack : (n k : ℕ) (state next : CopyState) (sent : CacheSends) (request : Option RequestMessage) →
-    row_of state (events.InvAck n k) ≡ rows.Go next sent → ComesTo state next request
+    row_of state (cache_events.InvAck n k) ≡ rows.Go next sent → ComesTo state next request
 comes_by_ack n k state next sent request =
-    comes_to state next sent request (row_of state (events.InvAck n k)) (ack-row n k state request)
+    comes_to state next sent request (row_of state (cache_events.InvAck n k)) (ack-row n k state request)
 
 -- ---- settling
 
 -- a shared copy waits where a write is left behind its loads
-shared-waits : (left : List Target) → is_waiting (settled_state states.S left) ≡ is_waited left
+shared-waits : (left : List Target) → is_waiting (settled_state copy_states.S left) ≡ is_waited left
 shared-waits [] = refl
 shared-waits (target ∷ targets) = refl
 
@@ -207,26 +226,26 @@ shared-waits (target ∷ targets) = refl
 pub settled-waits : (state : CopyState) (targets : List Target) → stands_in_array state ≡ true →
     is_waited targets ≡ true →
     is_waiting (settled_state state (left_in state targets)) ≡ is_waited (left_in state targets)
-settled-waits states.S targets stands some = shared-waits (behind_loads targets)
-settled-waits states.M targets stands some = refl
-settled-waits states.E targets stands some = refl
-settled-waits states.IS_D targets stands some = sym some
-settled-waits states.IM_AD targets stands some = sym some
-settled-waits states.IM_A targets stands some = sym some
-settled-waits states.SM_AD targets stands some = sym some
-settled-waits states.SM_A targets stands some = sym some
-settled-waits states.I targets stands some = cc
-settled-waits states.MI_A targets stands some = cc
-settled-waits states.SI_A targets stands some = cc
-settled-waits states.II_A targets stands some = cc
+settled-waits copy_states.S targets stands some = shared-waits (behind_loads targets)
+settled-waits copy_states.M targets stands some = refl
+settled-waits copy_states.E targets stands some = refl
+settled-waits copy_states.IS_D targets stands some = sym some
+settled-waits copy_states.IM_AD targets stands some = sym some
+settled-waits copy_states.IM_A targets stands some = sym some
+settled-waits copy_states.SM_AD targets stands some = sym some
+settled-waits copy_states.SM_A targets stands some = sym some
+settled-waits copy_states.I targets stands some = cc
+settled-waits copy_states.MI_A targets stands some = cc
+settled-waits copy_states.SI_A targets stands some = cc
+settled-waits copy_states.II_A targets stands some = cc
 
 -- what waits for the directory once a copy has settled: the right to write, if it is asked for
 unfoldable pub asked_then : Bool → Option RequestMessage → Option RequestMessage
-asked_then true request = Some requests.GetM
+asked_then true request = Some request_messages.GetM
 asked_then false request = request
 
-shared-sent : (left : List Target) (request : Option RequestMessage) → has_sent states.S request ≡ true →
-    has_sent (settled_state states.S left) (asked_then (is_waited left) request) ≡ true
+shared-sent : (left : List Target) (request : Option RequestMessage) → has_sent copy_states.S request ≡ true →
+    has_sent (settled_state copy_states.S left) (asked_then (is_waited left) request) ≡ true
 unfolding asked_then
 shared-sent [] request sent = sent
 shared-sent (target ∷ targets) request sent = refl
@@ -236,53 +255,53 @@ pub settled-sent : (state : CopyState) (targets : List Target) (request : Option
     has_sent state request ≡ true →
     has_sent (settled_state state (left_in state targets)) (asked_then (asks_to_write state targets) request) ≡ true
 unfolding asked_then
-settled-sent states.S targets request sent = shared-sent (behind_loads targets) request sent
-settled-sent states.M targets request sent = sent
-settled-sent states.E targets request sent = sent
-settled-sent states.IS_D targets request sent = sent
-settled-sent states.IM_AD targets request sent = sent
-settled-sent states.IM_A targets request sent = sent
-settled-sent states.SM_AD targets request sent = sent
-settled-sent states.SM_A targets request sent = sent
-settled-sent states.I targets request sent = sent
-settled-sent states.MI_A targets request sent = sent
-settled-sent states.SI_A targets request sent = sent
-settled-sent states.II_A targets request sent = sent
+settled-sent copy_states.S targets request sent = shared-sent (behind_loads targets) request sent
+settled-sent copy_states.M targets request sent = sent
+settled-sent copy_states.E targets request sent = sent
+settled-sent copy_states.IS_D targets request sent = sent
+settled-sent copy_states.IM_AD targets request sent = sent
+settled-sent copy_states.IM_A targets request sent = sent
+settled-sent copy_states.SM_AD targets request sent = sent
+settled-sent copy_states.SM_A targets request sent = sent
+settled-sent copy_states.I targets request sent = sent
+settled-sent copy_states.MI_A targets request sent = sent
+settled-sent copy_states.SI_A targets request sent = sent
+settled-sent copy_states.II_A targets request sent = sent
 
 -- It stands in the array as before.
 pub settled-stands : (state : CopyState) (targets : List Target) → stands_in_array state ≡ true →
     stands_in_array (settled_state state (left_in state targets)) ≡ true
-settled-stands states.S targets stands = shared (behind_loads targets)
+settled-stands copy_states.S targets stands = shared (behind_loads targets)
   where
-    shared : (left : List Target) → stands_in_array (settled_state states.S left) ≡ true
+    shared : (left : List Target) → stands_in_array (settled_state copy_states.S left) ≡ true
     shared [] = refl
     shared (target ∷ targets) = refl
-settled-stands states.M targets stands = refl
-settled-stands states.E targets stands = refl
-settled-stands states.IS_D targets stands = refl
-settled-stands states.IM_AD targets stands = refl
-settled-stands states.IM_A targets stands = refl
-settled-stands states.SM_AD targets stands = refl
-settled-stands states.SM_A targets stands = refl
-settled-stands states.I targets stands = stands
-settled-stands states.MI_A targets stands = stands
-settled-stands states.SI_A targets stands = stands
-settled-stands states.II_A targets stands = stands
+settled-stands copy_states.M targets stands = refl
+settled-stands copy_states.E targets stands = refl
+settled-stands copy_states.IS_D targets stands = refl
+settled-stands copy_states.IM_AD targets stands = refl
+settled-stands copy_states.IM_A targets stands = refl
+settled-stands copy_states.SM_AD targets stands = refl
+settled-stands copy_states.SM_A targets stands = refl
+settled-stands copy_states.I targets stands = stands
+settled-stands copy_states.MI_A targets stands = stands
+settled-stands copy_states.SI_A targets stands = stands
+settled-stands copy_states.II_A targets stands = stands
 
 -- a copy of which nothing is left is in I
-pub gone-is : (state : CopyState) → is_gone state ≡ true → state ≡ states.I
-gone-is states.I gone = refl
-gone-is states.IS_D gone = cc
-gone-is states.IM_AD gone = cc
-gone-is states.IM_A gone = cc
-gone-is states.S gone = cc
-gone-is states.SM_AD gone = cc
-gone-is states.SM_A gone = cc
-gone-is states.M gone = cc
-gone-is states.E gone = cc
-gone-is states.MI_A gone = cc
-gone-is states.SI_A gone = cc
-gone-is states.II_A gone = cc
+pub gone-is : (state : CopyState) → is_gone state ≡ true → state ≡ copy_states.I
+gone-is copy_states.I gone = refl
+gone-is copy_states.IS_D gone = cc
+gone-is copy_states.IM_AD gone = cc
+gone-is copy_states.IM_A gone = cc
+gone-is copy_states.S gone = cc
+gone-is copy_states.SM_AD gone = cc
+gone-is copy_states.SM_A gone = cc
+gone-is copy_states.M gone = cc
+gone-is copy_states.E gone = cc
+gone-is copy_states.MI_A gone = cc
+gone-is copy_states.SI_A gone = cc
+gone-is copy_states.II_A gone = cc
 
 -- no copy waits and leaves
 pub waits-or_leaves : (state : CopyState) → is_leaving state ≡ true → is_waiting state ≡ false
@@ -304,15 +323,15 @@ pub idle-none : (state : CopyState) (request : Option RequestMessage) → is_idl
     has_sent state request ≡ true → request ≡ None
 unfolding each_state idles implies
 idle-none state None idle sent = refl
-idle-none state (Some requests.GetS) idle sent =
-    let tested = implies-at _ _ (each_state-at (idles (Some requests.GetS)) refl state) idle in
-    absurd (clash (has_sent state (Some requests.GetS)) tested sent)
-idle-none state (Some requests.GetM) idle sent =
-    let tested = implies-at _ _ (each_state-at (idles (Some requests.GetM)) refl state) idle in
-    absurd (clash (has_sent state (Some requests.GetM)) tested sent)
-idle-none state (Some requests.PutS) idle sent =
-    let tested = implies-at _ _ (each_state-at (idles (Some requests.PutS)) refl state) idle in
-    absurd (clash (has_sent state (Some requests.PutS)) tested sent)
-idle-none state (Some (requests.PutM block)) idle sent =
-    let tested = implies-at _ _ (each_state-at (idles (Some (requests.PutM block))) refl state) idle in
-    absurd (clash (has_sent state (Some (requests.PutM block))) tested sent)
+idle-none state (Some request_messages.GetS) idle sent =
+    let tested = implies-at _ _ (each_state-at (idles (Some request_messages.GetS)) refl state) idle in
+    absurd (clash (has_sent state (Some request_messages.GetS)) tested sent)
+idle-none state (Some request_messages.GetM) idle sent =
+    let tested = implies-at _ _ (each_state-at (idles (Some request_messages.GetM)) refl state) idle in
+    absurd (clash (has_sent state (Some request_messages.GetM)) tested sent)
+idle-none state (Some request_messages.PutS) idle sent =
+    let tested = implies-at _ _ (each_state-at (idles (Some request_messages.PutS)) refl state) idle in
+    absurd (clash (has_sent state (Some request_messages.PutS)) tested sent)
+idle-none state (Some (request_messages.PutM block)) idle sent =
+    let tested = implies-at _ _ (each_state-at (idles (Some (request_messages.PutM block))) refl state) idle in
+    absurd (clash (has_sent state (Some (request_messages.PutM block))) tested sent)

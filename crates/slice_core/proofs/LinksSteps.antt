@@ -3,9 +3,9 @@ use Rattle.std.proofs.Common.{refl}
 use Rattle.slice_core_coherence.proofs.Steps.{KeepsAccesses, KeepsMessages}
 use Rattle.slice_core_coherence.specs.Whole.{IsWhole}
 use Rattle.slice_core_plan.specs.Calls.{filled_by}
-use Rattle.slice_core_plan.specs.View.{channels_at, side_at}
-use Rattle.slice_core_side.specs.Side.{array_copy}
-use Rattle.slice_core_side.specs.Steps.{acknowledged}
+use Rattle.slice_core_plan.specs.View.{channels_at, cache_at}
+use Rattle.slice_core_cache.specs.CoreCache.{array_copy}
+use Rattle.slice_core_cache.specs.Steps.{copy_after_ack}
 use Rattle.slice_core.proofs.LinksAccesses.{links_evict, links_hand, links_hit, links_join, links_open}
 use Rattle.slice_core.proofs.LinksDirectory.{links_directory, links_home}
 use Rattle.slice_core.proofs.LinksForwarded.{links_forwarded}
@@ -36,11 +36,11 @@ links_messages = record {
   forwarded = λ v local core next sent requester whole inside there copy is links.
       links_forwarded v local core next sent requester whole.shaped links there inside is copy;
   filling = λ v local core place next misses whole inside there is takes links.
-      let copy = array_copy (side_at v core) local in
+      let copy = array_copy (cache_at v core) local in
       let message = (core_at (channels_at v local) core.0).data in
       links_fill v local core whole.shaped links there inside place next (filled_by copy message next) misses is
       (state-filled_by copy message next) takes;
   counting = λ v local core from place next misses whole inside there is takes links.
       links_acknowledge v local core whole.shaped links there inside from place next
-      (acknowledged (array_copy (side_at v core) local) next) misses is refl takes;
+      (copy_after_ack (array_copy (cache_at v core) local) next) misses is refl takes;
 }

@@ -5,11 +5,11 @@ use Rattle.address_map.specs.declared.request.Request.{Request}
 use Rattle.slice_core.proofs.Coherent.{whole}
 use Rattle.slice_core.proofs.SameSlice.{same-deliver, same-issue, same-next}
 use Rattle.slice_core.specs.Sound.{IsSound}
-use Rattle.slice_core_answer.specs.declared.answer.Delivered.{Delivered}
-use Rattle.slice_core_answer.specs.declared.answer.Issue.{Issue}
-use Rattle.slice_core_answer.specs.declared.answer.Refused.{Refused}
-use Rattle.slice_core_log.specs.Log.{IsLegal, initially}
-use Rattle.slice_core_log.specs.declared.entry.Numbered.{Numbered}
+use Rattle.slice_answer.specs.declared.answer.Delivered.{Delivered}
+use Rattle.slice_answer.specs.declared.answer.Issue.{Issue}
+use Rattle.slice_answer.specs.declared.answer.Refused.{Refused}
+use Rattle.slice_log.specs.Log.{IsLegal, initially}
+use Rattle.slice_log.specs.declared.entry.Numbered.{Numbered}
 use Rattle.slice_core_machine.proofs.Delivered.{deliver_next_performs, delivery_performs}
 use Rattle.slice_core_machine.proofs.Handed.{hand_leads}
 use Rattle.slice_core_machine.proofs.Issued.{issue_leads}
@@ -17,7 +17,7 @@ use Rattle.slice_core_machine.specs.Shows.{IsAccounted, Leads, Performs, hand_st
 use Rattle.slice_core_plan.specs.Calls.{AfterDeliverNext, AfterDelivery, AfterHand, AfterIssue, PartsView}
 use Rattle.slice_queues_message.specs.declared.channel.Class.{Class}
 use Rattle.slice_queues_message.specs.declared.channel.Pick.{Pick}
-use Rattle.slice_core_answer.specs.declared.answer.Delivery.{Delivery}
+use Rattle.slice_answer.specs.declared.answer.Delivery.{Delivery}
 
 -- A sound slice has each core's requests accounted for.
 accounted : (p : PartsView) → IsSound p → IsAccounted p.view
@@ -30,13 +30,13 @@ legal old new same sound = subst (λ init. IsLegal (initially init) new.view.log
 
 module _ (old : PartsView) (sound : IsSound old) (new : PartsView) where
   pub machine-issue : (core : CoreId) (request : Request) (answer : Result Issue Refused)
-      → core.0 < length old.view.sides → IsSound new → AfterIssue old core request answer new
+      → core.0 < length old.view.caches → IsSound new → AfterIssue old core request answer new
       → Leads (issue_steps (next_of old.view core request) answer) old.view new.view
   machine-issue core request answer known left after =
       issue_leads old core request answer new (accounted old sound) known
       (legal old new (same-issue old core request answer new after).init left) after
 
-  pub machine-hand : (core : CoreId) (answer : Option Numbered) → core.0 < length old.view.sides
+  pub machine-hand : (core : CoreId) (answer : Option Numbered) → core.0 < length old.view.caches
       → AfterHand old core answer new → Leads (hand_steps answer) old.view new.view
   machine-hand core answer known after = hand_leads old new core answer (accounted old sound) known after
 

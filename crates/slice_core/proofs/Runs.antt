@@ -9,7 +9,7 @@ use Rattle.slice_core.specs.declared.run.Call.{Call}
 use Rattle.slice_core.specs.declared.run.CallAnswer.{CallAnswer}
 use Rattle.slice_core_machine.proofs.Kept.{leads-same, same-view}
 use Rattle.slice_core_machine.proofs.Runs.{leads-on}
-use Rattle.slice_core_machine.specs.Machine.{Step}
+use Rattle.slice_core_machine.specs.SmallMachine.{Step}
 use Rattle.slice_core_machine.specs.Shows.{Leads}
 use Rattle.slice_core_plan.specs.Calls.{PartsView}
 

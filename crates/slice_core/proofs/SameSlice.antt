@@ -15,30 +15,30 @@ use Rattle.slice_core.specs.Facts.{IsSameSlice}
 use Rattle.slice_core.specs.Shape.{shape_of}
 use Rattle.slice_core.proofs.Shapes.{shape-advance, shape-evict, shape-hit, shape-open, shape-replace, shape-settle}
 use Rattle.slice_core.proofs.Shapes.{shapes-kept}
-use Rattle.slice_core_answer.specs.Stats.{StatsView, after_eviction}
-use Rattle.slice_core_answer.specs.declared.answer.Delivered.{Delivered}
-use Rattle.slice_core_answer.specs.declared.answer.Delivered.TheVariants as delivered
-use Rattle.slice_core_answer.specs.declared.answer.Evicted.{Evicted}
-use Rattle.slice_core_answer.specs.declared.answer.Evicted.TheVariants as evictions
-use Rattle.slice_core_answer.specs.declared.answer.Issue.{Issue}
-use Rattle.slice_core_answer.specs.declared.answer.Refused.{Refused}
-use Rattle.slice_core_log.specs.declared.entry.Entry.{Entry}
-use Rattle.slice_core_log.specs.declared.entry.Numbered.{Numbered}
-use Rattle.slice_core_side.specs.Access.{evicted_of}
-use Rattle.slice_core_side.specs.Side.{SideView}
-use Rattle.slice_core_side.specs.declared.access.Access.{Access}
-use Rattle.slice_core_side.specs.declared.access.Access.TheVariants as accesses
-use Rattle.slice_core_side.specs.declared.access.Ask.{Ask}
-use Rattle.slice_core_side.specs.declared.access.Way.{Way}
-use Rattle.slice_core_side.specs.declared.access.Way.TheVariants as ways
-use Rattle.slice_core_side.specs.declared.copy.CacheCopy.{CacheCopy}
+use Rattle.slice_answer.specs.Stats.{StatsView, after_eviction}
+use Rattle.slice_answer.specs.declared.answer.Delivered.{Delivered}
+use Rattle.slice_answer.specs.declared.answer.Delivered.TheVariants as delivered
+use Rattle.slice_answer.specs.declared.answer.Evicted.{Evicted}
+use Rattle.slice_answer.specs.declared.answer.Evicted.TheVariants as evictions
+use Rattle.slice_answer.specs.declared.answer.Issue.{Issue}
+use Rattle.slice_answer.specs.declared.answer.Refused.{Refused}
+use Rattle.slice_log.specs.declared.entry.Entry.{Entry}
+use Rattle.slice_log.specs.declared.entry.Numbered.{Numbered}
+use Rattle.slice_core_cache.specs.Access.{evicted_of}
+use Rattle.slice_core_cache.specs.CoreCache.{CoreCacheView}
+use Rattle.slice_core_cache.specs.declared.access.AccessKind.{AccessKind}
+use Rattle.slice_core_cache.specs.declared.access.AccessKind.TheVariants as access_kinds
+use Rattle.slice_core_cache.specs.declared.access.Ask.{Ask}
+use Rattle.slice_core_cache.specs.declared.access.Placement.{Placement}
+use Rattle.slice_core_cache.specs.declared.access.Placement.TheVariants as placements
+use Rattle.slice_core_cache.specs.declared.copy.CacheCopy.{CacheCopy}
 use Rattle.slice_core_plan.specs.Decision.{decision_of}
 use Rattle.slice_core_plan.specs.Calls.{PartsView, AfterAccepting, AfterAccess, AfterDeliverNext, AfterDelivery}
 use Rattle.slice_core_plan.specs.Calls.{AfterEvict, AfterHand, AfterIssue, AfterPlan, IsAccepted, LacksMemory, Settles}
 use Rattle.slice_core_plan.specs.Calls.{core_of, opened_stats, local_in, IsDone}
 use Rattle.slice_core_plan.specs.Plan.{plan_of, planned_in}
 use Rattle.slice_core_plan.specs.Steps.{after_evict, after_open, is_held, with_way}
-use Rattle.slice_core_plan.specs.View.{side_at, with_side}
+use Rattle.slice_core_plan.specs.View.{cache_at, with_cache}
 use Rattle.slice_core_plan.specs.declared.decision.Decision.{Decision}
 use Rattle.slice_core_plan.specs.declared.decision.Decision.TheVariants as decisions
 use Rattle.slice_queues.specs.Line.{LineChannels}
@@ -47,8 +47,8 @@ use Rattle.slice_queues_message.specs.Pick.{channel_of, line_of}
 use Rattle.slice_queues_message.specs.declared.channel.Channel.{Channel}
 use Rattle.slice_queues_message.specs.declared.channel.Class.{Class}
 use Rattle.slice_queues_message.specs.declared.channel.Pick.{Pick}
-use Rattle.slice_core_answer.specs.declared.answer.Delivery.TheVariants as deliveries
-use Rattle.slice_core_answer.specs.declared.answer.Delivery.{Delivery}
+use Rattle.slice_answer.specs.declared.answer.Delivery.TheVariants as deliveries
+use Rattle.slice_answer.specs.declared.answer.Delivery.{Delivery}
 use Rattle.slice_core_plan.specs.declared.transition.Transition.TheVariants as transitions
 use Rattle.slice_core_plan.specs.declared.transition.Transition.{Transition}
 
@@ -98,61 +98,63 @@ lines-changed old entries channels stats room ring reported = record {
 }
 
 -- .. and where one core has another part of the shape that it had, whatever was sent, performed and counted.
-part-changed : (old : PartsView) (core : CoreId) (side : SideView) (channels : List LineChannels) (log : List Entry)
+part-changed : (old : PartsView) (core : CoreId) (cache : CoreCacheView) (channels : List LineChannels)
+    (log : List Entry)
     (stats : StatsView) (pending : ℕ) (ring : List ℕ)
-    → shape_of side ≡ shape_of (side_at old.view core) → stats.exclusive ≡ old.stats.exclusive
+    → shape_of cache ≡ shape_of (cache_at old.view core) → stats.exclusive ≡ old.stats.exclusive
     → IsSameSlice old (record old {
-      view = record (with_side old.view core side) { channels = channels; log = log };
+      view = record (with_cache old.view core cache) { channels = channels; log = log };
       stats = stats;
       pending = pending;
       ring = ring;
     })
-part-changed old core side channels log stats pending ring shape reported = record {
+part-changed old core cache channels log stats pending ring shape reported = record {
   lines = refl;
   init = refl;
   counters = refl;
   cores = simp length-set;
-  shapes = shapes-kept old.view core side shape;
+  shapes = shapes-kept old.view core cache shape;
   exclusive = refl;
   reported = reported;
 }
 
 -- ---- issue
 
-opened-reported : (stats : StatsView) (core : CoreId) (way : Way)
-    → (opened_stats stats core way).exclusive ≡ stats.exclusive
-opened-reported stats core ways.Victim = refl
-opened-reported stats core ways.Held = refl
-opened-reported stats core ways.Free = refl
+opened-reported : (stats : StatsView) (core : CoreId) (placement : Placement)
+    → (opened_stats stats core placement).exclusive ≡ stats.exclusive
+opened-reported stats core placements.Victim = refl
+opened-reported stats core placements.Held = refl
+opened-reported stats core placements.Free = refl
 
-with-way : (old : PartsView) (core : CoreId) (local : Local) (way : Way)
-    → IsSameSlice old (record old { view = with_way old.view core local way })
-with-way old core local ways.Victim =
-    part-changed old core _ _ _ _ _ _ (shape-replace (side_at old.view core) local) refl
-with-way old core local ways.Held = same-is old old refl
-with-way old core local ways.Free = same-is old old refl
+with-way : (old : PartsView) (core : CoreId) (local : Local) (placement : Placement)
+    → IsSameSlice old (record old { view = with_way old.view core local placement })
+with-way old core local placements.Victim =
+    part-changed old core _ _ _ _ _ _ (shape-replace (cache_at old.view core) local) refl
+with-way old core local placements.Held = same-is old old refl
+with-way old core local placements.Free = same-is old old refl
 
-opened : (old : PartsView) (core : CoreId) (request : Request) (local : Local) (way : Way) (next : CopyState)
+opened : (old : PartsView) (core : CoreId) (request : Request) (local : Local) (placement : Placement)
+    (next : CopyState)
     (ask : Ask) (misses : List Register)
-    → IsSameSlice old (record old { view = after_open old.view core request local way next ask misses })
-opened old core request local way next ask misses =
-    let middle = record old { view = with_way old.view core local way } in
-    same-then old middle _ (with-way old core local way)
+    → IsSameSlice old (record old { view = after_open old.view core request local placement next ask misses })
+opened old core request local placement next ask misses =
+    let middle = record old { view = with_way old.view core local placement } in
+    same-then old middle _ (with-way old core local placement)
     (part-changed middle core _ _ _ _ _ _
-    (shape-open (side_at middle.view core) local (is_held way) next request misses) refl)
+    (shape-open (cache_at middle.view core) local (is_held placement) next request misses) refl)
 
-accepted : (access : Access) (old : PartsView) (core : CoreId) (request : Request) (local : Local) (answer : Issue)
+accepted : (access : AccessKind) (old : PartsView) (core : CoreId) (request : Request) (local : Local) (answer : Issue)
     (new : PartsView) → AfterAccepting access old core request local answer new → IsSameSlice old new
-accepted (accesses.Stall stall) old core request local answer new after = same-is old new after.1
-accepted (accesses.Hit place next silent) old core request local answer new after =
+accepted (access_kinds.Stall stall) old core request local answer new after = same-is old new after.1
+accepted (access_kinds.Hit way next silent) old core request local answer new after =
     subst (IsSameSlice old) (sym after.1)
     (part-changed old core _ _ _ _ _ _
-    (shape-hit (side_at old.view core) local (offset_of request.word).0 request.op next) refl)
-accepted accesses.Join old core request local answer new after =
+    (shape-hit (cache_at old.view core) local (offset_of request.word).0 request.op next) refl)
+accepted access_kinds.SecondaryMiss old core request local answer new after =
     subst (IsSameSlice old) (sym after.3.1)
     (part-changed old core _ _ _ _ _ _ refl refl)
-accepted (accesses.Open next ask way) old core request local answer new after =
-    let same = opened old core request local way next ask after.0 in
+accepted (access_kinds.PrimaryMiss next ask placement) old core request local answer new after =
+    let same = opened old core request local placement next ask after.0 in
     subst (IsSameSlice old) (sym after.3.1)
     (record {
       lines = same.lines;
@@ -161,12 +163,12 @@ accepted (accesses.Open next ask way) old core request local answer new after =
       cores = same.cores;
       shapes = same.shapes;
       exclusive = same.exclusive;
-      reported = opened-reported old.stats core way;
+      reported = opened-reported old.stats core placement;
     })
 
 module _ (old : PartsView) (core : CoreId) (request : Request) (answer : Result Issue Refused) (new : PartsView) where
   -- an access that needs room in the log
-  let_in : (local : Local) (access : Access)
+  let_in : (local : Local) (access : AccessKind)
       → LacksMemory old answer new ⊎ IsAccepted access old core request local answer new → IsSameSlice old new
   let_in local access after =
       ⊎_elim (λ lacks. same-is old new lacks.unchanged)
@@ -177,14 +179,15 @@ module _ (old : PartsView) (core : CoreId) (request : Request) (answer : Result 
       (accepted access roomy core request local is.1 new is.5))
       after
 
-  accessed : (local : Local) (access : Access) → AfterAccess access old core request local answer new
+  accessed : (local : Local) (access : AccessKind) → AfterAccess access old core request local answer new
       → IsSameSlice old new
-  accessed local (accesses.Stall stall) after =
+  accessed local (access_kinds.Stall stall) after =
       subst (IsSameSlice old) (sym after.1)
       (lines-changed old _ _ _ _ _ refl)
-  accessed local (accesses.Hit place next silent) after = let_in local (accesses.Hit place next silent) after
-  accessed local accesses.Join after = let_in local accesses.Join after
-  accessed local (accesses.Open next ask way) after = let_in local (accesses.Open next ask way) after
+  accessed local (access_kinds.Hit place next silent) after = let_in local (access_kinds.Hit place next silent) after
+  accessed local access_kinds.SecondaryMiss after = let_in local access_kinds.SecondaryMiss after
+  accessed local (access_kinds.PrimaryMiss next ask placement) after =
+      let_in local (access_kinds.PrimaryMiss next ask placement) after
 
   -- what an issue answers and leaves, by what was decided
   abbrev by_decision : Decision → Type 0
@@ -215,12 +218,12 @@ module _ (old : PartsView) (core : CoreId) (line : LineAddr) (answer : Evicted) 
   -- what an eviction answers and leaves, by the line's place
   abbrev by_line : Option Local → Type 0
   by_line None = (answer ≡ evictions.NotHeld) × (new ≡ old)
-  by_line (Some local) = (answer ≡ evicted_of (side_at old.view core) local) × by_answer local answer
+  by_line (Some local) = (answer ≡ evicted_of (cache_at old.view core) local) × by_answer local answer
 
   answered : (local : Local) (given : Evicted) → by_answer local given → IsSameSlice old new
   answered local evictions.Evicting after =
       subst (IsSameSlice old) (sym after)
-      (part-changed old core _ _ _ _ _ _ (shape-evict (side_at old.view core) local) refl)
+      (part-changed old core _ _ _ _ _ _ (shape-evict (cache_at old.view core) local) refl)
   answered local evictions.Busy after = same-is old new after
   answered local evictions.NotHeld after = same-is old new after
   answered local evictions.WriteBackFull after = same-is old new after
@@ -239,7 +242,7 @@ settled : (old : PartsView) (local : Local) (core : CoreId) (channel : Channel) 
 settled old local core channel copy new after =
     subst (IsSameSlice old) (sym after.3)
     (part-changed old core _ _ _ _ _ _
-    (shape-settle (side_at old.view core) local copy (length old.view.log) after.0) refl)
+    (shape-settle (cache_at old.view core) local copy (length old.view.log) after.0) refl)
 
 planned : (plan : Delivery Transition) (old : PartsView) (local : Local) (channel : Channel) (answer : Delivered) (new : PartsView)
     → AfterPlan plan old local channel answer new → IsSameSlice old new
@@ -255,7 +258,7 @@ planned (deliveries.Moved (transitions.Home step)) old local channel answer new 
 planned (deliveries.Moved (transitions.Forwarded step)) old local channel answer new after =
     subst (IsSameSlice old) (sym after.1)
     (part-changed old (core_of channel) _ _ _ _ _ _
-    (shape-advance (side_at old.view (core_of channel)) local step.next) refl)
+    (shape-advance (cache_at old.view (core_of channel)) local step.next) refl)
 planned (deliveries.Moved (transitions.Fill step)) old local channel answer new after = settled old local _ channel _ new after.1
 planned (deliveries.Moved (transitions.Acknowledge step)) old local channel answer new after = settled old local _ channel _ new after.1
 

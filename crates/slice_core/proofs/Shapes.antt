@@ -13,21 +13,22 @@ use Rattle.cache_table.specs.declared.state.CopyState.{CopyState}
 use Rattle.mshr_file.specs.Miss.{targets_of}
 use Rattle.mshr_file.specs.declared.registers.Register.{Register}
 use Rattle.slice_core.specs.Shape.{shape_of}
-use Rattle.slice_core_plan.specs.View.{View, no_side, side_at, with_side}
-use Rattle.slice_core_side.specs.Copy.{is_gone, performed_on}
-use Rattle.slice_core_side.specs.Perform.{performed_in}
-use Rattle.slice_core_side.specs.Side.{SideView, array_copy}
-use Rattle.slice_core_side.specs.Steps.{advanced_in_array, advanced_in_buffer, after_advance, after_change, after_draw}
-use Rattle.slice_core_side.specs.Steps.{after_evict, after_hit, after_open, after_replace, after_settle, settled, used}
-use Rattle.slice_core_side.specs.Steps.{used_by, victim_for, with_copy, without_line_in}
-use Rattle.slice_core_side.specs.declared.copy.CacheCopy.{CacheCopy}
+use Rattle.slice_core_cache.specs.Copy.{is_gone, performed_on}
+use Rattle.slice_core_cache.specs.Perform.{performed_in}
+use Rattle.slice_core_cache.specs.CoreCache.{CoreCacheView, array_copy}
+use Rattle.slice_core_cache.specs.Steps.{advanced_in_array, advanced_in_buffer, after_advance, after_change, after_draw}
+use Rattle.slice_core_cache.specs.Steps.{after_evict, after_hit, after_open, after_replace, after_settle}
+use Rattle.slice_core_cache.specs.Steps.{copy_after_settle, array_after_use}
+use Rattle.slice_core_cache.specs.Steps.{used_by, victim_for, with_copy, without_line_in}
+use Rattle.slice_core_cache.specs.declared.copy.CacheCopy.{CacheCopy}
+use Rattle.slice_core_plan.specs.View.{View, no_cache, cache_at, with_cache}
 use Rattle.target_list.specs.declared.target.Target.{Target}
 use Rattle.writeback_buffer.specs.Buffer.{with_state, without_line}
 
 -- Where one core has another part of the shape that it had, each core has its shape.
-pub shapes-kept : (v : View) (core : CoreId) (side : SideView) → shape_of side ≡ shape_of (side_at v core)
-    → map shape_of (with_side v core side).sides ≡ map shape_of v.sides
-shapes-kept v core side same = map-set_same shape_of v.sides core.0 side no_side same
+pub shapes-kept : (v : View) (core : CoreId) (cache : CoreCacheView) → shape_of cache ≡ shape_of (cache_at v core)
+    → map shape_of (with_cache v core cache).caches ≡ map shape_of v.caches
+shapes-kept v core cache same = map-set_same shape_of v.caches core.0 cache no_cache same
 
 -- ---- arrays
 
@@ -53,65 +54,66 @@ used-policy [] array local = refl
 used-policy (target ∷ targets) array local = refl
 
 -- An array of the same ways and policy leaves the shape.
-same-array : (side : SideView) (array : ArrayView CacheCopy PolicyKind) → ways_of array ≡ ways_of side.array
-    → array.policy ≡ side.array.policy → shape_of (record side { array = array }) ≡ shape_of side
-same-array side array ways policy =
-    ap (λ (it : List ℕ). record (shape_of (record side { array = array })) { ways = it }) ways
-    ∙ ap (λ (it : PolicyKind). record (shape_of side) { policy = it }) policy
+same-array : (cache : CoreCacheView) (array : ArrayView CacheCopy PolicyKind) → ways_of array ≡ ways_of cache.array
+    → array.policy ≡ cache.array.policy → shape_of (record cache { array = array }) ≡ shape_of cache
+same-array cache array ways policy =
+    ap (λ (it : List ℕ). record (shape_of (record cache { array = array })) { ways = it }) ways
+    ∙ ap (λ (it : PolicyKind). record (shape_of cache) { policy = it }) policy
 
 -- other slots of one set, and so another copy, one line more or less
-with-slots : (side : SideView) (local : Local) (slots : List (Slot CacheCopy))
-    → shape_of (record side { array = with_slots side.array local slots }) ≡ shape_of side
-with-slots side local slots =
-    same-array side (with_slots side.array local slots) (ways-kept side.array local slots) refl
+with-slots : (cache : CoreCacheView) (local : Local) (slots : List (Slot CacheCopy))
+    → shape_of (record cache { array = with_slots cache.array local slots }) ≡ shape_of cache
+with-slots cache local slots =
+    same-array cache (with_slots cache.array local slots) (ways-kept cache.array local slots) refl
 
 -- ---- accesses and evictions
 
-pub shape-hit : (side : SideView) (local : Local) (offset : ℕ) (op : Op) (next : CopyState)
-    → shape_of (after_hit side local offset op next) ≡ shape_of side
-shape-hit side local offset op next =
-    let held = array_copy side local in
+pub shape-hit : (cache : CoreCacheView) (local : Local) (offset : ℕ) (op : Op) (next : CopyState)
+    → shape_of (after_hit cache local offset op next) ≡ shape_of cache
+shape-hit cache local offset op next =
+    let held = array_copy cache local in
     let copy : CacheCopy = record held { block = performed_on held.block offset op; state = next } in
-    let array = with_copy side.array local copy in
-    same-array side (used array local) (ways-kept array local _ ∙ ways-kept side.array local _) refl
+    let array = with_copy cache.array local copy in
+    same-array cache (array_after_use array local) (ways-kept array local _ ∙ ways-kept cache.array local _) refl
 
-pub shape-open : (side : SideView) (local : Local) (held : Bool) (next : CopyState) (request : Request)
-    (misses : List Register) → shape_of (after_open side local held next request misses) ≡ shape_of side
-shape-open side local true next request misses = with-slots side local _
-shape-open side local false next request misses = with-slots side local _
+pub shape-open : (cache : CoreCacheView) (local : Local) (held : Bool) (next : CopyState) (request : Request)
+    (misses : List Register) → shape_of (after_open cache local held next request misses) ≡ shape_of cache
+shape-open cache local true next request misses = with-slots cache local _
+shape-open cache local false next request misses = with-slots cache local _
 
-pub shape-evict : (side : SideView) (local : Local) → shape_of (after_evict side local) ≡ shape_of side
-shape-evict side local = with-slots side local _
+pub shape-evict : (cache : CoreCacheView) (local : Local) → shape_of (after_evict cache local) ≡ shape_of cache
+shape-evict cache local = with-slots cache local _
 
-pub shape-replace : (side : SideView) (local : Local) → shape_of (after_replace side local) ≡ shape_of side
-shape-replace side local = shape-evict (after_draw side) (victim_for side local)
+pub shape-replace : (cache : CoreCacheView) (local : Local) → shape_of (after_replace cache local) ≡ shape_of cache
+shape-replace cache local = shape-evict (after_draw cache) (victim_for cache local)
 
 -- ---- messages
 
-by_test : (test : Bool) (one other side : SideView) → shape_of one ≡ shape_of side → shape_of other ≡ shape_of side
-    → shape_of (if test then one else other) ≡ shape_of side
-by_test true one other side is_one is_other = is_one
-by_test false one other side is_one is_other = is_other
+by_test : (test : Bool) (one other cache : CoreCacheView) → shape_of one ≡ shape_of cache → shape_of other
+    ≡ shape_of cache
+    → shape_of (if test then one else other) ≡ shape_of cache
+by_test true one other cache is_one is_other = is_one
+by_test false one other cache is_one is_other = is_other
 
-pub shape-advance : (side : SideView) (local : Local) (next : CopyState)
-    → shape_of (after_advance side local next) ≡ shape_of side
-shape-advance side local next =
-    by_test (is_some (array_at side.array local)) (advanced_in_array side local next)
-    (advanced_in_buffer side local next) side
-    (by_test (is_gone next) (record side { array = without_line_in side.array local })
-    (after_change side local (record (array_copy side local) { state = next })) side
-    (with-slots side local _) (with-slots side local _))
-    (by_test (is_gone next) (record side { buffer = without_line side.buffer local.0 })
-    (record side { buffer = with_state side.buffer local.0 next }) side refl refl)
+pub shape-advance : (cache : CoreCacheView) (local : Local) (next : CopyState)
+    → shape_of (after_advance cache local next) ≡ shape_of cache
+shape-advance cache local next =
+    by_test (is_some (array_at cache.array local)) (advanced_in_array cache local next)
+    (advanced_in_buffer cache local next) cache
+    (by_test (is_gone next) (record cache { array = without_line_in cache.array local })
+    (after_change cache local (record (array_copy cache local) { state = next })) cache
+    (with-slots cache local _) (with-slots cache local _))
+    (by_test (is_gone next) (record cache { buffer = without_line cache.buffer local.0 })
+    (record cache { buffer = with_state cache.buffer local.0 next }) cache refl refl)
 
-pub shape-settle : (side : SideView) (local : Local) (copy : CacheCopy) (number : ℕ) (misses : List Register)
-    → shape_of (after_settle (after_change side local copy) local number misses) ≡ shape_of side
-shape-settle side local copy number misses =
-    let changed = after_change side local copy in
-    let targets = targets_of side.misses local.0 in
+pub shape-settle : (cache : CoreCacheView) (local : Local) (copy : CacheCopy) (number : ℕ) (misses : List Register)
+    → shape_of (after_settle (after_change cache local copy) local number misses) ≡ shape_of cache
+shape-settle cache local copy number misses =
+    let changed = after_change cache local copy in
+    let targets = targets_of cache.misses local.0 in
     let now = array_copy changed local in
-    let array = with_copy changed.array local (settled targets now) in
+    let array = with_copy changed.array local (copy_after_settle targets now) in
     let taken = performed_in now.state targets in
     same-array changed (used_by taken array local)
     (used-ways taken array local ∙ ways-kept changed.array local _) (used-policy taken array local)
-    ∙ with-slots side local _
+    ∙ with-slots cache local _

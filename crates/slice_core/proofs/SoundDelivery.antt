@@ -1,5 +1,5 @@
 -- The whole invariant holds after a delivery.
-use Rattle.slice_core_answer.specs.declared.answer.Delivered.{Delivered}
+use Rattle.slice_answer.specs.declared.answer.Delivered.{Delivered}
 use Rattle.slice_core_coherence.proofs.BlocksDeliveries.{faithful_deliver_next, faithful_delivery}
 use Rattle.slice_core_coherence.proofs.KeptByDeliveries.{deliver_next_keeps, delivery_keeps}
 use Rattle.slice_core_coherence.specs.Whole.{IsWhole}
@@ -11,7 +11,7 @@ use Rattle.slice_core.proofs.LinksSteps.{links_messages}
 use Rattle.slice_core.specs.Sound.{HasLinks, IsSound}
 use Rattle.slice_queues_message.specs.declared.channel.Class.{Class}
 use Rattle.slice_queues_message.specs.declared.channel.Pick.{Pick}
-use Rattle.slice_core_answer.specs.declared.answer.Delivery.{Delivery}
+use Rattle.slice_answer.specs.declared.answer.Delivery.{Delivery}
 
 module _ (old : PartsView) (sound : IsSound old) (new : PartsView) where
   -- A delivery of a chosen message keeps the invariant.

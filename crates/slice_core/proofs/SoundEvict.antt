@@ -2,12 +2,12 @@
 use Rattle.std.proofs.Common.{◌<◌, length, Option, Some, None, sym, subst}
 use Rattle.address_map.specs.declared.address.CoreId.{CoreId}
 use Rattle.address_map.specs.declared.address.LineAddr.{LineAddr}
-use Rattle.slice_core_answer.specs.declared.answer.Evicted.{Evicted}
+use Rattle.slice_answer.specs.declared.answer.Evicted.{Evicted}
 use Rattle.slice_core_coherence.proofs.BlocksCalls.{faithful_evicted, faithful_handed}
 use Rattle.slice_core_coherence.proofs.KeptByCalls.{evicted_keeps, handed_keeps}
 use Rattle.slice_core_coherence.specs.Whole.{IsWhole}
-use Rattle.slice_core_log.specs.declared.entry.Numbered.{Numbered}
 use Rattle.slice_core_plan.specs.Calls.{PartsView, AfterEvict, AfterHand}
+use Rattle.slice_log.specs.declared.entry.Numbered.{Numbered}
 use Rattle.slice_core.proofs.AccountsEvict.{keeps-evict}
 use Rattle.slice_core.proofs.AccountsHand.{keeps-hand}
 use Rattle.slice_core.proofs.AccountsKept.{keeps-from_sound, sound-from_keeps}
@@ -17,7 +17,7 @@ use Rattle.slice_core.specs.Sound.{HasLinks, IsSound}
 
 -- An eviction keeps the invariant.
 pub sound-evict : (old : PartsView) (core : CoreId) (line : LineAddr) (answer : Evicted) (new : PartsView) →
-    IsSound old → core.0 < length old.view.sides → AfterEvict old core line answer new → IsSound new
+    IsSound old → core.0 < length old.view.caches → AfterEvict old core line answer new → IsSound new
 sound-evict old core line answer new sound known after =
     let outside = whole old sound in
     sound-from_keeps new (keeps-evict old core line answer new (keeps-from_sound old sound) known after)
@@ -26,7 +26,7 @@ sound-evict old core line answer new sound known after =
 
 -- A reply that is handed out keeps the invariant.
 pub sound-hand : (old : PartsView) (core : CoreId) (answer : Option Numbered) (new : PartsView) → IsSound old →
-    core.0 < length old.view.sides → AfterHand old core answer new → IsSound new
+    core.0 < length old.view.caches → AfterHand old core answer new → IsSound new
 sound-hand old core None new sound known after = subst IsSound (sym after.1) sound
 sound-hand old core (Some given) new sound known after =
     sound-from_keeps new (keeps-hand old core (Some given) new (keeps-from_sound old sound) known after)

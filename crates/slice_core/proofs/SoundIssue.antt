@@ -3,8 +3,8 @@ use Rattle.std.proofs.Common.{◌^◌, ◌<◌, length}
 use Rattle.std.specs.Prelude.{Result}
 use Rattle.address_map.specs.declared.address.CoreId.{CoreId}
 use Rattle.address_map.specs.declared.request.Request.{Request}
-use Rattle.slice_core_answer.specs.declared.answer.Issue.{Issue}
-use Rattle.slice_core_answer.specs.declared.answer.Refused.{Refused}
+use Rattle.slice_answer.specs.declared.answer.Issue.{Issue}
+use Rattle.slice_answer.specs.declared.answer.Refused.{Refused}
 use Rattle.slice_core_coherence.proofs.BlocksCalls.{faithful_issue}
 use Rattle.slice_core_coherence.proofs.KeptByCalls.{issue_keeps}
 use Rattle.slice_core_coherence.specs.Whole.{IsWhole}
@@ -16,7 +16,7 @@ use Rattle.slice_core.proofs.LinksSteps.{links_accesses}
 use Rattle.slice_core.specs.Sound.{HasLinks, IsSound}
 
 pub sound-issue : (old : PartsView) (core : CoreId) (request : Request) (answer : Result Issue Refused)
-    (new : PartsView) → IsSound old → core.0 < length old.view.sides → new.room < 2 ^ 63 →
+    (new : PartsView) → IsSound old → core.0 < length old.view.caches → new.room < 2 ^ 63 →
     AfterIssue old core request answer new → IsSound new
 sound-issue old core request answer new sound known bound after =
     let outside = whole old sound in

@@ -10,25 +10,25 @@ use Rattle.address_map.specs.declared.address.Local.{Local}
 use Rattle.address_map.specs.declared.request.Request.{Request}
 use Rattle.cache_table.specs.declared.state.CopyState.{CopyState}
 use Rattle.mshr_file.specs.declared.registers.Register.{Register}
+use Rattle.slice_answer.specs.declared.answer.Issue.{Issue}
+use Rattle.slice_answer.specs.declared.answer.Refused.{Refused}
 use Rattle.slice_core.specs.Facts.{LeavesVictim}
-use Rattle.slice_core_answer.specs.declared.answer.Issue.{Issue}
-use Rattle.slice_core_answer.specs.declared.answer.Refused.{Refused}
+use Rattle.slice_core_cache.specs.CoreCache.{CoreCacheView, array_copy, leaving_lines}
+use Rattle.slice_core_cache.specs.Steps as caches
+use Rattle.slice_core_cache.specs.Steps.{victim_for}
+use Rattle.slice_core_cache.specs.declared.access.AccessKind.{AccessKind}
+use Rattle.slice_core_cache.specs.declared.access.AccessKind.TheVariants as access_kinds
+use Rattle.slice_core_cache.specs.declared.access.Ask.{Ask}
+use Rattle.slice_core_cache.specs.declared.access.Placement.{Placement}
+use Rattle.slice_core_cache.specs.declared.access.Placement.TheVariants as placements
 use Rattle.slice_core_plan.specs.Decision.{decision_of}
 use Rattle.slice_core_plan.specs.Calls.{PartsView, AfterAccess, AfterIssue, IsAccepted, LacksMemory}
 use Rattle.slice_core_plan.specs.Steps.{after_open, with_way}
-use Rattle.slice_core_plan.specs.View.{View, no_side, side_at}
+use Rattle.slice_core_plan.specs.View.{View, no_cache, cache_at}
 use Rattle.slice_core_plan.specs.declared.decision.Decision.{Decision}
 use Rattle.slice_core_plan.specs.declared.decision.Decision.TheVariants as decisions
-use Rattle.slice_core_side.specs.Side.{SideView, array_copy, leaving_lines}
-use Rattle.slice_core_side.specs.Steps as sides
-use Rattle.slice_core_side.specs.Steps.{victim_for}
-use Rattle.slice_core_side.specs.declared.access.Access.{Access}
-use Rattle.slice_core_side.specs.declared.access.Access.TheVariants as accesses
-use Rattle.slice_core_side.specs.declared.access.Ask.{Ask}
-use Rattle.slice_core_side.specs.declared.access.Way.{Way}
-use Rattle.slice_core_side.specs.declared.access.Way.TheVariants as ways
 use Rattle.slice_core_steps.specs.CoreLines.{last_written_back}
-use Rattle.writeback_buffer.specs.declared.entry.Entry.{Entry}
+use Rattle.writeback_buffer.specs.declared.pending.PendingWriteBack.{PendingWriteBack}
 
 -- what was put behind others is the last
 behind : {X : Type 0} (xs : List X) (x : X) → slice_get (xs ++ x ∷ []) (length xs) ≡ Some x
@@ -50,43 +50,43 @@ last_line lines places last =
     ∙ last_behind (map (line_at lines) places) (line_at lines last)
 
 -- the buffer of a core in which a victim has left for a line
-leaves_last : (side : SideView) (local : Local)
-    → leaving_lines (sides.after_replace side local) ≡ leaving_lines side ++ victim_for side local ∷ []
-leaves_last side local =
-    let victim = victim_for side local in
-    let drawn = sides.after_draw side in
-    map-append (λ (entry : Entry). entry.line) side.buffer.entries
-    (record { leaving = sides.evicted (array_copy drawn victim); line = record { 0 = victim.0 } } ∷ [])
+leaves_last : (cache : CoreCacheView) (local : Local)
+    → leaving_lines (caches.after_replace cache local) ≡ leaving_lines cache ++ victim_for cache local ∷ []
+leaves_last cache local =
+    let victim = victim_for cache local in
+    let drawn = caches.after_draw cache in
+    map-append (λ (entry : PendingWriteBack). entry.line) cache.buffer.write_backs
+    (record { leaving = caches.leaving_after_evict (array_copy drawn victim); line = record { 0 = victim.0 } } ∷ [])
 
 module _ (old : View) (core : CoreId) (request : Request) (local : Local) (next : CopyState) (ask : Ask)
-    (misses : List Register) (known : core.0 < length old.sides) where
+    (misses : List Register) (known : core.0 < length old.caches) where
   abbrev victim : Local
-  victim = victim_for (side_at old core) local
+  victim = victim_for (cache_at old core) local
 
   -- the victim has left, and the miss has its register
-  leaving_now : leaving_lines (side_at (after_open old core request local ways.Victim next ask misses) core)
-      ≡ leaving_lines (side_at old core) ++ victim ∷ []
+  leaving_now : leaving_lines (cache_at (after_open old core request local placements.Victim next ask misses) core)
+      ≡ leaving_lines (cache_at old core) ++ victim ∷ []
   leaving_now =
-      let side = side_at old core in
-      let way = with_way old core local ways.Victim in
-      let left = sides.after_replace side local in
-      let opened = sides.after_open (side_at way core) local false next request misses in
-      let there : side_at way core ≡ left = get_or-set_same old.sides core.0 left no_side known in
-      let long = length-set old.sides core.0 left in
-      let then : side_at (after_open old core request local ways.Victim next ask misses) core ≡ opened =
-      get_or-set_same way.sides core.0 opened no_side (omega (arith, known, long)) in
-      ap leaving_lines then ∙ ap leaving_lines there ∙ leaves_last side local
+      let cache = cache_at old core in
+      let placement = with_way old core local placements.Victim in
+      let left = caches.after_replace cache local in
+      let opened = caches.after_open (cache_at placement core) local false next request misses in
+      let there : cache_at placement core ≡ left = get_or-set_same old.caches core.0 left no_cache known in
+      let long = length-set old.caches core.0 left in
+      let then : cache_at (after_open old core request local placements.Victim next ask misses) core ≡ opened =
+      get_or-set_same placement.caches core.0 opened no_cache (omega (arith, known, long)) in
+      ap leaving_lines then ∙ ap leaving_lines there ∙ leaves_last cache local
 
-  victim_last : (new : View) → new ≡ after_open old core request local ways.Victim next ask misses
+  victim_last : (new : View) → new ≡ after_open old core request local placements.Victim next ask misses
       → last_written_back new core ≡ Some (line_at old.lines victim)
   victim_last new is =
       ap (λ (v : View). last_written_back v core) is
       ∙ ap (λ (places : List Local). slice_get (map (line_at old.lines) places)
       (length (map (line_at old.lines) places) - 1)) leaving_now
-      ∙ last_line old.lines (leaving_lines (side_at old core)) victim
+      ∙ last_line old.lines (leaving_lines (cache_at old core)) victim
 
 module _ (old : PartsView) (core : CoreId) (request : Request) (answer : Result Issue Refused) (new : PartsView)
-    (known : core.0 < length old.view.sides) where
+    (known : core.0 < length old.view.caches) where
   abbrev Leaves : Decision → Result Issue Refused → Type 0
   Leaves decision given = LeavesVictim decision old.view core given new.view
 
@@ -96,10 +96,10 @@ module _ (old : PartsView) (core : CoreId) (request : Request) (answer : Result 
 
   left_for : (local : Local) (next : CopyState) (ask : Ask)
       → LacksMemory old answer new
-      ⊎ IsAccepted (accesses.Open next ask ways.Victim) old core request local answer new
-      → Leaves (decisions.Access local (accesses.Open next ask ways.Victim)) answer
+      ⊎ IsAccepted (access_kinds.PrimaryMiss next ask placements.Victim) old core request local answer new
+      → Leaves (decisions.Access local (access_kinds.PrimaryMiss next ask placements.Victim)) answer
   left_for local next ask after =
-      let decision : Decision = decisions.Access local (accesses.Open next ask ways.Victim) in
+      let decision : Decision = decisions.Access local (access_kinds.PrimaryMiss next ask placements.Victim) in
       ⊎_elim
       (λ lacks. subst (Leaves decision) (sym lacks.refused) tt)
       (λ done.
@@ -110,19 +110,20 @@ module _ (old : PartsView) (core : CoreId) (request : Request) (answer : Result 
       (ap (λ (p : PartsView). p.view) made.1))))
       after
 
-  opened : (local : Local) (next : CopyState) (ask : Ask) (way : Way)
-      → AfterAccess (accesses.Open next ask way) old core request local answer new
-      → Leaves (decisions.Access local (accesses.Open next ask way)) answer
-  opened local next ask ways.Held after = tt
-  opened local next ask ways.Free after = tt
-  opened local next ask ways.Victim after = left_for local next ask after
+  opened : (local : Local) (next : CopyState) (ask : Ask) (placement : Placement)
+      → AfterAccess (access_kinds.PrimaryMiss next ask placement) old core request local answer new
+      → Leaves (decisions.Access local (access_kinds.PrimaryMiss next ask placement)) answer
+  opened local next ask placements.Held after = tt
+  opened local next ask placements.Free after = tt
+  opened local next ask placements.Victim after = left_for local next ask after
 
   decided : (decision : Decision) → by_decision decision → Leaves decision answer
   decided (decisions.Refuse refused) after = tt
-  decided (decisions.Access local (accesses.Stall stall)) after = tt
-  decided (decisions.Access local (accesses.Hit place next silent)) after = tt
-  decided (decisions.Access local accesses.Join) after = tt
-  decided (decisions.Access local (accesses.Open next ask way)) after = opened local next ask way after
+  decided (decisions.Access local (access_kinds.Stall stall)) after = tt
+  decided (decisions.Access local (access_kinds.Hit way next silent)) after = tt
+  decided (decisions.Access local access_kinds.SecondaryMiss) after = tt
+  decided (decisions.Access local (access_kinds.PrimaryMiss next ask placement)) after =
+      opened local next ask placement after
 
   -- Where a line has to leave for the request, the victim is what the core's write-back buffer took in last.
   pub leaves_victim : AfterIssue old core request answer new → LeavesVictim (decision_of old.view core request)

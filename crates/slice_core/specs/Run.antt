@@ -2,21 +2,21 @@
 use Rattle.std.specs.Prelude.{◌≡◌, ℕ, ◌<◌, List, [], ◌∷◌, ◌++◌, map, All}
 use Rattle.slice_core.specs.Facts.{IsNotBroken, IsNotBrokenNext}
 use Rattle.slice_core.specs.declared.run.Call.{Call}
-use Rattle.slice_core.specs.declared.run.Call.TheVariants as calls
+use Rattle.slice_core.specs.declared.run.Call.TheVariants as slice_calls
 use Rattle.slice_core.specs.declared.run.CallAnswer.{CallAnswer}
-use Rattle.slice_core.specs.declared.run.CallAnswer.TheVariants as answers
-use Rattle.slice_core_machine.specs.Machine.{Step, perform}
+use Rattle.slice_core.specs.declared.run.CallAnswer.TheVariants as call_answers
+use Rattle.slice_core_machine.specs.SmallMachine.{Step, perform}
 use Rattle.slice_core_machine.specs.Shows.{Leads, Performs, hand_steps, issue_steps, next_of}
 use Rattle.slice_core_plan.specs.Calls.{PartsView, AfterDeliverNext, AfterDelivery, AfterEvict, AfterHand, AfterIssue}
 use Rattle.slice_core_plan.specs.View.{View}
 
 -- the core that the call names, where it names one, is one of so many
 abbrev pub HasCore : ℕ → Call → Type 0
-HasCore cores (calls.Issue core request) = core.0 < cores
-HasCore cores (calls.Evict core line) = core.0 < cores
-HasCore cores (calls.Hand core) = core.0 < cores
-HasCore cores (calls.Deliver pick) = Unit {0}
-HasCore cores (calls.DeliverNext class) = Unit {0}
+HasCore cores (slice_calls.Issue core request) = core.0 < cores
+HasCore cores (slice_calls.Evict core line) = core.0 < cores
+HasCore cores (slice_calls.Hand core) = core.0 < cores
+HasCore cores (slice_calls.Deliver pick) = Unit {0}
+HasCore cores (slice_calls.DeliverNext class) = Unit {0}
 
 -- each call's core is one of so many
 abbrev pub HasCores : ℕ → List Call → Type 0
@@ -24,11 +24,12 @@ HasCores cores calls = All (HasCore cores) calls
 
 -- What one call answers and leaves. No call is answered by the answer to a call of another kind.
 abbrev pub AfterCall : PartsView → Call → CallAnswer → PartsView → Type 0
-AfterCall old (calls.Issue core request) (answers.Issue answer) new = AfterIssue old core request answer new
-AfterCall old (calls.Evict core line) (answers.Evict answer) new = AfterEvict old core line answer new
-AfterCall old (calls.Deliver pick) (answers.Deliver answer) new = AfterDelivery old pick answer new
-AfterCall old (calls.DeliverNext class) (answers.DeliverNext answer) new = AfterDeliverNext old class answer new
-AfterCall old (calls.Hand core) (answers.Hand answer) new = AfterHand old core answer new
+AfterCall old (slice_calls.Issue core request) (call_answers.Issue answer) new = AfterIssue old core request answer new
+AfterCall old (slice_calls.Evict core line) (call_answers.Evict answer) new = AfterEvict old core line answer new
+AfterCall old (slice_calls.Deliver pick) (call_answers.Deliver answer) new = AfterDelivery old pick answer new
+AfterCall old (slice_calls.DeliverNext class) (call_answers.DeliverNext answer) new =
+    AfterDeliverNext old class answer new
+AfterCall old (slice_calls.Hand core) (call_answers.Hand answer) new = AfterHand old core answer new
 AfterCall old call answer new = ⊥
 
 -- What calls made in order answer and leave: each call begins where the one before it left the slice, and its answer
@@ -41,11 +42,11 @@ Runs old calls answers new = ⊥
 
 -- the answer isn't that a message is broken: neither of a delivery nor of a next delivery
 abbrev pub IsUnbroken : CallAnswer → Type 0
-IsUnbroken (answers.Deliver answer) = IsNotBroken answer
-IsUnbroken (answers.DeliverNext answer) = IsNotBrokenNext answer
-IsUnbroken (answers.Issue answer) = Unit {0}
-IsUnbroken (answers.Evict answer) = Unit {0}
-IsUnbroken (answers.Hand answer) = Unit {0}
+IsUnbroken (call_answers.Deliver answer) = IsNotBroken answer
+IsUnbroken (call_answers.DeliverNext answer) = IsNotBrokenNext answer
+IsUnbroken (call_answers.Issue answer) = Unit {0}
+IsUnbroken (call_answers.Evict answer) = Unit {0}
+IsUnbroken (call_answers.Hand answer) = Unit {0}
 
 -- ---- a run of the small machine
 
@@ -53,14 +54,14 @@ IsUnbroken (answers.Hand answer) = Unit {0}
 -- that is pending is accepted; a delivery performs as many requests as the log grows by; a hand-out hands out; and all
 -- else is no step.
 abbrev pub AreSteps : View → Call → CallAnswer → View → List Step → Type 0
-AreSteps old (calls.Issue core request) (answers.Issue answer) new steps =
+AreSteps old (slice_calls.Issue core request) (call_answers.Issue answer) new steps =
     steps ≡ issue_steps (next_of old core request) answer
-AreSteps old (calls.Evict core line) (answers.Evict answer) new steps = steps ≡ []
-AreSteps old (calls.Deliver pick) (answers.Deliver answer) new steps =
+AreSteps old (slice_calls.Evict core line) (call_answers.Evict answer) new steps = steps ≡ []
+AreSteps old (slice_calls.Deliver pick) (call_answers.Deliver answer) new steps =
     (done : Performs old new) × (steps ≡ map perform done.requests)
-AreSteps old (calls.DeliverNext class) (answers.DeliverNext answer) new steps =
+AreSteps old (slice_calls.DeliverNext class) (call_answers.DeliverNext answer) new steps =
     (done : Performs old new) × (steps ≡ map perform done.requests)
-AreSteps old (calls.Hand core) (answers.Hand answer) new steps = steps ≡ hand_steps answer
+AreSteps old (slice_calls.Hand core) (call_answers.Hand answer) new steps = steps ≡ hand_steps answer
 AreSteps old call answer new steps = ⊥
 
 -- The steps of calls made in order, one call's after another's: those of each call lead from what the slice showed

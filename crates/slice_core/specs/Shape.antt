@@ -2,7 +2,7 @@
 use Rattle.std.specs.Prelude.{ℕ, List, map}
 use Rattle.address_map.specs.declared.config.PolicyKind.{PolicyKind}
 use Rattle.mshr_file.specs.Miss.{Bound}
-use Rattle.slice_core_side.specs.Side.{SideView}
+use Rattle.slice_core_cache.specs.CoreCache.{CoreCacheView}
 
 -- How many ways the core's array has in each of its sets, by which policy it replaces lines, how many lines may leave
 -- at once, and what bounds the misses. The generator's state is no part of it, since each random victim moves that.
@@ -12,10 +12,10 @@ pub record Shape : Type 0 where
   pub writebacks : ℕ
   pub bound : Bound
 
-abbrev pub shape_of : SideView → Shape
-shape_of side = record {
-  ways = map (λ set. set.ways) side.array.sets;
-  policy = side.array.policy;
-  writebacks = side.buffer.capacity;
-  bound = side.bound;
+abbrev pub shape_of : CoreCacheView → Shape
+shape_of cache = record {
+  ways = map (λ set. set.ways) cache.array.sets;
+  policy = cache.array.policy;
+  writebacks = cache.buffer.capacity;
+  bound = cache.bound;
 }

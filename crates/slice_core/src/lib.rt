@@ -24,12 +24,12 @@ pub use address_map::{Block, CoreId, CoreSet, LineAddr, Local, Op, Request, Slic
 pub use cache_table::{CacheSends, CopyState};
 pub use directory_table::{DirSends, DirState};
 pub use run::{Call, CallAnswer};
-pub use slice_core_answer::{
+pub use slice_answer::{
     Cell, Delivered, DeliveredNext, Delivery, Evicted, Issue, Refused, Stall, Stats,
 };
-pub use slice_core_log::{Entry, Numbered};
+pub use slice_log::{Entry, Numbered};
 pub use slice_core_plan::{CopyStep, Decision, ForwardedStep, HomeStep, Plan, Transition};
-pub use slice_core_side::{Access, Ask, CacheCopy, TagState, Way};
+pub use slice_core_cache::{AccessKind, Ask, CacheCopy, TagState, Placement};
 pub use slice_core_steps::{CoreLines, LineView};
 pub use slice_queues::{LineWaiting, Picks};
 pub use slice_queues_message::{

@@ -1,6 +1,6 @@
 use address_map::{CoreId, LineAddr, Request};
-use slice_core_answer::{Delivered, DeliveredNext, Evicted, Issue, Refused};
-use slice_core_log::Numbered;
+use slice_answer::{Delivered, DeliveredNext, Evicted, Issue, Refused};
+use slice_log::Numbered;
 use slice_queues_message::{Class, Pick};
 
 /// A call of a slice, with its arguments.

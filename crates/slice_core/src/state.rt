@@ -6,16 +6,16 @@ ghost use Rattle.slice_core.specs.Facts.{copy_at, targets_at, AreWaitingAt, HasE
 ghost use Rattle.slice_core.specs.Facts.{IsNotBroken, IsNotBrokenNext, IsSameSlice, LeavesVictim, NeedsNoRegister};
 ghost use Rattle.slice_core.specs.Facts.{ShowsLast, ShowsLine, ShowsWord, front_at};
 ghost use Rattle.slice_core.specs.Run.{AfterCall, HasCore, HasCores, IsOneRun, IsUnbroken, Runs};
-ghost use Rattle.slice_core_machine.specs.Machine.{IsSame, new_machine};
-ghost use Rattle.slice_core_machine.specs.Shows.{Leads, Performs, hand_steps, issue_steps, next_of, shown};
+ghost use Rattle.slice_core_cache.specs.CoreCache.{tag_at};
+ghost use Rattle.slice_core_machine.specs.SmallMachine.{IsSame, new_small_machine};
+ghost use Rattle.slice_core_machine.specs.Shows.{Leads, Performs, hand_steps, issue_steps, next_of, small_machine_of};
 ghost use Rattle.slice_core_plan.specs.Decision.{decision_of};
 ghost use Rattle.slice_core_plan.specs.Calls.{PartsView, AfterDeliverNext, AfterDelivery, AfterEvict, AfterHand};
 ghost use Rattle.slice_core_plan.specs.Calls.{AfterIssue, IsNew, IsNextPick, next_pick};
 ghost use Rattle.slice_core_plan.specs.Plan.{planned_at};
 ghost use Rattle.slice_core_plan.specs.Turn.{ServesInTurn};
 ghost use Rattle.slice_core_plan.specs.Parts.{ring_lines};
-ghost use Rattle.slice_core_plan.specs.View.{View, IsQuiet, side_at};
-ghost use Rattle.slice_core_side.specs.Side.{tag_at};
+ghost use Rattle.slice_core_plan.specs.View.{View, IsQuiet, cache_at};
 ghost use Rattle.slice_core_steps.specs.CoreLines.{core_lines, last_written_back};
 ghost use Rattle.slice_queues.specs.Waiting.{lines_waiting};
 ghost use Rattle.slice_queues_message.specs.Pick.{channel_of, line_of as line_of_pick};
@@ -24,10 +24,10 @@ use super::run::{Call, CallAnswer};
 use address_map::{Checked, CoreId, LineAddr, Request, SliceId, WordAddr};
 use arrayvec::ArrayVec;
 use mshr_file::{MissFile, Target};
-use slice_core_answer::{Delivered, DeliveredNext, Evicted, Issue, Refused, Stats};
-use slice_core_log::{Entry, Numbered};
+use slice_answer::{Delivered, DeliveredNext, Evicted, Issue, Refused, Stats};
+use slice_log::{Entry, Numbered};
 use slice_core_plan::{Decision, Plan};
-use slice_core_side::{CacheCopy, TagState};
+use slice_core_cache::{CacheCopy, TagState};
 use slice_core_steps::{CoreLines, LineView, Parts};
 use slice_queues::{LineWaiting, Picks};
 use slice_queues_message::{Class, Message, Pick};
@@ -57,7 +57,7 @@ impl<F: MissFile> SliceState<F> {
     pub fn build(alloc: Global, config: &Checked, slice: SliceId) -> Result<Self, AllocError>
         requires { slice.0 < config.now.slices }
         ensures new { IfOk result (IsNew config.now (F.bound_by config.now) slice) }
-        ensures machine { IfOk result (λ p. IsSame new_machine (shown p.view)) }
+        ensures machine { IfOk result (λ p. IsSame new_small_machine (small_machine_of p.view)) }
         ensures holds { IfOk result Holds }
     {
         Ok(SliceState {
@@ -69,7 +69,7 @@ impl<F: MissFile> SliceState<F> {
     /// one that misses becomes a target, and waits for messages to be delivered. The log grows first, so that no other
     /// call takes memory.
     pub fn issue(&mut self, core: CoreId, request: Request) -> Result<Issue, Refused>
-        requires { core.0 < length self.old.view.sides }
+        requires { core.0 < length self.old.view.caches }
         ensures step { AfterIssue self.old core request result self.new }
         ensures machine { Leads (issue_steps (next_of self.old.view core request) result) self.old.view self.new.view }
         ensures unbounded { IsInverted self.old.view core → NeedsNoRegister result }
@@ -83,7 +83,7 @@ impl<F: MissFile> SliceState<F> {
 
     /// Gives up the core's copy of a line, or says why not.
     pub fn evict(&mut self, core: CoreId, line: LineAddr) -> Evicted
-        requires { core.0 < length self.old.view.sides }
+        requires { core.0 < length self.old.view.caches }
         ensures step { AfterEvict self.old core line result self.new }
         ensures machine { Leads [] self.old.view self.new.view }
         ensures same { IsSameSlice self.old self.new }
@@ -119,7 +119,7 @@ impl<F: MissFile> SliceState<F> {
 
     /// Hands out the core's performed entry of the least number that isn't handed out yet. Its tag is then free.
     pub fn hand(&mut self, core: CoreId) -> Option<Numbered>
-        requires { core.0 < length self.old.view.sides }
+        requires { core.0 < length self.old.view.caches }
         ensures step { AfterHand self.old core result self.new }
         ensures core { IfSome result (λ given. given.entry.core ≡ core) }
         ensures machine { Leads (hand_steps result) self.old.view self.new.view }
@@ -132,7 +132,7 @@ impl<F: MissFile> SliceState<F> {
     /// Makes the calls in order, and writes each one's answer at its place.
     pub fn run(&mut self, calls: &[Call], answers: &mut [CallAnswer])
         requires places { length answers.old ≡ length calls.now }
-        requires known { HasCores (length self.old.view.sides) calls.now }
+        requires known { HasCores (length self.old.view.caches) calls.now }
         ensures run { Runs self.old calls.now answers.new self.new }
         ensures machine { IsOneRun self.old calls.now answers.new self.new }
         ensures unbroken { All IsUnbroken answers.new }
@@ -148,7 +148,7 @@ impl<F: MissFile> SliceState<F> {
 
     /// Makes one call.
     fn call(&mut self, call: &Call) -> CallAnswer
-        requires { HasCore (length self.old.view.sides) call.now }
+        requires { HasCore (length self.old.view.caches) call.now }
         ensures step { AfterCall self.old call.now result self.new }
         ensures machine { IsOneRun self.old (call.now ∷ []) (result ∷ []) self.new }
         ensures unbroken { IsUnbroken result }
@@ -165,9 +165,9 @@ impl<F: MissFile> SliceState<F> {
 
     /// How many cores the slice knows.
     pub fn cores(&self) -> usize
-        ensures { result ≡ length self.now.view.sides }
+        ensures { result ≡ length self.now.view.caches }
     {
-        self.parts.sides().len()
+        self.parts.caches().len()
     }
 
     /// What was performed, in order.
@@ -188,7 +188,7 @@ impl<F: MissFile> SliceState<F> {
     /// What was counted.
     pub fn stats(&self) -> &Stats
         ensures stats { result.now ≡ self.now.stats }
-        ensures cores { length result.now.cores ≡ length self.now.view.sides }
+        ensures cores { length result.now.cores ≡ length self.now.view.caches }
     {
         self.parts.stats()
     }
@@ -204,7 +204,7 @@ impl<F: MissFile> SliceState<F> {
     pub fn word_now(&self, word: WordAddr) -> u64
         requires quiet { IsQuiet self.now.view }
         requires here { IsSome (local_at self.now.view.lines (line_of word).0) }
-        ensures shown { ShowsWord self.now.view word (local_at self.now.view.lines (line_of word).0) result }
+        ensures small_machine_of { ShowsWord self.now.view word (local_at self.now.view.lines (line_of word).0) result }
         ensures newest { ShowsLast self.now.view word (local_at self.now.view.lines (line_of word).0) result }
     {
         match self.parts.lines().local_of(word.line()) {
@@ -224,21 +224,21 @@ impl<F: MissFile> SliceState<F> {
     /// A core's copy of a line, which stands in its array, or leaves by its write-back buffer, or is nowhere. None for
     /// a line that isn't the slice's.
     pub fn copy(&self, core: CoreId, line: LineAddr) -> Option<CacheCopy>
-        requires { core.0 < length self.now.view.sides }
+        requires { core.0 < length self.now.view.caches }
         ensures { result ≡ copy_at self.now.view core (local_at self.now.view.lines line.0) }
     {
         let local = self.parts.lines().local_of(line)?;
-        Some(self.parts.sides()[core.0 as usize].copy(local))
+        Some(self.parts.caches()[core.0 as usize].copy(local))
     }
 
     /// The accesses of a core that wait for a line, the oldest first: the targets of its miss register, where it has
     /// one.
     pub fn targets(&self, core: CoreId, line: LineAddr) -> ArrayVec<Target, 64>
-        requires { core.0 < length self.now.view.sides }
+        requires { core.0 < length self.now.view.caches }
         ensures { result.items ≡ targets_at self.now.view core (local_at self.now.view.lines line.0) }
     {
         match self.parts.lines().local_of(line) {
-            Some(local) => self.parts.sides()[core.0 as usize].targets(local),
+            Some(local) => self.parts.caches()[core.0 as usize].targets(local),
             None => ArrayVec::new(),
         }
     }
@@ -251,7 +251,7 @@ impl<F: MissFile> SliceState<F> {
         core: CoreId,
         which: CoreLines,
     ) -> Result<Vec<LineAddr>, AllocError>
-        requires { core.0 < length self.now.view.sides }
+        requires { core.0 < length self.now.view.caches }
         ensures { IfOk result (λ lines. lines.items ≡ core_lines self.now.view core which) }
     {
         self.parts.core_lines(alloc, core, which)
@@ -260,7 +260,7 @@ impl<F: MissFile> SliceState<F> {
     /// The line that a core's write-back buffer took in last. Just after a miss for which a line had to leave that is
     /// the victim.
     pub fn last_written_back(&self, core: CoreId) -> Option<LineAddr>
-        requires { core.0 < length self.now.view.sides }
+        requires { core.0 < length self.now.view.caches }
         ensures { result ≡ last_written_back self.now.view core }
     {
         self.parts.last_written_back(core)
@@ -268,11 +268,11 @@ impl<F: MissFile> SliceState<F> {
 
     /// What a tag of a core names.
     pub fn tag(&self, core: CoreId, tag: u8) -> TagState
-        requires core { core.0 < length self.now.view.sides }
+        requires core { core.0 < length self.now.view.caches }
         requires tag { tag < 64 }
-        ensures { result ≡ tag_at (side_at self.now.view core) tag }
+        ensures { result ≡ tag_at (cache_at self.now.view core) tag }
     {
-        self.parts.sides()[core.0 as usize].tag(tag)
+        self.parts.caches()[core.0 as usize].tag(tag)
     }
 
     /// The line at a place of the ring, the front at 0. [`SliceState::deliver_next`] looks at lines in this order; each
@@ -286,7 +286,7 @@ impl<F: MissFile> SliceState<F> {
     /// What [`SliceState::issue`] would decide of the request: to refuse it, or what its access would be. That is a
     /// hit, a miss that joins the line's miss register, a miss that opens one, or a stall.
     pub fn decide(&self, core: CoreId, request: Request) -> Decision
-        requires { core.0 < length self.now.view.sides }
+        requires { core.0 < length self.now.view.caches }
         ensures { result ≡ decision_of self.now.view core request }
     {
         self.parts.decide(core, request)

@@ -13,15 +13,15 @@ use Rattle.address_map.specs.declared.block.Block.{Block}
 use Rattle.address_map.specs.declared.config.Config.{Config}
 use Rattle.directory_table.specs.declared.state.DirEntry.{DirEntry}
 use Rattle.mshr_file.specs.Miss.{Bound}
+use Rattle.protocol_coherence.specs.LineSteps.{beginning, first, idle}
+use Rattle.slice_core_cache.proofs.Found.{copy_of-new}
+use Rattle.slice_core_cache.specs.Copy.{no_copy}
+use Rattle.slice_core_cache.specs.CoreCache.{CoreCacheView, copy_of}
+use Rattle.slice_core_cache.specs.declared.copy.CacheCopy.{CacheCopy}
 use Rattle.slice_core_coherence.specs.Stands.{AreReached, LineStands, PartStands, Stands, copies_at}
-use Rattle.slice_core_plan.specs.Initial.{AreInitialEntries, AreNewSides, unowned}
+use Rattle.slice_core_plan.specs.Initial.{AreInitialEntries, AreNewCaches, unowned_entry}
 use Rattle.slice_core_plan.specs.Calls.{IsNew, PartsView}
 use Rattle.slice_core_plan.specs.View.{View, channels_at}
-use Rattle.slice_core_protocol.specs.Machine.{beginning, first, idle}
-use Rattle.slice_core_side.proofs.Found.{copy_of-new}
-use Rattle.slice_core_side.specs.Copy.{no_copy}
-use Rattle.slice_core_side.specs.Side.{SideView, copy_of}
-use Rattle.slice_core_side.specs.declared.copy.CacheCopy.{CacheCopy}
 use Rattle.slice_queues.specs.Line.{CoreChannels, LineChannels, core_at, empty_line, no_messages}
 
 -- A line in which nothing waits has no message for any core.
@@ -48,7 +48,7 @@ idle_stands = record {
 -- A line that nobody has, with no message and no copy, is the machine's first.
 pub first_line_stands : (cores : ℕ) (home : Block) (copy : ℕ → CacheCopy)
     → ((core : ℕ) → core < cores → copy core ≡ no_copy)
-    → LineStands cores (unowned home) (empty_line cores) copy first
+    → LineStands cores (unowned_entry home) (empty_line cores) copy first
 first_line_stands cores home copy none = record {
   entry_stands = record { directory = refl; owner = refl; sharers = refl };
   home = refl;
@@ -64,37 +64,38 @@ first_line_stands cores home copy none = record {
 
 -- Each line of a new slice is that line.
 pub new_line_stands : (v : View) (c : Config) (bound : Bound) (slice : ℕ) (own : Lines) (local : Local)
-    → local.0 < v.lines.lines → AreNewSides c bound slice c.cores v.sides
+    → local.0 < v.lines.lines → AreNewCaches c bound slice c.cores v.caches
     → AreInitialEntries c own v.lines.lines v.entries → v.channels ≡ replicate v.lines.lines (empty_line c.cores)
     → Stands v local first
-new_line_stands v c bound slice own local inside sides entries channels =
+new_line_stands v c bound slice own local inside caches entries channels =
     let initial = entries.each local.0 inside in
-    subst (λ (e : DirEntry). LineStands (length v.sides) e (channels_at v local) (copies_at v local) first)
+    subst (λ (e : DirEntry). LineStands (length v.caches) e (channels_at v local) (copies_at v local) first)
     (sym initial.2)
-    (subst (λ (l : LineChannels). LineStands (length v.sides) (unowned initial.0) l (copies_at v local) first)
+    (subst (λ (l : LineChannels). LineStands (length v.caches) (unowned_entry initial.0) l (copies_at v local) first)
     (sym empty)
-    (first_line_stands (length v.sides) initial.0 (copies_at v local)
-    (λ core below. ap (λ (s : SideView). copy_of s local) (sides.each core (subst (λ n. core < n) sides.count_is below))
+    (first_line_stands (length v.caches) initial.0 (copies_at v local)
+    (λ core below. ap (λ (s : CoreCacheView). copy_of s local)
+    (caches.each core (subst (λ n. core < n) caches.count_is below))
     ∙ copy_of-new c bound slice core local)))
   where
-    empty : channels_at v local ≡ empty_line (length v.sides)
+    empty : channels_at v local ≡ empty_line (length v.caches)
     empty =
         ap (λ lines. get_or lines local.0 (empty_line 0)) channels
         ∙ get_or-replicate v.lines.lines local.0 (empty_line c.cores) (empty_line 0) inside
-        ∙ ap empty_line (sym sides.count_is)
+        ∙ ap empty_line (sym caches.count_is)
 
 -- So the lines of a new slice are reached.
 pub reached_new : (v : View) (c : Config) (bound : Bound) (slice : ℕ) (own : Lines)
-    → AreNewSides c bound slice c.cores v.sides → AreInitialEntries c own v.lines.lines v.entries
+    → AreNewCaches c bound slice c.cores v.caches → AreInitialEntries c own v.lines.lines v.entries
     → v.channels ≡ replicate v.lines.lines (empty_line c.cores) → AreReached v
-reached_new v c bound slice own sides entries channels local inside =
-    (first, beginning, new_line_stands v c bound slice own local inside sides entries channels)
+reached_new v c bound slice own caches entries channels local inside =
+    (first, beginning, new_line_stands v c bound slice own local inside caches entries channels)
 
 -- The same, as a slice begins with its machine's configuration.
 pub reached_initial : (c : Config) (bound : Bound) (slice : SliceId) (p : PartsView) → IsNew c bound slice p
     → AreReached p.view
 reached_initial c bound slice p new =
     let count : slice_lines c ≡ p.view.lines.lines = sym (ap (λ (l : Lines). l.lines) new.lines) in
-    reached_new p.view c bound slice.0 (lines_of c slice) new.sides
+    reached_new p.view c bound slice.0 (lines_of c slice) new.caches
     (subst (λ n. AreInitialEntries c (lines_of c slice) n p.view.entries) count new.entries)
     (new.channels_are ∙ ap (λ n. replicate n (empty_line c.cores)) count)

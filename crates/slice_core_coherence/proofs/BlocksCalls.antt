@@ -12,23 +12,23 @@ use Rattle.address_map.specs.declared.address.Local.{Local}
 use Rattle.address_map.specs.declared.request.Request.{Request}
 use Rattle.cache_table.specs.declared.state.CopyState.{CopyState}
 use Rattle.mshr_file.specs.declared.registers.Register.{Register}
-use Rattle.slice_core_answer.specs.declared.answer.Evicted.{Evicted}
-use Rattle.slice_core_answer.specs.declared.answer.Issue.{Issue}
-use Rattle.slice_core_answer.specs.declared.answer.Refused.{Refused}
+use Rattle.slice_answer.specs.declared.answer.Evicted.{Evicted}
+use Rattle.slice_answer.specs.declared.answer.Issue.{Issue}
+use Rattle.slice_answer.specs.declared.answer.Refused.{Refused}
+use Rattle.slice_core_cache.specs.declared.access.Ask.{Ask}
+use Rattle.slice_core_cache.specs.declared.access.Placement.{Placement}
+use Rattle.slice_core_cache.specs.declared.access.Placement.TheVariants as placements
 use Rattle.slice_core_coherence.proofs.BlocksAccesses.{hit_keeps, hit_legal}
 use Rattle.slice_core_coherence.proofs.BlocksOpenings.{evict_keeps, hand_keeps, join_keeps, open_keeps}
 use Rattle.slice_core_coherence.proofs.KeptByCalls.{evicted_keeps, handed_keeps, issue_keeps}
 use Rattle.slice_core_coherence.proofs.Steps.{KeepsAccesses}
 use Rattle.slice_core_coherence.specs.Newest.{IsFaithful}
 use Rattle.slice_core_coherence.specs.Whole.{IsAddressed, IsWhole}
-use Rattle.slice_core_log.specs.Log.{IsLegal, initially}
-use Rattle.slice_core_log.specs.declared.entry.Numbered.{Numbered}
 use Rattle.slice_core_plan.specs.Calls.{PartsView, AfterEvict, AfterHand, AfterIssue}
 use Rattle.slice_core_plan.specs.Steps.{after_open}
 use Rattle.slice_core_plan.specs.View.{View}
-use Rattle.slice_core_side.specs.declared.access.Ask.{Ask}
-use Rattle.slice_core_side.specs.declared.access.Way.{Way}
-use Rattle.slice_core_side.specs.declared.access.Way.TheVariants as ways
+use Rattle.slice_log.specs.Log.{IsLegal, initially}
+use Rattle.slice_log.specs.declared.entry.Numbered.{Numbered}
 
 -- A line's place among the slice's own leads back to it.
 pub line_located : (own : Lines) (line : ℕ) (local : Local) → local_at own line ≡ Some local
@@ -51,13 +51,14 @@ line_located own line local =
     by false slice is = absurd (cc is)
 
 -- An access that opens a register changes nothing of the log, in whatever way its line comes in.
-opened_legal : (v : View) (core : CoreId) (local : Local) (request : Request) (way : Way) (next : CopyState) (ask : Ask)
+opened_legal : (v : View) (core : CoreId) (local : Local) (request : Request) (placement : Placement) (next : CopyState)
+    (ask : Ask)
     (misses : List Register) → IsLegal (initially v.init) v.log
-    → IsLegal (initially (after_open v core request local way next ask misses).init)
-    (after_open v core request local way next ask misses).log
-opened_legal v core local request ways.Held next ask misses legal = legal
-opened_legal v core local request ways.Free next ask misses legal = legal
-opened_legal v core local request ways.Victim next ask misses legal = legal
+    → IsLegal (initially (after_open v core request local placement next ask misses).init)
+    (after_open v core request local placement next ask misses).log
+opened_legal v core local request placements.Held next ask misses legal = legal
+opened_legal v core local request placements.Free next ask misses legal = legal
+opened_legal v core local request placements.Victim next ask misses legal = legal
 
 -- what is known of the slice
 abbrev pub Known : View → Type 0
@@ -97,20 +98,20 @@ accesses_keep = record {
 
 -- A request leaves the slice faithful.
 pub faithful_issue : (old : PartsView) (core : CoreId) (request : Request) (answer : Result Issue Refused)
-    (new : PartsView) → IsWhole old.view → IsAddressed old.view → core.0 < length old.view.sides
+    (new : PartsView) → IsWhole old.view → IsAddressed old.view → core.0 < length old.view.caches
     → IsFaithful old.view → AfterIssue old core request answer new → IsFaithful new.view
 faithful_issue old core request answer new whole addressed known all =
     issue_keeps Known IsFaithful accesses_keep old core request answer new whole (whole, addressed) known all
 
 -- An eviction does.
 pub faithful_evicted : (old : PartsView) (core : CoreId) (line : LineAddr) (answer : Evicted) (new : PartsView)
-    → IsWhole old.view → IsAddressed old.view → core.0 < length old.view.sides → IsFaithful old.view
+    → IsWhole old.view → IsAddressed old.view → core.0 < length old.view.caches → IsFaithful old.view
     → AfterEvict old core line answer new → IsFaithful new.view
 faithful_evicted old core line answer new whole addressed known all =
     evicted_keeps Known IsFaithful accesses_keep old core line answer new whole (whole, addressed) known all
 
 -- And a reply that is handed out.
 pub faithful_handed : (old : PartsView) (core : CoreId) (answer : Option Numbered) (new : PartsView)
-    → core.0 < length old.view.sides → IsFaithful old.view → AfterHand old core answer new → IsFaithful new.view
+    → core.0 < length old.view.caches → IsFaithful old.view → AfterHand old core answer new → IsFaithful new.view
 faithful_handed old core answer new known all =
     handed_keeps Known IsFaithful accesses_keep old core answer new known all

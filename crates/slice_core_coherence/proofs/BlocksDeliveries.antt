@@ -1,6 +1,6 @@
 -- A message that is taken leaves the slice's lines reached, blocks and all, and the log legal.
 use Rattle.std.proofs.Common.{arith}
-use Rattle.slice_core_answer.specs.declared.answer.Delivered.{Delivered}
+use Rattle.slice_answer.specs.declared.answer.Delivered.{Delivered}
 use Rattle.slice_core_coherence.proofs.BlocksCalls.{Known}
 use Rattle.slice_core_coherence.proofs.BlocksDirectory.{directory_keeps}
 use Rattle.slice_core_coherence.proofs.BlocksForwarded.{forwarded_keeps}
@@ -13,7 +13,7 @@ use Rattle.slice_core_coherence.specs.Whole.{IsAddressed, IsWhole}
 use Rattle.slice_core_plan.specs.Calls.{PartsView, AfterDeliverNext, AfterDelivery}
 use Rattle.slice_queues_message.specs.declared.channel.Class.{Class}
 use Rattle.slice_queues_message.specs.declared.channel.Pick.{Pick}
-use Rattle.slice_core_answer.specs.declared.answer.Delivery.{Delivery}
+use Rattle.slice_answer.specs.declared.answer.Delivery.{Delivery}
 
 messages_keep : KeepsMessages Known IsFaithful
 messages_keep = record {

@@ -7,7 +7,7 @@ use Rattle.address_map.specs.declared.address.Local.{Local}
 use Rattle.address_map.specs.declared.block.Block.{Block}
 use Rattle.directory_table.specs.Law.{is_named, requester, sends_data}
 use Rattle.directory_table.specs.declared.row.DirSends.{DirSends}
-use Rattle.directory_table.specs.declared.row.DirSends.TheVariants as answers
+use Rattle.directory_table.specs.declared.row.DirSends.TheVariants as dir_sends
 use Rattle.directory_table.specs.declared.row.DirStep.{DirStep}
 use Rattle.directory_table.specs.declared.state.DirEntry.{DirEntry}
 use Rattle.slice_core_coherence.proofs.BlocksFrame.{by_entry_with, reached_further}
@@ -18,26 +18,26 @@ use Rattle.slice_core_coherence.proofs.Served.{home-sent, same_requester, served
 use Rattle.slice_core_coherence.proofs.Places.{with_core-length}
 use Rattle.slice_core_coherence.specs.Blocks.{AreReachedWith, BlocksStand, CoreBlocksStand, HasValues, block_of_data}
 use Rattle.slice_core_coherence.specs.Stands.{Stands, copies_at}
-use Rattle.slice_core_log.specs.Log.{initially}
+use Rattle.slice_log.specs.Log.{initially}
 use Rattle.slice_core_plan.specs.Plan.{event_of_request, plan_of}
 use Rattle.slice_core_plan.specs.Sends.{directory_sent}
 use Rattle.slice_core_plan.specs.Steps.{after_directory, block_in}
 use Rattle.slice_core_plan.specs.View.{View, IsShaped, channels_at, entry_at, first_word}
-use Rattle.slice_core_protocol.proofs.ValueSteps.{without_blocks}
-use Rattle.slice_core_protocol.specs.Line.{Line}
-use Rattle.slice_core_protocol.specs.Machine.{Reached}
-use Rattle.slice_core_protocol.specs.Values.{Blocks, blocks_after, brought, newest_after}
-use Rattle.slice_core_side.specs.declared.copy.CacheCopy.{CacheCopy}
+use Rattle.protocol_coherence.proofs.ValueSteps.{without_blocks}
+use Rattle.protocol_coherence.specs.Line.{Line}
+use Rattle.protocol_coherence.specs.LineSteps.{Reached}
+use Rattle.protocol_coherence.specs.Values.{Blocks, blocks_after, home_after_row, newest_after}
+use Rattle.slice_core_cache.specs.declared.copy.CacheCopy.{CacheCopy}
 use Rattle.slice_queues.proofs.InvalidateLaws.{core_at-after_invalidating}
 use Rattle.slice_queues.specs.Line.{LineChannels, after_send, after_take, core_at, with_invalidation}
 use Rattle.slice_queues_message.specs.declared.channel.Channel.TheVariants as channels
 use Rattle.slice_queues_message.specs.declared.message.DataMessage.{DataMessage}
-use Rattle.slice_queues_message.specs.declared.message.DataMessage.TheVariants as replies
+use Rattle.slice_queues_message.specs.declared.message.DataMessage.TheVariants as data_messages
 use Rattle.slice_queues_message.specs.declared.message.ForwardedMessage.{ForwardedMessage}
-use Rattle.slice_queues_message.specs.declared.message.ForwardedMessage.TheVariants as forwards
+use Rattle.slice_queues_message.specs.declared.message.ForwardedMessage.TheVariants as forwarded_messages
 use Rattle.slice_queues_message.specs.declared.message.Message.TheVariants as messages
 use Rattle.slice_queues_message.specs.declared.message.RequestMessage.{RequestMessage}
-use Rattle.slice_queues_message.specs.declared.message.RequestMessage.TheVariants as requests
+use Rattle.slice_queues_message.specs.declared.message.RequestMessage.TheVariants as request_messages
 use Rattle.slice_core_plan.specs.Plan.{directory_move}
 
 -- ---- each answer
@@ -86,45 +86,46 @@ module _ (cores : ℕ) (line : LineChannels) (copy : ℕ → CacheCopy) (kept ar
   answer_blocks : (sent : DirSends)
       → CoresBlocksStand cores (directory_sent taken_line core block sent) copy kept
       (λ x. if sends_data sent && is_named (Some core) x then block else arriving x) put
-  answer_blocks answers.Nothing x below = taken_stand x below
-  answer_blocks (answers.Data acks) x below = given_stand (replies.Data block acks) refl x below
-  answer_blocks answers.DataE x below = given_stand (replies.DataE block) refl x below
-  answer_blocks (answers.DataAndInv acks set) x below =
+  answer_blocks dir_sends.Nothing x below = taken_stand x below
+  answer_blocks (dir_sends.Data acks) x below = given_stand (data_messages.Data block acks) refl x below
+  answer_blocks dir_sends.DataE x below = given_stand (data_messages.DataE block) refl x below
+  answer_blocks (dir_sends.DataAndInv acks set) x below =
       subst (λ m. CoreBlocksStand (copy x) m (kept x) (with_block_at arriving core.0 block x) (put x))
       (sym (core_at-after_invalidating given set core x
       (subst (λ n. x < n) (sym (with_core-length taken_line core.0
-      (record (core_at taken_line core.0) { «data» = Some (replies.Data block acks) }))) (inside x below))))
+      (record (core_at taken_line core.0) { «data» = Some (data_messages.Data block acks) }))) (inside x below))))
       (by (has set x))
     where
       given : LineChannels
-      given = given_line (replies.Data block acks)
+      given = given_line (data_messages.Data block acks)
 
       by : (b : Bool) → CoreBlocksStand (copy x)
-          (if b then with_invalidation core (core_at (given_line (replies.Data block acks)) x)
-          else core_at (given_line (replies.Data block acks)) x) (kept x) (with_block_at arriving core.0 block x)
+          (if b then with_invalidation core (core_at (given_line (data_messages.Data block acks)) x)
+          else core_at (given_line (data_messages.Data block acks)) x) (kept x) (with_block_at arriving core.0 block x)
           (put x)
       by true =
-          other_mail (copy x) (core_at (given_line (replies.Data block acks)) x)
-          (with_invalidation core (core_at (given_line (replies.Data block acks)) x)) (kept x)
-          (with_block_at arriving core.0 block x) (put x) refl refl (given_stand (replies.Data block acks) refl x below)
-      by false = given_stand (replies.Data block acks) refl x below
-  answer_blocks (answers.FwdGetS owner) x below = forwarded_stand owner.0 (forwards.FwdGetS core) x below
-  answer_blocks (answers.FwdGetM owner) x below = forwarded_stand owner.0 (forwards.FwdGetM core) x below
-  answer_blocks answers.PutAck x below = forwarded_stand core.0 forwards.PutAck x below
+          other_mail (copy x) (core_at (given_line (data_messages.Data block acks)) x)
+          (with_invalidation core (core_at (given_line (data_messages.Data block acks)) x)) (kept x)
+          (with_block_at arriving core.0 block x) (put x) refl refl
+          (given_stand (data_messages.Data block acks) refl x below)
+      by false = given_stand (data_messages.Data block acks) refl x below
+  answer_blocks (dir_sends.FwdGetS owner) x below = forwarded_stand owner.0 (forwarded_messages.FwdGetS core) x below
+  answer_blocks (dir_sends.FwdGetM owner) x below = forwarded_stand owner.0 (forwarded_messages.FwdGetM core) x below
+  answer_blocks dir_sends.PutAck x below = forwarded_stand core.0 forwarded_messages.PutAck x below
 
 -- The home copy after the row is the machine's.
 home_copy : (core : CoreId) (message : RequestMessage) (writes : Bool) (home : Block) (blocks : Blocks)
     → home ≡ blocks.home → block_in (blocks.put core.0) (Some message) ≡ blocks.put core.0
     → (if writes then block_in home (Some message) else home)
-    ≡ (if writes then brought (event_of_request core message) blocks else blocks.home)
+    ≡ (if writes then home_after_row (event_of_request core message) blocks else blocks.home)
 home_copy core message false home blocks same put = same
-home_copy core requests.GetS true home blocks same put = same
-home_copy core requests.GetM true home blocks same put = same
-home_copy core requests.PutS true home blocks same put = same
-home_copy core (requests.PutM block) true home blocks same put = put
+home_copy core request_messages.GetS true home blocks same put = same
+home_copy core request_messages.GetM true home blocks same put = same
+home_copy core request_messages.PutS true home blocks same put = same
+home_copy core (request_messages.PutM block) true home blocks same put = put
 
 module _ (v : View) (local : Local) (shaped : IsShaped v) (inside : local.0 < v.lines.lines)
-    (most : length v.sides ≤ 64) (core : CoreId) (within : core.0 < length v.sides) (step : DirStep)
+    (most : length v.caches ≤ 64) (core : CoreId) (within : core.0 < length v.caches) (step : DirStep)
     (is : plan_of v local (channels.Req core) ≡ directory_move step) where
   abbrev entry_after : DirEntry
   entry_after = record {
@@ -140,10 +141,10 @@ module _ (v : View) (local : Local) (shaped : IsShaped v) (inside : local.0 < v.
       directory_sent (after_take (channels_at v local) (channels.Req core)) core (entry_at v local).home step.sends
 
   -- The blocks after that step.
-  pub directory_blocks : (l : Line) (reached : Reached v.exclusive (length v.sides) l) (stands : Stands v local l)
+  pub directory_blocks : (l : Line) (reached : Reached v.exclusive (length v.caches) l) (stands : Stands v local l)
       (blocks : Blocks) (written : Block)
-      → BlocksStand (length v.sides) (entry_at v local) (channels_at v local) (copies_at v local) blocks
-      → BlocksStand (length v.sides) entry_after channels_after (copies_at v local)
+      → BlocksStand (length v.caches) (entry_at v local) (channels_at v local) (copies_at v local) blocks
+      → BlocksStand (length v.caches) entry_after channels_after (copies_at v local)
       (blocks_after (directory_step v local shaped inside most core within step is l reached
       stands).0 written blocks)
   unfolding directory_step
@@ -162,7 +163,7 @@ module _ (v : View) (local : Local) (shaped : IsShaped v) (inside : local.0 < v.
             ∙ ap (λ b. if sends_data step.sends && is_named (Some core) c then b else blocks.arriving c)
             (sym stand.home))
             refl
-            (answer_blocks (length v.sides) (channels_at v local) (copies_at v local) blocks.copy blocks.arriving
+            (answer_blocks (length v.caches) (channels_at v local) (copies_at v local) blocks.copy blocks.arriving
             blocks.put core (entry_at v local).home (shaped.cores local inside) within stand.core step.sends c below);
         home =
             ap (λ request. if step.writes_home then block_in (entry_at v local).home request
@@ -175,7 +176,7 @@ module _ (v : View) (local : Local) (shaped : IsShaped v) (inside : local.0 < v.
       }
 
   -- It performs nothing.
-  directory_newest : (l : Line) (reached : Reached v.exclusive (length v.sides) l) (stands : Stands v local l)
+  directory_newest : (l : Line) (reached : Reached v.exclusive (length v.caches) l) (stands : Stands v local l)
       (newest written : Block)
       → newest_after (directory_step v local shaped inside most core within step is l reached
       stands).0 written newest ≡ newest
@@ -186,11 +187,11 @@ module _ (v : View) (local : Local) (shaped : IsShaped v) (inside : local.0 < v.
   pub directory_keeps : AreReachedWith v → AreReachedWith (after_directory v local core step)
   directory_keeps all =
       let before = all local inside in
-      let reached = without_blocks v.exclusive (length v.sides) before.line before.blocks before.newest
+      let reached = without_blocks v.exclusive (length v.caches) before.line before.blocks before.newest
       before.reached in
       let taken = directory_step v local shaped inside most core within step is before.line reached before.stands in
       by_entry_with v local shaped inside all entry_after channels_after
-      (reached_further v.exclusive (length v.sides) (initially v.init) v.log (first_word v local) entry_after
+      (reached_further v.exclusive (length v.caches) (initially v.init) v.log (first_word v local) entry_after
       channels_after (copies_at v local) before.line before.blocks before.newest before.reached taken.0 before.newest
       (subst (HasValues (initially v.init) v.log (first_word v local))
       (sym (directory_newest before.line reached before.stands before.newest before.newest)) before.has_values)

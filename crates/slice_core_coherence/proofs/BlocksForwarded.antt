@@ -11,7 +11,7 @@ use Rattle.cache_table.specs.declared.row.CacheSends.{CacheSends}
 use Rattle.cache_table.specs.declared.row.Row.TheVariants as rows
 use Rattle.cache_table.specs.declared.state.CopyState.{CopyState}
 use Rattle.directory_table.specs.declared.state.DirEntry.{DirEntry}
-use Rattle.slice_core_coherence.proofs.BlocksFrame.{by_side_with, reached_further}
+use Rattle.slice_core_coherence.proofs.BlocksFrame.{by_cache_with, reached_further}
 use Rattle.slice_core_coherence.proofs.BlocksPlaces.{CoresBlocksStand, blocks_given, blocks_same, blocks_turned}
 use Rattle.slice_core_coherence.proofs.BlocksPlaces.{core_as, with_block_at}
 use Rattle.slice_core_coherence.proofs.Forwarded.{below, channels_after, forwarded_as, message_stands, message_step}
@@ -22,28 +22,28 @@ use Rattle.slice_core_coherence.proofs.Places.{with_core-length}
 use Rattle.slice_core_coherence.proofs.Rows.{KeepsBlock, keeps, sends_for}
 use Rattle.slice_core_coherence.specs.Blocks.{AreReachedWith, BlocksStand, HasValues, LineReachedWith, has_block}
 use Rattle.slice_core_coherence.specs.Stands.{copies_at}
-use Rattle.slice_core_log.specs.Log.{initially}
-use Rattle.slice_core_log.specs.declared.entry.Entry.{Entry}
+use Rattle.slice_log.specs.Log.{initially}
+use Rattle.slice_log.specs.declared.entry.Entry.{Entry}
 use Rattle.slice_core_plan.specs.Plan.{event_of_forwarded, plan_of, requester_of}
 use Rattle.slice_core_plan.specs.Sends.{cache_sent}
 use Rattle.slice_core_plan.specs.Steps.{after_forwarded}
-use Rattle.slice_core_plan.specs.View.{View, IsShaped, channels_at, entry_at, first_word, side_at}
+use Rattle.slice_core_plan.specs.View.{View, IsShaped, channels_at, entry_at, first_word, cache_at}
 use Rattle.slice_core_plan.specs.Within.{HasCopy}
-use Rattle.slice_core_protocol.proofs.Each.{each_state, each_state-at, implies-at, not-at}
-use Rattle.slice_core_protocol.proofs.ValueSteps.{without_blocks}
-use Rattle.slice_core_protocol.specs.Fit.{◌implies◌}
-use Rattle.slice_core_protocol.specs.Machine.{Reached, Step}
-use Rattle.slice_core_protocol.specs.Values.{blocks_after, performs}
-use Rattle.slice_core_side.proofs.Found.{copy_of-after_advance_other}
-use Rattle.slice_core_side.specs.Copy.{is_gone, no_copy}
-use Rattle.slice_core_side.specs.Kept.{IsKept}
-use Rattle.slice_core_side.specs.Steps.{after_advance}
-use Rattle.slice_core_side.specs.declared.copy.CacheCopy.{CacheCopy}
+use Rattle.protocol_coherence.proofs.Each.{each_state, each_state-at, implies-at, not-at}
+use Rattle.protocol_coherence.proofs.ValueSteps.{without_blocks}
+use Rattle.protocol_coherence.specs.Fit.{◌implies◌}
+use Rattle.protocol_coherence.specs.LineSteps.{Reached, Step}
+use Rattle.protocol_coherence.specs.Values.{blocks_after, performs}
+use Rattle.slice_core_cache.proofs.Found.{copy_of-after_advance_other}
+use Rattle.slice_core_cache.specs.Copy.{is_gone, no_copy}
+use Rattle.slice_core_cache.specs.Kept.{IsKept}
+use Rattle.slice_core_cache.specs.Steps.{after_advance}
+use Rattle.slice_core_cache.specs.declared.copy.CacheCopy.{CacheCopy}
 use Rattle.slice_queues.specs.Line.{LineChannels, after_send, after_take, core_at, with_core}
 use Rattle.slice_queues_message.specs.declared.channel.Channel.TheVariants as channels
-use Rattle.slice_queues_message.specs.declared.message.DataMessage.TheVariants as replies
+use Rattle.slice_queues_message.specs.declared.message.DataMessage.TheVariants as data_messages
 use Rattle.slice_queues_message.specs.declared.message.ForwardedMessage.{ForwardedMessage}
-use Rattle.slice_queues_message.specs.declared.message.ForwardedMessage.TheVariants as forwards
+use Rattle.slice_queues_message.specs.declared.message.ForwardedMessage.TheVariants as forwarded_messages
 use Rattle.slice_queues_message.specs.declared.message.Message.TheVariants as messages
 use Rattle.slice_core_plan.specs.Plan.{forwarded_move}
 
@@ -68,10 +68,10 @@ set-same block c x =
 -- No forwarded message performs an access.
 performs-none : (message : ForwardedMessage) (next : CopyState) (block : Block)
     → (if performs (event_of_forwarded message) next then block else block) ≡ block
-performs-none (forwards.Inv core) next block = refl
-performs-none (forwards.FwdGetS core) next block = refl
-performs-none (forwards.FwdGetM core) next block = refl
-performs-none forwards.PutAck next block = refl
+performs-none (forwarded_messages.Inv core) next block = refl
+performs-none (forwarded_messages.FwdGetS core) next block = refl
+performs-none (forwarded_messages.FwdGetM core) next block = refl
+performs-none forwarded_messages.PutAck next block = refl
 
 -- ---- the line
 
@@ -130,7 +130,7 @@ module _ (exclusive : Bool) (cores : ℕ) (init : ℕ → ℕ) (log : List Entry
     given_blocks : (requester : CoreId) → requester.0 ≡ (old.line.part core.0).names
         → sends_data (sends_for message) ≡ true → sends_inv_ack (sends_for message) ≡ false
         → CoresBlocksStand cores
-        (after_send queues_now (channels.Data requester) (messages.Data (replies.Data block 0))) copies_now
+        (after_send queues_now (channels.Data requester) (messages.Data (data_messages.Data block 0))) copies_now
         old.blocks.copy (with_block_at old.blocks.arriving (old.line.part core.0).names (old.blocks.copy core.0))
         old.blocks.put
     given_blocks requester named gives owes x within_x =
@@ -138,10 +138,12 @@ module _ (exclusive : Bool) (cores : ℕ) (init : ℕ → ℕ) (log : List Entry
         within message waits row requester named gives owes in
         let here = taken_blocks requester.0 there in
         core_as (copies_now x)
-        (core_at (after_send queues_now (channels.Data requester) (messages.Data (replies.Data block 0))) x) _ _ _ _ _ _
+        (core_at (after_send queues_now (channels.Data requester) (messages.Data (data_messages.Data block 0))) x) _ _ _
+        _ _ _
         refl (ap (λ n. with_block_at old.blocks.arriving n (old.blocks.copy core.0) x) (sym named)) refl
         (blocks_given cores queues_now copies_now old.blocks.copy old.blocks.arriving old.blocks.put requester.0
-        (record (core_at queues_now requester.0) { «data» = Some (replies.Data block 0) }) (old.blocks.copy core.0)
+        (record (core_at queues_now requester.0) { «data» = Some (data_messages.Data block 0) })
+        (old.blocks.copy core.0)
         (subst (λ n. requester.0 < n)
         (sym (with_core-length queues core.0
         (record (core_at queues core.0) { forwarded = drop 1 (core_at queues core.0).forwarded }) ∙ size)) there)
@@ -158,39 +160,39 @@ module _ (exclusive : Bool) (cores : ℕ) (init : ℕ → ℕ) (log : List Entry
       → BlocksStand cores entry
       (cache_sent (after_take queues (channels.Fwd core)) core (requester_of core message) block (sends_for message))
       copies_now (blocks_after (step_now message waits row) old.newest old.blocks)
-  message_blocks forwards.PutAck waits row = record {
+  message_blocks forwarded_messages.PutAck waits row = record {
     core = λ x below.
         core_as _ _ _ _ _ _ _ _ (set-same old.blocks.copy core.0 x) refl refl
-        (taken_blocks forwards.PutAck waits row x below);
+        (taken_blocks forwarded_messages.PutAck waits row x below);
     home = old.blocks_stand.home;
     mail = old.blocks_stand.mail;
   }
-  message_blocks (forwards.Inv requester) waits row = record {
+  message_blocks (forwarded_messages.Inv requester) waits row = record {
     core = λ x below.
         core_as _ _ _ _ _ _ _ _ (set-same old.blocks.copy core.0 x) refl refl
         (blocks_same cores queues_now copies_now old.blocks.copy old.blocks.arriving old.blocks.put requester.0
         (record (core_at queues_now requester.0) { acks = with (core_at queues_now requester.0).acks core.0 }) refl refl
-        (taken_blocks (forwards.Inv requester) waits row) x below);
+        (taken_blocks (forwarded_messages.Inv requester) waits row) x below);
     home = old.blocks_stand.home;
     mail = old.blocks_stand.mail;
   }
-  message_blocks (forwards.FwdGetM requester) waits row =
-      let named = sym (first_message (forwards.FwdGetM requester) waits row).2 in record {
+  message_blocks (forwarded_messages.FwdGetM requester) waits row =
+      let named = sym (first_message (forwarded_messages.FwdGetM requester) waits row).2 in record {
         core = λ x below.
             core_as _ _ _ _ _ _ _ _ (set-same old.blocks.copy core.0 x) refl refl
-            (given_blocks (forwards.FwdGetM requester) waits row requester named refl refl x below);
+            (given_blocks (forwarded_messages.FwdGetM requester) waits row requester named refl refl x below);
         home = old.blocks_stand.home;
         mail = old.blocks_stand.mail;
       }
-  message_blocks (forwards.FwdGetS requester) waits row =
-      let named = sym (first_message (forwards.FwdGetS requester) waits row).2 in record {
+  message_blocks (forwarded_messages.FwdGetS requester) waits row =
+      let named = sym (first_message (forwarded_messages.FwdGetS requester) waits row).2 in record {
         core = λ x below.
             core_as _ _ _ _ _ _ _ _ (set-same old.blocks.copy core.0 x) refl refl
-            (given_blocks (forwards.FwdGetS requester) waits row requester named refl refl x below);
+            (given_blocks (forwarded_messages.FwdGetS requester) waits row requester named refl refl x below);
         home = old.blocks_stand.home;
         mail =
             (old.blocks_stand.core core.0 within).in_copy
-            ((keeping (forwards.FwdGetS requester) waits row).given refl);
+            ((keeping (forwarded_messages.FwdGetS requester) waits row).given refl);
       }
 
   -- The line goes on with its blocks, whichever message the core takes.
@@ -212,17 +214,17 @@ module _ (exclusive : Bool) (cores : ℕ) (init : ℕ → ℕ) (log : List Entry
 
 -- A forwarded message that a core takes leaves each line reached, blocks and all.
 pub forwarded_keeps : (v : View) (local : Local) (core : CoreId) (next : CopyState) (sent : CacheSends)
-    (requester : CoreId) → 0 < length v.sides → length v.sides ≤ 64 → IsShaped v → IsKept (side_at v core)
-    → core.0 < length v.sides → local.0 < v.lines.lines → HasCopy (side_at v core) local
+    (requester : CoreId) → 0 < length v.caches → length v.caches ≤ 64 → IsShaped v → IsKept (cache_at v core)
+    → core.0 < length v.caches → local.0 < v.lines.lines → HasCopy (cache_at v core) local
     → plan_of v local (channels.Fwd core) ≡ forwarded_move next sent requester → AreReachedWith v
     → AreReachedWith (after_forwarded v local core next sent requester)
 forwarded_keeps v local core next sent requester some most shaped kept there inside has_copy is all =
-    by_side_with v local shaped inside all v.log (λ other within apart block values. values)
+    by_cache_with v local shaped inside all v.log (λ other within apart block values. values)
     (channels_after v local core next sent requester some most shaped kept there inside has_copy is) core
-    (after_advance (side_at v core) local next) there
-    (λ other within apart. copy_of-after_advance_other (side_at v core) local kept next other apart)
+    (after_advance (cache_at v core) local next) there
+    (λ other within apart. copy_of-after_advance_other (cache_at v core) local kept next other apart)
     (forwarded_as v local core next sent requester some most shaped kept there inside has_copy is
-    (λ queues copies. LineReachedWith v.exclusive (length v.sides) (initially v.init) v.log (first_word v local)
+    (λ queues copies. LineReachedWith v.exclusive (length v.caches) (initially v.init) v.log (first_word v local)
     (entry_at v local) queues copies)
-    (message_reached v.exclusive (length v.sides) (initially v.init) v.log (first_word v local) (entry_at v local)
+    (message_reached v.exclusive (length v.caches) (initially v.init) v.log (first_word v local) (entry_at v local)
     (channels_at v local) (copies_at v local) core next some most (all local inside) (shaped.cores local inside) there))

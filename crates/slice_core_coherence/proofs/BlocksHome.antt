@@ -5,45 +5,45 @@ use Rattle.address_map.specs.declared.address.CoreId.{CoreId}
 use Rattle.address_map.specs.declared.address.Local.{Local}
 use Rattle.address_map.specs.declared.block.Block.{Block}
 use Rattle.directory_table.specs.Row as Directory
-use Rattle.directory_table.specs.declared.row.DirEvent.TheVariants as asks
+use Rattle.directory_table.specs.declared.row.DirEvent.TheVariants as dir_events
 use Rattle.directory_table.specs.declared.row.DirRow.{DirRow}
-use Rattle.directory_table.specs.declared.row.DirRow.TheVariants as rows
+use Rattle.directory_table.specs.declared.row.DirRow.TheVariants as dir_rows
 use Rattle.directory_table.specs.declared.row.DirStep.{DirStep}
 use Rattle.directory_table.specs.declared.state.DirEntry.{DirEntry}
 use Rattle.directory_table.specs.declared.state.DirState.{DirState}
-use Rattle.directory_table.specs.declared.state.DirState.TheVariants as dirs
+use Rattle.directory_table.specs.declared.state.DirState.TheVariants as dir_states
 use Rattle.directory_table.specs.Law.{IfGo}
 use Rattle.directory_table.specs.Row.{cell}
 use Rattle.slice_core_coherence.proofs.BlocksFrame.{by_entry_with, reached_further}
 use Rattle.slice_core_coherence.proofs.Home.{comes_to, comes_home, home_step}
 use Rattle.slice_core_coherence.specs.Blocks.{AreReachedWith, BlocksStand, HasValues}
 use Rattle.slice_core_coherence.specs.Stands.{Stands, copies_at}
-use Rattle.slice_core_log.specs.Log.{initially}
+use Rattle.slice_log.specs.Log.{initially}
 use Rattle.slice_core_plan.specs.Plan.{plan_of}
 use Rattle.slice_core_plan.specs.Steps.{after_home}
 use Rattle.slice_core_plan.specs.View.{View, IsShaped, channels_at, entry_at, first_word}
-use Rattle.slice_core_protocol.specs.Line.{Line}
-use Rattle.slice_core_protocol.specs.Values.{Blocks, blocks_after, newest_after}
+use Rattle.protocol_coherence.specs.Line.{Line}
+use Rattle.protocol_coherence.specs.Values.{Blocks, blocks_after, newest_after}
 use Rattle.slice_queues.specs.Line.{after_take}
 use Rattle.slice_queues_message.specs.declared.channel.Channel.TheVariants as channels
 use Rattle.slice_core_plan.specs.Plan.{home_move}
 
 -- The row for a block that comes home writes it to the home copy.
 home_writes : (exclusive : Bool) (state : DirState) (owner : Option CoreId) (sharers : ℕ)
-    → IfGo (cell exclusive state owner sharers asks.DataHome) (λ next owns shares sent writes. writes ≡ true)
-home_writes true dirs.I owner sharers = tt
-home_writes true dirs.S owner sharers = tt
-home_writes true dirs.M (Some core) sharers = tt
-home_writes true dirs.M None sharers = tt
-home_writes true dirs.S_D owner sharers = refl
-home_writes false dirs.I owner sharers = tt
-home_writes false dirs.S owner sharers = tt
-home_writes false dirs.M (Some core) sharers = tt
-home_writes false dirs.M None sharers = tt
-home_writes false dirs.S_D owner sharers = refl
+    → IfGo (cell exclusive state owner sharers dir_events.DataHome) (λ next owns shares sent writes. writes ≡ true)
+home_writes true dir_states.I owner sharers = tt
+home_writes true dir_states.S owner sharers = tt
+home_writes true dir_states.M (Some core) sharers = tt
+home_writes true dir_states.M None sharers = tt
+home_writes true dir_states.S_D owner sharers = refl
+home_writes false dir_states.I owner sharers = tt
+home_writes false dir_states.S owner sharers = tt
+home_writes false dir_states.M (Some core) sharers = tt
+home_writes false dir_states.M None sharers = tt
+home_writes false dir_states.S_D owner sharers = refl
 
 writes_home : (exclusive : Bool) (entry : DirEntry) (step : DirStep)
-    → Directory.row_of exclusive entry asks.DataHome ≡ rows.Go step → step.writes_home ≡ true
+    → Directory.row_of exclusive entry dir_events.DataHome ≡ dir_rows.Go step → step.writes_home ≡ true
 writes_home exclusive entry step row =
     subst (λ (r : DirRow). IfGo r (λ next owns shares se w. w ≡ true)) row
     (home_writes exclusive entry.state entry.owner entry.sharers)
@@ -58,8 +58,8 @@ module _ (v : View) (local : Local) (shaped : IsShaped v) (inside : local.0 < v.
     (owner : Option CoreId) (sharers : ℕ) (is : plan_of v local channels.Home ≡ home_move state owner sharers) where
   -- The blocks after that step.
   pub home_blocks : (l : Line) (stands : Stands v local l) (blocks : Blocks) (written : Block)
-      → BlocksStand (length v.sides) (entry_at v local) (channels_at v local) (copies_at v local) blocks
-      → BlocksStand (length v.sides)
+      → BlocksStand (length v.caches) (entry_at v local) (channels_at v local) (copies_at v local) blocks
+      → BlocksStand (length v.caches)
       (record {
         home = unwrap_or (channels_at v local).home (entry_at v local).home;
         sharers = sharers;
@@ -97,7 +97,7 @@ module _ (v : View) (local : Local) (shaped : IsShaped v) (inside : local.0 < v.
         state = state;
       } in
       by_entry_with v local shaped inside all home (after_take (channels_at v local) channels.Home)
-      (reached_further v.exclusive (length v.sides) (initially v.init) v.log (first_word v local) home
+      (reached_further v.exclusive (length v.caches) (initially v.init) v.log (first_word v local) home
       (after_take (channels_at v local) channels.Home) (copies_at v local) before.line before.blocks before.newest
       before.reached step.0 before.newest
       (subst (HasValues (initially v.init) v.log (first_word v local))

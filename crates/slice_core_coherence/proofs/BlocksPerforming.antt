@@ -10,11 +10,18 @@ use Rattle.address_map.specs.declared.request.Op.TheVariants as ops
 use Rattle.cache_table.specs.CopyState.{is_readable, is_waiting, is_writer}
 use Rattle.cache_table.specs.Law.{brings_data, sends_get}
 use Rattle.cache_table.specs.Row.{row_of}
-use Rattle.cache_table.specs.declared.row.CacheEvent.TheVariants as events
-use Rattle.cache_table.specs.declared.row.CacheSends.TheVariants as sends
+use Rattle.cache_table.specs.declared.row.CacheEvent.TheVariants as cache_events
+use Rattle.cache_table.specs.declared.row.CacheSends.TheVariants as cache_sends
 use Rattle.cache_table.specs.declared.row.Row.TheVariants as rows
 use Rattle.cache_table.specs.declared.state.CopyState.{CopyState}
 use Rattle.directory_table.specs.declared.state.DirEntry.{DirEntry}
+use Rattle.protocol_coherence.proofs.Each.{each_state, each_state-at, if_go, if_go-at, if_so, if_so-at, left, right}
+use Rattle.protocol_coherence.proofs.ValueSteps.{without_blocks}
+use Rattle.protocol_coherence.specs.Values.{block_after_row, performs}
+use Rattle.slice_core_cache.specs.Access.{event_of}
+use Rattle.slice_core_cache.specs.Copy.{performed_on, word_at}
+use Rattle.slice_core_cache.specs.Perform.{block_after, entries_of, entry_of}
+use Rattle.slice_core_cache.specs.declared.copy.CacheCopy.{CacheCopy}
 use Rattle.slice_core_coherence.proofs.Accesses.{own_access}
 use Rattle.slice_core_coherence.proofs.BlocksFrame.{reached_as, reached_further}
 use Rattle.slice_core_coherence.proofs.BlocksTurns.{own_blocks, own_newest}
@@ -23,50 +30,44 @@ use Rattle.slice_core_coherence.proofs.Frame.{by_number, with_copy_at}
 use Rattle.slice_core_coherence.proofs.OwnTurns.{own_row, own_step}
 use Rattle.slice_core_coherence.proofs.Values.{load_leaves, performed_legal, performed_values}
 use Rattle.slice_core_coherence.specs.Blocks.{HasValues, LineReachedWith}
-use Rattle.slice_core_log.specs.Log.{IsLegal}
-use Rattle.slice_core_log.specs.Op.{reply_of}
-use Rattle.slice_core_log.specs.declared.entry.Entry.{Entry}
-use Rattle.slice_core_protocol.proofs.Each.{each_state, each_state-at, if_go, if_go-at, if_so, if_so-at, left, right}
-use Rattle.slice_core_protocol.proofs.ValueSteps.{without_blocks}
-use Rattle.slice_core_protocol.specs.Values.{copied, performs}
-use Rattle.slice_core_side.specs.Access.{event_of}
-use Rattle.slice_core_side.specs.Copy.{performed_on, word_at}
-use Rattle.slice_core_side.specs.Perform.{block_after, entries_of, entry_of}
-use Rattle.slice_core_side.specs.declared.copy.CacheCopy.{CacheCopy}
+use Rattle.slice_log.specs.Log.{IsLegal}
+use Rattle.slice_log.specs.Op.{reply_of}
+use Rattle.slice_log.specs.declared.entry.Entry.{Entry}
 use Rattle.slice_queues.specs.Line.{LineChannels, core_at, no_messages, with_core}
 use Rattle.target_list.specs.declared.target.Target.{Target}
 
 -- ---- rows
 
-each_load_reads : each_state (λ s. if_go (row_of s events.Load) (λ next sent. if_so (not (sends_get sent))
+each_load_reads : each_state (λ s. if_go (row_of s cache_events.Load) (λ next sent. if_so (not (sends_get sent))
     (λ _. is_readable s))) ≡ true
 unfolding each_state if_go if_so
 each_load_reads = refl
 
-each_write_writes : each_state (λ s. if_go (row_of s events.Write) (λ next sent. if_so (not (sends_get sent))
+each_write_writes : each_state (λ s. if_go (row_of s cache_events.Write) (λ next sent. if_so (not (sends_get sent))
     (λ _. is_readable s && is_writer next))) ≡ true
 unfolding each_state if_go if_so
 each_write_writes = refl
 
-load_reads : (state next : CopyState) → row_of state events.Load ≡ rows.Go next sends.Nothing
+load_reads : (state next : CopyState) → row_of state cache_events.Load ≡ rows.Go next cache_sends.Nothing
     → is_readable state ≡ true
 load_reads state next row =
     if_so-at true (λ _. is_readable state)
-    (if_go-at (row_of state events.Load) (λ n sent. if_so (not (sends_get sent)) (λ _. is_readable state)) next
-    sends.Nothing (each_state-at (λ s. if_go (row_of s events.Load) (λ n sent. if_so (not (sends_get sent))
+    (if_go-at (row_of state cache_events.Load) (λ n sent. if_so (not (sends_get sent)) (λ _. is_readable state)) next
+    cache_sends.Nothing (each_state-at (λ s. if_go (row_of s cache_events.Load) (λ n sent. if_so (not (sends_get sent))
     (λ _. is_readable s))) each_load_reads state) row) refl
 
-write_writes : (state next : CopyState) → row_of state events.Write ≡ rows.Go next sends.Nothing
+write_writes : (state next : CopyState) → row_of state cache_events.Write ≡ rows.Go next cache_sends.Nothing
     → (is_readable state && is_writer next) ≡ true
 write_writes state next row =
     if_so-at true (λ _. is_readable state && is_writer next)
-    (if_go-at (row_of state events.Write) (λ n sent. if_so (not (sends_get sent)) (λ _. is_readable state &&
+    (if_go-at (row_of state cache_events.Write) (λ n sent. if_so (not (sends_get sent)) (λ _. is_readable state &&
     is_writer n))
-    next sends.Nothing (each_state-at (λ s. if_go (row_of s events.Write) (λ n sent. if_so (not (sends_get sent))
+    next cache_sends.Nothing
+        (each_state-at (λ s. if_go (row_of s cache_events.Write) (λ n sent. if_so (not (sends_get sent))
     (λ _. is_readable s && is_writer n))) each_write_writes state) row) refl
 
 -- A copy on which an access is performed may be read.
-pub access_reads : (op : Op) (state next : CopyState) → row_of state (event_of op) ≡ rows.Go next sends.Nothing
+pub access_reads : (op : Op) (state next : CopyState) → row_of state (event_of op) ≡ rows.Go next cache_sends.Nothing
     → is_readable state ≡ true
 access_reads ops.Load state next row = load_reads state next row
 access_reads (ops.Store new) state next row = left _ _ (write_writes state next row)
@@ -75,7 +76,7 @@ access_reads (ops.Cas expect new) state next row = left _ _ (write_writes state 
 
 -- What an access leaves is what the copy had performed it on: a load leaves the block, and a write is the written one.
 performed_is : (op : Op) (state next : CopyState) (block other : Block) (offset : ℕ)
-    → row_of state (event_of op) ≡ rows.Go next sends.Nothing → other ≡ block
+    → row_of state (event_of op) ≡ rows.Go next cache_sends.Nothing → other ≡ block
     → (if performs (event_of op) next then performed_on block offset op else other) ≡ performed_on block offset op
 performed_is ops.Load state next block other offset row same = same ∙ sym (load_leaves block offset)
 performed_is (ops.Store new) state next block other offset row same =
@@ -100,7 +101,7 @@ brings_none (ops.Cas expect new) = refl
 abbrev pub AreAllowed : CopyState → List Target → Type 0
 AreAllowed state [] = Unit {0}
 AreAllowed state (target ∷ targets) =
-    (row_of state (event_of target.op) ≡ rows.Go state sends.Nothing) × (target.offset.0 < 8)
+    (row_of state (event_of target.op) ≡ rows.Go state cache_sends.Nothing) × (target.offset.0 < 8)
     × AreAllowed state targets
 
 -- ---- one access
@@ -109,7 +110,7 @@ module _ (exclusive : Bool) (cores : ℕ) (init : ℕ → ℕ) (first : ℕ) (en
     (some : 0 < cores) (most : cores ≤ 64) (below : c < cores) (there : c < length channels.cores) where
   -- The core performs an access on its copy: a turn of the line, whose newest block is what the access leaves.
   pub access_performed : (copy : ℕ → CacheCopy) (log : List Entry) (next : CopyState) (now : CacheCopy) (done : Entry)
-      (offset : ℕ) → row_of (copy c).state (event_of done.op) ≡ rows.Go next sends.Nothing → now.state ≡ next
+      (offset : ℕ) → row_of (copy c).state (event_of done.op) ≡ rows.Go next cache_sends.Nothing → now.state ≡ next
       → now.block ≡ performed_on (copy c).block offset done.op → offset < 8 → done.word.0 ≡ first + offset
       → done.reply ≡ reply_of done.op (word_at (copy c).block offset)
       → LineReachedWith exclusive cores init log first entry channels copy
@@ -117,12 +118,13 @@ module _ (exclusive : Bool) (cores : ℕ) (init : ℕ → ℕ) (first : ℕ) (en
   access_performed copy log next now done offset row state block inside here replied line =
       let op = done.op in
       let readable = access_reads op (copy c).state next row in
-      let lawful = own_row (event_of op) (copy c).state next sends.Nothing (own_access op) row in
+      let lawful = own_row (event_of op) (copy c).state next cache_sends.Nothing (own_access op) row in
       let still : is_waiting next ≡ true → now.counted ≡ 0 =
       λ waits. absurd (true≢false (sym (lawful.asks waits))) in
       let reached = without_blocks exclusive cores line.line line.blocks line.newest line.reached in
       let asked = (core_at channels c).request in
-      let step = own_step exclusive cores entry channels copy c (event_of op) next sends.Nothing now asked line.line
+      let step = own_step exclusive cores entry channels copy c (event_of op) next cache_sends.Nothing now asked
+          line.line
       most
       below there (own_access op) row state refl still reached line.stands in
       let newest : (if performs (event_of op) next then now.block else line.newest) ≡ now.block =
@@ -130,7 +132,7 @@ module _ (exclusive : Bool) (cores : ℕ) (init : ℕ → ℕ) (first : ℕ) (en
       ∙ performed_is op (copy c).state next (copy c).block line.newest offset row
       (sym (copy_newest exclusive cores init log first entry channels copy some most line c below readable))
       ∙ sym block in
-      let kept : now.block ≡ copied (event_of op) next c now.block line.blocks =
+      let kept : now.block ≡ block_after_row (event_of op) next c now.block line.blocks =
       block ∙ sym (performed_is op (copy c).state next (copy c).block (line.blocks.copy c) offset row
       (sym ((line.blocks_stand.core c below).in_copy (readable_has_block (copy c).state readable))))
       ∙ ap (λ b. if performs (event_of op) next then b else line.blocks.copy c) (sym block)
@@ -147,10 +149,12 @@ module _ (exclusive : Bool) (cores : ℕ) (init : ℕ → ℕ) (first : ℕ) (en
       (with_core channels c (record (core_at channels c) { request = asked })) (with_copy_at copy c now) line.line
       line.blocks line.newest line.reached step.0 now.block
       (subst (HasValues init (log ++ done ∷ []) first)
-      (sym (own_newest exclusive cores entry channels copy c (event_of op) next sends.Nothing now asked line.line most
+      (sym (own_newest exclusive cores entry channels copy c (event_of op) next cache_sends.Nothing now asked line.line
+      most
       below there (own_access op) row state refl still reached line.stands line.newest now.block ∙ newest)) values)
       step.1
-      (own_blocks exclusive cores entry channels copy c (event_of op) next sends.Nothing now asked line.line most below
+      (own_blocks exclusive cores entry channels copy c (event_of op) next cache_sends.Nothing now asked line.line most
+      below
       there (own_access op) row state refl still reached line.stands line.blocks now.block (λ has. kept)
       (line.blocks_stand.core c below).in_put line.blocks_stand))
 
@@ -161,7 +165,7 @@ module _ (exclusive : Bool) (cores : ℕ) (init : ℕ → ℕ) (first : ℕ) (en
     mine now = ap (λ b. if b then now else copy c) (eq-eqb c c refl)
 
     target_performed : (target : Target) (log : List Entry) (now : CacheCopy)
-        → row_of now.state (event_of target.op) ≡ rows.Go now.state sends.Nothing → target.offset.0 < 8
+        → row_of now.state (event_of target.op) ≡ rows.Go now.state cache_sends.Nothing → target.offset.0 < 8
         → LineReachedWith exclusive cores init log first entry channels (with_copy_at copy c now)
         → LineReachedWith exclusive cores init (log ++ entry_of core first now.block target ∷ []) first entry channels
         (with_copy_at copy c (record now { block = performed_on now.block target.offset.0 target.op }))

@@ -1,9 +1,9 @@
 -- How the blocks of a line stand after one core's channels or its copy are others.
 use Rattle.std.proofs.Common.{◌≡◌, ℕ, ◌<◌, ◌==◌, if◌then◌else◌, length, sym, subst}
 use Rattle.address_map.specs.declared.block.Block.{Block}
+use Rattle.slice_core_cache.specs.declared.copy.CacheCopy.{CacheCopy}
 use Rattle.slice_core_coherence.proofs.Frame.{by_number, read-set, with_copy_at}
 use Rattle.slice_core_coherence.specs.Blocks.{CoreBlocksStand}
-use Rattle.slice_core_side.specs.declared.copy.CacheCopy.{CacheCopy}
 use Rattle.slice_queues.proofs.LineLaws.{read-set_unchanged}
 use Rattle.slice_queues.specs.Line.{CoreChannels, LineChannels, core_at, no_messages, with_core}
 

@@ -16,11 +16,11 @@ use Rattle.slice_core_coherence.proofs.OwnTurns.{IsOwn, own_at_hand, own_row, ow
 use Rattle.slice_core_coherence.specs.Blocks.{BlocksStand, CoreBlocksStand, has_block}
 use Rattle.slice_core_coherence.specs.Stands.{LineStands, kind_of_request}
 use Rattle.slice_core_plan.specs.Steps.{block_in}
-use Rattle.slice_core_protocol.specs.Line.{Line}
-use Rattle.slice_core_protocol.specs.Machine.{Reached, Step, asks_for, stands, turn}
-use Rattle.slice_core_protocol.specs.Values.{Blocks, blocks_after, copied, newest_after, performs}
+use Rattle.protocol_coherence.specs.Line.{Line}
+use Rattle.protocol_coherence.specs.LineSteps.{Reached, Step, asks_for, stands, turn}
+use Rattle.protocol_coherence.specs.Values.{Blocks, blocks_after, block_after_row, newest_after, performs}
 use Rattle.cache_table.specs.CopyState.{is_waiting}
-use Rattle.slice_core_side.specs.declared.copy.CacheCopy.{CacheCopy}
+use Rattle.slice_core_cache.specs.declared.copy.CacheCopy.{CacheCopy}
 use Rattle.slice_queues.specs.Line.{CoreChannels, LineChannels, core_at, with_core}
 use Rattle.slice_queues_message.specs.declared.message.RequestMessage.{RequestMessage}
 
@@ -34,7 +34,7 @@ pub turn_blocks : (exclusive : Bool) (cores : ℕ) (entry : DirEntry) (channels 
     (sent : CacheSends) (now : CacheCopy) (mail : CoreChannels) (within : c < cores)
     (here : stands (line.part c) event ≡ true) (row : row_of (line.part c).look.state event ≡ rows.Go next sent)
     → c < length channels.cores → sends_data sent ≡ false → sends_home sent ≡ false
-    → CoreBlocksStand now mail (copied event next c written blocks) (blocks.arriving c)
+    → CoreBlocksStand now mail (block_after_row event next c written blocks) (blocks.arriving c)
     (put_after sent (blocks.copy c) (blocks.put c))
     → BlocksStand cores entry channels copy blocks
     → BlocksStand cores entry (with_core channels c mail) (with_copy_at copy c now)
@@ -43,8 +43,8 @@ turn_blocks exclusive cores entry channels copy line blocks written c event next
     gives home mine stand = record {
       core = λ x below.
           core_as (with_copy_at copy c now x) (core_at (with_core channels c mail) x)
-          (with_block_at blocks.copy c (copied event next c written blocks) x)
-          (if x == c then copied event next c written blocks else blocks.copy x)
+          (with_block_at blocks.copy c (block_after_row event next c written blocks) x)
+          (if x == c then block_after_row event next c written blocks else blocks.copy x)
           (with_block_at blocks.arriving c (blocks.arriving c) x)
           (if sends_data sent && x == (line.part c).names then blocks.copy c else blocks.arriving x)
           (with_block_at blocks.put c (put_after sent (blocks.copy c) (blocks.put c)) x)
@@ -59,7 +59,8 @@ turn_blocks exclusive cores entry channels copy line blocks written c event next
           ∙ ap (λ y. put_after sent (blocks.copy c) (blocks.put y)) same)
           (λ apart. ap (λ b. if b then blocks.copy c else blocks.put x) (and-false (sends_put_m sent))))
           (blocks_turned cores channels copy blocks.copy blocks.arriving blocks.put c now mail
-          (copied event next c written blocks) (blocks.arriving c) (put_after sent (blocks.copy c) (blocks.put c)) there
+          (block_after_row event next c written blocks) (blocks.arriving c)
+          (put_after sent (blocks.copy c) (blocks.put c)) there
           mine stand.core x below);
       home = stand.home;
       mail = subst (λ b. unwrap_or channels.home (if b then blocks.copy c else blocks.mail)
@@ -79,7 +80,7 @@ module _ (exclusive : Bool) (cores : ℕ) (entry : DirEntry) (channels : LineCha
 
   -- The blocks after a core's own turn: its copy has what was written or what it had, and its PutM that.
   pub own_blocks : (blocks : Blocks) (written : Block)
-      → (has_block next ≡ true → now.block ≡ copied event next c written blocks)
+      → (has_block next ≡ true → now.block ≡ block_after_row event next c written blocks)
       → block_in (put_after sent (blocks.copy c) (blocks.put c)) message ≡ put_after sent (blocks.copy c) (blocks.put c)
       → BlocksStand cores entry channels copy blocks
       → BlocksStand cores entry (with_core channels c (record (core_at channels c) { request = message }))

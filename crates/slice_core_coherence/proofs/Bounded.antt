@@ -9,16 +9,16 @@ use Rattle.address_map.specs.CoreSet.{has}
 use Rattle.address_map.specs.declared.address.CoreId.{CoreId}
 use Rattle.address_map.specs.declared.block.Block.{Block}
 use Rattle.directory_table.specs.declared.state.DirEntry.{DirEntry}
+use Rattle.protocol_coherence.specs.Fit.{is_no_forward}
+use Rattle.protocol_coherence.specs.Line.{Forward, fwd_get_m, fwd_get_s, no_forward, Line}
+use Rattle.protocol_coherence.specs.LineSteps.{Reached}
+use Rattle.slice_core_cache.specs.declared.copy.CacheCopy.{CacheCopy}
 use Rattle.slice_core_coherence.proofs.Facts.{inv_before_one}
 use Rattle.slice_core_coherence.specs.Coherent.{HasBoundedChannels}
 use Rattle.slice_core_coherence.specs.Stands.{AreReached, LineStands, copies_at, queued_forward, queued_inv}
 use Rattle.slice_core_coherence.specs.Stands.{queued_put_ack}
 use Rattle.slice_core_coherence.specs.Whole.{IsWhole}
 use Rattle.slice_core_plan.specs.View.{View, channels_at, entry_at}
-use Rattle.slice_core_protocol.specs.Fit.{is_no_forward}
-use Rattle.slice_core_protocol.specs.Line.{Forward, fwd_get_m, fwd_get_s, no_forward, Line}
-use Rattle.slice_core_protocol.specs.Machine.{Reached}
-use Rattle.slice_core_side.specs.declared.copy.CacheCopy.{CacheCopy}
 use Rattle.slice_queues.specs.Line.{CoreChannels, HasChannel, LineChannels, ack_messages, core_at, data_messages}
 use Rattle.slice_queues.specs.Line.{home_messages, messages_at, no_messages, request_messages, room_of}
 use Rattle.slice_queues_message.specs.declared.channel.Channel.{Channel}
@@ -120,15 +120,15 @@ module _ (exclusive : Bool) (cores : ℕ) (entry : DirEntry) (mail : LineChannel
 
 -- ---- the slice
 
-pub bounded : (v : View) → IsWhole v → 0 < length v.sides → AreReached v → HasBoundedChannels v
+pub bounded : (v : View) → IsWhole v → 0 < length v.caches → AreReached v → HasBoundedChannels v
 bounded v whole some all = record {
   cores = whole.shaped.cores;
   room = λ local channel inside.
       let line = all local inside in
-      line_room v.exclusive (length v.sides) (entry_at v local) (channels_at v local) (copies_at v local) line.0 some
+      line_room v.exclusive (length v.caches) (entry_at v local) (channels_at v local) (copies_at v local) line.0 some
       whole.few line.1 line.2 (whole.shaped.cores local inside) channel;
   known = λ local channel inside.
       let line = all local inside in
-      line_known v.exclusive (length v.sides) (entry_at v local) (channels_at v local) (copies_at v local) line.0 some
+      line_known v.exclusive (length v.caches) (entry_at v local) (channels_at v local) (copies_at v local) line.0 some
       whole.few line.1 line.2 (whole.shaped.cores local inside) channel;
 }

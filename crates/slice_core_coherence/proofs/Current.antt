@@ -5,40 +5,40 @@ use Rattle.std.proofs.Common.{unwrap_or, refl, sym, ap, ◌∙◌, subst, true�
 use Rattle.address_map.specs.declared.block.Block.{Block}
 use Rattle.cache_table.specs.CopyState.{is_readable}
 use Rattle.cache_table.specs.declared.state.CopyState.{CopyState}
-use Rattle.cache_table.specs.declared.state.CopyState.TheVariants as states
+use Rattle.cache_table.specs.declared.state.CopyState.TheVariants as copy_states
 use Rattle.directory_table.specs.Law.{is_named}
 use Rattle.directory_table.specs.declared.state.DirEntry.{DirEntry}
+use Rattle.protocol_coherence.proofs.Promises.{reached_current}
+use Rattle.protocol_coherence.proofs.ValueSteps.{without_blocks}
+use Rattle.protocol_coherence.specs.Fit.{is_counting, is_no_data, is_put_ack_first, is_put_m, is_written_back}
+use Rattle.protocol_coherence.specs.Line.{Look}
+use Rattle.protocol_coherence.specs.Values.{IsCurrent, has_newest, is_at_home}
+use Rattle.slice_core_cache.specs.declared.copy.CacheCopy.{CacheCopy}
 use Rattle.slice_core_coherence.specs.Blocks.{AreReachedWith, HasValues, LineReachedWith, block_of_data, has_block}
-use Rattle.slice_core_coherence.specs.Newest.{HasNewest, carried}
+use Rattle.slice_core_coherence.specs.Newest.{HasNewest, carried_block}
 use Rattle.slice_core_coherence.specs.Stands.{AreReached, kind_of_data, kind_of_request}
-use Rattle.slice_core_log.specs.declared.entry.Entry.{Entry}
 use Rattle.slice_core_plan.specs.Steps.{block_in}
 use Rattle.slice_core_plan.specs.View.{View}
-use Rattle.slice_core_protocol.proofs.Promises.{reached_current}
-use Rattle.slice_core_protocol.proofs.ValueSteps.{without_blocks}
-use Rattle.slice_core_protocol.specs.Fit.{is_counting, is_no_data, is_put_ack_first, is_put_m, is_written_back}
-use Rattle.slice_core_protocol.specs.Line.{Look}
-use Rattle.slice_core_protocol.specs.Values.{IsCurrent, has_newest, is_at_home}
-use Rattle.slice_core_side.specs.declared.copy.CacheCopy.{CacheCopy}
+use Rattle.slice_log.specs.declared.entry.Entry.{Entry}
 use Rattle.slice_queues.specs.Line.{LineChannels, core_at}
 use Rattle.slice_queues_message.specs.declared.message.DataMessage.{DataMessage}
-use Rattle.slice_queues_message.specs.declared.message.DataMessage.TheVariants as replies
-use Rattle.slice_queues_message.specs.declared.message.RequestMessage.TheVariants as requests
+use Rattle.slice_queues_message.specs.declared.message.DataMessage.TheVariants as data_messages
+use Rattle.slice_queues_message.specs.declared.message.RequestMessage.TheVariants as request_messages
 
 -- A copy that may be read has a block.
 pub readable_has_block : (state : CopyState) → is_readable state ≡ true → has_block state ≡ true
-readable_has_block states.I readable = absurd (true≢false (sym readable))
-readable_has_block states.IS_D readable = absurd (true≢false (sym readable))
-readable_has_block states.IM_AD readable = absurd (true≢false (sym readable))
-readable_has_block states.IM_A readable = refl
-readable_has_block states.S readable = refl
-readable_has_block states.SM_AD readable = refl
-readable_has_block states.SM_A readable = refl
-readable_has_block states.M readable = refl
-readable_has_block states.E readable = refl
-readable_has_block states.MI_A readable = refl
-readable_has_block states.SI_A readable = refl
-readable_has_block states.II_A readable = refl
+readable_has_block copy_states.I readable = absurd (true≢false (sym readable))
+readable_has_block copy_states.IS_D readable = absurd (true≢false (sym readable))
+readable_has_block copy_states.IM_AD readable = absurd (true≢false (sym readable))
+readable_has_block copy_states.IM_A readable = refl
+readable_has_block copy_states.S readable = refl
+readable_has_block copy_states.SM_AD readable = refl
+readable_has_block copy_states.SM_A readable = refl
+readable_has_block copy_states.M readable = refl
+readable_has_block copy_states.E readable = refl
+readable_has_block copy_states.MI_A readable = refl
+readable_has_block copy_states.SI_A readable = refl
+readable_has_block copy_states.II_A readable = refl
 
 -- And it is the newest.
 readable_newest : (look : Look) → is_readable look.state ≡ true → has_newest look ≡ true
@@ -48,12 +48,12 @@ readable_newest look readable =
 
 -- The data that wait are data, and what they carry is theirs.
 some_data : (message : DataMessage) → is_no_data (kind_of_data (Some message)) ≡ false
-some_data (replies.Data block acks) = refl
-some_data (replies.DataE block) = refl
+some_data (data_messages.Data block acks) = refl
+some_data (data_messages.DataE block) = refl
 
-carried_is : (none : Block) (message : DataMessage) → carried message ≡ block_of_data none (Some message)
-carried_is none (replies.Data block acks) = refl
-carried_is none (replies.DataE block) = refl
+carried_is : (none : Block) (message : DataMessage) → carried_block message ≡ block_of_data none (Some message)
+carried_is none (data_messages.Data block acks) = refl
+carried_is none (data_messages.DataE block) = refl
 
 module _ (exclusive : Bool) (cores : ℕ) (init : ℕ → ℕ) (log : List Entry) (first : ℕ) (entry : DirEntry)
     (channels : LineChannels) (copy : ℕ → CacheCopy) (some : 0 < cores) (most : cores ≤ 64)
@@ -86,7 +86,7 @@ module _ (exclusive : Bool) (cores : ℕ) (init : ℕ → ℕ) (log : List Entry
 
   -- The data that wait for a core carry it.
   pub data_have_values : (c : ℕ) (message : DataMessage) → c < cores → (core_at channels c).data ≡ Some message
-      → HasValues init log first (carried message)
+      → HasValues init log first (carried_block message)
   data_have_values c message below waits =
       subst (HasValues init log first)
       (sym (carried_is (line.blocks.arriving c) message
@@ -98,7 +98,7 @@ module _ (exclusive : Bool) (cores : ℕ) (init : ℕ → ℕ) (log : List Entry
 
   -- The owner's PutM carries it.
   pub put_has_values : (c : ℕ) (block : Block) → c < cores → is_named entry.owner c ≡ true
-      → (core_at channels c).request ≡ Some (requests.PutM block) → HasValues init log first block
+      → (core_at channels c).request ≡ Some (request_messages.PutM block) → HasValues init log first block
   put_has_values c block below owns waits =
       subst (HasValues init log first)
       (sym (ap (block_in (line.blocks.put c)) (sym waits)
@@ -122,20 +122,20 @@ pub reached_without : (v : View) → AreReachedWith v → AreReached v
 reached_without v all local inside =
     let line = all local inside in (
       line.line,
-      without_blocks v.exclusive (length v.sides) line.line line.blocks line.newest line.reached,
+      without_blocks v.exclusive (length v.caches) line.line line.blocks line.newest line.reached,
       line.stands,
     )
 
-pub newest : (v : View) → 0 < length v.sides → length v.sides ≤ 64 → AreReachedWith v → HasNewest v
+pub newest : (v : View) → 0 < length v.caches → length v.caches ≤ 64 → AreReachedWith v → HasNewest v
 newest v some most all = record {
-  copies = λ local core inside there readable. copy_has_values v.exclusive (length v.sides) _ v.log _ _ _ _ some most
+  copies = λ local core inside there readable. copy_has_values v.exclusive (length v.caches) _ v.log _ _ _ _ some most
       (all local inside) core.0 there readable;
-  home = λ local inside at_home. home_has_values v.exclusive (length v.sides) _ v.log _ _ _ _ some most
+  home = λ local inside at_home. home_has_values v.exclusive (length v.caches) _ v.log _ _ _ _ some most
       (all local inside) at_home;
-  arriving = λ local core message inside there waits. data_have_values v.exclusive (length v.sides) _ v.log _ _ _ _
+  arriving = λ local core message inside there waits. data_have_values v.exclusive (length v.caches) _ v.log _ _ _ _
       some most (all local inside) core.0 message there waits;
-  given_up = λ local core block inside there owns waits. put_has_values v.exclusive (length v.sides) _ v.log _ _ _ _
+  given_up = λ local core block inside there owns waits. put_has_values v.exclusive (length v.caches) _ v.log _ _ _ _
       some most (all local inside) core.0 block there owns waits;
-  coming_home = λ local block inside waits. mail_has_values v.exclusive (length v.sides) _ v.log _ _ _ _ some most
+  coming_home = λ local block inside waits. mail_has_values v.exclusive (length v.caches) _ v.log _ _ _ _ some most
       (all local inside) block waits;
 }

@@ -1,6 +1,6 @@
 -- A message that is taken leaves the slice's lines reached, whichever it is; and so does a call that takes none.
 use Rattle.std.proofs.Common.{arith}
-use Rattle.slice_core_answer.specs.declared.answer.Delivered.{Delivered}
+use Rattle.slice_answer.specs.declared.answer.Delivered.{Delivered}
 use Rattle.slice_core_coherence.proofs.Directory.{reached_directory}
 use Rattle.slice_core_coherence.proofs.Forwarded.{forwarded_reached}
 use Rattle.slice_core_coherence.proofs.Home.{reached_home}
@@ -12,7 +12,7 @@ use Rattle.slice_core_coherence.specs.Whole.{IsWhole}
 use Rattle.slice_core_plan.specs.Calls.{PartsView, AfterDeliverNext, AfterDelivery}
 use Rattle.slice_queues_message.specs.declared.channel.Class.{Class}
 use Rattle.slice_queues_message.specs.declared.channel.Pick.{Pick}
-use Rattle.slice_core_answer.specs.declared.answer.Delivery.{Delivery}
+use Rattle.slice_answer.specs.declared.answer.Delivery.{Delivery}
 
 messages_keep : KeepsMessages IsWhole AreReached
 messages_keep = record {

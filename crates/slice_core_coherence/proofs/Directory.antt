@@ -7,9 +7,9 @@ use Rattle.address_map.specs.declared.address.Local.{Local}
 use Rattle.address_map.specs.declared.block.Block.{Block}
 use Rattle.directory_table.specs.Law.{forwarded_to, is_named, is_sent_inv, sends_data}
 use Rattle.directory_table.specs.Row as Directory
-use Rattle.directory_table.specs.declared.row.DirEvent.TheVariants as asks
-use Rattle.directory_table.specs.declared.row.DirRow.TheVariants as rows
-use Rattle.directory_table.specs.declared.row.DirSends.TheVariants as answers
+use Rattle.directory_table.specs.declared.row.DirEvent.TheVariants as dir_events
+use Rattle.directory_table.specs.declared.row.DirRow.TheVariants as dir_rows
+use Rattle.directory_table.specs.declared.row.DirSends.TheVariants as dir_sends
 use Rattle.directory_table.specs.declared.row.DirSends.{DirSends}
 use Rattle.directory_table.specs.declared.row.DirStep.{DirStep}
 use Rattle.directory_table.specs.declared.state.DirEntry.{DirEntry}
@@ -24,17 +24,18 @@ use Rattle.slice_core_plan.specs.Plan.{event_of_request, plan_of}
 use Rattle.slice_core_plan.specs.Sends.{directory_sent}
 use Rattle.slice_core_plan.specs.Steps.{after_directory, block_in}
 use Rattle.slice_core_plan.specs.View.{View, IsShaped, channels_at, entry_at}
-use Rattle.slice_core_protocol.proofs.Frame.{at_place}
-use Rattle.slice_core_protocol.proofs.Promises.{reached_has_room}
-use Rattle.slice_core_protocol.specs.Fit.{is_counting, is_no_data}
-use Rattle.slice_core_protocol.specs.Line.{Line, Part}
-use Rattle.slice_core_protocol.specs.Machine.{Reached, Step, after, answered, change_if, entry_of, forwarded, further}
-use Rattle.slice_core_protocol.specs.Machine.{invalidated_by, is_asked_for, serve}
-use Rattle.slice_core_protocol.specs.Promise.{HasRoomAtService}
-use Rattle.slice_core_side.specs.declared.copy.CacheCopy.{CacheCopy}
+use Rattle.protocol_coherence.proofs.Frame.{at_place}
+use Rattle.protocol_coherence.proofs.Promises.{reached_has_room}
+use Rattle.protocol_coherence.specs.Fit.{is_counting, is_no_data}
+use Rattle.protocol_coherence.specs.Line.{Line, Part}
+use Rattle.protocol_coherence.specs.LineSteps.{Reached, Step, after, part_after_answer, change_if, entry_of}
+use Rattle.protocol_coherence.specs.LineSteps.{part_after_forward, further}
+use Rattle.protocol_coherence.specs.LineSteps.{invalidated_by, is_asked_for, serve}
+use Rattle.protocol_coherence.specs.Promise.{HasRoomAtService}
+use Rattle.slice_core_cache.specs.declared.copy.CacheCopy.{CacheCopy}
 use Rattle.slice_queues.specs.Line.{LineChannels, after_take, core_at}
 use Rattle.slice_queues_message.specs.declared.channel.Channel.TheVariants as channels
-use Rattle.slice_queues_message.specs.declared.message.RequestMessage.TheVariants as requests
+use Rattle.slice_queues_message.specs.declared.message.RequestMessage.TheVariants as request_messages
 use Rattle.slice_queues_message.specs.declared.message.RequestMessage.{RequestMessage}
 use Rattle.slice_core_plan.specs.Plan.{directory_move}
 
@@ -45,20 +46,20 @@ calm : (l : Line) (core : CoreId) (step : DirStep) (sent : DirSends)
     → (is_no_data ((after_row l core (record step { sends = sent })).part core.0).look.incoming ≡ false
     → is_counting ((after_row l core (record step { sends = sent })).part core.0).look.state ≡ false)
     → IsTrue (sends_data sent) → is_counting (l.part core.0).look.state ≡ false
-calm l core step answers.Nothing fresh data' = absurd (true≢false (sym data'))
-calm l core step (answers.FwdGetS to) fresh data' = absurd (true≢false (sym data'))
-calm l core step (answers.FwdGetM to) fresh data' = absurd (true≢false (sym data'))
-calm l core step answers.PutAck fresh data' = absurd (true≢false (sym data'))
-calm l core step (answers.Data acks) fresh data' =
-    let same = at_place l.part core.0 (answered (answers.Data acks)) in
+calm l core step dir_sends.Nothing fresh data' = absurd (true≢false (sym data'))
+calm l core step (dir_sends.FwdGetS to) fresh data' = absurd (true≢false (sym data'))
+calm l core step (dir_sends.FwdGetM to) fresh data' = absurd (true≢false (sym data'))
+calm l core step dir_sends.PutAck fresh data' = absurd (true≢false (sym data'))
+calm l core step (dir_sends.Data acks) fresh data' =
+    let same = at_place l.part core.0 (part_after_answer (dir_sends.Data acks)) in
     sym (ap (λ (p : Part). is_counting p.look.state) same)
     ∙ fresh (ap (λ (p : Part). is_no_data p.look.incoming) same)
-calm l core step answers.DataE fresh data' =
-    let same = at_place l.part core.0 (answered answers.DataE) in
+calm l core step dir_sends.DataE fresh data' =
+    let same = at_place l.part core.0 (part_after_answer dir_sends.DataE) in
     sym (ap (λ (p : Part). is_counting p.look.state) same)
     ∙ fresh (ap (λ (p : Part). is_no_data p.look.incoming) same)
-calm l core step (answers.DataAndInv acks set) fresh data' =
-    let same = at_place l.part core.0 (answered (answers.DataAndInv acks set)) in
+calm l core step (dir_sends.DataAndInv acks set) fresh data' =
+    let same = at_place l.part core.0 (part_after_answer (dir_sends.DataAndInv acks set)) in
     sym (state_by (has set core.0) _ ∙ ap (λ (p : Part). is_counting p.look.state) same)
     ∙ fresh (incoming_by (has set core.0) _ ∙ ap (λ (p : Part). is_no_data p.look.incoming) same)
   where
@@ -81,16 +82,16 @@ settled l core step x none named =
     ∙ none (ap (λ b. (change_if b (invalidated_by core.0) asking).look.inv) named)
   where
     answering : Part
-    answering = change_if (x == core.0) (answered step.sends) (l.part x)
+    answering = change_if (x == core.0) (part_after_answer step.sends) (l.part x)
 
     asking : Part
-    asking = change_if (is_named (forwarded_to step.sends) x) (forwarded step.sends core.0) answering
+    asking = change_if (is_named (forwarded_to step.sends) x) (part_after_forward step.sends core.0) answering
 
     same : debt_of asking ≡ debt_of (l.part x)
     same =
-        debt_if (is_named (forwarded_to step.sends) x) (forwarded step.sends core.0) answering
+        debt_if (is_named (forwarded_to step.sends) x) (part_after_forward step.sends core.0) answering
         (debt-forwarded step.sends core.0 answering)
-        ∙ debt_if (x == core.0) (answered step.sends) (l.part x) (debt-answered step.sends (l.part x))
+        ∙ debt_if (x == core.0) (part_after_answer step.sends) (l.part x) (debt-answered step.sends (l.part x))
 
     sent_by : (b : Bool) → (change_if b (invalidated_by core.0) asking).look.sent ≡ asking.look.sent
     sent_by true = refl
@@ -98,23 +99,24 @@ settled l core step x none named =
 
 -- What the room of the row says, whatever was asked for.
 pub room_here : (cores : ℕ) (l : Line) (core : CoreId) (message : RequestMessage) (sent : DirSends)
-    → HasRoomAtService cores l (event_of_request core message) sent → HasRoomAtService cores l (asks.GetS core) sent
-room_here cores l core requests.GetS sent room = room
-room_here cores l core requests.GetM sent room = record {
+    → HasRoomAtService cores l (event_of_request core message) sent →
+    HasRoomAtService cores l (dir_events.GetS core) sent
+room_here cores l core request_messages.GetS sent room = room
+room_here cores l core request_messages.GetM sent room = record {
   data_channel = room.data_channel;
   put_ack = room.put_ack;
   named = room.named;
   forward = room.forward;
   inv = room.inv;
 }
-room_here cores l core requests.PutS sent room = record {
+room_here cores l core request_messages.PutS sent room = record {
   data_channel = room.data_channel;
   put_ack = room.put_ack;
   named = room.named;
   forward = room.forward;
   inv = room.inv;
 }
-room_here cores l core (requests.PutM block) sent room = record {
+room_here cores l core (request_messages.PutM block) sent room = record {
   data_channel = room.data_channel;
   put_ack = room.put_ack;
   named = room.named;
@@ -128,12 +130,12 @@ module _ (exclusive : Bool) (cores : ℕ) (entry : DirEntry) (line : LineChannel
     (size : length line.cores ≡ cores) (within : core.0 < cores) (most : cores ≤ 64) (l : Line)
     (reached : Reached exclusive cores l) (stands : LineStands cores entry line copy l) (message : RequestMessage)
     (waits : (core_at line core.0).request ≡ Some message) (step : DirStep)
-    (row : Directory.row_of exclusive entry (event_of_request core message) ≡ rows.Go step)
+    (row : Directory.row_of exclusive entry (event_of_request core message) ≡ dir_rows.Go step)
   where
     pub is_asked : is_asked_for l (event_of_request core message) ≡ true
     is_asked = asked_here l core message (sym (ap kind_of_request waits) ∙ (stands.part core.0 within).request)
 
-    pub has_row : Directory.row_of exclusive (entry_of l entry.home) (event_of_request core message) ≡ rows.Go step
+    pub has_row : Directory.row_of exclusive (entry_of l entry.home) (event_of_request core message) ≡ dir_rows.Go step
     has_row = row_here exclusive entry l entry.home (event_of_request core message) stands.entry_stands ∙ row
 
     -- The machine's directory serves the request.
@@ -152,7 +154,7 @@ module _ (exclusive : Bool) (cores : ℕ) (entry : DirEntry) (line : LineChannel
     next_reached =
         subst (Reached exclusive cores) (same_service l core message step) (further reached serving)
 
-    room : HasRoomAtService cores l (asks.GetS core) step.sends
+    room : HasRoomAtService cores l (dir_events.GetS core) step.sends
     room =
         room_here cores l core message step.sends ((reached_has_room exclusive cores l some most reached).serve
         (event_of_request core message) entry.home step (within_here cores core message within) is_asked has_row)
@@ -194,12 +196,12 @@ module _ (exclusive : Bool) (cores : ℕ) (entry : DirEntry) (line : LineChannel
         })
 
 module _ (v : View) (local : Local) (shaped : IsShaped v) (inside : local.0 < v.lines.lines)
-    (most : length v.sides ≤ 64) (core : CoreId) (within : core.0 < length v.sides) (step : DirStep)
+    (most : length v.caches ≤ 64) (core : CoreId) (within : core.0 < length v.caches) (step : DirStep)
     (is : plan_of v local (channels.Req core) ≡ directory_move step) where
   -- The machine's line goes on by one step, and the slice's line is that line then.
-  unfoldable pub directory_step : (l : Line) → Reached v.exclusive (length v.sides) l → Stands v local l
-      → (moved : Step v.exclusive (length v.sides) l)
-      × LineStands (length v.sides)
+  unfoldable pub directory_step : (l : Line) → Reached v.exclusive (length v.caches) l → Stands v local l
+      → (moved : Step v.exclusive (length v.caches) l)
+      × LineStands (length v.caches)
       (record {
         home = if step.writes_home then block_in (entry_at v local).home (core_at (channels_at v local) core.0).request
             else (entry_at v local).home;
@@ -212,9 +214,9 @@ module _ (v : View) (local : Local) (shaped : IsShaped v) (inside : local.0 < v.
   directory_step l reached stands =
       let s = served step v local core
       (core_at (channels_at v local) core.0).request refl is in (
-        serving v.exclusive (length v.sides) (entry_at v local) (channels_at v local) (copies_at v local) core
+        serving v.exclusive (length v.caches) (entry_at v local) (channels_at v local) (copies_at v local) core
             (shaped.cores local inside) within most l reached stands s.message s.waits step s.row,
-        served_stands v.exclusive (length v.sides) (entry_at v local) (channels_at v local) (copies_at v local) core
+        served_stands v.exclusive (length v.caches) (entry_at v local) (channels_at v local) (copies_at v local) core
             (shaped.cores local inside) within most l reached stands s.message s.waits step s.row
             (if step.writes_home then block_in (entry_at v local).home (core_at (channels_at v local) core.0).request
             else (entry_at v local).home) (entry_at v local).home,

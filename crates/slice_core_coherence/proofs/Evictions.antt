@@ -6,27 +6,27 @@ use Rattle.address_map.specs.declared.address.Local.{Local}
 use Rattle.address_map.specs.declared.block.Block.{Block}
 use Rattle.cache_array.specs.Array.{held_at as array_at}
 use Rattle.cache_table.specs.Row.{row_of}
-use Rattle.cache_table.specs.declared.row.CacheEvent.TheVariants as events
+use Rattle.cache_table.specs.declared.row.CacheEvent.TheVariants as cache_events
 use Rattle.cache_table.specs.declared.row.CacheSends.{CacheSends}
-use Rattle.cache_table.specs.declared.row.CacheSends.TheVariants as sends
+use Rattle.cache_table.specs.declared.row.CacheSends.TheVariants as cache_sends
 use Rattle.cache_table.specs.declared.row.Row.TheVariants as rows
 use Rattle.cache_table.specs.declared.state.CopyState.{CopyState}
-use Rattle.cache_table.specs.declared.state.CopyState.TheVariants as states
-use Rattle.slice_core_coherence.proofs.Frame.{by_side, with_copy_at}
+use Rattle.cache_table.specs.declared.state.CopyState.TheVariants as copy_states
+use Rattle.protocol_coherence.specs.Line.{Line, Request}
+use Rattle.protocol_coherence.specs.LineSteps.{Reached, asks_for, further}
+use Rattle.slice_core_cache.proofs.Found.{copy_of-after_evict, copy_of-after_evict_other, copy_of-held}
+use Rattle.slice_core_cache.specs.Access.{CanLeave}
+use Rattle.slice_core_cache.specs.Copy.{leaving_copy, may_leave, no_copy}
+use Rattle.slice_core_cache.specs.Kept.{IsKept}
+use Rattle.slice_core_cache.specs.CoreCache.{CoreCacheView, array_copy, copy_of}
+use Rattle.slice_core_cache.specs.Steps as caches
+use Rattle.slice_core_cache.specs.Steps.{leaving_after_evict, next_by, put_by, put_of}
+use Rattle.slice_core_cache.specs.declared.copy.CacheCopy.{CacheCopy}
+use Rattle.slice_core_coherence.proofs.Frame.{by_cache, with_copy_at}
 use Rattle.slice_core_coherence.proofs.OwnTurns.{StepStands, own_step}
 use Rattle.slice_core_coherence.specs.Stands.{AreReached, Stands, copies_at, kind_of_request}
 use Rattle.slice_core_plan.specs.Steps.{after_evict, after_request}
-use Rattle.slice_core_plan.specs.View.{View, IsShaped, channels_at, entry_at, side_at, with_side}
-use Rattle.slice_core_protocol.specs.Line.{Line, Request}
-use Rattle.slice_core_protocol.specs.Machine.{Reached, asks_for, further}
-use Rattle.slice_core_side.proofs.Found.{copy_of-after_evict, copy_of-after_evict_other, copy_of-held}
-use Rattle.slice_core_side.specs.Access.{CanLeave}
-use Rattle.slice_core_side.specs.Copy.{leaving_copy, may_leave, no_copy}
-use Rattle.slice_core_side.specs.Kept.{IsKept}
-use Rattle.slice_core_side.specs.Side.{SideView, array_copy, copy_of}
-use Rattle.slice_core_side.specs.Steps as sides
-use Rattle.slice_core_side.specs.Steps.{evicted, next_by, put_by, put_of}
-use Rattle.slice_core_side.specs.declared.copy.CacheCopy.{CacheCopy}
+use Rattle.slice_core_plan.specs.View.{View, IsShaped, channels_at, entry_at, cache_at, with_cache}
 use Rattle.slice_queues.specs.Line.{after_send}
 use Rattle.slice_queues_message.specs.declared.channel.Channel.TheVariants as channels
 use Rattle.slice_queues_message.specs.declared.message.Message.TheVariants as messages
@@ -36,23 +36,24 @@ use Rattle.slice_queues_message.specs.declared.message.Message.TheVariants as me
 -- A copy that may leave has a row for its eviction, which sends its Put.
 pub record LeavesBy (block : Block) (state : CopyState) : Type 0 where
   pub sent : CacheSends
-  pub row : row_of state events.Eviction ≡ rows.Go (next_by state (row_of state events.Eviction)) sent
-  pub put : (waits : Request) → kind_of_request (Some (put_by block (row_of state events.Eviction))) ≡ asks_for sent
+  pub row : row_of state cache_events.Eviction ≡ rows.Go (next_by state (row_of state cache_events.Eviction)) sent
+  pub put : (waits : Request) → kind_of_request (Some (put_by block (row_of state cache_events.Eviction)))
+      ≡ asks_for sent
       waits
 
 pub leaves_by : (block : Block) (state : CopyState) → may_leave state ≡ true → LeavesBy block state
-leaves_by block states.S may = record { sent = sends.PutS; row = refl; put = λ waits. refl }
-leaves_by block states.M may = record { sent = sends.PutM; row = refl; put = λ waits. refl }
-leaves_by block states.E may = record { sent = sends.PutM; row = refl; put = λ waits. refl }
-leaves_by block states.I may = absurd (true≢false (sym may))
-leaves_by block states.IS_D may = absurd (true≢false (sym may))
-leaves_by block states.IM_AD may = absurd (true≢false (sym may))
-leaves_by block states.IM_A may = absurd (true≢false (sym may))
-leaves_by block states.SM_AD may = absurd (true≢false (sym may))
-leaves_by block states.SM_A may = absurd (true≢false (sym may))
-leaves_by block states.MI_A may = absurd (true≢false (sym may))
-leaves_by block states.SI_A may = absurd (true≢false (sym may))
-leaves_by block states.II_A may = absurd (true≢false (sym may))
+leaves_by block copy_states.S may = record { sent = cache_sends.PutS; row = refl; put = λ waits. refl }
+leaves_by block copy_states.M may = record { sent = cache_sends.PutM; row = refl; put = λ waits. refl }
+leaves_by block copy_states.E may = record { sent = cache_sends.PutM; row = refl; put = λ waits. refl }
+leaves_by block copy_states.I may = absurd (true≢false (sym may))
+leaves_by block copy_states.IS_D may = absurd (true≢false (sym may))
+leaves_by block copy_states.IM_AD may = absurd (true≢false (sym may))
+leaves_by block copy_states.IM_A may = absurd (true≢false (sym may))
+leaves_by block copy_states.SM_AD may = absurd (true≢false (sym may))
+leaves_by block copy_states.SM_A may = absurd (true≢false (sym may))
+leaves_by block copy_states.MI_A may = absurd (true≢false (sym may))
+leaves_by block copy_states.SI_A may = absurd (true≢false (sym may))
+leaves_by block copy_states.II_A may = absurd (true≢false (sym may))
 
 -- What passes is there, and passes.
 pub passing : (test : CacheCopy → Bool) (o : Option CacheCopy) → IsSomeAnd o (λ copy. test copy ≡ true)
@@ -62,47 +63,50 @@ passing test (Some copy) passes = (refl, passes)
 
 -- ---- the step
 
-module _ (v : View) (core : CoreId) (local : Local) (shaped : IsShaped v) (most : length v.sides ≤ 64)
-    (there : core.0 < length v.sides) (inside : local.0 < v.lines.lines) (kept : IsKept (side_at v core))
-    (leaves : CanLeave (side_at v core) local) where
+module _ (v : View) (core : CoreId) (local : Local) (shaped : IsShaped v) (most : length v.caches ≤ 64)
+    (there : core.0 < length v.caches) (inside : local.0 < v.lines.lines) (kept : IsKept (cache_at v core))
+    (leaves : CanLeave (cache_at v core) local) where
   -- A copy that leaves, and tells the directory, is a step of its line.
-  unfoldable pub leave_step : (now : CacheCopy) → now ≡ leaving_copy (evicted (copy_of (side_at v core) local))
+  unfoldable pub leave_step : (now : CacheCopy) → now
+      ≡ leaving_copy (leaving_after_evict (copy_of (cache_at v core) local))
       → (line : Line)
-      → Reached v.exclusive (length v.sides) line → Stands v local line
-      → StepStands v.exclusive (length v.sides) (entry_at v local)
+      → Reached v.exclusive (length v.caches) line → Stands v local line
+      → StepStands v.exclusive (length v.caches) (entry_at v local)
       (after_send (channels_at v local) (channels.Req core)
-      (messages.Request (put_of (array_copy (side_at v core) local))))
+      (messages.Request (put_of (array_copy (cache_at v core) local))))
       (with_copy_at (copies_at v local) core.0 now) line
   leave_step now is line reached stands =
-      let side = side_at v core in
-      let copy = array_copy side local in
-      let held = passing (λ (c : CacheCopy). may_leave c.state) (array_at side.array local) leaves.held in
+      let cache = cache_at v core in
+      let copy = array_copy cache local in
+      let held = passing (λ (c : CacheCopy). may_leave c.state) (array_at cache.array local) leaves.held in
       let by = leaves_by copy.block copy.state held.1 in
-      let same : copy_of side local ≡ copy = copy_of-held side local kept held.0 in
-      let is_next : now.state ≡ next_by copy.state (row_of copy.state events.Eviction) =
-      ap (λ (c : CacheCopy). c.state) is ∙ ap (λ (c : CacheCopy). (evicted c).state) same in
-      own_step v.exclusive (length v.sides) (entry_at v local) (channels_at v local) (copies_at v local) core.0
-      events.Eviction (next_by copy.state (row_of copy.state events.Eviction)) by.sent now (Some (put_of copy)) line
+      let same : copy_of cache local ≡ copy = copy_of-held cache local kept held.0 in
+      let is_next : now.state ≡ next_by copy.state (row_of copy.state cache_events.Eviction) =
+      ap (λ (c : CacheCopy). c.state) is ∙ ap (λ (c : CacheCopy). (leaving_after_evict c).state) same in
+      own_step v.exclusive (length v.caches) (entry_at v local) (channels_at v local) (copies_at v local) core.0
+      cache_events.Eviction (next_by copy.state (row_of copy.state cache_events.Eviction)) by.sent now
+          (Some (put_of copy)) line
       most
       there (subst (λ n. core.0 < n) (sym (shaped.cores local inside)) there) tt
-      (ap (λ (c : CacheCopy). row_of c.state events.Eviction) same ∙ by.row) is_next (by.put _)
+      (ap (λ (c : CacheCopy). row_of c.state cache_events.Eviction) same ∙ by.row) is_next (by.put _)
       (λ waits. ap (λ (c : CacheCopy). c.counted) is) reached stands
 
   -- So it leaves each line reached, whatever else of the core is another.
-  pub reached_leave : (side : SideView) → copy_of side local ≡ leaving_copy (evicted (copy_of (side_at v core) local))
-      → ((other : Local) → other.0 ≢ local.0 → copy_of side other ≡ copy_of (side_at v core) other) → AreReached v
-      → AreReached (after_request (with_side v core side) core local (put_of (array_copy (side_at v core) local)))
-  reached_leave side is others all =
+  pub reached_leave : (cache : CoreCacheView) → copy_of cache local
+      ≡ leaving_copy (leaving_after_evict (copy_of (cache_at v core) local))
+      → ((other : Local) → other.0 ≢ local.0 → copy_of cache other ≡ copy_of (cache_at v core) other) → AreReached v
+      → AreReached (after_request (with_cache v core cache) core local (put_of (array_copy (cache_at v core) local)))
+  reached_leave cache is others all =
       let line = all local inside in
-      let step = leave_step (copy_of side local) is line.0 line.1 line.2 in
-      by_side v local shaped inside all
+      let step = leave_step (copy_of cache local) is line.0 line.1 line.2 in
+      by_cache v local shaped inside all
       (after_send (channels_at v local) (channels.Req core)
-      (messages.Request (put_of (array_copy (side_at v core) local)))) core side v.log there
+      (messages.Request (put_of (array_copy (cache_at v core) local)))) core cache v.log there
       (λ other within apart. others other apart) _ (further line.1 step.0) step.1
 
   -- An eviction.
   pub reached_evict : AreReached v → AreReached (after_evict v core local)
   reached_evict =
-      let side = side_at v core in
-      reached_leave (sides.after_evict side local) (copy_of-after_evict side local kept leaves)
-      (copy_of-after_evict_other side local kept leaves)
+      let cache = cache_at v core in
+      reached_leave (caches.after_evict cache local) (copy_of-after_evict cache local kept leaves)
+      (copy_of-after_evict_other cache local kept leaves)

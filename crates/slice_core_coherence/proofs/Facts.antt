@@ -7,7 +7,7 @@ use Rattle.address_map.proofs.Members.{count_of-most}
 use Rattle.address_map.specs.declared.block.Block.{Block}
 use Rattle.cache_table.specs.CopyState.{is_waiting}
 use Rattle.cache_table.specs.Law.{sends_data}
-use Rattle.cache_table.specs.declared.row.CacheEvent.TheVariants as events
+use Rattle.cache_table.specs.declared.row.CacheEvent.TheVariants as cache_events
 use Rattle.cache_table.specs.declared.row.CacheSends.{CacheSends}
 use Rattle.cache_table.specs.declared.state.CopyState.{CopyState}
 use Rattle.directory_table.proofs.RowLaws.{cell-lawful}
@@ -15,20 +15,22 @@ use Rattle.directory_table.specs.Law.{AwaitsInvalidated, IfGo, forwarded_to, is_
 use Rattle.directory_table.specs.Row as Directory
 use Rattle.directory_table.specs.declared.row.DirEvent.{DirEvent}
 use Rattle.directory_table.specs.declared.row.DirRow.{DirRow}
-use Rattle.directory_table.specs.declared.row.DirRow.TheVariants as replies
+use Rattle.directory_table.specs.declared.row.DirRow.TheVariants as dir_rows
 use Rattle.directory_table.specs.declared.row.DirSends.{DirSends}
-use Rattle.directory_table.specs.declared.row.DirSends.TheVariants as answers
+use Rattle.directory_table.specs.declared.row.DirSends.TheVariants as dir_sends
 use Rattle.directory_table.specs.declared.row.DirStep.{DirStep}
-use Rattle.slice_core_protocol.proofs.Count.{count_below-some}
-use Rattle.slice_core_protocol.proofs.Each.{all_words, each_fit, each_fit-at, if_so, if_so-at, not-at}
-use Rattle.slice_core_protocol.proofs.Frame.{by_test}
-use Rattle.slice_core_protocol.proofs.Steps.{reached_coherent}
-use Rattle.slice_core_protocol.specs.Coherent.{debts}
-use Rattle.slice_core_protocol.specs.Fit.{awaits, is_counting, is_no_data, is_no_forward, owes}
-use Rattle.slice_core_protocol.specs.Line.{Line, Look, Part, near_of}
-use Rattle.slice_core_protocol.specs.Machine.{Reached, acknowledged, acted, answered, beginning, change_if, count}
-use Rattle.slice_core_protocol.specs.Machine.{entry_of, forwarded, further, given, invalidated_by, serve, stands_ack}
-use Rattle.slice_core_protocol.specs.Machine.{turn, who}
+use Rattle.protocol_coherence.proofs.Count.{count_below-some}
+use Rattle.protocol_coherence.proofs.Each.{all_words, each_fit, each_fit-at, if_so, if_so-at, not-at}
+use Rattle.protocol_coherence.proofs.Frame.{by_test}
+use Rattle.protocol_coherence.proofs.Steps.{reached_coherent}
+use Rattle.protocol_coherence.specs.Coherent.{debts}
+use Rattle.protocol_coherence.specs.Fit.{awaits, is_counting, is_no_data, is_no_forward, owes}
+use Rattle.protocol_coherence.specs.Line.{Line, Look, Part, near_of}
+use Rattle.protocol_coherence.specs.LineSteps.{Reached, part_after_ack, part_after_row, part_after_answer, beginning}
+use Rattle.protocol_coherence.specs.LineSteps.{change_if, count}
+use Rattle.protocol_coherence.specs.LineSteps.{entry_of, part_after_forward, further, part_with_data, invalidated_by}
+use Rattle.protocol_coherence.specs.LineSteps.{serve, stands_ack}
+use Rattle.protocol_coherence.specs.LineSteps.{turn, who}
 
 -- ---- each core
 
@@ -113,33 +115,36 @@ module _ (exclusive : Bool) (cores : ℕ) (line : Line) (some : 0 < cores) (most
 abbrev IsSmall : Part → Type 0
 IsSmall part = part.wants ≤ 64
 
-small-answered : (sent : DirSends) (part : Part) → AwaitsInvalidated sent → IsSmall part → IsSmall (answered sent part)
-small-answered answers.Nothing part law small = small
-small-answered (answers.Data acks) part law small = omega (arith, law)
-small-answered (answers.DataAndInv acks invalidated) part law small =
+small-answered : (sent : DirSends) (part : Part) → AwaitsInvalidated sent → IsSmall part →
+    IsSmall (part_after_answer sent part)
+small-answered dir_sends.Nothing part law small = small
+small-answered (dir_sends.Data acks) part law small = omega (arith, law)
+small-answered (dir_sends.DataAndInv acks invalidated) part law small =
     let most = count_of-most invalidated in omega (arith, law, most)
-small-answered answers.DataE part law small = omega arith
-small-answered (answers.FwdGetS owner) part law small = small
-small-answered (answers.FwdGetM owner) part law small = small
-small-answered answers.PutAck part law small = small
+small-answered dir_sends.DataE part law small = omega arith
+small-answered (dir_sends.FwdGetS owner) part law small = small
+small-answered (dir_sends.FwdGetM owner) part law small = small
+small-answered dir_sends.PutAck part law small = small
 
-small-forwarded : (sent : DirSends) (core : ℕ) (part : Part) → IsSmall part → IsSmall (forwarded sent core part)
-small-forwarded answers.Nothing core part small = small
-small-forwarded (answers.Data acks) core part small = small
-small-forwarded (answers.DataAndInv acks invalidated) core part small = small
-small-forwarded answers.DataE core part small = small
-small-forwarded (answers.FwdGetS owner) core part small = small
-small-forwarded (answers.FwdGetM owner) core part small = small
-small-forwarded answers.PutAck core part small = small
+small-forwarded : (sent : DirSends) (core : ℕ) (part : Part) → IsSmall part →
+    IsSmall (part_after_forward sent core part)
+small-forwarded dir_sends.Nothing core part small = small
+small-forwarded (dir_sends.Data acks) core part small = small
+small-forwarded (dir_sends.DataAndInv acks invalidated) core part small = small
+small-forwarded dir_sends.DataE core part small = small
+small-forwarded (dir_sends.FwdGetS owner) core part small = small
+small-forwarded (dir_sends.FwdGetM owner) core part small = small
+small-forwarded dir_sends.PutAck core part small = small
 
 row_awaits : (exclusive : Bool) (line : Line) (home : Block) (event : DirEvent) (step : DirStep)
-    → Directory.row_of exclusive (entry_of line home) event ≡ replies.Go step → AwaitsInvalidated step.sends
+    → Directory.row_of exclusive (entry_of line home) event ≡ dir_rows.Go step → AwaitsInvalidated step.sends
 row_awaits exclusive line home event step row =
     subst (λ (r : DirRow). IfGo r (λ next owns shares sent writes. AwaitsInvalidated sent)) row
     (cell-lawful exclusive line.directory line.owner line.sharers event).acknowledgements
 
 small-counted : (before : Part) (to from : Bool) (next : CopyState) (sent : CacheSends) → IsSmall before
-    → IsSmall (change_if from acknowledged (change_if to (acted (events.InvAck 0 0) 1 next sent) before))
+    → IsSmall (change_if from part_after_ack
+    (change_if to (part_after_row (cache_events.InvAck 0 0) 1 next sent) before))
 small-counted before true true next sent small = small
 small-counted before true false next sent small = small
 small-counted before false true next sent small = small
@@ -148,21 +153,22 @@ small-counted before false false next sent small = small
 small-served : (before : Part) (asks asked invalidated : Bool) (core : ℕ) (sent : DirSends) → AwaitsInvalidated sent
     → IsSmall before
     → IsSmall (change_if invalidated (invalidated_by core)
-    (change_if asked (forwarded sent core) (change_if asks (answered sent) before)))
+    (change_if asked (part_after_forward sent core) (change_if asks (part_after_answer sent) before)))
 small-served before asks asked invalidated core sent law small =
     by_test IsSmall invalidated (invalidated_by core) to_forwarded (λ on. forwarding) (λ off. forwarding)
   where
     to_requester : Part
-    to_requester = change_if asks (answered sent) before
+    to_requester = change_if asks (part_after_answer sent) before
 
     to_forwarded : Part
-    to_forwarded = change_if asked (forwarded sent core) to_requester
+    to_forwarded = change_if asked (part_after_forward sent core) to_requester
 
     answering : IsSmall to_requester
-    answering = by_test IsSmall asks (answered sent) before (λ on. small-answered sent before law small) (λ off. small)
+    answering = by_test IsSmall asks (part_after_answer sent) before (λ on. small-answered sent before law small)
+        (λ off. small)
 
     forwarding : IsSmall to_forwarded
-    forwarding = by_test IsSmall asked (forwarded sent core) to_requester
+    forwarding = by_test IsSmall asked (part_after_forward sent core) to_requester
         (λ on. small-forwarded sent core to_requester answering) (λ off. answering)
 
 -- No core ever wants more acknowledgements than there can be cores.
@@ -170,9 +176,9 @@ pub wants_few : (exclusive : Bool) (cores : ℕ) (line : Line) → Reached exclu
     → (line.part x).wants ≤ 64
 wants_few exclusive cores line beginning x = omega arith
 wants_few exclusive cores line (further {line = before} reached (turn core event next sent within here row)) x =
-    by_test IsSmall (sends_data sent && x == (before.part core).names) given
-    (change_if (x == core) (acted event 0 next sent) (before.part x)) (λ on. omega arith)
-    (λ off. by_test IsSmall (x == core) (acted event 0 next sent) (before.part x)
+    by_test IsSmall (sends_data sent && x == (before.part core).names) part_with_data
+    (change_if (x == core) (part_after_row event 0 next sent) (before.part x)) (λ on. omega arith)
+    (λ off. by_test IsSmall (x == core) (part_after_row event 0 next sent) (before.part x)
     (λ here. wants_few exclusive cores before reached x) (λ away. wants_few exclusive cores before reached x))
 wants_few exclusive cores line
     (further {line = before} reached (count core from next sent within sender here row)) x =

@@ -11,26 +11,27 @@ use Rattle.cache_table.specs.declared.row.CacheSends.{CacheSends}
 use Rattle.cache_table.specs.declared.row.Row.{Row}
 use Rattle.cache_table.specs.declared.row.Row.TheVariants as rows
 use Rattle.cache_table.specs.declared.state.CopyState.{CopyState}
-use Rattle.cache_table.specs.declared.state.CopyState.TheVariants as states
+use Rattle.cache_table.specs.declared.state.CopyState.TheVariants as copy_states
 use Rattle.slice_core_coherence.proofs.Parts.{IsFirst, first_taken}
 use Rattle.slice_core_coherence.proofs.Rows.{IsAnswer, sends_for}
 use Rattle.slice_core_coherence.specs.Stands.{PartStands}
 use Rattle.slice_core_plan.specs.Plan.{asks, by_forwarded_row, event_of_forwarded, forwarded_by, is_put_ack}
 use Rattle.slice_core_plan.specs.Plan.{requester_of}
 use Rattle.slice_core_plan.specs.Sends.{cache_room}
-use Rattle.slice_core_plan.specs.View.{View, channels_at, side_at}
-use Rattle.slice_core_answer.specs.declared.answer.Cell.TheVariants as cells
-use Rattle.slice_core_protocol.specs.Line.{Part}
-use Rattle.slice_core_protocol.specs.Machine.{acted, asks_for, change_if, given, stands_ack, taken}
-use Rattle.slice_core_protocol.specs.Line.{Request}
-use Rattle.slice_core_side.specs.Copy.{is_gone, no_copy}
-use Rattle.slice_core_side.specs.Side.{state_of}
-use Rattle.slice_core_side.specs.declared.copy.CacheCopy.{CacheCopy}
+use Rattle.slice_core_plan.specs.View.{View, channels_at, cache_at}
+use Rattle.slice_answer.specs.declared.answer.Cell.TheVariants as cells
+use Rattle.protocol_coherence.specs.Line.{Part}
+use Rattle.protocol_coherence.specs.LineSteps.{part_after_row, asks_for, change_if, part_with_data, stands_ack}
+use Rattle.protocol_coherence.specs.LineSteps.{look_after_take}
+use Rattle.protocol_coherence.specs.Line.{Request}
+use Rattle.slice_core_cache.specs.Copy.{is_gone, no_copy}
+use Rattle.slice_core_cache.specs.CoreCache.{state_of}
+use Rattle.slice_core_cache.specs.declared.copy.CacheCopy.{CacheCopy}
 use Rattle.slice_queues.specs.Line.{CoreChannels, core_at}
 use Rattle.slice_queues_message.specs.declared.message.ForwardedMessage.{ForwardedMessage}
-use Rattle.slice_queues_message.specs.declared.message.ForwardedMessage.TheVariants as forwards
-use Rattle.slice_core_answer.specs.declared.answer.Delivery.TheVariants as deliveries
-use Rattle.slice_core_answer.specs.declared.answer.Delivery.{Delivery}
+use Rattle.slice_queues_message.specs.declared.message.ForwardedMessage.TheVariants as forwarded_messages
+use Rattle.slice_answer.specs.declared.answer.Delivery.TheVariants as deliveries
+use Rattle.slice_answer.specs.declared.answer.Delivery.{Delivery}
 use Rattle.slice_core_plan.specs.Plan.{forwarded_move}
 use Rattle.slice_core_plan.specs.declared.transition.Transition.TheVariants as transitions
 use Rattle.slice_core_plan.specs.declared.transition.Transition.{Transition}
@@ -50,7 +51,7 @@ module _ (v : View) (local : Local) (core : CoreId) (next : CopyState) (sent : C
   -- the message that was taken, and its row
   pub record IsMessage (message : ForwardedMessage) : Type 0 where
     pub waits : slice_get (core_at (channels_at v local) core.0).forwarded 0 ≡ Some message
-    pub row : row_of (state_of (side_at v core) local) (event_of_forwarded message) ≡ rows.Go next sent
+    pub row : row_of (state_of (cache_at v core) local) (event_of_forwarded message) ≡ rows.Go next sent
     pub names : requester_of core message ≡ requester
 
   planned_by : (message : ForwardedMessage) (row : Row)
@@ -77,7 +78,7 @@ module _ (v : View) (local : Local) (core : CoreId) (next : CopyState) (sent : C
       → (message : ForwardedMessage) × IsMessage message
   message_by None waits is = absurd (cc is)
   message_by (Some message) waits is =
-      let planned = planned_by message (row_of (state_of (side_at v core) local) (event_of_forwarded message)) is in
+      let planned = planned_by message (row_of (state_of (cache_at v core) local) (event_of_forwarded message)) is in
       (message, record { waits = waits; row = planned.0; names = planned.1 })
 
 -- ---- the core's own part
@@ -87,51 +88,52 @@ abbrev pub moved : CacheCopy → CopyState → CacheCopy
 moved copy next = if is_gone next then no_copy else record copy { state = next }
 
 pub moved-state : (copy : CacheCopy) (next : CopyState) → (moved copy next).state ≡ next
-moved-state copy states.I = refl
-moved-state copy states.IS_D = refl
-moved-state copy states.IM_AD = refl
-moved-state copy states.IM_A = refl
-moved-state copy states.S = refl
-moved-state copy states.SM_AD = refl
-moved-state copy states.SM_A = refl
-moved-state copy states.M = refl
-moved-state copy states.E = refl
-moved-state copy states.MI_A = refl
-moved-state copy states.SI_A = refl
-moved-state copy states.II_A = refl
+moved-state copy copy_states.I = refl
+moved-state copy copy_states.IS_D = refl
+moved-state copy copy_states.IM_AD = refl
+moved-state copy copy_states.IM_A = refl
+moved-state copy copy_states.S = refl
+moved-state copy copy_states.SM_AD = refl
+moved-state copy copy_states.SM_A = refl
+moved-state copy copy_states.M = refl
+moved-state copy copy_states.E = refl
+moved-state copy copy_states.MI_A = refl
+moved-state copy copy_states.SI_A = refl
+moved-state copy copy_states.II_A = refl
 
 -- A copy that waits stays, with its count.
 moved-counted : (copy : CacheCopy) (next : CopyState) → is_waiting next ≡ true
     → (moved copy next).counted ≡ copy.counted
-moved-counted copy states.IS_D waits = refl
-moved-counted copy states.IM_AD waits = refl
-moved-counted copy states.IM_A waits = refl
-moved-counted copy states.SM_AD waits = refl
-moved-counted copy states.SM_A waits = refl
-moved-counted copy states.I waits = absurd (cc waits)
-moved-counted copy states.S waits = absurd (cc waits)
-moved-counted copy states.M waits = absurd (cc waits)
-moved-counted copy states.E waits = absurd (cc waits)
-moved-counted copy states.MI_A waits = absurd (cc waits)
-moved-counted copy states.SI_A waits = absurd (cc waits)
-moved-counted copy states.II_A waits = absurd (cc waits)
+moved-counted copy copy_states.IS_D waits = refl
+moved-counted copy copy_states.IM_AD waits = refl
+moved-counted copy copy_states.IM_A waits = refl
+moved-counted copy copy_states.SM_AD waits = refl
+moved-counted copy copy_states.SM_A waits = refl
+moved-counted copy copy_states.I waits = absurd (cc waits)
+moved-counted copy copy_states.S waits = absurd (cc waits)
+moved-counted copy copy_states.M waits = absurd (cc waits)
+moved-counted copy copy_states.E waits = absurd (cc waits)
+moved-counted copy copy_states.MI_A waits = absurd (cc waits)
+moved-counted copy copy_states.SI_A waits = absurd (cc waits)
+moved-counted copy copy_states.II_A waits = absurd (cc waits)
 
 -- No forwarded message has its core ask for anything.
 asks-nothing : (message : ForwardedMessage) (own : Request) → asks_for (sends_for message) own ≡ own
-asks-nothing (forwards.Inv core) own = refl
-asks-nothing (forwards.FwdGetS core) own = refl
-asks-nothing (forwards.FwdGetM core) own = refl
-asks-nothing forwards.PutAck own = refl
+asks-nothing (forwarded_messages.Inv core) own = refl
+asks-nothing (forwarded_messages.FwdGetS core) own = refl
+asks-nothing (forwarded_messages.FwdGetM core) own = refl
+asks-nothing forwarded_messages.PutAck own = refl
 
 -- The core's copy and channels after the message are its part after the row.
 pub part_after : (copy : CacheCopy) (mail : CoreChannels) (part : Part) (message : ForwardedMessage) (next : CopyState)
     → IsFirst message part → IsAnswer message part.look.state next (sends_for message) → PartStands copy mail part
     → PartStands (moved copy next) (record mail { forwarded = drop 1 mail.forwarded })
-    (acted (event_of_forwarded message) 0 next (sends_for message) part)
+    (part_after_row (event_of_forwarded message) 0 next (sends_for message) part)
 part_after copy mail part message next first answer stands =
     let took = first_taken copy mail part message first stands in record {
       state = moved-state copy next;
-      request = took.request ∙ sym (asks-nothing message (taken (event_of_forwarded message) part.look).request);
+      request = took.request
+          ∙ sym (asks-nothing message (look_after_take (event_of_forwarded message) part.look).request);
       incoming = took.incoming;
       queue = took.queue;
       named = took.named;
@@ -147,17 +149,18 @@ part_after copy mail part message next first answer stands =
 -- A turn that sends no Inv-Ack leaves what is owed, as do data that come.
 pub owes-turned : (message : ForwardedMessage) (next : CopyState) (sent : CacheSends) (part : Part) (to : ℕ)
     → sends_inv_ack sent ≡ false
-    → stands_ack (acted (event_of_forwarded message) 0 next sent part) to ≡ stands_ack part to
-owes-turned (forwards.Inv core) next sent part to none =
+    → stands_ack (part_after_row (event_of_forwarded message) 0 next sent part) to ≡ stands_ack part to
+owes-turned (forwarded_messages.Inv core) next sent part to none =
     ap (λ b. b && part.owes_to == to) (ap (λ b. part.look.sent || b) none ∙ or-false part.look.sent)
-owes-turned (forwards.FwdGetS core) next sent part to none =
+owes-turned (forwarded_messages.FwdGetS core) next sent part to none =
     ap (λ b. b && part.owes_to == to) (ap (λ b. part.look.sent || b) none ∙ or-false part.look.sent)
-owes-turned (forwards.FwdGetM core) next sent part to none =
+owes-turned (forwarded_messages.FwdGetM core) next sent part to none =
     ap (λ b. b && part.owes_to == to) (ap (λ b. part.look.sent || b) none ∙ or-false part.look.sent)
-owes-turned forwards.PutAck next sent part to none =
+owes-turned forwarded_messages.PutAck next sent part to none =
     ap (λ b. b && part.owes_to == to) (ap (λ b. part.look.sent || b) none ∙ or-false part.look.sent)
 
-pub owes-given : (b : Bool) (part : Part) (to : ℕ) → stands_ack (change_if b given part) to ≡ stands_ack part to
+pub owes-given : (b : Bool) (part : Part) (to : ℕ) → stands_ack (change_if b part_with_data part) to
+    ≡ stands_ack part to
 owes-given true part to = refl
 owes-given false part to = refl
 

@@ -6,14 +6,15 @@ use Rattle.std.proofs.lemmas.List.{get_or-set_same, get_or-set_other, length-set
 use Rattle.address_map.specs.declared.address.CoreId.{CoreId}
 use Rattle.address_map.specs.declared.address.Local.{Local}
 use Rattle.directory_table.specs.declared.state.DirEntry.{DirEntry}
+use Rattle.protocol_coherence.specs.Line.{Line}
+use Rattle.protocol_coherence.specs.LineSteps.{Reached}
+use Rattle.slice_core_cache.specs.CoreCache.{CoreCacheView, copy_of}
+use Rattle.slice_core_cache.specs.declared.copy.CacheCopy.{CacheCopy}
 use Rattle.slice_core_coherence.specs.Stands.{AreReached, IsReached, LineStands, Stands, copies_at}
-use Rattle.slice_core_log.specs.declared.entry.Entry.{Entry}
-use Rattle.slice_core_plan.specs.View.{View, IsShaped, channels_at, entry_at, no_entry, no_side, side_at, with_channels}
-use Rattle.slice_core_plan.specs.View.{with_entry, with_side}
-use Rattle.slice_core_protocol.specs.Line.{Line}
-use Rattle.slice_core_protocol.specs.Machine.{Reached}
-use Rattle.slice_core_side.specs.Side.{SideView, copy_of}
-use Rattle.slice_core_side.specs.declared.copy.CacheCopy.{CacheCopy}
+use Rattle.slice_core_plan.specs.View.{View, IsShaped, channels_at, entry_at, no_entry, no_cache, cache_at}
+use Rattle.slice_core_plan.specs.View.{with_channels}
+use Rattle.slice_core_plan.specs.View.{with_entry, with_cache}
+use Rattle.slice_log.specs.declared.entry.Entry.{Entry}
 use Rattle.slice_queues.specs.Line.{LineChannels, empty_line}
 
 -- ---- cases
@@ -60,19 +61,19 @@ line_as cores entry channels copy now line same stands = record {
 pub record IsAlike (old new : View) (local : Local) : Type 0 where
   pub entry : entry_at new local ≡ entry_at old local
   pub channels : channels_at new local ≡ channels_at old local
-  pub copies : (core : ℕ) → core < length old.sides → copies_at new local core ≡ copies_at old local core
+  pub copies : (core : ℕ) → core < length old.caches → copies_at new local core ≡ copies_at old local core
 
 -- Views of as many cores and lines.
 pub record IsSized (old new : View) : Type 0 where
   pub exclusive : new.exclusive ≡ old.exclusive
   pub lines : new.lines.lines ≡ old.lines.lines
-  pub cores : length new.sides ≡ length old.sides
+  pub cores : length new.caches ≡ length old.caches
 
 -- Where one line is reached and the others have what they had, all are reached.
 pub frame : (old new : View) (local : Local) → IsSized old new
     → ((other : Local) → other.0 < old.lines.lines → other.0 ≢ local.0 → IsAlike old new other)
-    → (line : Line) → Reached old.exclusive (length old.sides) line
-    → LineStands (length old.sides) (entry_at new local) (channels_at new local) (copies_at new local) line
+    → (line : Line) → Reached old.exclusive (length old.caches) line
+    → LineStands (length old.caches) (entry_at new local) (channels_at new local) (copies_at new local) line
     → AreReached old → AreReached new
 frame old new local sized alike line reached stands all other within =
     elim (cases_eq other.0 local.0) [
@@ -84,30 +85,30 @@ frame old new local sized alike line reached stands all other within =
           (there.0, again there.1, fit other (moved other (alike other inside apart) there.0 there.2))
     ]
   where
-    again : {line : Line} → Reached old.exclusive (length old.sides) line
-        → Reached new.exclusive (length new.sides) line
+    again : {line : Line} → Reached old.exclusive (length old.caches) line
+        → Reached new.exclusive (length new.caches) line
     again reached = rw (sized.exclusive, sized.cores) reached
 
     fit : {line : Line} (l : Local)
-        → LineStands (length old.sides) (entry_at new l) (channels_at new l) (copies_at new l) line → Stands new l line
+        → LineStands (length old.caches) (entry_at new l) (channels_at new l) (copies_at new l) line → Stands new l line
     fit {line = line} l stands = subst (λ n. LineStands n (entry_at new l) (channels_at new l) (copies_at new l) line)
         (sym sized.cores) stands
 
     moved : (l : Local) → IsAlike old new l → (line : Line) → Stands old l line
-        → LineStands (length old.sides) (entry_at new l) (channels_at new l) (copies_at new l) line
+        → LineStands (length old.caches) (entry_at new l) (channels_at new l) (copies_at new l) line
     moved l alike line stands =
-        line_as (length old.sides) (entry_at new l) (channels_at new l) (copies_at old l) (copies_at new l) line
+        line_as (length old.caches) (entry_at new l) (channels_at new l) (copies_at old l) (copies_at new l) line
         alike.copies
-        (subst (λ e. LineStands (length old.sides) e (channels_at new l) (copies_at old l) line) (sym alike.entry)
-        (subst (λ c. LineStands (length old.sides) (entry_at old l) c (copies_at old l) line) (sym alike.channels)
+        (subst (λ e. LineStands (length old.caches) e (channels_at new l) (copies_at old l) line) (sym alike.entry)
+        (subst (λ c. LineStands (length old.caches) (entry_at old l) c (copies_at old l) line) (sym alike.channels)
         stands))
 
--- the slice where this is a line's entry, these are its channels, this is a core's side and this the log
-abbrev pub stepped : View → Local → DirEntry → LineChannels → CoreId → SideView → List Entry → View
-stepped v local entry channels core side log = record v {
+-- the slice where this is a line's entry, these are its channels, this is a core's cache and this the log
+abbrev pub stepped : View → Local → DirEntry → LineChannels → CoreId → CoreCacheView → List Entry → View
+stepped v local entry channels core cache log = record v {
   entries = set v.entries local.0 entry;
   channels = set v.channels local.0 channels;
-  sides = set v.sides core.0 side;
+  caches = set v.caches core.0 cache;
   log = log;
 }
 
@@ -125,78 +126,80 @@ module _ (v : View) (local : Local) (shaped : IsShaped v) (inside : local.0 < v.
 module _ (v : View) (local : Local) (shaped : IsShaped v) (inside : local.0 < v.lines.lines) (all : AreReached v) where
   -- A step that changes one line's entry, its channels, one core's copy of it, and the log: the lines are reached if
   -- that line is.
-  pub by_step : (entry : DirEntry) (channels : LineChannels) (core : CoreId) (side : SideView) (log : List Entry)
-      → core.0 < length v.sides
+  pub by_step : (entry : DirEntry) (channels : LineChannels) (core : CoreId) (cache : CoreCacheView) (log : List Entry)
+      → core.0 < length v.caches
       → ((other : Local) → other.0 < v.lines.lines → other.0 ≢ local.0
-      → copy_of side other ≡ copy_of (side_at v core) other)
-      → (line : Line) → Reached v.exclusive (length v.sides) line
-      → LineStands (length v.sides) entry channels (with_copy_at (copies_at v local) core.0 (copy_of side local)) line
-      → AreReached (stepped v local entry channels core side log)
-  by_step entry channels core side log there others line reached stands =
+      → copy_of cache other ≡ copy_of (cache_at v core) other)
+      → (line : Line) → Reached v.exclusive (length v.caches) line
+      → LineStands (length v.caches) entry channels (with_copy_at (copies_at v local) core.0 (copy_of cache local)) line
+      → AreReached (stepped v local entry channels core cache log)
+  by_step entry channels core cache log there others line reached stands =
       frame v new local sized
       (λ other within apart. record {
         entry = get_or-set_other v.entries local.0 other.0 entry no_entry apart;
         channels = get_or-set_other v.channels local.0 other.0 channels (empty_line 0) apart;
         copies = λ x below.
-            ap (λ (s : SideView). copy_of s other) (read-set v.sides core.0 x side no_side there)
+            ap (λ (s : CoreCacheView). copy_of s other) (read-set v.caches core.0 x cache no_cache there)
             ∙ by_number x core.0
-            (λ b. copy_of (if b then side else get_or v.sides x no_side) other ≡ copies_at v other x)
+            (λ b. copy_of (if b then cache else get_or v.caches x no_cache) other ≡ copies_at v other x)
             (λ same. others other within apart ∙ ap (λ y. copies_at v other y) (sym same)) (λ differs. refl);
       })
       line reached (ready stands) all
     where
       new : View
-      new = stepped v local entry channels core side log
+      new = stepped v local entry channels core cache log
 
       sized : IsSized v new
-      sized = record { exclusive = refl; lines = refl; cores = length-set v.sides core.0 side }
+      sized = record { exclusive = refl; lines = refl; cores = length-set v.caches core.0 cache }
 
-      ready : LineStands (length v.sides) entry channels (with_copy_at (copies_at v local) core.0 (copy_of side local))
+      ready : LineStands (length v.caches) entry channels
+          (with_copy_at (copies_at v local) core.0 (copy_of cache local))
           line
-          → LineStands (length v.sides) (entry_at new local) (channels_at new local) (copies_at new local) line
+          → LineStands (length v.caches) (entry_at new local) (channels_at new local) (copies_at new local) line
       ready stands =
-          line_as (length v.sides) (entry_at new local) (channels_at new local)
-          (with_copy_at (copies_at v local) core.0 (copy_of side local)) (copies_at new local) line
+          line_as (length v.caches) (entry_at new local) (channels_at new local)
+          (with_copy_at (copies_at v local) core.0 (copy_of cache local)) (copies_at new local) line
           (λ x below.
-          ap (λ (s : SideView). copy_of s local) (read-set v.sides core.0 x side no_side there)
+          ap (λ (s : CoreCacheView). copy_of s local) (read-set v.caches core.0 x cache no_cache there)
           ∙ by_number x core.0
-          (λ b. copy_of (if b then side else get_or v.sides x no_side) local
-          ≡ (if b then copy_of side local else copies_at v local x))
+          (λ b. copy_of (if b then cache else get_or v.caches x no_cache) local
+          ≡ (if b then copy_of cache local else copies_at v local x))
           (λ same. refl) (λ differs. refl))
           (rw (entry_is v local shaped inside entry, channels_are v local shaped inside channels) stands)
 
   -- The same where the entry stays.
-  pub by_side : (channels : LineChannels) (core : CoreId) (side : SideView) (log : List Entry) → core.0 < length v.sides
+  pub by_cache : (channels : LineChannels) (core : CoreId) (cache : CoreCacheView) (log : List Entry) → core.0
+      < length v.caches
       → ((other : Local) → other.0 < v.lines.lines → other.0 ≢ local.0
-      → copy_of side other ≡ copy_of (side_at v core) other)
-      → (line : Line) → Reached v.exclusive (length v.sides) line
-      → LineStands (length v.sides) (entry_at v local) channels
-      (with_copy_at (copies_at v local) core.0 (copy_of side local)) line
-      → AreReached (record (with_channels (with_side v core side) local channels) { log = log })
-  by_side channels core side log there others line reached stands =
-      subst (λ entries. AreReached (record (with_channels (with_side v core side) local channels) {
+      → copy_of cache other ≡ copy_of (cache_at v core) other)
+      → (line : Line) → Reached v.exclusive (length v.caches) line
+      → LineStands (length v.caches) (entry_at v local) channels
+      (with_copy_at (copies_at v local) core.0 (copy_of cache local)) line
+      → AreReached (record (with_channels (with_cache v core cache) local channels) { log = log })
+  by_cache channels core cache log there others line reached stands =
+      subst (λ entries. AreReached (record (with_channels (with_cache v core cache) local channels) {
         entries = entries;
         log = log;
       })) (set-get_or v.entries local.0 no_entry)
-      (by_step (entry_at v local) channels core side log there others line reached stands)
+      (by_step (entry_at v local) channels core cache log there others line reached stands)
 
   -- The same where the line's channels stay as well.
-  pub by_copy : (core : CoreId) (side : SideView) (log : List Entry) → core.0 < length v.sides
+  pub by_copy : (core : CoreId) (cache : CoreCacheView) (log : List Entry) → core.0 < length v.caches
       → ((other : Local) → other.0 < v.lines.lines → other.0 ≢ local.0
-      → copy_of side other ≡ copy_of (side_at v core) other)
-      → (line : Line) → Reached v.exclusive (length v.sides) line
-      → LineStands (length v.sides) (entry_at v local) (channels_at v local)
-      (with_copy_at (copies_at v local) core.0 (copy_of side local)) line
-      → AreReached (record (with_side v core side) { log = log })
-  by_copy core side log there others line reached stands =
-      subst (λ channels. AreReached (record (with_side v core side) { channels = channels; log = log }))
+      → copy_of cache other ≡ copy_of (cache_at v core) other)
+      → (line : Line) → Reached v.exclusive (length v.caches) line
+      → LineStands (length v.caches) (entry_at v local) (channels_at v local)
+      (with_copy_at (copies_at v local) core.0 (copy_of cache local)) line
+      → AreReached (record (with_cache v core cache) { log = log })
+  by_copy core cache log there others line reached stands =
+      subst (λ channels. AreReached (record (with_cache v core cache) { channels = channels; log = log }))
       (set-get_or v.channels local.0 (empty_line 0))
-      (by_side (channels_at v local) core side log there others line reached stands)
+      (by_cache (channels_at v local) core cache log there others line reached stands)
 
   -- The same where no core's copy changes.
   pub by_entry : (entry : DirEntry) (channels : LineChannels) → (line : Line)
-      → Reached v.exclusive (length v.sides) line
-      → LineStands (length v.sides) entry channels (copies_at v local) line
+      → Reached v.exclusive (length v.caches) line
+      → LineStands (length v.caches) entry channels (copies_at v local) line
       → AreReached (with_channels (with_entry v local entry) local channels)
   by_entry entry channels line reached stands =
       frame v new local (record { exclusive = refl; lines = refl; cores = refl })
@@ -210,20 +213,21 @@ module _ (v : View) (local : Local) (shaped : IsShaped v) (inside : local.0 < v.
       new : View
       new = with_channels (with_entry v local entry) local channels
 
--- A core's side with the same copies leaves the lines as they stand: whatever its registers, tags and counts are.
-pub by_same_copies : (v : View) (core : CoreId) (side : SideView) → core.0 < length v.sides
-    → ((other : Local) → copy_of side other ≡ copy_of (side_at v core) other) → AreReached v
-    → AreReached (with_side v core side)
-by_same_copies v core side there same all other within =
+-- A core's cache with the same copies leaves the lines as they stand: whatever its registers, tags and counts are.
+pub by_same_copies : (v : View) (core : CoreId) (cache : CoreCacheView) → core.0 < length v.caches
+    → ((other : Local) → copy_of cache other ≡ copy_of (cache_at v core) other) → AreReached v
+    → AreReached (with_cache v core cache)
+by_same_copies v core cache there same all other within =
     let before = all other within in (
       before.0,
-      subst (λ n. Reached v.exclusive n before.0) (sym (length-set v.sides core.0 side)) before.1,
+      subst (λ n. Reached v.exclusive n before.0) (sym (length-set v.caches core.0 cache)) before.1,
       subst (λ n. LineStands n (entry_at v other) (channels_at v other)
-          (copies_at (with_side v core side) other) before.0) (sym (length-set v.sides core.0 side))
-          (line_as (length v.sides) (entry_at v other) (channels_at v other) (copies_at v other)
-          (copies_at (with_side v core side) other) before.0
+          (copies_at (with_cache v core cache) other) before.0) (sym (length-set v.caches core.0 cache))
+          (line_as (length v.caches) (entry_at v other) (channels_at v other) (copies_at v other)
+          (copies_at (with_cache v core cache) other) before.0
           (λ x below.
-          ap (λ (s : SideView). copy_of s other) (read-set v.sides core.0 x side no_side there)
-          ∙ by_number x core.0 (λ b. copy_of (if b then side else get_or v.sides x no_side) other ≡ copies_at v other x)
+          ap (λ (s : CoreCacheView). copy_of s other) (read-set v.caches core.0 x cache no_cache there)
+          ∙ by_number x core.0
+          (λ b. copy_of (if b then cache else get_or v.caches x no_cache) other ≡ copies_at v other x)
           (λ here. same other ∙ ap (λ y. copies_at v other y) (sym here)) (λ differs. refl)) before.2),
     )

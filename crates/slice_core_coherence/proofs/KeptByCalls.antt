@@ -10,33 +10,33 @@ use Rattle.address_map.specs.declared.address.LineAddr.{LineAddr}
 use Rattle.address_map.specs.declared.address.Local.{Local}
 use Rattle.address_map.specs.declared.request.Request.{Request}
 use Rattle.cache_array.specs.Array.{held_at as array_at}
-use Rattle.slice_core_answer.specs.Stats.{after_eviction}
-use Rattle.slice_core_answer.specs.declared.answer.Evicted.{Evicted}
-use Rattle.slice_core_answer.specs.declared.answer.Evicted.TheVariants as evictions
-use Rattle.slice_core_answer.specs.declared.answer.Issue.{Issue}
-use Rattle.slice_core_answer.specs.declared.answer.Refused.{Refused}
-use Rattle.slice_core_answer.specs.declared.answer.Refused.TheVariants as refusals
+use Rattle.slice_answer.specs.Stats.{after_eviction}
+use Rattle.slice_answer.specs.declared.answer.Evicted.{Evicted}
+use Rattle.slice_answer.specs.declared.answer.Evicted.TheVariants as evictions
+use Rattle.slice_answer.specs.declared.answer.Issue.{Issue}
+use Rattle.slice_answer.specs.declared.answer.Refused.{Refused}
+use Rattle.slice_answer.specs.declared.answer.Refused.TheVariants as refusals
+use Rattle.slice_core_cache.proofs.Evictions.{can_leave}
+use Rattle.slice_core_cache.specs.Access.{access_of, evicted_of}
+use Rattle.slice_core_cache.specs.Copy.{may_leave}
+use Rattle.slice_core_cache.specs.CoreCache.{tag_at}
+use Rattle.slice_core_cache.specs.Tags.{is_free}
+use Rattle.slice_core_cache.specs.declared.access.AccessKind.{AccessKind}
+use Rattle.slice_core_cache.specs.declared.access.AccessKind.TheVariants as access_kinds
+use Rattle.slice_core_cache.specs.declared.copy.CacheCopy.{CacheCopy}
 use Rattle.slice_core_coherence.proofs.Evictions.{passing}
 use Rattle.slice_core_coherence.proofs.Judged.{is_judged}
 use Rattle.slice_core_coherence.proofs.Steps.{KeepsAccesses}
 use Rattle.slice_core_coherence.proofs.Victims.{has_victim_for}
 use Rattle.slice_core_coherence.specs.Whole.{IsWhole}
-use Rattle.slice_core_log.specs.declared.entry.Numbered.{Numbered}
 use Rattle.slice_core_plan.specs.Decision.{decision_at, decision_of, is_counter, overwrites}
 use Rattle.slice_core_plan.specs.Calls.{PartsView, target_for, AfterAccepting, AfterAccess, AfterEvict, AfterHand}
 use Rattle.slice_core_plan.specs.Calls.{AfterIssue, IsAccepted, LacksMemory}
 use Rattle.slice_core_plan.specs.Steps.{after_evict}
-use Rattle.slice_core_plan.specs.View.{View, side_at}
+use Rattle.slice_core_plan.specs.View.{View, cache_at}
 use Rattle.slice_core_plan.specs.declared.decision.Decision.{Decision}
 use Rattle.slice_core_plan.specs.declared.decision.Decision.TheVariants as decisions
-use Rattle.slice_core_side.proofs.Evictions.{can_leave}
-use Rattle.slice_core_side.specs.Access.{access_of, evicted_of}
-use Rattle.slice_core_side.specs.Copy.{may_leave}
-use Rattle.slice_core_side.specs.Side.{tag_at}
-use Rattle.slice_core_side.specs.Tags.{is_free}
-use Rattle.slice_core_side.specs.declared.access.Access.{Access}
-use Rattle.slice_core_side.specs.declared.access.Access.TheVariants as accesses
-use Rattle.slice_core_side.specs.declared.copy.CacheCopy.{CacheCopy}
+use Rattle.slice_log.specs.declared.entry.Numbered.{Numbered}
 use Rattle.slice_queues.specs.Ring.{with_listed}
 
 -- A line that has a place among the slice's own is one of them.
@@ -53,27 +53,27 @@ located own line local =
 
 -- ---- requests
 
-module _ (v : View) (core : CoreId) (request : Request) (local : Local) (access : Access) where
+module _ (v : View) (core : CoreId) (request : Request) (local : Local) (access : AccessKind) where
   -- An access that was decided is to a line of the slice, and is as the core's state says.
   abbrev IsDecided : Type 0
   IsDecided =
-      (local.0 < v.lines.lines) × (access_of (side_at v core) local request.tag request.op ≡ access)
+      (local.0 < v.lines.lines) × (access_of (cache_at v core) local request.tag request.op ≡ access)
       × (local_at v.lines (line_of request.word).0 ≡ Some local)
 
   decided-line : (here : Local) → here.0 < v.lines.lines
       → local_at v.lines (line_of request.word).0 ≡ Some here → (range busy counter : Bool)
       → (if range then decisions.Refuse refusals.TagRange else if busy then decisions.Refuse refusals.TagBusy
       else if counter then decisions.Refuse refusals.CounterStore
-      else decisions.Access here (access_of (side_at v core) here request.tag request.op))
+      else decisions.Access here (access_of (cache_at v core) here request.tag request.op))
       ≡ decisions.Access local access → IsDecided
   decided-line here inside found true busy counter is = absurd (cc is)
   decided-line here inside found false true counter is = absurd (cc is)
   decided-line here inside found false false true is = absurd (cc is)
   decided-line here inside found false false false is =
       let same : here ≡ local = cc in
-      let judged : access_of (side_at v core) here request.tag request.op ≡ access = cc in (
+      let judged : access_of (cache_at v core) here request.tag request.op ≡ access = cc in (
         subst (λ (l : Local). l.0 < v.lines.lines) same inside,
-        ap (λ l. access_of (side_at v core) l request.tag request.op) (sym same) ∙ judged,
+        ap (λ l. access_of (cache_at v core) l request.tag request.op) (sym same) ∙ judged,
         found ∙ ap (λ (l : Local). Some l) same,
       )
 
@@ -88,7 +88,7 @@ module _ (v : View) (core : CoreId) (request : Request) (local : Local) (access 
   decided-place false None found is = absurd (cc is)
   decided-place false (Some here) found is =
       decided-line here (located v.lines (line_of request.word).0 here found) found (not (nat_lt request.tag 64))
-      (not (is_free (tag_at (side_at v core) request.tag))) (overwrites request.op && is_counter v request.word) is
+      (not (is_free (tag_at (cache_at v core) request.tag))) (overwrites request.op && is_counter v request.word) is
 
   decided : decision_of v core request ≡ decisions.Access local access → IsDecided
   decided is =
@@ -96,48 +96,50 @@ module _ (v : View) (core : CoreId) (request : Request) (local : Local) (access 
 
 module _ (Whole Fact : View → Type 0) (steps : KeepsAccesses Whole Fact) (old : PartsView) (core : CoreId)
     (request : Request) (answer : Result Issue Refused) (new : PartsView) (whole : IsWhole old.view)
-    (more : Whole old.view) (known : core.0 < length old.view.sides) (all : Fact old.view) where
+    (more : Whole old.view) (known : core.0 < length old.view.caches) (all : Fact old.view) where
   unchanged : new ≡ old → Fact new.view
   unchanged same = subst (λ (p : PartsView). Fact p.view) (sym same) all
 
   -- An access that is accepted, where the log has room.
-  accepted : (local : Local) (access : Access) → IsDecided old.view core request local access → (room : ℕ)
+  accepted : (local : Local) (access : AccessKind) → IsDecided old.view core request local access → (room : ℕ)
       (issue : Issue) → AfterAccepting access (record old { room = room }) core request local issue new
       → Fact new.view
-  accepted local (accesses.Stall stall) is room issue after =
+  accepted local (access_kinds.Stall stall) is room issue after =
       subst (λ (p : PartsView). Fact p.view) (sym after.1) all
-  accepted local (accesses.Hit place next silent) is room issue after =
-      let side = side_at old.view core in
-      let row = is_judged side local request.tag request.op (accesses.Hit place next silent) is.1 in
+  accepted local (access_kinds.Hit place next silent) is room issue after =
+      let cache = cache_at old.view core in
+      let row = is_judged cache local request.tag request.op (access_kinds.Hit place next silent) is.1 in
       subst (λ (p : PartsView). Fact p.view) (sym after.1)
       (steps.hit old.view core local request next more known is.0 is.2 row.0 row.1 all)
-  accepted local accesses.Join is room issue after =
-      let waits = is_judged (side_at old.view core) local request.tag request.op accesses.Join is.1 in
+  accepted local access_kinds.SecondaryMiss is room issue after =
+      let waits = is_judged (cache_at old.view core) local request.tag request.op access_kinds.SecondaryMiss is.1 in
       subst (λ (p : PartsView). Fact p.view) (sym after.3.1)
       (steps.join old.view core local request after.0 (target_for old core request) more known is.0 waits after.1 all)
-  accepted local (accesses.Open next ask way) is room issue after =
-      let side = side_at old.view core in
+  accepted local (access_kinds.PrimaryMiss next ask placement) is room issue after =
+      let cache = cache_at old.view core in
       let kept = whole.kept core known in
-      let row = is_judged side local request.tag request.op (accesses.Open next ask way) is.1 in
+      let row = is_judged cache local request.tag request.op (access_kinds.PrimaryMiss next ask placement) is.1 in
       let victim =
-      has_victim_for old.view core local way kept.array (λ other held. whole.own core other known held) row.1 in
+      has_victim_for old.view core local placement kept.array (λ other held. whole.own core other known held) row.1 in
       subst (λ (p : PartsView). Fact p.view) (sym after.3.1)
-      (steps.opening old.view core local request way next ask after.0 (target_for old core request) more known is.0
+      (steps.opening old.view core local request placement next ask after.0 (target_for old core request) more known
+      is.0
       row.1 victim row.0 after.1 all)
 
   -- Where memory for the log is lacking, nothing changed.
-  with_memory : (local : Local) (access : Access) → IsDecided old.view core request local access
+  with_memory : (local : Local) (access : AccessKind) → IsDecided old.view core request local access
       → LacksMemory old answer new ⊎ IsAccepted access old core request local answer new → Fact new.view
   with_memory local access is after =
       ⊎_elim (λ lacks. unchanged lacks.unchanged) (λ done. accepted local access is done.0 done.1 done.5) after
 
-  accessed : (local : Local) (access : Access) → IsDecided old.view core request local access
+  accessed : (local : Local) (access : AccessKind) → IsDecided old.view core request local access
       → AfterAccess access old core request local answer new → Fact new.view
-  accessed local (accesses.Stall stall) is after = subst (λ (p : PartsView). Fact p.view) (sym after.1) all
-  accessed local (accesses.Hit place next silent) is after =
-      with_memory local (accesses.Hit place next silent) is after
-  accessed local accesses.Join is after = with_memory local accesses.Join is after
-  accessed local (accesses.Open next ask way) is after = with_memory local (accesses.Open next ask way) is after
+  accessed local (access_kinds.Stall stall) is after = subst (λ (p : PartsView). Fact p.view) (sym after.1) all
+  accessed local (access_kinds.Hit place next silent) is after =
+      with_memory local (access_kinds.Hit place next silent) is after
+  accessed local access_kinds.SecondaryMiss is after = with_memory local access_kinds.SecondaryMiss is after
+  accessed local (access_kinds.PrimaryMiss next ask placement) is after =
+      with_memory local (access_kinds.PrimaryMiss next ask placement) is after
 
   -- what an issue answers and leaves, by what was decided
   abbrev by_decision : Decision → Type 0
@@ -158,7 +160,7 @@ module _ (Whole Fact : View → Type 0) (steps : KeepsAccesses Whole Fact) (old 
 
 module _ (Whole Fact : View → Type 0) (steps : KeepsAccesses Whole Fact) (old : PartsView) (core : CoreId)
     (line : LineAddr) (answer : Evicted) (new : PartsView) (whole : IsWhole old.view) (more : Whole old.view)
-    (known : core.0 < length old.view.sides) (all : Fact old.view) where
+    (known : core.0 < length old.view.caches) (all : Fact old.view) where
   stays : new ≡ old → Fact new.view
   stays same = subst (λ (p : PartsView). Fact p.view) (sym same) all
 
@@ -176,14 +178,14 @@ module _ (Whole Fact : View → Type 0) (steps : KeepsAccesses Whole Fact) (old 
   -- what an eviction answers and leaves, by the line's place
   abbrev by_line : Option Local → Type 0
   by_line None = (answer ≡ evictions.NotHeld) × (new ≡ old)
-  by_line (Some local) = (answer ≡ evicted_of (side_at old.view core) local) × by_answer local answer
+  by_line (Some local) = (answer ≡ evicted_of (cache_at old.view core) local) × by_answer local answer
 
-  answered : (local : Local) (given : Evicted) → given ≡ evicted_of (side_at old.view core) local
+  answered : (local : Local) (given : Evicted) → given ≡ evicted_of (cache_at old.view core) local
       → by_answer local given → Fact new.view
   answered local evictions.Evicting is after =
-      let side = side_at old.view core in
-      let leaves = can_leave side local (sym is) in
-      let held = (passing (λ (c : CacheCopy). may_leave c.state) (array_at side.array local) leaves.held).0 in
+      let cache = cache_at old.view core in
+      let leaves = can_leave cache local (sym is) in
+      let held = (passing (λ (c : CacheCopy). may_leave c.state) (array_at cache.array local) leaves.held).0 in
       subst (λ (p : PartsView). Fact p.view) (sym after)
       (steps.evict old.view core local more known (whole.own core local known held) leaves all)
   answered local evictions.Busy is after = stays after
@@ -202,7 +204,7 @@ module _ (Whole Fact : View → Type 0) (steps : KeepsAccesses Whole Fact) (old 
 
 -- A reply that is handed out keeps the fact.
 pub handed_keeps : (Whole Fact : View → Type 0) → KeepsAccesses Whole Fact → (old : PartsView) (core : CoreId)
-    (answer : Option Numbered) (new : PartsView) → core.0 < length old.view.sides → Fact old.view
+    (answer : Option Numbered) (new : PartsView) → core.0 < length old.view.caches → Fact old.view
     → AfterHand old core answer new → Fact new.view
 handed_keeps Whole Fact steps old core None new known all after =
     subst (λ (p : PartsView). Fact p.view) (sym after.1) all

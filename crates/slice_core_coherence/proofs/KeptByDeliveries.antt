@@ -7,8 +7,8 @@ use Rattle.cache_table.specs.declared.row.CacheSends.{CacheSends}
 use Rattle.cache_table.specs.declared.state.CopyState.{CopyState}
 use Rattle.directory_table.specs.declared.row.DirStep.{DirStep}
 use Rattle.directory_table.specs.declared.state.DirState.{DirState}
-use Rattle.slice_core_answer.specs.declared.answer.Delivered.{Delivered}
-use Rattle.slice_core_answer.specs.declared.answer.Delivered.TheVariants as delivered
+use Rattle.slice_answer.specs.declared.answer.Delivered.{Delivered}
+use Rattle.slice_answer.specs.declared.answer.Delivered.TheVariants as delivered
 use Rattle.slice_core_coherence.proofs.KeptByCalls.{located}
 use Rattle.slice_core_coherence.proofs.Planned.{IsFor, is_for}
 use Rattle.slice_core_coherence.proofs.Steps.{KeepsMessages}
@@ -21,8 +21,8 @@ use Rattle.slice_queues_message.specs.declared.channel.Channel.{Channel}
 use Rattle.slice_queues_message.specs.declared.channel.Channel.TheVariants as channels
 use Rattle.slice_queues_message.specs.declared.channel.Class.{Class}
 use Rattle.slice_queues_message.specs.declared.channel.Pick.{Pick}
-use Rattle.slice_core_answer.specs.declared.answer.Delivery.TheVariants as deliveries
-use Rattle.slice_core_answer.specs.declared.answer.Delivery.{Delivery}
+use Rattle.slice_answer.specs.declared.answer.Delivery.TheVariants as deliveries
+use Rattle.slice_answer.specs.declared.answer.Delivery.{Delivery}
 use Rattle.slice_core_plan.specs.Plan.{ack_move, directory_move, fill_move, forwarded_move, home_move}
 use Rattle.slice_core_plan.specs.declared.transition.Transition.TheVariants as transitions
 use Rattle.slice_core_plan.specs.declared.transition.Transition.{Transition}

@@ -8,11 +8,11 @@ use Rattle.address_map.specs.declared.block.Block.{Block}
 use Rattle.slice_core_coherence.proofs.BlocksPerforming.{AreAllowed}
 use Rattle.slice_core_coherence.proofs.Values.{values_elsewhere}
 use Rattle.slice_core_coherence.specs.Blocks.{HasValues}
-use Rattle.slice_core_log.specs.Log.{initially}
-use Rattle.slice_core_log.specs.declared.entry.Entry.{Entry}
+use Rattle.slice_log.specs.Log.{initially}
+use Rattle.slice_log.specs.declared.entry.Entry.{Entry}
 use Rattle.slice_core_plan.specs.View.{View, first_word}
-use Rattle.slice_core_side.specs.Copy.{performed_on}
-use Rattle.slice_core_side.specs.Perform.{entries_of}
+use Rattle.slice_core_cache.specs.Copy.{performed_on}
+use Rattle.slice_core_cache.specs.Perform.{entries_of}
 use Rattle.cache_table.specs.declared.state.CopyState.{CopyState}
 use Rattle.target_list.specs.declared.target.Target.{Target}
 

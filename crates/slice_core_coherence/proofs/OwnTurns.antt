@@ -5,29 +5,29 @@ use Rattle.cache_table.specs.CopyState.{is_waiting}
 use Rattle.cache_table.specs.Law.{sends_data, sends_get, sends_home, sends_inv_ack}
 use Rattle.cache_table.specs.Row.{row_of}
 use Rattle.cache_table.specs.declared.row.CacheEvent.{CacheEvent}
-use Rattle.cache_table.specs.declared.row.CacheEvent.TheVariants as events
+use Rattle.cache_table.specs.declared.row.CacheEvent.TheVariants as cache_events
 use Rattle.cache_table.specs.declared.row.CacheSends.{CacheSends}
 use Rattle.cache_table.specs.declared.row.Row.TheVariants as rows
 use Rattle.cache_table.specs.declared.state.CopyState.{CopyState}
 use Rattle.directory_table.specs.declared.state.DirEntry.{DirEntry}
+use Rattle.protocol_coherence.proofs.Each.{each_state, each_state-at, if_go, if_go-at, if_so, if_so-at, left, not-at}
+use Rattle.protocol_coherence.proofs.Each.{right}
+use Rattle.protocol_coherence.specs.Fit.{is_counting}
+use Rattle.protocol_coherence.specs.Line.{Line, Part}
+use Rattle.protocol_coherence.specs.LineSteps.{Reached, Step, part_after_row, after, asks_for, stands, turn}
+use Rattle.slice_core_cache.specs.declared.copy.CacheCopy.{CacheCopy}
 use Rattle.slice_core_coherence.proofs.Facts.{counts_while_waiting}
 use Rattle.slice_core_coherence.proofs.Frame.{with_copy_at}
 use Rattle.slice_core_coherence.proofs.Turns.{IsQuiet, turn_stands}
 use Rattle.slice_core_coherence.specs.Stands.{LineStands, PartStands, kind_of_request}
-use Rattle.slice_core_protocol.proofs.Each.{each_state, each_state-at, if_go, if_go-at, if_so, if_so-at, left, not-at}
-use Rattle.slice_core_protocol.proofs.Each.{right}
-use Rattle.slice_core_protocol.specs.Fit.{is_counting}
-use Rattle.slice_core_protocol.specs.Line.{Line, Part}
-use Rattle.slice_core_protocol.specs.Machine.{Reached, Step, acted, after, asks_for, stands, turn}
-use Rattle.slice_core_side.specs.declared.copy.CacheCopy.{CacheCopy}
 use Rattle.slice_queues.specs.Line.{CoreChannels, LineChannels, core_at, with_core}
 use Rattle.slice_queues_message.specs.declared.message.RequestMessage.{RequestMessage}
 
 -- The event is no message.
 abbrev pub IsOwn : CacheEvent → Type 0
-IsOwn events.Load = Unit {0}
-IsOwn events.Write = Unit {0}
-IsOwn events.Eviction = Unit {0}
+IsOwn cache_events.Load = Unit {0}
+IsOwn cache_events.Write = Unit {0}
+IsOwn cache_events.Eviction = Unit {0}
 IsOwn _ = ⊥
 
 -- ---- the rows
@@ -45,33 +45,34 @@ stays_own state next sent =
     ((not (sends_data sent) && not (sends_home sent)) && not (sends_inv_ack sent))
     && (not (is_counting next) && if_so (is_waiting next) (λ _. sends_get sent && not (is_waiting state)))
 
-each_load_own : each_state (λ s. if_go (row_of s events.Load) (stays_own s)) ≡ true
+each_load_own : each_state (λ s. if_go (row_of s cache_events.Load) (stays_own s)) ≡ true
 unfolding each_state if_go if_so stays_own
 each_load_own = refl
 
-each_write_own : each_state (λ s. if_go (row_of s events.Write) (stays_own s)) ≡ true
+each_write_own : each_state (λ s. if_go (row_of s cache_events.Write) (stays_own s)) ≡ true
 unfolding each_state if_go if_so stays_own
 each_write_own = refl
 
-each_eviction_own : each_state (λ s. if_go (row_of s events.Eviction) (stays_own s)) ≡ true
+each_eviction_own : each_state (λ s. if_go (row_of s cache_events.Eviction) (stays_own s)) ≡ true
 unfolding each_state if_go if_so stays_own
 each_eviction_own = refl
 
 row_stays_own : (event : CacheEvent) (state : CopyState) → IsOwn event
     → if_go (row_of state event) (stays_own state) ≡ true
-row_stays_own events.Load state own = each_state-at (λ s. if_go (row_of s events.Load) (stays_own s)) each_load_own
+row_stays_own cache_events.Load state own =
+    each_state-at (λ s. if_go (row_of s cache_events.Load) (stays_own s)) each_load_own
     state
-row_stays_own events.Write state own =
-    each_state-at (λ s. if_go (row_of s events.Write) (stays_own s)) each_write_own state
-row_stays_own events.Eviction state own =
-    each_state-at (λ s. if_go (row_of s events.Eviction) (stays_own s)) each_eviction_own state
-row_stays_own (events.Data n k) state own = absurd own
-row_stays_own (events.DataE loads) state own = absurd own
-row_stays_own (events.InvAck n k) state own = absurd own
-row_stays_own events.Inv state own = absurd own
-row_stays_own events.FwdGetS state own = absurd own
-row_stays_own events.FwdGetM state own = absurd own
-row_stays_own events.PutAck state own = absurd own
+row_stays_own cache_events.Write state own =
+    each_state-at (λ s. if_go (row_of s cache_events.Write) (stays_own s)) each_write_own state
+row_stays_own cache_events.Eviction state own =
+    each_state-at (λ s. if_go (row_of s cache_events.Eviction) (stays_own s)) each_eviction_own state
+row_stays_own (cache_events.Data n k) state own = absurd own
+row_stays_own (cache_events.DataE loads) state own = absurd own
+row_stays_own (cache_events.InvAck n k) state own = absurd own
+row_stays_own cache_events.Inv state own = absurd own
+row_stays_own cache_events.FwdGetS state own = absurd own
+row_stays_own cache_events.FwdGetM state own = absurd own
+row_stays_own cache_events.PutAck state own = absurd own
 
 pub own_row : (event : CacheEvent) (state next : CopyState) (sent : CacheSends) → IsOwn event
     → row_of state event ≡ rows.Go next sent → OwnRow state next sent
@@ -96,16 +97,16 @@ own_row event state next sent own row =
 
 -- Such an event is always at hand.
 pub own_at_hand : (event : CacheEvent) (part : Part) → IsOwn event → stands part event ≡ true
-own_at_hand events.Load part own = refl
-own_at_hand events.Write part own = refl
-own_at_hand events.Eviction part own = refl
-own_at_hand (events.Data n k) part own = absurd own
-own_at_hand (events.DataE loads) part own = absurd own
-own_at_hand (events.InvAck n k) part own = absurd own
-own_at_hand events.Inv part own = absurd own
-own_at_hand events.FwdGetS part own = absurd own
-own_at_hand events.FwdGetM part own = absurd own
-own_at_hand events.PutAck part own = absurd own
+own_at_hand cache_events.Load part own = refl
+own_at_hand cache_events.Write part own = refl
+own_at_hand cache_events.Eviction part own = refl
+own_at_hand (cache_events.Data n k) part own = absurd own
+own_at_hand (cache_events.DataE loads) part own = absurd own
+own_at_hand (cache_events.InvAck n k) part own = absurd own
+own_at_hand cache_events.Inv part own = absurd own
+own_at_hand cache_events.FwdGetS part own = absurd own
+own_at_hand cache_events.FwdGetM part own = absurd own
+own_at_hand cache_events.PutAck part own = absurd own
 
 -- ---- the core's part
 
@@ -114,7 +115,7 @@ module _ (copy now : CacheCopy) (mail : CoreChannels) (part : Part) (next : Copy
     (asked : kind_of_request message ≡ asks_for sent part.look.request)
     (fresh : is_waiting next ≡ true → now.counted ≡ 0)
     (uncounted : is_waiting part.look.state ≡ false → part.counted ≡ 0) (stands : PartStands copy mail part) where
-  access_stands : PartStands now (record mail { request = message }) (acted events.Load 0 next sent part)
+  access_stands : PartStands now (record mail { request = message }) (part_after_row cache_events.Load 0 next sent part)
   access_stands = record {
     state = state;
     request = asked;
@@ -127,17 +128,17 @@ module _ (copy now : CacheCopy) (mail : CoreChannels) (part : Part) (next : Copy
 
   -- The part after its own turn is the new copy with the channels in which that request waits.
   pub own_stands : (event : CacheEvent) → IsOwn event
-      → PartStands now (record mail { request = message }) (acted event 0 next sent part)
-  own_stands events.Load own = access_stands
-  own_stands events.Write own = access_stands
-  own_stands events.Eviction own = access_stands
-  own_stands (events.Data n k) own = absurd own
-  own_stands (events.DataE loads) own = absurd own
-  own_stands (events.InvAck n k) own = absurd own
-  own_stands events.Inv own = absurd own
-  own_stands events.FwdGetS own = absurd own
-  own_stands events.FwdGetM own = absurd own
-  own_stands events.PutAck own = absurd own
+      → PartStands now (record mail { request = message }) (part_after_row event 0 next sent part)
+  own_stands cache_events.Load own = access_stands
+  own_stands cache_events.Write own = access_stands
+  own_stands cache_events.Eviction own = access_stands
+  own_stands (cache_events.Data n k) own = absurd own
+  own_stands (cache_events.DataE loads) own = absurd own
+  own_stands (cache_events.InvAck n k) own = absurd own
+  own_stands cache_events.Inv own = absurd own
+  own_stands cache_events.FwdGetS own = absurd own
+  own_stands cache_events.FwdGetM own = absurd own
+  own_stands cache_events.PutAck own = absurd own
 
 -- ---- the line
 

@@ -4,16 +4,16 @@ use Rattle.std.proofs.Common.{true≢false, Option, Some, None, slice_get}
 use Rattle.address_map.specs.declared.address.CoreId.{CoreId}
 use Rattle.slice_core_coherence.specs.Stands.{PartStands, kind_of_data, kind_of_request, named_by, queued_forward}
 use Rattle.slice_core_coherence.specs.Stands.{queued_inv, queued_put_ack}
-use Rattle.slice_core_protocol.specs.Fit.{is_counting, is_no_forward, is_put_ack_first}
-use Rattle.slice_core_protocol.specs.Line.{Forward, fwd_get_m, fwd_get_s, no_forward, no_data, Part}
+use Rattle.protocol_coherence.specs.Fit.{is_counting, is_no_forward, is_put_ack_first}
+use Rattle.protocol_coherence.specs.Line.{Forward, fwd_get_m, fwd_get_s, no_forward, no_data, Part}
 use Rattle.slice_core_plan.specs.Plan.{event_of_forwarded}
-use Rattle.slice_core_protocol.specs.Machine.{invalidated_by, stands, taken}
-use Rattle.slice_core_protocol.specs.Promise.{has_room_for_forward, has_room_for_inv}
-use Rattle.slice_core_side.specs.declared.copy.CacheCopy.{CacheCopy}
+use Rattle.protocol_coherence.specs.LineSteps.{invalidated_by, stands, look_after_take}
+use Rattle.protocol_coherence.specs.Promise.{has_room_for_forward, has_room_for_inv}
+use Rattle.slice_core_cache.specs.declared.copy.CacheCopy.{CacheCopy}
 use Rattle.slice_queues.specs.Line.{CoreChannels, with_invalidation}
 use Rattle.slice_queues_message.specs.declared.message.DataMessage.{DataMessage}
 use Rattle.slice_queues_message.specs.declared.message.ForwardedMessage.{ForwardedMessage}
-use Rattle.slice_queues_message.specs.declared.message.ForwardedMessage.TheVariants as forwards
+use Rattle.slice_queues_message.specs.declared.message.ForwardedMessage.TheVariants as forwarded_messages
 use Rattle.slice_queues_message.specs.declared.message.RequestMessage.{RequestMessage}
 
 -- ---- requests
@@ -94,7 +94,7 @@ queue_stands copy mail part queue inv owes_to asked names put_ack same stands = 
 
 inv_behind : (inv : Bool) (asked : Forward) (put_ack : Bool) (owes_to names : ℕ) (core : CoreId)
     → (not inv && is_no_forward asked && not put_ack) ≡ true
-    → slots inv owes_to asked names put_ack ++ forwards.Inv core ∷ [] ≡ slots true core.0 asked names put_ack
+    → slots inv owes_to asked names put_ack ++ forwarded_messages.Inv core ∷ [] ≡ slots true core.0 asked names put_ack
 inv_behind false no_forward false owes_to names core room = refl
 inv_behind false no_forward true owes_to names core room = absurd (true≢false (sym room))
 inv_behind false fwd_get_s put_ack owes_to names core room = absurd (true≢false (sym room))
@@ -105,17 +105,18 @@ pub inv_stands : (copy : CacheCopy) (mail : CoreChannels) (part : Part) (core : 
     → has_room_for_inv part.look ≡ true → PartStands copy mail part
     → PartStands copy (with_invalidation core mail) (invalidated_by core.0 part)
 inv_stands copy mail part core room stands =
-    queue_stands copy mail part (mail.forwarded ++ forwards.Inv core ∷ []) true core.0 part.look.forward part.names
+    queue_stands copy mail part (mail.forwarded ++ forwarded_messages.Inv core ∷ []) true core.0 part.look.forward
+        part.names
     part.look.put_ack
-    (ap (λ q. q ++ forwards.Inv core ∷ []) stands.queue
+    (ap (λ q. q ++ forwarded_messages.Inv core ∷ []) stands.queue
     ∙ inv_behind part.look.inv part.look.forward part.look.put_ack part.owes_to part.names core room)
     stands
 
 -- the message that asks for the line in this core's name, as the kind says
 abbrev pub request_for : Forward → CoreId → ForwardedMessage
-request_for fwd_get_s core = forwards.FwdGetS core
-request_for fwd_get_m core = forwards.FwdGetM core
-request_for no_forward core = forwards.PutAck
+request_for fwd_get_s core = forwarded_messages.FwdGetS core
+request_for fwd_get_m core = forwarded_messages.FwdGetM core
+request_for no_forward core = forwarded_messages.PutAck
 
 forward_behind : (inv : Bool) (asked : Forward) (put_ack : Bool) (owes_to names : ℕ) (kind : Forward) (core : CoreId)
     → is_no_forward kind ≡ false → (is_no_forward asked && not put_ack) ≡ true
@@ -145,7 +146,7 @@ forward_stands copy mail part kind core asks room stands =
     stands
 
 put_ack_behind : (inv : Bool) (asked : Forward) (put_ack : Bool) (owes_to names : ℕ) → not put_ack ≡ true
-    → slots inv owes_to asked names put_ack ++ forwards.PutAck ∷ [] ≡ slots inv owes_to asked names true
+    → slots inv owes_to asked names put_ack ++ forwarded_messages.PutAck ∷ [] ≡ slots inv owes_to asked names true
 put_ack_behind true no_forward false owes_to names room = refl
 put_ack_behind true fwd_get_s false owes_to names room = refl
 put_ack_behind true fwd_get_m false owes_to names room = refl
@@ -156,12 +157,13 @@ put_ack_behind inv asked true owes_to names room = absurd (true≢false (sym roo
 
 pub put_ack_stands : (copy : CacheCopy) (mail : CoreChannels) (part : Part) → not part.look.put_ack ≡ true
     → PartStands copy mail part
-    → PartStands copy (record mail { forwarded = mail.forwarded ++ forwards.PutAck ∷ [] })
+    → PartStands copy (record mail { forwarded = mail.forwarded ++ forwarded_messages.PutAck ∷ [] })
     (record part { look = record part.look { put_ack = true } })
 put_ack_stands copy mail part room stands =
-    queue_stands copy mail part (mail.forwarded ++ forwards.PutAck ∷ []) part.look.inv part.owes_to part.look.forward
+    queue_stands copy mail part (mail.forwarded ++ forwarded_messages.PutAck ∷ []) part.look.inv part.owes_to
+        part.look.forward
     part.names true
-    (ap (λ q. q ++ forwards.PutAck ∷ []) stands.queue
+    (ap (λ q. q ++ forwarded_messages.PutAck ∷ []) stands.queue
     ∙ put_ack_behind part.look.inv part.look.forward part.look.put_ack part.owes_to part.names room)
     stands
 
@@ -169,41 +171,41 @@ put_ack_stands copy mail part room stands =
 
 -- What the oldest message says of the slots.
 abbrev pub IsFirst : ForwardedMessage → Part → Type 0
-IsFirst (forwards.Inv core) part = (part.look.inv ≡ true) × (part.owes_to ≡ core.0)
-IsFirst (forwards.FwdGetS core) part =
+IsFirst (forwarded_messages.Inv core) part = (part.look.inv ≡ true) × (part.owes_to ≡ core.0)
+IsFirst (forwarded_messages.FwdGetS core) part =
     (part.look.inv ≡ false) × (part.look.forward ≡ fwd_get_s) × (part.names ≡ core.0)
-IsFirst (forwards.FwdGetM core) part =
+IsFirst (forwarded_messages.FwdGetM core) part =
     (part.look.inv ≡ false) × (part.look.forward ≡ fwd_get_m) × (part.names ≡ core.0)
-IsFirst forwards.PutAck part =
+IsFirst forwarded_messages.PutAck part =
     (part.look.inv ≡ false) × (part.look.forward ≡ no_forward) × (part.look.put_ack ≡ true)
 
 -- the core that a message names, or none
 named_in : Option ForwardedMessage → ℕ
-named_in (Some (forwards.Inv core)) = core.0
-named_in (Some (forwards.FwdGetS core)) = core.0
-named_in (Some (forwards.FwdGetM core)) = core.0
+named_in (Some (forwarded_messages.Inv core)) = core.0
+named_in (Some (forwarded_messages.FwdGetS core)) = core.0
+named_in (Some (forwarded_messages.FwdGetM core)) = core.0
 named_in _ = 0
 
 first_of_slots : (inv : Bool) (asked : Forward) (put_ack : Bool) (part : Part) (message : ForwardedMessage)
     → part.look.inv ≡ inv → part.look.forward ≡ asked → part.look.put_ack ≡ put_ack
     → slice_get (slots inv part.owes_to asked part.names put_ack) 0 ≡ Some message → IsFirst message part
 unfolding named_in
-first_of_slots true asked put_ack part (forwards.Inv core) i f p e = (i, ap named_in e)
-first_of_slots true asked put_ack part (forwards.FwdGetS core) i f p e = absurd (cc e)
-first_of_slots true asked put_ack part (forwards.FwdGetM core) i f p e = absurd (cc e)
-first_of_slots true asked put_ack part forwards.PutAck i f p e = absurd (cc e)
-first_of_slots false fwd_get_s put_ack part (forwards.FwdGetS core) i f p e = (i, f, ap named_in e)
-first_of_slots false fwd_get_s put_ack part (forwards.Inv core) i f p e = absurd (cc e)
-first_of_slots false fwd_get_s put_ack part (forwards.FwdGetM core) i f p e = absurd (cc e)
-first_of_slots false fwd_get_s put_ack part forwards.PutAck i f p e = absurd (cc e)
-first_of_slots false fwd_get_m put_ack part (forwards.FwdGetM core) i f p e = (i, f, ap named_in e)
-first_of_slots false fwd_get_m put_ack part (forwards.Inv core) i f p e = absurd (cc e)
-first_of_slots false fwd_get_m put_ack part (forwards.FwdGetS core) i f p e = absurd (cc e)
-first_of_slots false fwd_get_m put_ack part forwards.PutAck i f p e = absurd (cc e)
-first_of_slots false no_forward true part forwards.PutAck i f p e = (i, f, p)
-first_of_slots false no_forward true part (forwards.Inv core) i f p e = absurd (cc e)
-first_of_slots false no_forward true part (forwards.FwdGetS core) i f p e = absurd (cc e)
-first_of_slots false no_forward true part (forwards.FwdGetM core) i f p e = absurd (cc e)
+first_of_slots true asked put_ack part (forwarded_messages.Inv core) i f p e = (i, ap named_in e)
+first_of_slots true asked put_ack part (forwarded_messages.FwdGetS core) i f p e = absurd (cc e)
+first_of_slots true asked put_ack part (forwarded_messages.FwdGetM core) i f p e = absurd (cc e)
+first_of_slots true asked put_ack part forwarded_messages.PutAck i f p e = absurd (cc e)
+first_of_slots false fwd_get_s put_ack part (forwarded_messages.FwdGetS core) i f p e = (i, f, ap named_in e)
+first_of_slots false fwd_get_s put_ack part (forwarded_messages.Inv core) i f p e = absurd (cc e)
+first_of_slots false fwd_get_s put_ack part (forwarded_messages.FwdGetM core) i f p e = absurd (cc e)
+first_of_slots false fwd_get_s put_ack part forwarded_messages.PutAck i f p e = absurd (cc e)
+first_of_slots false fwd_get_m put_ack part (forwarded_messages.FwdGetM core) i f p e = (i, f, ap named_in e)
+first_of_slots false fwd_get_m put_ack part (forwarded_messages.Inv core) i f p e = absurd (cc e)
+first_of_slots false fwd_get_m put_ack part (forwarded_messages.FwdGetS core) i f p e = absurd (cc e)
+first_of_slots false fwd_get_m put_ack part forwarded_messages.PutAck i f p e = absurd (cc e)
+first_of_slots false no_forward true part forwarded_messages.PutAck i f p e = (i, f, p)
+first_of_slots false no_forward true part (forwarded_messages.Inv core) i f p e = absurd (cc e)
+first_of_slots false no_forward true part (forwarded_messages.FwdGetS core) i f p e = absurd (cc e)
+first_of_slots false no_forward true part (forwarded_messages.FwdGetM core) i f p e = absurd (cc e)
 first_of_slots false no_forward false part message i f p e = absurd (cc e)
 
 -- The oldest message of the channel is the first that stands in the slots.
@@ -217,37 +219,37 @@ first_stands copy mail part message is stands =
 pub first_at_hand : (message : ForwardedMessage) (part : Part) → IsFirst message part
     → stands part (event_of_forwarded message) ≡ true
 unfolding is_put_ack_first
-first_at_hand (forwards.Inv core) part first = first.0
-first_at_hand (forwards.FwdGetS core) part first = rw (first.0, first.1) refl
-first_at_hand (forwards.FwdGetM core) part first = rw (first.0, first.1) refl
-first_at_hand forwards.PutAck part first = rw (first.0, first.1, first.2) refl
+first_at_hand (forwarded_messages.Inv core) part first = first.0
+first_at_hand (forwarded_messages.FwdGetS core) part first = rw (first.0, first.1) refl
+first_at_hand (forwarded_messages.FwdGetM core) part first = rw (first.0, first.1) refl
+first_at_hand forwarded_messages.PutAck part first = rw (first.0, first.1, first.2) refl
 
 -- The queue is the slots again, once the oldest message is taken.
 pub first_taken : (copy : CacheCopy) (mail : CoreChannels) (part : Part) (message : ForwardedMessage)
     → IsFirst message part → PartStands copy mail part
     → PartStands copy (record mail { forwarded = drop 1 mail.forwarded })
-    (record part { look = taken (event_of_forwarded message) part.look })
-first_taken copy mail part (forwards.Inv core) first stands =
+    (record part { look = look_after_take (event_of_forwarded message) part.look })
+first_taken copy mail part (forwarded_messages.Inv core) first stands =
     queue_stands copy mail part (drop 1 mail.forwarded) false part.owes_to part.look.forward part.names
     part.look.put_ack
     (ap (drop 1) stands.queue
     ∙ ap (λ b. drop 1 (slots b part.owes_to part.look.forward part.names part.look.put_ack)) first.0)
     stands
-first_taken copy mail part (forwards.FwdGetS core) first stands =
+first_taken copy mail part (forwarded_messages.FwdGetS core) first stands =
     queue_stands copy mail part (drop 1 mail.forwarded) part.look.inv part.owes_to no_forward part.names
     part.look.put_ack
     (ap (drop 1) stands.queue
     ∙ ap (λ f. drop 1 (slots part.look.inv part.owes_to f part.names part.look.put_ack)) first.1
     ∙ rw first.0 refl)
     stands
-first_taken copy mail part (forwards.FwdGetM core) first stands =
+first_taken copy mail part (forwarded_messages.FwdGetM core) first stands =
     queue_stands copy mail part (drop 1 mail.forwarded) part.look.inv part.owes_to no_forward part.names
     part.look.put_ack
     (ap (drop 1) stands.queue
     ∙ ap (λ f. drop 1 (slots part.look.inv part.owes_to f part.names part.look.put_ack)) first.1
     ∙ rw first.0 refl)
     stands
-first_taken copy mail part forwards.PutAck first stands =
+first_taken copy mail part forwarded_messages.PutAck first stands =
     queue_stands copy mail part (drop 1 mail.forwarded) part.look.inv part.owes_to part.look.forward part.names false
     (ap (drop 1) stands.queue
     ∙ ap (λ b. drop 1 (slots part.look.inv part.owes_to part.look.forward part.names b)) first.2

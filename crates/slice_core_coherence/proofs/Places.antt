@@ -2,11 +2,11 @@
 use Rattle.std.proofs.Common.{◌≡◌, ℕ, ◌<◌, ◌==◌, Bool, true, false, if◌then◌else◌, length, refl, sym, ap, ◌∙◌, subst}
 use Rattle.std.proofs.lemmas.List.{length-set}
 use Rattle.address_map.specs.CoreSet.{has}
+use Rattle.protocol_coherence.specs.Line.{Part}
+use Rattle.protocol_coherence.specs.LineSteps.{change_if, stands_ack}
+use Rattle.slice_core_cache.specs.declared.copy.CacheCopy.{CacheCopy}
 use Rattle.slice_core_coherence.proofs.Frame.{by_number, read-set, with_copy_at}
 use Rattle.slice_core_coherence.specs.Stands.{AcksStand, PartStands}
-use Rattle.slice_core_protocol.specs.Line.{Part}
-use Rattle.slice_core_protocol.specs.Machine.{change_if, stands_ack}
-use Rattle.slice_core_side.specs.declared.copy.CacheCopy.{CacheCopy}
 use Rattle.slice_queues.proofs.LineLaws.{read-set_unchanged}
 use Rattle.slice_queues.specs.Line.{CoreChannels, LineChannels, core_at, no_messages, with_core}
 

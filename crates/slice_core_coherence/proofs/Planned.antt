@@ -9,7 +9,7 @@ use Rattle.address_map.specs.declared.address.CoreId.{CoreId}
 use Rattle.address_map.specs.declared.address.Local.{Local}
 use Rattle.cache_array.specs.Array.{held_at as array_at}
 use Rattle.cache_table.specs.Row.{row_of}
-use Rattle.cache_table.specs.declared.row.CacheEvent.TheVariants as events
+use Rattle.cache_table.specs.declared.row.CacheEvent.TheVariants as cache_events
 use Rattle.cache_table.specs.declared.row.CacheSends.{CacheSends}
 use Rattle.cache_table.specs.declared.row.Row.{Row}
 use Rattle.cache_table.specs.declared.row.Row.TheVariants as rows
@@ -19,29 +19,29 @@ use Rattle.directory_table.specs.declared.row.DirEvent.TheVariants as dir_events
 use Rattle.directory_table.specs.declared.row.DirRow.{DirRow}
 use Rattle.directory_table.specs.declared.row.DirRow.TheVariants as dir_rows
 use Rattle.directory_table.specs.declared.row.DirStep.{DirStep}
-use Rattle.slice_core_answer.specs.declared.answer.Cell.TheVariants as cells
+use Rattle.slice_answer.specs.declared.answer.Cell.TheVariants as cells
 use Rattle.slice_core_plan.specs.Plan.{ack_plan, acknowledge_at, asks, by_ack_row, by_data_row, by_directory_row}
 use Rattle.slice_core_plan.specs.Plan.{by_forwarded_row, by_home_row, data_by, data_plan, event_of_data}
 use Rattle.slice_core_plan.specs.Plan.{event_of_forwarded, event_of_request, fill_at, forwarded_by, forwarded_plan}
 use Rattle.slice_core_plan.specs.Plan.{home_plan, is_put_ack, plan_of, request_by, request_plan, requester_of}
 use Rattle.slice_core_plan.specs.Plan.{stands_at}
 use Rattle.slice_core_plan.specs.Sends.{cache_room, directory_room}
-use Rattle.slice_core_plan.specs.View.{View, IsShaped, channels_at, entry_at, side_at}
+use Rattle.slice_core_plan.specs.View.{View, IsShaped, channels_at, entry_at, cache_at}
 use Rattle.slice_core_plan.specs.Within.{HasCopy}
-use Rattle.slice_core_side.specs.Copy.{found_in}
-use Rattle.slice_core_side.specs.Side.{copy_of}
-use Rattle.slice_core_side.specs.declared.copy.CacheCopy.{CacheCopy}
+use Rattle.slice_core_cache.specs.Copy.{found_in}
+use Rattle.slice_core_cache.specs.CoreCache.{copy_of}
+use Rattle.slice_core_cache.specs.declared.copy.CacheCopy.{CacheCopy}
 use Rattle.slice_queues.specs.Line.{CoreChannels, core_at, no_messages}
 use Rattle.slice_queues_message.specs.declared.channel.Channel.{Channel}
 use Rattle.slice_queues_message.specs.declared.channel.Channel.TheVariants as channels
 use Rattle.slice_queues_message.specs.declared.message.DataMessage.{DataMessage}
 use Rattle.slice_queues_message.specs.declared.message.ForwardedMessage.{ForwardedMessage}
-use Rattle.slice_queues_message.specs.declared.message.ForwardedMessage.TheVariants as forwards
+use Rattle.slice_queues_message.specs.declared.message.ForwardedMessage.TheVariants as forwarded_messages
 use Rattle.slice_queues_message.specs.declared.message.RequestMessage.{RequestMessage}
 use Rattle.writeback_buffer.specs.Buffer.{held_at as buffer_at}
-use Rattle.writeback_buffer.specs.declared.entry.Leaving.{Leaving}
-use Rattle.slice_core_answer.specs.declared.answer.Delivery.TheVariants as deliveries
-use Rattle.slice_core_answer.specs.declared.answer.Delivery.{Delivery}
+use Rattle.writeback_buffer.specs.declared.pending.Leaving.{Leaving}
+use Rattle.slice_answer.specs.declared.answer.Delivery.TheVariants as deliveries
+use Rattle.slice_answer.specs.declared.answer.Delivery.{Delivery}
 use Rattle.slice_core_plan.specs.Plan.{directory_move, forwarded_move}
 use Rattle.slice_core_plan.specs.declared.transition.Transition.TheVariants as transitions
 use Rattle.slice_core_plan.specs.declared.transition.Transition.{Transition}
@@ -51,12 +51,12 @@ abbrev pub IsFor : View → Channel → Local → Delivery Transition → Type 0
 IsFor v channel local deliveries.Nothing = Unit {0}
 IsFor v channel local deliveries.Blocked = Unit {0}
 IsFor v channel local (deliveries.Broken cell) = Unit {0}
-IsFor v (channels.Req core) local (deliveries.Moved (transitions.Directory step)) = core.0 < length v.sides
+IsFor v (channels.Req core) local (deliveries.Moved (transitions.Directory step)) = core.0 < length v.caches
 IsFor v channels.Home local (deliveries.Moved (transitions.Home step)) = Unit {0}
 IsFor v (channels.Fwd core) local (deliveries.Moved (transitions.Forwarded step)) =
-    (core.0 < length v.sides) × HasCopy (side_at v core) local
-IsFor v (channels.Data core) local (deliveries.Moved (transitions.Fill step)) = core.0 < length v.sides
-IsFor v (channels.Ack to from) local (deliveries.Moved (transitions.Acknowledge step)) = to.0 < length v.sides
+    (core.0 < length v.caches) × HasCopy (cache_at v core) local
+IsFor v (channels.Data core) local (deliveries.Moved (transitions.Fill step)) = core.0 < length v.caches
+IsFor v (channels.Ack to from) local (deliveries.Moved (transitions.Acknowledge step)) = to.0 < length v.caches
 IsFor v channel local plan = ⊥
 
 -- The core has a copy, or the table has no row for the message.
@@ -65,24 +65,24 @@ copy_or_no_row : (copy : Option CacheCopy) (leaving : Option Leaving) (message :
     ⊎ (row_of (found_in copy leaving).state (event_of_forwarded message) ≡ rows.NoEntry)
 copy_or_no_row (Some copy) leaving message = inl (inl refl)
 copy_or_no_row None (Some leaving) message = inl (inr refl)
-copy_or_no_row None None (forwards.FwdGetS requester) = inr refl
-copy_or_no_row None None (forwards.FwdGetM requester) = inr refl
-copy_or_no_row None None (forwards.Inv requester) = inr refl
-copy_or_no_row None None forwards.PutAck = inr refl
+copy_or_no_row None None (forwarded_messages.FwdGetS requester) = inr refl
+copy_or_no_row None None (forwarded_messages.FwdGetM requester) = inr refl
+copy_or_no_row None None (forwarded_messages.Inv requester) = inr refl
+copy_or_no_row None None forwarded_messages.PutAck = inr refl
 
 module _ (v : View) (local : Local) (shaped : IsShaped v) (inside : local.0 < v.lines.lines) where
   -- No message waits for a core that isn't there.
-  nobody : (core : ℕ) → length v.sides ≤ core → core_at (channels_at v local) core ≡ no_messages
+  nobody : (core : ℕ) → length v.caches ≤ core → core_at (channels_at v local) core ≡ no_messages
   nobody core past =
       get_or_past (channels_at v local).cores core no_messages (rw (shaped.cores local inside) past)
 
   -- What is known of a core that is there, and where it has no message, is known of each.
   by_core : (core : CoreId) (plan : CoreChannels → Delivery Transition) (channel : Channel)
       → IsFor v channel local (plan no_messages)
-      → (core.0 < length v.sides → IsFor v channel local (plan (core_at (channels_at v local) core.0)))
+      → (core.0 < length v.caches → IsFor v channel local (plan (core_at (channels_at v local) core.0)))
       → IsFor v channel local (plan (core_at (channels_at v local) core.0))
   by_core core plan channel none there =
-      elim (cases_lt core.0 (length v.sides)) [
+      elim (cases_lt core.0 (length v.caches)) [
         | inl within ↦ there within
         | inr past ↦ subst (λ m. IsFor v channel local (plan m)) (sym (nobody core.0 past)) none
       ]
@@ -92,18 +92,18 @@ module _ (v : View) (local : Local) (shaped : IsShaped v) (inside : local.0 < v.
       by_core core (λ m. request_by v local core m.request) (channels.Req core) tt
       (λ there. by there (core_at (channels_at v local) core.0).request)
     where
-      room : core.0 < length v.sides → (b : Bool) (step : DirStep)
+      room : core.0 < length v.caches → (b : Bool) (step : DirStep)
           → IsFor v (channels.Req core) local (if b then directory_move step else deliveries.Broken cells.Full)
       room there true step = there
       room there false step = tt
 
-      row : core.0 < length v.sides → (r : DirRow)
+      row : core.0 < length v.caches → (r : DirRow)
           → IsFor v (channels.Req core) local (by_directory_row (channels_at v local) core r)
       row there dir_rows.NoEntry = tt
       row there dir_rows.Blocked = tt
       row there (dir_rows.Go step) = room there (directory_room (channels_at v local) core step.sends) step
 
-      by : core.0 < length v.sides → (waits : Option RequestMessage)
+      by : core.0 < length v.caches → (waits : Option RequestMessage)
           → IsFor v (channels.Req core) local (request_by v local core waits)
       by there None = tt
       by there (Some message) = row there (dir_row_of v.exclusive (entry_at v local) (event_of_request core message))
@@ -122,7 +122,7 @@ module _ (v : View) (local : Local) (shaped : IsShaped v) (inside : local.0 < v.
       by_core core (λ m. forwarded_by v local core (slice_get m.forwarded 0)) (channels.Fwd core) tt
       (λ there. by there (slice_get (core_at (channels_at v local) core.0).forwarded 0))
     where
-      tests : core.0 < length v.sides → HasCopy (side_at v core) local → (full early : Bool) (next : CopyState)
+      tests : core.0 < length v.caches → HasCopy (cache_at v core) local → (full early : Bool) (next : CopyState)
           (sent : CacheSends) (requester : CoreId)
           → IsFor v (channels.Fwd core) local (if full then deliveries.Broken cells.Full
           else if early then deliveries.Broken cells.Early else forwarded_move next sent requester)
@@ -130,8 +130,8 @@ module _ (v : View) (local : Local) (shaped : IsShaped v) (inside : local.0 < v.
       tests there copy false true next sent requester = tt
       tests there copy false false next sent requester = (there, copy)
 
-      row : core.0 < length v.sides → (message : ForwardedMessage) (r : Row)
-          → HasCopy (side_at v core) local ⊎ (r ≡ rows.NoEntry)
+      row : core.0 < length v.caches → (message : ForwardedMessage) (r : Row)
+          → HasCopy (cache_at v core) local ⊎ (r ≡ rows.NoEntry)
           → IsFor v (channels.Fwd core) local (by_forwarded_row v local core message r)
       row there message rows.NoEntry copy = tt
       row there message rows.Blocked copy = tt
@@ -140,12 +140,13 @@ module _ (v : View) (local : Local) (shaped : IsShaped v) (inside : local.0 < v.
           (is_put_ack message && asks v local core) next sent (requester_of core message)
       row there message (rows.Go next sent) (inr none) = absurd (cc none)
 
-      by : core.0 < length v.sides → (waits : Option ForwardedMessage)
+      by : core.0 < length v.caches → (waits : Option ForwardedMessage)
           → IsFor v (channels.Fwd core) local (forwarded_by v local core waits)
       by there None = tt
       by there (Some message) =
-          row there message (row_of (copy_of (side_at v core) local).state (event_of_forwarded message))
-          (copy_or_no_row (array_at (side_at v core).array local) (buffer_at (side_at v core).buffer.entries local.0)
+          row there message (row_of (copy_of (cache_at v core) local).state (event_of_forwarded message))
+          (copy_or_no_row (array_at (cache_at v core).array local)
+          (buffer_at (cache_at v core).buffer.write_backs local.0)
           message)
 
   for_data : (core : CoreId) → IsFor v (channels.Data core) local (data_plan v local core)
@@ -153,33 +154,33 @@ module _ (v : View) (local : Local) (shaped : IsShaped v) (inside : local.0 < v.
       by_core core (λ m. data_by v local core m.data) (channels.Data core) tt
       (λ there. by there (core_at (channels_at v local) core.0).data)
     where
-      filled : core.0 < length v.sides → (stands : Option ℕ) (next : CopyState)
+      filled : core.0 < length v.caches → (stands : Option ℕ) (next : CopyState)
           → IsFor v (channels.Data core) local (fill_at stands next)
       filled there None next = tt
-      filled there (Some place) next = there
+      filled there (Some way) next = there
 
-      early : core.0 < length v.sides → (b : Bool) (next : CopyState)
+      early : core.0 < length v.caches → (b : Bool) (next : CopyState)
           → IsFor v (channels.Data core) local
           (if b then deliveries.Broken cells.Early else fill_at (stands_at v local core) next)
       early there true next = tt
       early there false next = filled there (stands_at v local core) next
 
-      row : core.0 < length v.sides → (r : Row) → IsFor v (channels.Data core) local (by_data_row v local core r)
+      row : core.0 < length v.caches → (r : Row) → IsFor v (channels.Data core) local (by_data_row v local core r)
       row there rows.NoEntry = tt
       row there rows.Blocked = tt
       row there (rows.Go next sent) = early there (asks v local core) next
 
-      by : core.0 < length v.sides → (waits : Option DataMessage)
+      by : core.0 < length v.caches → (waits : Option DataMessage)
           → IsFor v (channels.Data core) local (data_by v local core waits)
       by there None = tt
       by there (Some message) =
-          row there (row_of (copy_of (side_at v core) local).state (event_of_data v local core message))
+          row there (row_of (copy_of (cache_at v core) local).state (event_of_data v local core message))
 
   -- the row for an acknowledgement that comes now
   abbrev ack_row : CoreId → Row
   ack_row to =
-      row_of (copy_of (side_at v to) local).state
-      (events.InvAck (copy_of (side_at v to) local).wants (copy_of (side_at v to) local).counted)
+      row_of (copy_of (cache_at v to) local).state
+      (cache_events.InvAck (copy_of (cache_at v to) local).wants (copy_of (cache_at v to) local).counted)
 
   for_ack : (to from : CoreId) → IsFor v (channels.Ack to from) local (ack_plan v local to from)
   for_ack to from =
@@ -190,12 +191,12 @@ module _ (v : View) (local : Local) (shaped : IsShaped v) (inside : local.0 < v.
       (sym (has-zero from.0)) tt)
       (λ there. by there (has (core_at (channels_at v local) to.0).acks from.0) (ack_row to))
     where
-      counted : to.0 < length v.sides → (stands : Option ℕ) (next : CopyState)
+      counted : to.0 < length v.caches → (stands : Option ℕ) (next : CopyState)
           → IsFor v (channels.Ack to from) local (acknowledge_at stands next)
       counted there None next = tt
-      counted there (Some place) next = there
+      counted there (Some way) next = there
 
-      by : to.0 < length v.sides → (waits : Bool) (r : Row)
+      by : to.0 < length v.caches → (waits : Bool) (r : Row)
           → IsFor v (channels.Ack to from) local (if waits then by_ack_row v local to r else deliveries.Nothing)
       by there true rows.NoEntry = tt
       by there true rows.Blocked = tt

@@ -13,13 +13,13 @@ use Rattle.directory_table.specs.Row as Directory
 use Rattle.directory_table.specs.declared.row.DirEvent.{DirEvent}
 use Rattle.directory_table.specs.declared.row.DirEvent.TheVariants as dir_events
 use Rattle.directory_table.specs.declared.row.DirRow.{DirRow}
-use Rattle.directory_table.specs.declared.row.DirRow.TheVariants as rows
+use Rattle.directory_table.specs.declared.row.DirRow.TheVariants as dir_rows
 use Rattle.directory_table.specs.declared.row.DirSends.{DirSends}
 use Rattle.directory_table.specs.declared.row.DirSends.TheVariants as dir_sends
 use Rattle.directory_table.specs.declared.row.DirStep.{DirStep}
 use Rattle.directory_table.specs.declared.state.DirEntry.{DirEntry}
-use Rattle.slice_core_answer.specs.declared.answer.Cell.{Cell}
-use Rattle.slice_core_answer.specs.declared.answer.Cell.TheVariants as cells
+use Rattle.slice_answer.specs.declared.answer.Cell.{Cell}
+use Rattle.slice_answer.specs.declared.answer.Cell.TheVariants as cells
 use Rattle.slice_core_coherence.proofs.Directory.{room_here}
 use Rattle.slice_core_coherence.proofs.Served.{asked_here, row_here, within_here}
 use Rattle.slice_core_coherence.specs.Stands.{LineStands, kind_of_data, kind_of_request, queued_forward, queued_inv}
@@ -27,37 +27,37 @@ use Rattle.slice_core_coherence.specs.Stands.{queued_put_ack}
 use Rattle.slice_core_plan.proofs.RoomLaws.{takes-from}
 use Rattle.slice_core_plan.specs.Plan.{by_directory_row, event_of_request}
 use Rattle.slice_core_plan.specs.Sends.{directory_room, takes, takes_invalidations}
-use Rattle.slice_core_protocol.proofs.Promises.{reached_has_room, reached_has_rows}
-use Rattle.slice_core_protocol.proofs.Steps.{reached_coherent}
-use Rattle.slice_core_protocol.specs.Fit.{is_no_data, is_no_forward, is_no_request}
-use Rattle.slice_core_protocol.specs.Line.{Forward, fwd_get_m, fwd_get_s, no_forward, Line}
-use Rattle.slice_core_protocol.specs.Machine.{Reached, entry_of, is_asked_for}
-use Rattle.slice_core_protocol.specs.Promise.{HasRoomAtService, has_room_for_put_ack, is_directory_entry}
-use Rattle.slice_core_side.specs.declared.copy.CacheCopy.{CacheCopy}
+use Rattle.protocol_coherence.proofs.Promises.{reached_has_room, reached_has_rows}
+use Rattle.protocol_coherence.proofs.Steps.{reached_coherent}
+use Rattle.protocol_coherence.specs.Fit.{is_no_data, is_no_forward, is_no_request}
+use Rattle.protocol_coherence.specs.Line.{Forward, fwd_get_m, fwd_get_s, no_forward, Line}
+use Rattle.protocol_coherence.specs.LineSteps.{Reached, entry_of, is_asked_for}
+use Rattle.protocol_coherence.specs.Promise.{HasRoomAtService, has_room_for_put_ack, is_directory_entry}
+use Rattle.slice_core_cache.specs.declared.copy.CacheCopy.{CacheCopy}
 use Rattle.slice_queues.specs.Line.{LineChannels, core_at}
 use Rattle.slice_queues_message.specs.declared.channel.Channel.TheVariants as channels
 use Rattle.slice_queues_message.specs.declared.message.DataMessage.{DataMessage}
-use Rattle.slice_queues_message.specs.declared.message.DataMessage.TheVariants as replies
+use Rattle.slice_queues_message.specs.declared.message.DataMessage.TheVariants as data_messages
 use Rattle.slice_queues_message.specs.declared.message.Message.TheVariants as messages
 use Rattle.slice_queues_message.specs.declared.message.RequestMessage.{RequestMessage}
-use Rattle.slice_queues_message.specs.declared.message.RequestMessage.TheVariants as requests
-use Rattle.slice_core_answer.specs.declared.answer.Delivery.TheVariants as deliveries
+use Rattle.slice_queues_message.specs.declared.message.RequestMessage.TheVariants as request_messages
+use Rattle.slice_answer.specs.declared.answer.Delivery.TheVariants as deliveries
 use Rattle.slice_core_plan.specs.Plan.{directory_move}
 
 -- ---- room
 
 no_data_waits : (waiting : Option DataMessage) → is_no_data (kind_of_data waiting) ≡ true → waiting ≡ None
 no_data_waits None none = refl
-no_data_waits (Some (replies.Data block acks)) none = absurd (true≢false (sym none))
-no_data_waits (Some (replies.DataE block)) none = absurd (true≢false (sym none))
+no_data_waits (Some (data_messages.Data block acks)) none = absurd (true≢false (sym none))
+no_data_waits (Some (data_messages.DataE block)) none = absurd (true≢false (sym none))
 
 pub no_request_waits : (waiting : Option RequestMessage)
     → is_no_request (kind_of_request waiting) ≡ true → waiting ≡ None
 no_request_waits None none = refl
-no_request_waits (Some requests.GetS) none = absurd (true≢false (sym none))
-no_request_waits (Some requests.GetM) none = absurd (true≢false (sym none))
-no_request_waits (Some requests.PutS) none = absurd (true≢false (sym none))
-no_request_waits (Some (requests.PutM block)) none = absurd (true≢false (sym none))
+no_request_waits (Some request_messages.GetS) none = absurd (true≢false (sym none))
+no_request_waits (Some request_messages.GetM) none = absurd (true≢false (sym none))
+no_request_waits (Some request_messages.PutS) none = absurd (true≢false (sym none))
+no_request_waits (Some (request_messages.PutM block)) none = absurd (true≢false (sym none))
 
 -- One more message finds room behind these slots.
 short_slots : (inv : Bool) (asked : Forward) (put_ack : Bool) (owes_to names : ℕ)
@@ -122,7 +122,7 @@ module _ (exclusive : Bool) (cores : ℕ) (entry : DirEntry) (line : LineChannel
   -- ---- the directory
 
   sharer_within : (event : DirEvent) (step : DirStep) → Directory.row_of exclusive (entry_of l entry.home) event
-      ≡ rows.Go step → (x : ℕ) → x < 64 → is_sent_inv step.sends x ≡ true → x < cores
+      ≡ dir_rows.Go step → (x : ℕ) → x < 64 → is_sent_inv step.sends x ≡ true → x < cores
   sharer_within event step row x below named =
       let kept = reached_coherent exclusive cores l some most reached in
       let law : Invalidates l.directory l.sharers event step.sends =
@@ -183,9 +183,9 @@ module _ (exclusive : Bool) (cores : ℕ) (entry : DirEntry) (line : LineChannel
 
       by : (row : DirRow) → Directory.row_of exclusive entry event ≡ row
           → by_directory_row line core row ≡ deliveries.Broken cell → ⊥
-      by rows.NoEntry known is = true≢false (sym (has_row rows.NoEntry known))
-      by rows.Blocked known is = absurd (cc is)
-      by (rows.Go step) known is =
+      by dir_rows.NoEntry known is = true≢false (sym (has_row dir_rows.NoEntry known))
+      by dir_rows.Blocked known is = absurd (cc is)
+      by (dir_rows.Go step) known is =
           let room = room_for core below step.sends (sharer_within event step (same ∙ known))
           (room_here cores l core message step.sends ((reached_has_room exclusive cores l some most reached).serve event
           entry.home step (within_here cores core message below) asked (same ∙ known))) in

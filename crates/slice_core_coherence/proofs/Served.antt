@@ -12,14 +12,14 @@ use Rattle.directory_table.specs.Law.{acknowledges_put, forwarded_to, is_sent_in
 use Rattle.directory_table.specs.Row as Directory
 use Rattle.directory_table.specs.Row.{cell}
 use Rattle.directory_table.specs.declared.row.DirEvent.{DirEvent}
-use Rattle.directory_table.specs.declared.row.DirEvent.TheVariants as asks
+use Rattle.directory_table.specs.declared.row.DirEvent.TheVariants as dir_events
 use Rattle.directory_table.specs.declared.row.DirRow.{DirRow}
-use Rattle.directory_table.specs.declared.row.DirRow.TheVariants as rows
+use Rattle.directory_table.specs.declared.row.DirRow.TheVariants as dir_rows
 use Rattle.directory_table.specs.declared.row.DirSends.{DirSends}
-use Rattle.directory_table.specs.declared.row.DirSends.TheVariants as answers
+use Rattle.directory_table.specs.declared.row.DirSends.TheVariants as dir_sends
 use Rattle.directory_table.specs.declared.row.DirStep.{DirStep}
 use Rattle.directory_table.specs.declared.state.DirEntry.{DirEntry}
-use Rattle.slice_core_answer.specs.declared.answer.Cell.TheVariants as cells
+use Rattle.slice_answer.specs.declared.answer.Cell.TheVariants as cells
 use Rattle.slice_core_coherence.proofs.Frame.{by_number}
 use Rattle.slice_core_coherence.proofs.Parts.{data_stand, forward_stands, inv_stands, put_ack_stands, request_for}
 use Rattle.slice_core_coherence.proofs.Parts.{request_stands, with_data, with_forward, with_request}
@@ -29,25 +29,26 @@ use Rattle.slice_core_coherence.specs.Stands.{EntryStands, PartStands, kind_of_r
 use Rattle.slice_core_plan.specs.Plan.{by_directory_row, event_of_request, request_by}
 use Rattle.slice_core_plan.specs.Sends.{directory_room, directory_sent}
 use Rattle.slice_core_plan.specs.View.{View, channels_at, entry_at}
-use Rattle.slice_core_protocol.proofs.Frame.{at_place}
-use Rattle.slice_core_protocol.specs.Fit.{is_counting, is_get_m, is_get_s, is_no_forward, is_put_m, is_put_s}
-use Rattle.slice_core_protocol.specs.Line.{Forward, Line, Part, fwd_get_m, fwd_get_s}
-use Rattle.slice_core_protocol.specs.Machine.{IsWithin, after_service, answered, change_if, entry_of, forwarded}
-use Rattle.slice_core_protocol.specs.Machine.{invalidated_by, is_asked_for, stands_ack}
-use Rattle.slice_core_protocol.specs.Promise.{has_room_for_forward, has_room_for_inv, has_room_for_put_ack}
-use Rattle.slice_core_side.specs.declared.copy.CacheCopy.{CacheCopy}
+use Rattle.protocol_coherence.proofs.Frame.{at_place}
+use Rattle.protocol_coherence.specs.Fit.{is_counting, is_get_m, is_get_s, is_no_forward, is_put_m, is_put_s}
+use Rattle.protocol_coherence.specs.Line.{Forward, Line, Part, fwd_get_m, fwd_get_s}
+use Rattle.protocol_coherence.specs.LineSteps.{IsWithin, after_service, part_after_answer, change_if, entry_of}
+use Rattle.protocol_coherence.specs.LineSteps.{part_after_forward}
+use Rattle.protocol_coherence.specs.LineSteps.{invalidated_by, is_asked_for, stands_ack}
+use Rattle.protocol_coherence.specs.Promise.{has_room_for_forward, has_room_for_inv, has_room_for_put_ack}
+use Rattle.slice_core_cache.specs.declared.copy.CacheCopy.{CacheCopy}
 use Rattle.slice_queues.proofs.InvalidateLaws.{core_at-after_invalidating}
 use Rattle.slice_queues.specs.Line.{CoreChannels, LineChannels, after_invalidating, after_send, after_take, core_at}
 use Rattle.slice_queues.specs.Line.{no_messages, with_invalidation}
 use Rattle.slice_queues_message.specs.declared.channel.Channel.TheVariants as channels
 use Rattle.slice_queues_message.specs.declared.message.DataMessage.{DataMessage}
-use Rattle.slice_queues_message.specs.declared.message.DataMessage.TheVariants as replies
-use Rattle.slice_queues_message.specs.declared.message.ForwardedMessage.TheVariants as forwards
+use Rattle.slice_queues_message.specs.declared.message.DataMessage.TheVariants as data_messages
+use Rattle.slice_queues_message.specs.declared.message.ForwardedMessage.TheVariants as forwarded_messages
 use Rattle.slice_queues_message.specs.declared.message.Message.TheVariants as messages
 use Rattle.slice_queues_message.specs.declared.message.RequestMessage.{RequestMessage}
-use Rattle.slice_queues_message.specs.declared.message.RequestMessage.TheVariants as requests
-use Rattle.slice_core_answer.specs.declared.answer.Delivery.TheVariants as deliveries
-use Rattle.slice_core_answer.specs.declared.answer.Delivery.{Delivery}
+use Rattle.slice_queues_message.specs.declared.message.RequestMessage.TheVariants as request_messages
+use Rattle.slice_answer.specs.declared.answer.Delivery.TheVariants as deliveries
+use Rattle.slice_answer.specs.declared.answer.Delivery.{Delivery}
 use Rattle.slice_core_plan.specs.Plan.{directory_move}
 use Rattle.slice_core_plan.specs.declared.transition.Transition.TheVariants as transitions
 use Rattle.slice_core_plan.specs.declared.transition.Transition.{Transition}
@@ -56,19 +57,19 @@ use Rattle.slice_core_plan.specs.declared.transition.Transition.{Transition}
 
 -- what is planned by a row that goes on
 row_in : Delivery Transition → DirRow
-row_in (deliveries.Moved (transitions.Directory step)) = rows.Go step
-row_in _ = rows.Blocked
+row_in (deliveries.Moved (transitions.Directory step)) = dir_rows.Go step
+row_in _ = dir_rows.Blocked
 
 module _ (step : DirStep) where
   planned_by : (line : LineChannels) (core : CoreId) (row : DirRow)
-      → by_directory_row line core row ≡ directory_move step → row ≡ rows.Go step
+      → by_directory_row line core row ≡ directory_move step → row ≡ dir_rows.Go step
   unfolding row_in
-  planned_by line core rows.NoEntry is = absurd (cc is)
-  planned_by line core rows.Blocked is = absurd (cc is)
-  planned_by line core (rows.Go other) is = by_room (directory_room line core other.sends) is
+  planned_by line core dir_rows.NoEntry is = absurd (cc is)
+  planned_by line core dir_rows.Blocked is = absurd (cc is)
+  planned_by line core (dir_rows.Go other) is = by_room (directory_room line core other.sends) is
     where
       by_room : (room : Bool) → (if room then directory_move other else deliveries.Broken cells.Full) ≡ directory_move step
-          → rows.Go other ≡ rows.Go step
+          → dir_rows.Go other ≡ dir_rows.Go step
       by_room true is = ap row_in is
       by_room false is = absurd (cc is)
 
@@ -76,7 +77,7 @@ module _ (step : DirStep) where
   pub record Served (v : View) (local : Local) (core : CoreId) : Type 0 where
     pub message : RequestMessage
     pub waits : (core_at (channels_at v local) core.0).request ≡ Some message
-    pub row : Directory.row_of v.exclusive (entry_at v local) (event_of_request core message) ≡ rows.Go step
+    pub row : Directory.row_of v.exclusive (entry_at v local) (event_of_request core message) ≡ dir_rows.Go step
 
   pub served : (v : View) (local : Local) (core : CoreId) (request : Option RequestMessage)
       → (core_at (channels_at v local) core.0).request ≡ request
@@ -101,36 +102,36 @@ row_here exclusive entry line home event stands =
 pub asked_here : (line : Line) (core : CoreId) (message : RequestMessage)
     → kind_of_request (Some message) ≡ (line.part core.0).look.request
     → is_asked_for line (event_of_request core message) ≡ true
-asked_here line core requests.GetS is = sym (ap is_get_s is)
-asked_here line core requests.GetM is = sym (ap is_get_m is)
-asked_here line core requests.PutS is = sym (ap is_put_s is)
-asked_here line core (requests.PutM block) is = sym (ap is_put_m is)
+asked_here line core request_messages.GetS is = sym (ap is_get_s is)
+asked_here line core request_messages.GetM is = sym (ap is_get_m is)
+asked_here line core request_messages.PutS is = sym (ap is_put_s is)
+asked_here line core (request_messages.PutM block) is = sym (ap is_put_m is)
 
 pub within_here : (cores : ℕ) (core : CoreId) (message : RequestMessage) → core.0 < cores
     → IsWithin cores (event_of_request core message)
-within_here cores core requests.GetS below = below
-within_here cores core requests.GetM below = below
-within_here cores core requests.PutS below = below
-within_here cores core (requests.PutM block) below = below
+within_here cores core request_messages.GetS below = below
+within_here cores core request_messages.GetM below = below
+within_here cores core request_messages.PutS below = below
+within_here cores core (request_messages.PutM block) below = below
 
 -- ---- the line after the row
 
 -- Whatever was asked for, what is sent says the rest.
 abbrev pub after_row : Line → CoreId → DirStep → Line
-after_row line core step = after_service line (asks.GetS core) step
+after_row line core step = after_service line (dir_events.GetS core) step
 
 pub same_service : (line : Line) (core : CoreId) (message : RequestMessage) (step : DirStep)
     → after_service line (event_of_request core message) step ≡ after_row line core step
-same_service line core requests.GetS step = refl
-same_service line core requests.GetM step = refl
-same_service line core requests.PutS step = refl
-same_service line core (requests.PutM block) step = refl
+same_service line core request_messages.GetS step = refl
+same_service line core request_messages.GetM step = refl
+same_service line core request_messages.PutS step = refl
+same_service line core (request_messages.PutM block) step = refl
 
 pub same_requester : (core : CoreId) (message : RequestMessage) → requester (event_of_request core message) ≡ Some core
-same_requester core requests.GetS = refl
-same_requester core requests.GetM = refl
-same_requester core requests.PutS = refl
-same_requester core (requests.PutM block) = refl
+same_requester core request_messages.GetS = refl
+same_requester core request_messages.GetM = refl
+same_requester core request_messages.PutS = refl
+same_requester core (request_messages.PutM block) = refl
 
 -- ---- acknowledgements
 
@@ -155,49 +156,50 @@ acks-invalidating line set core x =
 
 pub acks-sent : (line : LineChannels) (core : CoreId) (block : Block) (sent : DirSends) (x : ℕ)
     → (core_at (directory_sent line core block sent) x).acks ≡ (core_at line x).acks
-acks-sent line core block answers.Nothing x = refl
-acks-sent line core block (answers.Data acks) x = acks-with_core line core.0 x _ refl
-acks-sent line core block answers.DataE x = acks-with_core line core.0 x _ refl
-acks-sent line core block (answers.DataAndInv acks invalidated) x =
-    acks-invalidating (after_send line (channels.Data core) (messages.Data (replies.Data block acks))) invalidated
+acks-sent line core block dir_sends.Nothing x = refl
+acks-sent line core block (dir_sends.Data acks) x = acks-with_core line core.0 x _ refl
+acks-sent line core block dir_sends.DataE x = acks-with_core line core.0 x _ refl
+acks-sent line core block (dir_sends.DataAndInv acks invalidated) x =
+    acks-invalidating (after_send line (channels.Data core) (messages.Data (data_messages.Data block acks))) invalidated
     core x
     ∙ acks-with_core line core.0 x _ refl
-acks-sent line core block (answers.FwdGetS owner) x = acks-with_core line owner.0 x _ refl
-acks-sent line core block (answers.FwdGetM owner) x = acks-with_core line owner.0 x _ refl
-acks-sent line core block answers.PutAck x = acks-with_core line core.0 x _ refl
+acks-sent line core block (dir_sends.FwdGetS owner) x = acks-with_core line owner.0 x _ refl
+acks-sent line core block (dir_sends.FwdGetM owner) x = acks-with_core line owner.0 x _ refl
+acks-sent line core block dir_sends.PutAck x = acks-with_core line core.0 x _ refl
 
 pub home-sent : (line : LineChannels) (core : CoreId) (block : Block) (sent : DirSends)
     → (directory_sent line core block sent).home ≡ line.home
-home-sent line core block answers.Nothing = refl
-home-sent line core block (answers.Data acks) = refl
-home-sent line core block answers.DataE = refl
-home-sent line core block (answers.DataAndInv acks invalidated) = refl
-home-sent line core block (answers.FwdGetS owner) = refl
-home-sent line core block (answers.FwdGetM owner) = refl
-home-sent line core block answers.PutAck = refl
+home-sent line core block dir_sends.Nothing = refl
+home-sent line core block (dir_sends.Data acks) = refl
+home-sent line core block dir_sends.DataE = refl
+home-sent line core block (dir_sends.DataAndInv acks invalidated) = refl
+home-sent line core block (dir_sends.FwdGetS owner) = refl
+home-sent line core block (dir_sends.FwdGetM owner) = refl
+home-sent line core block dir_sends.PutAck = refl
 
 -- whether a core's acknowledgement waits, and for whom
 abbrev pub debt_of : Part → Bool × ℕ
 debt_of part = (part.look.sent, part.owes_to)
 
 -- What a core is sent says nothing of its own acknowledgement.
-pub debt-answered : (sent : DirSends) (part : Part) → debt_of (answered sent part) ≡ debt_of part
-debt-answered answers.Nothing part = refl
-debt-answered (answers.Data acks) part = refl
-debt-answered (answers.DataAndInv acks invalidated) part = refl
-debt-answered answers.DataE part = refl
-debt-answered (answers.FwdGetS owner) part = refl
-debt-answered (answers.FwdGetM owner) part = refl
-debt-answered answers.PutAck part = refl
+pub debt-answered : (sent : DirSends) (part : Part) → debt_of (part_after_answer sent part) ≡ debt_of part
+debt-answered dir_sends.Nothing part = refl
+debt-answered (dir_sends.Data acks) part = refl
+debt-answered (dir_sends.DataAndInv acks invalidated) part = refl
+debt-answered dir_sends.DataE part = refl
+debt-answered (dir_sends.FwdGetS owner) part = refl
+debt-answered (dir_sends.FwdGetM owner) part = refl
+debt-answered dir_sends.PutAck part = refl
 
-pub debt-forwarded : (sent : DirSends) (core : ℕ) (part : Part) → debt_of (forwarded sent core part) ≡ debt_of part
-debt-forwarded answers.Nothing core part = refl
-debt-forwarded (answers.Data acks) core part = refl
-debt-forwarded (answers.DataAndInv acks invalidated) core part = refl
-debt-forwarded answers.DataE core part = refl
-debt-forwarded (answers.FwdGetS owner) core part = refl
-debt-forwarded (answers.FwdGetM owner) core part = refl
-debt-forwarded answers.PutAck core part = refl
+pub debt-forwarded : (sent : DirSends) (core : ℕ) (part : Part) → debt_of (part_after_forward sent core part)
+    ≡ debt_of part
+debt-forwarded dir_sends.Nothing core part = refl
+debt-forwarded (dir_sends.Data acks) core part = refl
+debt-forwarded (dir_sends.DataAndInv acks invalidated) core part = refl
+debt-forwarded dir_sends.DataE core part = refl
+debt-forwarded (dir_sends.FwdGetS owner) core part = refl
+debt-forwarded (dir_sends.FwdGetM owner) core part = refl
+debt-forwarded dir_sends.PutAck core part = refl
 
 pub debt_if : (b : Bool) (change : Part → Part) (part : Part) → debt_of (change part) ≡ debt_of part
     → debt_of (change_if b change part) ≡ debt_of part
@@ -209,20 +211,20 @@ debt_if false change part same = refl
 pub owes-served : (asked asks invalidated : Bool) (sent : DirSends) (core : ℕ) (part : Part) (to : ℕ)
     → (invalidated ≡ true → part.look.sent ≡ false)
     → stands_ack (change_if invalidated (invalidated_by core)
-    (change_if asked (forwarded sent core) (change_if asks (answered sent) part))) to
+    (change_if asked (part_after_forward sent core) (change_if asks (part_after_answer sent) part))) to
     ≡ stands_ack part to
 owes-served asked asks invalidated sent core part to none = by invalidated none
   where
     answering : Part
-    answering = change_if asks (answered sent) part
+    answering = change_if asks (part_after_answer sent) part
 
     asking : Part
-    asking = change_if asked (forwarded sent core) answering
+    asking = change_if asked (part_after_forward sent core) answering
 
     same : debt_of asking ≡ debt_of part
     same =
-        debt_if asked (forwarded sent core) answering (debt-forwarded sent core answering)
-        ∙ debt_if asks (answered sent) part (debt-answered sent part)
+        debt_if asked (part_after_forward sent core) answering (debt-forwarded sent core answering)
+        ∙ debt_if asks (part_after_answer sent) part (debt-answered sent part)
 
     by : (b : Bool) → (b ≡ true → part.look.sent ≡ false)
         → stands_ack (change_if b (invalidated_by core) asking) to ≡ stands_ack part to
@@ -330,16 +332,17 @@ module _ (cores : ℕ) (line : LineChannels) (copy : ℕ → CacheCopy) (part : 
 
   -- a Put-Ack
   acknowledge_put : not (part core.0).look.put_ack ≡ true
-      → PartsStand cores (after_send taken_line (channels.Fwd core) (messages.Forwarded forwards.PutAck)) copy
-      (λ x. change_if (x == core.0) (answered answers.PutAck) (part x))
+      → PartsStand cores (after_send taken_line (channels.Fwd core) (messages.Forwarded forwarded_messages.PutAck)) copy
+      (λ x. change_if (x == core.0) (part_after_answer dir_sends.PutAck) (part x))
   unfolding taken_part
   acknowledge_put room =
-      parts_as cores (after_send taken_line (channels.Fwd core) (messages.Forwarded forwards.PutAck)) copy
-      (with_part_at taken_part core.0 with_put_ack) (λ x. change_if (x == core.0) (answered answers.PutAck) (part x))
+      parts_as cores (after_send taken_line (channels.Fwd core) (messages.Forwarded forwarded_messages.PutAck)) copy
+      (with_part_at taken_part core.0 with_put_ack)
+      (λ x. change_if (x == core.0) (part_after_answer dir_sends.PutAck) (part x))
       (λ x below. change-twice (x == core.0) (with_request None) with_put_ack (part x))
       (parts_sent cores taken_line copy taken_part core.0
       (record (core_at taken_line core.0) {
-        forwarded = (core_at taken_line core.0).forwarded ++ forwards.PutAck ∷ [];
+        forwarded = (core_at taken_line core.0).forwarded ++ forwarded_messages.PutAck ∷ [];
       })
       with_put_ack (inside core.0 within)
       (put_ack_stands (copy core.0) (core_at taken_line core.0) (taken_part core.0)
@@ -355,16 +358,16 @@ module _ (cores : ℕ) (line : LineChannels) (copy : ℕ → CacheCopy) (part : 
       → PartsStand cores (directory_sent taken_line core block sent) copy
       (after_row l core (record step { sends = sent })).part
   unfolding taken_part data_line data_part
-  serve_stands l step answers.Nothing same may = rw same take_stands
-  serve_stands l step (answers.Data acks) same may =
-      rw same (give_stands (replies.Data block acks) (may.not_counting refl))
-  serve_stands l step answers.DataE same may =
-      rw same (give_stands (replies.DataE block) (may.not_counting refl))
-  serve_stands l step (answers.DataAndInv acks set) same may =
-      rw same (invalidate_stands (replies.Data block acks) set (may.not_counting refl) may.inv)
-  serve_stands l step (answers.FwdGetS to) same may =
+  serve_stands l step dir_sends.Nothing same may = rw same take_stands
+  serve_stands l step (dir_sends.Data acks) same may =
+      rw same (give_stands (data_messages.Data block acks) (may.not_counting refl))
+  serve_stands l step dir_sends.DataE same may =
+      rw same (give_stands (data_messages.DataE block) (may.not_counting refl))
+  serve_stands l step (dir_sends.DataAndInv acks set) same may =
+      rw same (invalidate_stands (data_messages.Data block acks) set (may.not_counting refl) may.inv)
+  serve_stands l step (dir_sends.FwdGetS to) same may =
       rw same (forward_to fwd_get_s to may.named refl may.asked)
-  serve_stands l step (answers.FwdGetM to) same may =
+  serve_stands l step (dir_sends.FwdGetM to) same may =
       rw same (forward_to fwd_get_m to may.named refl may.asked)
-  serve_stands l step answers.PutAck same may =
+  serve_stands l step dir_sends.PutAck same may =
       rw same (acknowledge_put (and_parts _ _ (may.put_ack refl)).0)

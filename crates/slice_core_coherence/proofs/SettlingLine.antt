@@ -10,13 +10,22 @@ use Rattle.address_map.specs.declared.block.Block.{Block}
 use Rattle.cache_table.specs.CopyState.{is_waiting}
 use Rattle.cache_table.specs.Row.{row_of}
 use Rattle.cache_table.specs.declared.row.CacheEvent.{CacheEvent}
-use Rattle.cache_table.specs.declared.row.CacheEvent.TheVariants as events
+use Rattle.cache_table.specs.declared.row.CacheEvent.TheVariants as cache_events
 use Rattle.cache_table.specs.declared.row.CacheSends.{CacheSends}
-use Rattle.cache_table.specs.declared.row.CacheSends.TheVariants as sends
+use Rattle.cache_table.specs.declared.row.CacheSends.TheVariants as cache_sends
 use Rattle.cache_table.specs.declared.row.Row.TheVariants as rows
 use Rattle.cache_table.specs.declared.state.CopyState.{CopyState}
-use Rattle.cache_table.specs.declared.state.CopyState.TheVariants as states
+use Rattle.cache_table.specs.declared.state.CopyState.TheVariants as copy_states
 use Rattle.directory_table.specs.declared.state.DirEntry.{DirEntry}
+use Rattle.protocol_coherence.specs.Fit.{is_counting, is_only_data, is_shared_data}
+use Rattle.protocol_coherence.specs.Line.{Line, Look, Part, no_data}
+use Rattle.protocol_coherence.specs.LineSteps.{Reached, Step, part_after_ack as taken_from, part_after_row, after}
+use Rattle.protocol_coherence.specs.LineSteps.{after_ack}
+use Rattle.protocol_coherence.specs.LineSteps.{change_if, count, further, stands as is_at_hand, stands_ack}
+use Rattle.protocol_coherence.specs.LineSteps.{look_after_take, turn}
+use Rattle.slice_core_cache.specs.Perform.{asks_to_write, left_in, settled_state}
+use Rattle.slice_core_cache.specs.Steps.{copy_after_ack, settled_copy}
+use Rattle.slice_core_cache.specs.declared.copy.CacheCopy.{CacheCopy}
 use Rattle.slice_core_coherence.proofs.Facts.{counts_fewer, wants_few}
 use Rattle.slice_core_coherence.proofs.Frame.{by_number, line_as, read-set, with_copy_at}
 use Rattle.slice_core_coherence.proofs.OwnTurns.{StepStands, own_step}
@@ -26,18 +35,11 @@ use Rattle.slice_core_coherence.proofs.Turns.{turn_stands}
 use Rattle.slice_core_coherence.specs.Stands.{LineStands, PartStands, kind_of_data, named_by, queue_of}
 use Rattle.slice_core_plan.specs.Plan.{asks}
 use Rattle.slice_core_plan.specs.Steps.{asked_by}
-use Rattle.slice_core_protocol.specs.Fit.{is_counting, is_only_data, is_shared_data}
-use Rattle.slice_core_protocol.specs.Line.{Line, Look, Part, no_data}
-use Rattle.slice_core_protocol.specs.Machine.{Reached, Step, acknowledged as taken_from, acted, after, after_ack}
-use Rattle.slice_core_protocol.specs.Machine.{change_if, count, further, stands as is_at_hand, stands_ack, taken, turn}
-use Rattle.slice_core_side.specs.Perform.{asks_to_write, left_in, settled_state}
-use Rattle.slice_core_side.specs.Steps.{acknowledged, settled_copy}
-use Rattle.slice_core_side.specs.declared.copy.CacheCopy.{CacheCopy}
 use Rattle.slice_queues.specs.Line.{CoreChannels, LineChannels, after_take, core_at, no_messages, with_core}
 use Rattle.slice_queues_message.specs.declared.channel.Channel.TheVariants as channels
 use Rattle.slice_queues_message.specs.declared.message.DataMessage.{DataMessage}
-use Rattle.slice_queues_message.specs.declared.message.DataMessage.TheVariants as replies
-use Rattle.slice_queues_message.specs.declared.message.RequestMessage.TheVariants as requests
+use Rattle.slice_queues_message.specs.declared.message.DataMessage.TheVariants as data_messages
+use Rattle.slice_queues_message.specs.declared.message.RequestMessage.TheVariants as request_messages
 use Rattle.target_list.specs.Target.{behind_loads}
 use Rattle.target_list.specs.declared.target.Target.{Target}
 
@@ -91,35 +93,35 @@ settled-counted copy block state still =
 pub data Asking (state : CopyState) (targets : List Target) : Type 0 where
   stays : asks_to_write state targets ≡ false → settled_state state (left_in state targets) ≡ state
       → Asking state targets
-  asks_on : asks_to_write state targets ≡ true → state ≡ states.S
-      → settled_state state (left_in state targets) ≡ states.SM_AD → Asking state targets
+  asks_on : asks_to_write state targets ≡ true → state ≡ copy_states.S
+      → settled_state state (left_in state targets) ≡ copy_states.SM_AD → Asking state targets
 
 pub asking : (state : CopyState) (targets : List Target) → Asking state targets
-asking states.S targets = by (behind_loads targets) refl
+asking copy_states.S targets = by (behind_loads targets) refl
   where
-    by : (left : List Target) → behind_loads targets ≡ left → Asking states.S targets
+    by : (left : List Target) → behind_loads targets ≡ left → Asking copy_states.S targets
     by [] is = stays (rw is refl) (rw is refl)
     by (target ∷ rest) is = asks_on (rw is refl) refl (rw is refl)
-asking states.M targets = stays refl refl
-asking states.E targets = stays refl refl
-asking states.I targets = stays refl refl
-asking states.IS_D targets = stays refl refl
-asking states.IM_AD targets = stays refl refl
-asking states.IM_A targets = stays refl refl
-asking states.SM_AD targets = stays refl refl
-asking states.SM_A targets = stays refl refl
-asking states.MI_A targets = stays refl refl
-asking states.SI_A targets = stays refl refl
-asking states.II_A targets = stays refl refl
+asking copy_states.M targets = stays refl refl
+asking copy_states.E targets = stays refl refl
+asking copy_states.I targets = stays refl refl
+asking copy_states.IS_D targets = stays refl refl
+asking copy_states.IM_AD targets = stays refl refl
+asking copy_states.IM_A targets = stays refl refl
+asking copy_states.SM_AD targets = stays refl refl
+asking copy_states.SM_A targets = stays refl refl
+asking copy_states.MI_A targets = stays refl refl
+asking copy_states.SI_A targets = stays refl refl
+asking copy_states.II_A targets = stays refl refl
 
 -- ---- the core's own part
 
 -- The core took data, and its row sent nothing.
 filled_part : (copy : CacheCopy) (mail : CoreChannels) (part : Part) (event : CacheEvent) (next : CopyState)
-    (filled : CacheCopy) → taken event part.look ≡ record part.look { incoming = no_data }
+    (filled : CacheCopy) → look_after_take event part.look ≡ record part.look { incoming = no_data }
     → is_waiting part.look.state ≡ true → filled.state ≡ next → filled.wants ≡ part.wants
     → filled.counted ≡ copy.counted → PartStands copy mail part
-    → PartStands filled (record mail { «data» = None }) (acted event 0 next sends.Nothing part)
+    → PartStands filled (record mail { «data» = None }) (part_after_row event 0 next cache_sends.Nothing part)
 filled_part copy mail part event next filled took waited state wants counted stands = record {
   state = state;
   request = stands.request ∙ sym (ap (λ (l : Look). l.request) took);
@@ -136,8 +138,8 @@ filled_part copy mail part event next filled took waited state wants counted sta
 counted_part : (copy : CacheCopy) (mail : CoreChannels) (part : Part) (next : CopyState) (acks : ℕ)
     → is_waiting part.look.state ≡ true → (is_counting next ≡ true → is_counting part.look.state ≡ true)
     → part.counted < 64 → PartStands copy mail part
-    → PartStands (acknowledged copy next) (record mail { acks = acks })
-    (acted (events.InvAck 0 0) 1 next sends.Nothing part)
+    → PartStands (copy_after_ack copy next) (record mail { acks = acks })
+    (part_after_row (cache_events.InvAck 0 0) 1 next cache_sends.Nothing part)
 counted_part copy mail part next acks waited goes_on few stands = record {
   state = refl;
   request = stands.request;
@@ -169,13 +171,13 @@ taken_apart false copy mail part stands = stands
 
 -- the event that data are for a core that has counted so many acknowledgements, and whether all its targets are loads
 abbrev pub data_event : ℕ → Bool → DataMessage → CacheEvent
-data_event counted loads (replies.Data block acks) = events.Data acks counted
-data_event counted loads (replies.DataE block) = events.DataE loads
+data_event counted loads (data_messages.Data block acks) = cache_events.Data acks counted
+data_event counted loads (data_messages.DataE block) = cache_events.DataE loads
 
 pub data_row-taken : (copy : CacheCopy) (loads : Bool) (message : DataMessage) (next : CopyState) (sent : CacheSends)
     → row_of copy.state (data_event copy.counted loads message) ≡ rows.Go next sent → IsTaken copy.state next sent
-data_row-taken copy loads (replies.Data block acks) next sent = data-taken acks copy.counted copy.state next sent
-data_row-taken copy loads (replies.DataE block) next sent = only-taken loads copy.state next sent
+data_row-taken copy loads (data_messages.Data block acks) next sent = data-taken acks copy.counted copy.state next sent
+data_row-taken copy loads (data_messages.DataE block) next sent = only-taken loads copy.state next sent
 
 -- A line on the way to where it settles: the copy has come to its state, and its message is taken.
 module _ (exclusive : Bool) (cores : ℕ) (entry : DirEntry) (queues : LineChannels) (copy : ℕ → CacheCopy) (line : Line)
@@ -215,29 +217,29 @@ module _ (exclusive : Bool) (cores : ℕ) (entry : DirEntry) (queues : LineChann
         by : (m : DataMessage) → kind_of_data (Some m) ≡ (line.part core.0).look.incoming
             → named_by m ≡ (line.part core.0).wants
             → is_at_hand (line.part core.0) (data_event (copy core.0).counted loads m) ≡ true
-        by (replies.Data block acks) kind names =
+        by (data_messages.Data block acks) kind names =
             and_from (is_shared_data (line.part core.0).look.incoming && acks == (line.part core.0).wants)
             ((copy core.0).counted == (line.part core.0).counted)
             (and_from (is_shared_data (line.part core.0).look.incoming) (acks == (line.part core.0).wants)
             (ap is_shared_data (sym kind)) (eq-eqb acks (line.part core.0).wants names))
             (eq-eqb (copy core.0).counted (line.part core.0).counted ((stands.part core.0 within).counted waited))
-        by (replies.DataE block) kind names = ap is_only_data (sym kind)
+        by (data_messages.DataE block) kind names = ap is_only_data (sym kind)
 
-    pub data_row_here : row_of (line.part core.0).look.state event ≡ rows.Go next sends.Nothing
+    pub data_row_here : row_of (line.part core.0).look.state event ≡ rows.Go next cache_sends.Nothing
     data_row_here =
         ap (λ s. row_of s event) state_here ∙ row ∙ ap (λ s. rows.Go next s) data_row.sends
 
-    taken_here : taken event (line.part core.0).look
+    taken_here : look_after_take event (line.part core.0).look
         ≡ record (line.part core.0).look { incoming = no_data }
     taken_here = by message
       where
-        by : (m : DataMessage) → taken (data_event (copy core.0).counted loads m) (line.part core.0).look
+        by : (m : DataMessage) → look_after_take (data_event (copy core.0).counted loads m) (line.part core.0).look
             ≡ record (line.part core.0).look { incoming = no_data }
-        by (replies.Data block acks) = refl
-        by (replies.DataE block) = refl
+        by (data_messages.Data block acks) = refl
+        by (data_messages.DataE block) = refl
 
     abbrev pub fill_turn : Step exclusive cores line
-    fill_turn = turn core.0 event next sends.Nothing within data_at_hand data_row_here
+    fill_turn = turn core.0 event next cache_sends.Nothing within data_at_hand data_row_here
 
     -- The copy with the data, whichever targets it has performed.
     pub fill_stands : (filled : CacheCopy) (block : Block) → filled.state ≡ next → filled.wants ≡ named_by message
@@ -246,10 +248,10 @@ module _ (exclusive : Bool) (cores : ℕ) (entry : DirEntry) (queues : LineChann
         (with_copy_at copy core.0 (settled_copy filled block filled.state)) (after fill_turn)
     fill_stands filled block state wants counted =
         let mail : CoreChannels = record (core_at queues core.0) { «data» = None } in
-        turn_stands cores entry queues copy line core.0 event next sends.Nothing
+        turn_stands cores entry queues copy line core.0 event next cache_sends.Nothing
         (settled_copy filled block filled.state) mail there
         (record { gives = refl; home = refl; acknowledges = refl }) refl
-        (settled_stands filled block mail (acted event 0 next sends.Nothing (line.part core.0))
+        (settled_stands filled block mail (part_after_row event 0 next cache_sends.Nothing (line.part core.0))
         (filled_part (copy core.0) (core_at queues core.0) (line.part core.0) event next filled taken_here waited state
         (wants ∙ wanted) counted (stands.part core.0 within)))
         stands
@@ -258,7 +260,7 @@ module _ (exclusive : Bool) (cores : ℕ) (entry : DirEntry) (queues : LineChann
 
   module _ (from : CoreId) (from_within : from.0 < cores) (waits : has (core_at queues core.0).acks from.0 ≡ true)
       (next : CopyState) (sent : CacheSends) (row : row_of (copy core.0).state
-      (events.InvAck (copy core.0).wants (copy core.0).counted) ≡ rows.Go next sent) where
+      (cache_events.InvAck (copy core.0).wants (copy core.0).counted) ≡ rows.Go next sent) where
     ack_row : IsTaken (copy core.0).state next sent
         × (is_counting next ≡ true → is_counting (copy core.0).state ≡ true)
     ack_row = ack-taken (copy core.0).wants (copy core.0).counted (copy core.0).state next sent row
@@ -278,14 +280,14 @@ module _ (exclusive : Bool) (cores : ℕ) (entry : DirEntry) (queues : LineChann
         let small = wants_few exclusive cores line reached core.0 in omega (arith, fewer, small)
 
     pub ack_row_here : row_of (line.part core.0).look.state
-        (events.InvAck (line.part core.0).wants (line.part core.0).counted) ≡ rows.Go next sends.Nothing
+        (cache_events.InvAck (line.part core.0).wants (line.part core.0).counted) ≡ rows.Go next cache_sends.Nothing
     ack_row_here =
         let own = stands.part core.0 within in
-        sym (ap (λ k. row_of (line.part core.0).look.state (events.InvAck (line.part core.0).wants k))
+        sym (ap (λ k. row_of (line.part core.0).look.state (cache_events.InvAck (line.part core.0).wants k))
         (own.counted waited_ack))
         ∙ sym (ack_row-same (line.part core.0).look.state (copy core.0).wants (line.part core.0).wants
         (copy core.0).counted own.wants)
-        ∙ ap (λ s. row_of s (events.InvAck (copy core.0).wants (copy core.0).counted)) state_here ∙ row
+        ∙ ap (λ s. row_of s (cache_events.InvAck (copy core.0).wants (copy core.0).counted)) state_here ∙ row
         ∙ ap (λ s. rows.Go next s) ack_row.0.sends
 
     abbrev acks_left : ℕ
@@ -295,10 +297,10 @@ module _ (exclusive : Bool) (cores : ℕ) (entry : DirEntry) (queues : LineChann
     mail_left = record (core_at queues core.0) { acks = acks_left }
 
     abbrev counted_line : Line
-    counted_line = after_ack line core.0 from.0 next sends.Nothing
+    counted_line = after_ack line core.0 from.0 next cache_sends.Nothing
 
     abbrev change : Part → Part
-    change = acted (events.InvAck 0 0) 1 next sends.Nothing
+    change = part_after_row (cache_events.InvAck 0 0) 1 next cache_sends.Nothing
 
     -- The row sends no acknowledgement of the core's own.
     owes_alike : (x to : ℕ) → stands_ack (with_part_at line.part core.0 change x) to ≡ stands_ack (line.part x) to
@@ -336,14 +338,14 @@ module _ (exclusive : Bool) (cores : ℕ) (entry : DirEntry) (queues : LineChann
         (λ apart. stands.acks.waits to x below x_within ∙ sym (owes_other x to (λ here. apart)))
 
     abbrev pub count_turn : Step exclusive cores line
-    count_turn = count core.0 from.0 next sends.Nothing within from_within sender ack_row_here
+    count_turn = count core.0 from.0 next cache_sends.Nothing within from_within sender ack_row_here
 
     -- The copy with one more acknowledgement counted, whichever targets it has performed.
     pub count_stands : (block : Block)
         → LineStands cores entry (after_take queues (channels.Ack core from))
-        (with_copy_at copy core.0 (settled_copy (acknowledged (copy core.0) next) block next)) (after count_turn)
+        (with_copy_at copy core.0 (settled_copy (copy_after_ack (copy core.0) next) block next)) (after count_turn)
     count_stands block =
-        let now = settled_copy (acknowledged (copy core.0) next) block next in
+        let now = settled_copy (copy_after_ack (copy core.0) next) block next in
         let read : (to : ℕ) → core_at (with_core queues core.0 mail_left) to
         ≡ (if to == core.0 then mail_left else core_at queues to) =
         λ to. read-set queues.cores core.0 to mail_left no_messages there in
@@ -358,7 +360,7 @@ module _ (exclusive : Bool) (cores : ℕ) (entry : DirEntry) (queues : LineChann
               taken_apart (x == from.0) (with_copy_at copy core.0 now x)
               (core_at (with_core queues core.0 mail_left) x) (with_part_at line.part core.0 change x)
               (parts_turned cores queues copy line.part core.0 now mail_left change there
-              (settled_stands (acknowledged (copy core.0) next) block mail_left (change (line.part core.0))
+              (settled_stands (copy_after_ack (copy core.0) next) block mail_left (change (line.part core.0))
               (counted_part (copy core.0) (core_at queues core.0) (line.part core.0) next acks_left waited_ack goes_on
               few (stands.part core.0 within))) stands.part x below);
           acks = record {
@@ -379,11 +381,14 @@ module _ (exclusive : Bool) (cores : ℕ) (entry : DirEntry) (queues : LineChann
   -- ---- the right to write
 
   -- A shared copy that a write waits for asks for the right to write, once it has come to its state.
-  pub ask_step : (now : CacheCopy) → (copy core.0).state ≡ states.S → now.state ≡ states.SM_AD → now.counted ≡ 0
+  pub ask_step : (now : CacheCopy) → (copy core.0).state ≡ copy_states.S → now.state ≡ copy_states.SM_AD → now.counted
+      ≡ 0
       → StepStands exclusive cores entry (asked_by true queues core) (with_copy_at copy core.0 now) line
   ask_step now shared state counted =
-      own_step exclusive cores entry queues copy core.0 events.Write states.SM_AD sends.GetM now (Some requests.GetM)
-      line most within there tt (ap (λ s. row_of s events.Write) shared) state refl (λ waits. counted) reached stands
+      own_step exclusive cores entry queues copy core.0 cache_events.Write copy_states.SM_AD cache_sends.GetM now
+          (Some request_messages.GetM)
+      line most within there tt (ap (λ s. row_of s cache_events.Write) shared) state refl (λ waits. counted) reached
+          stands
 
 -- A line that is reached, with these channels and these copies.
 abbrev pub IsAt : Bool → ℕ → DirEntry → LineChannels → (ℕ → CacheCopy) → Type 0
@@ -416,17 +421,17 @@ settles exclusive cores entry queues copy core came block targets some most size
         ap (λ b. if b then first else copy core.0) (eq-eqb core.0 core.0 refl) in
         let idle : is_waiting came.state ≡ false = ap is_waiting shared in
         let asked = ask_step exclusive cores entry queues (with_copy_at copy core.0 first) is.0 core some most is.1 is.2
-        size within (last states.SM_AD)
+        size within (last copy_states.SM_AD)
         (ap (λ (c : CacheCopy). c.state) here ∙ settled-state came block came.state ∙ shared)
-        (settled-state came block states.SM_AD) (settled-counted came block states.SM_AD idle) in
+        (settled-state came block copy_states.SM_AD) (settled-counted came block copy_states.SM_AD idle) in
         rw (asks, state) (
           after asked.0,
           further is.1 asked.0,
           line_as cores entry (asked_by true queues core)
-              (with_copy_at (with_copy_at copy core.0 first) core.0 (last states.SM_AD))
-              (with_copy_at copy core.0 (last states.SM_AD)) (after asked.0)
+              (with_copy_at (with_copy_at copy core.0 first) core.0 (last copy_states.SM_AD))
+              (with_copy_at copy core.0 (last copy_states.SM_AD)) (after asked.0)
               (λ x below. by_number x core.0
-              (λ b. (if b then last states.SM_AD else copy x)
-              ≡ (if b then last states.SM_AD else if b then first else copy x)) (λ same. refl) (λ apart. refl))
+              (λ b. (if b then last copy_states.SM_AD else copy x)
+              ≡ (if b then last copy_states.SM_AD else if b then first else copy x)) (λ same. refl) (λ apart. refl))
               asked.1,
         )

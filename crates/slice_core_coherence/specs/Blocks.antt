@@ -4,34 +4,34 @@ use Rattle.std.specs.Prelude.{unwrap_or}
 use Rattle.address_map.specs.declared.address.Local.{Local}
 use Rattle.address_map.specs.declared.block.Block.{Block}
 use Rattle.cache_table.specs.declared.state.CopyState.{CopyState}
-use Rattle.cache_table.specs.declared.state.CopyState.TheVariants as states
+use Rattle.cache_table.specs.declared.state.CopyState.TheVariants as copy_states
 use Rattle.directory_table.specs.declared.state.DirEntry.{DirEntry}
+use Rattle.protocol_coherence.specs.Line.{Line}
+use Rattle.protocol_coherence.specs.Values.{Blocks, ReachedWith}
+use Rattle.slice_core_cache.specs.declared.copy.CacheCopy.{CacheCopy}
 use Rattle.slice_core_coherence.specs.Stands.{LineStands, copies_at}
-use Rattle.slice_core_log.specs.Log.{initially, value}
-use Rattle.slice_core_log.specs.declared.entry.Entry.{Entry}
 use Rattle.slice_core_plan.specs.Steps.{block_in}
 use Rattle.slice_core_plan.specs.View.{View, channels_at, entry_at, first_word}
-use Rattle.slice_core_protocol.specs.Line.{Line}
-use Rattle.slice_core_protocol.specs.Values.{Blocks, ReachedWith}
-use Rattle.slice_core_side.specs.declared.copy.CacheCopy.{CacheCopy}
+use Rattle.slice_log.specs.Log.{initially, value}
+use Rattle.slice_log.specs.declared.entry.Entry.{Entry}
 use Rattle.slice_queues.specs.Line.{CoreChannels, LineChannels, core_at}
 use Rattle.slice_queues_message.specs.declared.message.DataMessage.{DataMessage}
-use Rattle.slice_queues_message.specs.declared.message.DataMessage.TheVariants as replies
+use Rattle.slice_queues_message.specs.declared.message.DataMessage.TheVariants as data_messages
 
 -- ---- one line
 
 -- A copy in this state has a block of its line: it isn't gone, and doesn't wait for its first data.
 abbrev pub has_block : CopyState → Bool
-has_block states.I = false
-has_block states.IS_D = false
-has_block states.IM_AD = false
+has_block copy_states.I = false
+has_block copy_states.IS_D = false
+has_block copy_states.IM_AD = false
 has_block _ = true
 
 -- the block of the data that wait, or this one where none do
 abbrev pub block_of_data : Block → Option DataMessage → Block
 block_of_data none None = none
-block_of_data none (Some (replies.Data block acks)) = block
-block_of_data none (Some (replies.DataE block)) = block
+block_of_data none (Some (data_messages.Data block acks)) = block
+block_of_data none (Some (data_messages.DataE block)) = block
 
 -- A core's copy has this block, the data that wait for it carry this one, and its PutM that one.
 pub record CoreBlocksStand (copy : CacheCopy) (mail : CoreChannels) (kept arriving put : Block) : Type 0 where
@@ -73,7 +73,7 @@ IsNewest v local block = HasValues (initially v.init) v.log (first_word v local)
 -- The slice's line is one that the machine reaches, blocks and all.
 abbrev pub IsReachedWith : View → Local → Type 0
 IsReachedWith v local =
-    LineReachedWith v.exclusive (length v.sides) (initially v.init) v.log (first_word v local) (entry_at v local)
+    LineReachedWith v.exclusive (length v.caches) (initially v.init) v.log (first_word v local) (entry_at v local)
     (channels_at v local) (copies_at v local)
 
 -- Each of its lines is.

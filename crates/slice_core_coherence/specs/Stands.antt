@@ -5,54 +5,54 @@ use Rattle.address_map.specs.CoreSet.{has}
 use Rattle.address_map.specs.declared.address.Local.{Local}
 use Rattle.cache_table.specs.CopyState.{is_waiting}
 use Rattle.directory_table.specs.declared.state.DirEntry.{DirEntry}
-use Rattle.slice_core_plan.specs.View.{View, channels_at, entry_at, side_at}
-use Rattle.slice_core_protocol.specs.Fit.{is_counting}
-use Rattle.slice_core_protocol.specs.Line.{Forward, fwd_get_m, fwd_get_s, no_forward, Incoming, no_data, only_data}
-use Rattle.slice_core_protocol.specs.Line.{shared_data, Line, Part, Request, get_m, get_s, no_request, put_m, put_s}
-use Rattle.slice_core_protocol.specs.Machine.{Reached, stands_ack}
-use Rattle.slice_core_side.specs.Side.{copy_of}
-use Rattle.slice_core_side.specs.declared.copy.CacheCopy.{CacheCopy}
+use Rattle.protocol_coherence.specs.Fit.{is_counting}
+use Rattle.protocol_coherence.specs.Line.{Forward, fwd_get_m, fwd_get_s, no_forward, Incoming, no_data, only_data}
+use Rattle.protocol_coherence.specs.Line.{shared_data, Line, Part, Request, get_m, get_s, no_request, put_m, put_s}
+use Rattle.protocol_coherence.specs.LineSteps.{Reached, stands_ack}
+use Rattle.slice_core_cache.specs.CoreCache.{copy_of}
+use Rattle.slice_core_cache.specs.declared.copy.CacheCopy.{CacheCopy}
+use Rattle.slice_core_plan.specs.View.{View, channels_at, entry_at, cache_at}
 use Rattle.slice_queues.specs.Line.{CoreChannels, LineChannels, core_at}
 use Rattle.slice_queues_message.specs.declared.message.DataMessage.{DataMessage}
-use Rattle.slice_queues_message.specs.declared.message.DataMessage.TheVariants as replies
+use Rattle.slice_queues_message.specs.declared.message.DataMessage.TheVariants as data_messages
 use Rattle.slice_queues_message.specs.declared.message.ForwardedMessage.{ForwardedMessage}
-use Rattle.slice_queues_message.specs.declared.message.ForwardedMessage.TheVariants as forwards
+use Rattle.slice_queues_message.specs.declared.message.ForwardedMessage.TheVariants as forwarded_messages
 use Rattle.slice_queues_message.specs.declared.message.RequestMessage.{RequestMessage}
-use Rattle.slice_queues_message.specs.declared.message.RequestMessage.TheVariants as requests
+use Rattle.slice_queues_message.specs.declared.message.RequestMessage.TheVariants as request_messages
 
 -- ---- channels
 
 -- the kind of the request that waits
 abbrev pub kind_of_request : Option RequestMessage → Request
 kind_of_request None = no_request
-kind_of_request (Some requests.GetS) = get_s
-kind_of_request (Some requests.GetM) = get_m
-kind_of_request (Some requests.PutS) = put_s
-kind_of_request (Some (requests.PutM block)) = put_m
+kind_of_request (Some request_messages.GetS) = get_s
+kind_of_request (Some request_messages.GetM) = get_m
+kind_of_request (Some request_messages.PutS) = put_s
+kind_of_request (Some (request_messages.PutM block)) = put_m
 
 -- the kind of the data that wait
 abbrev pub kind_of_data : Option DataMessage → Incoming
 kind_of_data None = no_data
-kind_of_data (Some (replies.Data block acks)) = shared_data
-kind_of_data (Some (replies.DataE block)) = only_data
+kind_of_data (Some (data_messages.Data block acks)) = shared_data
+kind_of_data (Some (data_messages.DataE block)) = only_data
 
 -- how many acknowledgements the data name
 abbrev pub named_by : DataMessage → ℕ
-named_by (replies.Data block acks) = acks
-named_by (replies.DataE block) = 0
+named_by (data_messages.Data block acks) = acks
+named_by (data_messages.DataE block) = 0
 
 -- the forwarded channel, slot by slot: an Inv, a forwarded request and a Put-Ack
 abbrev pub queued_inv : Bool → ℕ → List ForwardedMessage
-queued_inv true core = forwards.Inv (record { 0 = core }) ∷ []
+queued_inv true core = forwarded_messages.Inv (record { 0 = core }) ∷ []
 queued_inv false core = []
 
 abbrev pub queued_forward : Forward → ℕ → List ForwardedMessage
 queued_forward no_forward core = []
-queued_forward fwd_get_s core = forwards.FwdGetS (record { 0 = core }) ∷ []
-queued_forward fwd_get_m core = forwards.FwdGetM (record { 0 = core }) ∷ []
+queued_forward fwd_get_s core = forwarded_messages.FwdGetS (record { 0 = core }) ∷ []
+queued_forward fwd_get_m core = forwarded_messages.FwdGetM (record { 0 = core }) ∷ []
 
 abbrev pub queued_put_ack : Bool → List ForwardedMessage
-queued_put_ack true = forwards.PutAck ∷ []
+queued_put_ack true = forwarded_messages.PutAck ∷ []
 queued_put_ack false = []
 
 -- the messages of the core's forwarded channel, the oldest first
@@ -98,15 +98,15 @@ pub record LineStands (cores : ℕ) (entry : DirEntry) (channels : LineChannels)
 
 -- by core, the copies of a line
 abbrev pub copies_at : View → Local → ℕ → CacheCopy
-copies_at v local core = copy_of (side_at v (record { 0 = core })) local
+copies_at v local core = copy_of (cache_at v (record { 0 = core })) local
 
 -- The slice's line is this line of the machine.
 abbrev pub Stands : View → Local → Line → Type 0
-Stands v local line = LineStands (length v.sides) (entry_at v local) (channels_at v local) (copies_at v local) line
+Stands v local line = LineStands (length v.caches) (entry_at v local) (channels_at v local) (copies_at v local) line
 
 -- The slice's line is one that the machine reaches.
 abbrev pub IsReached : View → Local → Type 0
-IsReached v local = (line : Line) × Reached v.exclusive (length v.sides) line × Stands v local line
+IsReached v local = (line : Line) × Reached v.exclusive (length v.caches) line × Stands v local line
 
 -- Each of its lines is.
 abbrev pub AreReached : View → Type 0

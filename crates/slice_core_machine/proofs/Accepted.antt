@@ -9,41 +9,41 @@ use Rattle.address_map.specs.declared.address.CoreId.{CoreId}
 use Rattle.address_map.specs.declared.address.Local.{Local}
 use Rattle.mshr_file.specs.Miss.{AddsTarget, targets_of}
 use Rattle.mshr_file.specs.declared.registers.Register.{Register}
-use Rattle.slice_core_log.specs.Log.{initially}
-use Rattle.slice_core_machine.proofs.Kept.{Free_apart, ShowsSame, same_core, side-here, side-there}
+use Rattle.slice_core_cache.specs.CoreCache.{CoreCacheView, tag_at}
+use Rattle.slice_core_cache.specs.Tags.{tag_in}
+use Rattle.slice_core_cache.specs.declared.tags.TagState.{TagState}
+use Rattle.slice_core_cache.specs.declared.tags.TagState.TheVariants as tag_states
+use Rattle.slice_core_machine.proofs.Kept.{Free_apart, ShowsSame, same_core, cache-here, cache-there}
 use Rattle.slice_core_machine.proofs.Requests.{all-earlier}
-use Rattle.slice_core_machine.specs.Machine.{Asked, IsSame, after, accept}
-use Rattle.slice_core_machine.specs.Shows.{IsAccounted, Leads, Waits, asked, shown}
-use Rattle.slice_core_plan.specs.View.{View, first_word, side_at, with_side}
-use Rattle.slice_core_side.specs.Side.{SideView, tag_at}
-use Rattle.slice_core_side.specs.Tags.{tag_in}
-use Rattle.slice_core_side.specs.declared.tags.TagState.{TagState}
-use Rattle.slice_core_side.specs.declared.tags.TagState.TheVariants as tags
+use Rattle.slice_core_machine.specs.SmallMachine.{Asked, IsSame, after, accept}
+use Rattle.slice_core_machine.specs.Shows.{IsAccounted, Leads, Waits, request_of_target, small_machine_of}
+use Rattle.slice_core_plan.specs.View.{View, first_word, cache_at, with_cache}
+use Rattle.slice_log.specs.Log.{initially}
 use Rattle.target_list.specs.declared.target.Target.{Target}
 
 -- One tag names this entry where the other does.
 abbrev pub NamesSame : TagState → TagState → ℕ → Type 0
 NamesSame one other number =
-    (one ≡ tags.Performed number → other ≡ tags.Performed number)
-    × (other ≡ tags.Performed number → one ≡ tags.Performed number)
+    (one ≡ tag_states.Performed number → other ≡ tag_states.Performed number)
+    × (other ≡ tag_states.Performed number → one ≡ tag_states.Performed number)
 
 abbrev pub KeepsName : View → View → CoreId → ℕ → ℕ → Type 0
 KeepsName old new core tag number =
-    NamesSame (tag_at (side_at old core) tag) (tag_at (side_at new core) tag) number
+    NamesSame (tag_at (cache_at old core) tag) (tag_at (cache_at new core) tag) number
 
 -- One target has joined those of a core's line, and the same entries are named.
 pub record Opens (old new : View) (core : CoreId) (local : Local) (target : Target) : Type 0 where
   pub lines : new.lines ≡ old.lines
   pub init : new.init ≡ old.init
   pub log : new.log ≡ old.log
-  pub adds : AddsTarget (side_at old core).misses (side_at new core).misses local.0 target
-  pub others : (other : CoreId) → other.0 ≢ core.0 → (side_at new other).misses ≡ (side_at old other).misses
+  pub adds : AddsTarget (cache_at old core).misses (cache_at new core).misses local.0 target
+  pub others : (other : CoreId) → other.0 ≢ core.0 → (cache_at new other).misses ≡ (cache_at old other).misses
   pub names : (other : CoreId) (tag number : ℕ) → KeepsName old new other tag number
 
 module _ (old new : View) (core : CoreId) (local : Local) (target : Target) (opens : Opens old new core local target)
   where
     abbrev at_place : View → CoreId → ℕ → List Target
-    at_place v other line = targets_of (side_at v other).misses line
+    at_place v other line = targets_of (cache_at v other).misses line
 
     -- What waited waits.
     more_here : (line : ℕ) (t : Target) → Contains (at_place old core line) t → Contains (at_place new core line) t
@@ -94,7 +94,7 @@ module _ (old new : View) (core : CoreId) (local : Local) (target : Target) (ope
         (cases_eq other.0 core.0)
 
     abbrev request : Asked
-    request = asked (first_word old local) core target
+    request = request_of_target (first_word old local) core target
 
     waits_new : Waits new request
     waits_new = record {
@@ -105,21 +105,22 @@ module _ (old new : View) (core : CoreId) (local : Local) (target : Target) (ope
     }
 
     same_place : (a : Local) (c : CoreId) (t : Target) → c.0 ≡ core.0 → a.0 ≡ local.0 → target ≡ t
-        → asked (first_word old a) c t ≡ request
+        → request_of_target (first_word old a) c t ≡ request
     same_place a c t core_is local_is target_is =
         let placed : ℕ → Local = λ n. record { 0 = n } in
-        ap (λ n. asked (first_word old (placed n)) c t) local_is
-        ∙ ap (λ d. asked (first_word old local) d t) (same_core c core core_is)
-        ∙ ap (asked (first_word old local) core) (sym target_is)
+        ap (λ n. request_of_target (first_word old (placed n)) c t) local_is
+        ∙ ap (λ d. request_of_target (first_word old local) d t) (same_core c core core_is)
+        ∙ ap (request_of_target (first_word old local) core) (sym target_is)
 
     waits_old : (r : Asked) → Waits new r → Waits old r ⊎ (r ≡ request)
     waits_old r waits =
-        let same : r ≡ asked (first_word old waits.local) r.core waits.target = rw opens.lines at waits.same in
+        let same : r ≡ request_of_target (first_word old waits.local) r.core waits.target =
+            rw opens.lines at waits.same in
         ⊎_elim (λ before. inl (record { local = waits.local; target = waits.target; there = before; same = same }))
         (λ is. inr (same ∙ same_place waits.local r.core waits.target is.0 is.1 is.2))
         (fewer r.core waits.local.0 waits.target waits.there)
 
-    pub opens_same : IsSame (after (initially old.init) (shown old) (accept request)) (shown new)
+    pub opens_same : IsSame (after (initially old.init) (small_machine_of old) (accept request)) (small_machine_of new)
     opens_same = record {
       log = sym opens.log;
       waiting = λ r. (
@@ -150,68 +151,72 @@ module _ (old new : View) (core : CoreId) (local : Local) (target : Target) (ope
 
 -- ---- a tag that opens
 
-Open_apart : (number : ℕ) → tags.Open ≢ tags.Performed number
+Open_apart : (number : ℕ) → tag_states.Open ≢ tag_states.Performed number
 Open_apart number same = cc
 
 -- A free tag that opens names no entry, and the others name what they did.
-pub tags-open : (states : List TagState) (opened tag number : ℕ) → tag_in states opened ≡ tags.Free
-    → NamesSame (tag_in states tag) (tag_in (slice_set states opened tags.Open) tag) number
+pub tags-open : (states : List TagState) (opened tag number : ℕ) → tag_in states opened ≡ tag_states.Free
+    → NamesSame (tag_in states tag) (tag_in (slice_set states opened tag_states.Open) tag) number
 tags-open states opened tag number free =
     ⊎_elim
     (λ same. (
       λ names. absurd (Free_apart number (sym free ∙ ap (tag_in states) (sym same) ∙ names)),
-      λ names. absurd (here (ap (tag_in (slice_set states opened tags.Open)) (sym same) ∙ names)),
+      λ names. absurd (here (ap (tag_in (slice_set states opened tag_states.Open)) (sym same) ∙ names)),
     ))
     (λ apart.
-    let is = get_or-set_other states opened tag tags.Open tags.Free apart in (
+    let is = get_or-set_other states opened tag tag_states.Open tag_states.Free apart in (
       λ names. is ∙ names,
       λ names. sym is ∙ names,
     )) (cases_eq tag opened)
   where
-    here : tag_in (slice_set states opened tags.Open) opened ≡ tags.Performed number → ⊥
+    here : tag_in (slice_set states opened tag_states.Open) opened ≡ tag_states.Performed number → ⊥
     here names =
         ⊎_elim
         (λ inside.
-        Open_apart number (sym (get_or-set_same states opened tags.Open tags.Free inside) ∙ names))
+        Open_apart number (sym (get_or-set_same states opened tag_states.Open tag_states.Free inside) ∙ names))
         (λ past.
-        let long = length-set states opened tags.Open in
+        let long = length-set states opened tag_states.Open in
         Free_apart number
-        (sym (get_or_past (slice_set states opened tags.Open) opened tags.Free (omega (arith, long, past))) ∙ names))
+        (sym (get_or_past (slice_set states opened tag_states.Open) opened tag_states.Free (omega (arith, long, past)))
+        ∙ names))
         (cases_lt opened (length states))
 
--- The core's side with one more target and its tag, in a slice that shows the same as before.
-pub opens-by : (old v : View) (core : CoreId) (side : SideView) (local : Local) (target : Target) → ShowsSame old v
-    → core.0 < length v.sides → AddsTarget (side_at old core).misses side.misses local.0 target
-    → tag_at (side_at old core) target.tag ≡ tags.Free
-    → side.tags ≡ slice_set (side_at old core).tags target.tag tags.Open
-    → Opens old (with_side v core side) core local target
-opens-by old v core side local target same known adds free states = record {
+-- The core's cache with one more target and its tag, in a slice that shows the same as before.
+pub opens-by : (old v : View) (core : CoreId) (cache : CoreCacheView) (local : Local) (target : Target) →
+    ShowsSame old v
+    → core.0 < length v.caches → AddsTarget (cache_at old core).misses cache.misses local.0 target
+    → tag_at (cache_at old core) target.tag ≡ tag_states.Free
+    → cache.tags ≡ slice_set (cache_at old core).tags target.tag tag_states.Open
+    → Opens old (with_cache v core cache) core local target
+opens-by old v core cache local target same known adds free states = record {
   lines = same.lines;
   init = same.init;
   log = same.log;
   adds =
-      subst (λ (s : SideView). AddsTarget (side_at old core).misses s.misses local.0 target)
-      (sym (side-here v core side known core refl)) adds;
-  others = λ other apart. ap (λ (s : SideView). s.misses) (side-there v core side other apart) ∙ same.misses other;
+      subst (λ (s : CoreCacheView). AddsTarget (cache_at old core).misses s.misses local.0 target)
+      (sym (cache-here v core cache known core refl)) adds;
+  others = λ other apart. ap (λ (s : CoreCacheView). s.misses) (cache-there v core cache other apart)
+      ∙ same.misses other;
   names = λ other tag number. ⊎_elim (here other tag number) (there other tag number) (cases_eq other.0 core.0);
 }
   where
-    here : (other : CoreId) (tag number : ℕ) → other.0 ≡ core.0 → KeepsName old (with_side v core side) other tag number
+    here : (other : CoreId) (tag number : ℕ) → other.0 ≡ core.0 →
+        KeepsName old (with_cache v core cache) other tag number
     here other tag number is =
-        let opening = tags-open (side_at old core).tags target.tag tag number free in
-        let was = ap (λ c. tag_at (side_at old c) tag) (same_core other core is) in
+        let opening = tags-open (cache_at old core).tags target.tag tag number free in
+        let was = ap (λ c. tag_at (cache_at old c) tag) (same_core other core is) in
         let now =
-        ap (λ (s : SideView). tag_at s tag) (side-here v core side known other is)
+        ap (λ (s : CoreCacheView). tag_at s tag) (cache-here v core cache known other is)
         ∙ ap (λ t. tag_in t tag) states in (
           λ names. now ∙ opening.0 (sym was ∙ names),
           λ names. was ∙ opening.1 (sym now ∙ names),
         )
 
     there : (other : CoreId) (tag number : ℕ) → other.0 ≢ core.0
-        → KeepsName old (with_side v core side) other tag number
+        → KeepsName old (with_cache v core cache) other tag number
     there other tag number apart =
         let is =
-        ap (λ (s : SideView). tag_at s tag) (side-there v core side other apart)
+        ap (λ (s : CoreCacheView). tag_at s tag) (cache-there v core cache other apart)
         ∙ ap (λ t. tag_in t tag) (same.tags other) in (
           λ names. is ∙ names,
           λ names. sym is ∙ names,
@@ -219,8 +224,8 @@ opens-by old v core side local target same known adds free states = record {
 
 -- The core's next request is none that waits: it can be accepted, and waits then.
 pub accept_leads : (old new : View) (core : CoreId) (local : Local) (target : Target) → IsAccounted old
-    → Opens old new core local target → target.seq ≡ (side_at old core).accepted → target.since ≡ length old.log
-    → Leads (accept (asked (first_word old local) core target) ∷ []) old new
+    → Opens old new core local target → target.seq ≡ (cache_at old core).accepted → target.since ≡ length old.log
+    → Leads (accept (request_of_target (first_word old local) core target) ∷ []) old new
 accept_leads old new core local target accounted opens next now = record {
   init = opens.init;
   run = (

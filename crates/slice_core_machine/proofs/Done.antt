@@ -7,13 +7,14 @@ use Rattle.address_map.specs.Locator.{line_at}
 use Rattle.address_map.specs.declared.address.CoreId.{CoreId}
 use Rattle.address_map.specs.declared.address.Local.{Local}
 use Rattle.mshr_file.specs.Miss.{has_miss, is_waited, targets_of}
-use Rattle.slice_core_log.specs.Log.{IsLegal, initially}
-use Rattle.slice_core_log.specs.declared.entry.Entry.{Entry}
 use Rattle.slice_core_machine.proofs.Kept.{named-known, same_core, waits-in}
 use Rattle.slice_core_machine.proofs.Requests.{all-earlier, logged, none-contained, request_of, waits-on}
-use Rattle.slice_core_machine.specs.Machine.{Asked, IsNewest, IsOldest, IsSame, Machine, accept, after, hand, perform}
-use Rattle.slice_core_machine.specs.Shows.{IsAccounted, IsNamed, Leads, Waits, shown}
-use Rattle.slice_core_plan.specs.View.{View, side_at}
+use Rattle.slice_core_machine.specs.SmallMachine.{Asked, IsNewest, IsOldest, IsSame, SmallMachine, accept, after, hand}
+use Rattle.slice_core_machine.specs.SmallMachine.{perform}
+use Rattle.slice_core_machine.specs.Shows.{IsAccounted, IsNamed, Leads, Waits, small_machine_of}
+use Rattle.slice_core_plan.specs.View.{View, cache_at}
+use Rattle.slice_log.specs.Log.{IsLegal, initially}
+use Rattle.slice_log.specs.declared.entry.Entry.{Entry}
 use Rattle.target_list.specs.declared.target.Target.{Target}
 
 -- Each core has the same misses and tags, and one entry was performed.
@@ -21,8 +22,8 @@ pub record Logs (old new : View) (entry : Entry) : Type 0 where
   pub lines : new.lines ≡ old.lines
   pub init : new.init ≡ old.init
   pub log : new.log ≡ old.log ++ entry ∷ []
-  pub misses : (core : CoreId) → (side_at new core).misses ≡ (side_at old core).misses
-  pub tags : (core : CoreId) → (side_at new core).tags ≡ (side_at old core).tags
+  pub misses : (core : CoreId) → (cache_at new core).misses ≡ (cache_at old core).misses
+  pub tags : (core : CoreId) → (cache_at new core).tags ≡ (cache_at old core).tags
 
 -- Where nobody waits for a line it has no target.
 none-waits : (targets : List Target) (target : Target) → is_waited targets ≡ false → Contains targets target → ⊥
@@ -39,20 +40,20 @@ named-within v accounted named =
     omega (arith, within)
 
 module _ (old new : View) (local : Local) (entry : Entry) (accounted : IsAccounted old) (logs : Logs old new entry)
-    (own : entry.seq ≡ (side_at old entry.core).accepted) (now : entry.since ≡ length old.log)
+    (own : entry.seq ≡ (cache_at old entry.core).accepted) (now : entry.since ≡ length old.log)
     (on : entry.word.0 / 8 ≡ (line_at old.lines local).0)
-    (idle : has_miss (side_at old entry.core).misses local.0 ≡ false)
+    (idle : has_miss (cache_at old entry.core).misses local.0 ≡ false)
     (legal : IsLegal (initially old.init) new.log) where
   abbrev request : Asked
   request = request_of entry
 
-  abbrev accepted : Machine
-  accepted = after (initially old.init) (shown old) (accept request)
+  abbrev accepted : SmallMachine
+  accepted = after (initially old.init) (small_machine_of old) (accept request)
 
-  abbrev performed : Machine
+  abbrev performed : SmallMachine
   performed = after (initially old.init) accepted (perform request)
 
-  newest : IsNewest (shown old) request
+  newest : IsNewest (small_machine_of old) request
   newest other waits core_is =
       let below = all-earlier old accounted entry.core other waits core_is in
       omega (arith, below, own)
@@ -67,10 +68,10 @@ module _ (old new : View) (local : Local) (entry : Entry) (accounted : IsAccount
       (λ waits.
       let same = same_core other.core entry.core core_is in
       let here = waits-on old accounted other local waits (line_is ∙ on) in
-      let there = subst (λ c. Contains (targets_of (side_at old c).misses waits.local.0) waits.target) same waits.there
+      let there = subst (λ c. Contains (targets_of (cache_at old c).misses waits.local.0) waits.target) same waits.there
       in
-      absurd (none-waits (targets_of (side_at old entry.core).misses local.0) waits.target idle
-      (subst (λ n. Contains (targets_of (side_at old entry.core).misses n) waits.target) here there)))
+      absurd (none-waits (targets_of (cache_at old entry.core).misses local.0) waits.target idle
+      (subst (λ n. Contains (targets_of (cache_at old entry.core).misses n) waits.target) here there)))
       (λ is. let equal = ap (λ (r : Asked). r.seq) is in omega (arith, equal)) waiting
 
   same_log : old.log ++ entry ∷ [] ≡ new.log
@@ -81,7 +82,7 @@ module _ (old new : View) (local : Local) (entry : Entry) (accounted : IsAccount
       ap (λ e. old.log ++ e ∷ [])
       (logged (initially old.init) old.log [] entry (subst (IsLegal (initially old.init)) logs.log legal)) ∙ same_log
 
-  done_same : IsSame (after (initially old.init) performed (hand (length old.log))) (shown new)
+  done_same : IsSame (after (initially old.init) performed (hand (length old.log))) (small_machine_of new)
   done_same = record {
     log = performed_entry;
     waiting = λ r. (

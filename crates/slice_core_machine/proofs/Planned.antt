@@ -17,7 +17,7 @@ use Rattle.cache_array.specs.Set.{holds}
 use Rattle.cache_array.specs.declared.set.Slot.{Slot}
 use Rattle.cache_table.specs.Row.{row_of}
 use Rattle.cache_table.specs.declared.row.CacheSends.{CacheSends}
-use Rattle.cache_table.specs.declared.row.CacheEvent.TheVariants as events
+use Rattle.cache_table.specs.declared.row.CacheEvent.TheVariants as cache_events
 use Rattle.cache_table.specs.declared.row.Row.{Row}
 use Rattle.cache_table.specs.declared.row.Row.TheVariants as rows
 use Rattle.cache_table.specs.declared.state.CopyState.{CopyState}
@@ -25,7 +25,7 @@ use Rattle.directory_table.specs.Row.{row_of as dir_row_of}
 use Rattle.directory_table.specs.declared.row.DirEvent.TheVariants as dir_events
 use Rattle.directory_table.specs.declared.row.DirRow.{DirRow}
 use Rattle.directory_table.specs.declared.row.DirRow.TheVariants as dir_rows
-use Rattle.slice_core_answer.specs.declared.answer.Cell.TheVariants as cells
+use Rattle.slice_answer.specs.declared.answer.Cell.TheVariants as cells
 use Rattle.slice_core_plan.specs.Calls.{core_of}
 use Rattle.slice_core_plan.specs.Plan.{ack_plan, asks, by_ack_row, by_data_row, by_directory_row, by_forwarded_row}
 use Rattle.slice_core_plan.specs.Plan.{by_home_row, data_by, data_plan, event_of_data, event_of_forwarded}
@@ -33,18 +33,18 @@ use Rattle.slice_core_plan.specs.Plan.{event_of_request, fill_at, acknowledge_at
 use Rattle.slice_core_plan.specs.Plan.{home_plan, is_put_ack, plan_of, request_by, request_plan, requester_of}
 use Rattle.slice_core_plan.specs.Plan.{stands_at}
 use Rattle.slice_core_plan.specs.Sends.{cache_room, directory_room}
-use Rattle.slice_core_plan.specs.View.{View, channels_at, entry_at, side_at, IsShaped}
-use Rattle.slice_core_side.specs.Copy.{no_copy}
-use Rattle.slice_core_side.specs.Side.{SideView, copy_of}
-use Rattle.slice_core_side.specs.declared.copy.CacheCopy.{CacheCopy}
+use Rattle.slice_core_plan.specs.View.{View, channels_at, entry_at, cache_at, IsShaped}
+use Rattle.slice_core_cache.specs.Copy.{no_copy}
+use Rattle.slice_core_cache.specs.CoreCache.{CoreCacheView, copy_of}
+use Rattle.slice_core_cache.specs.declared.copy.CacheCopy.{CacheCopy}
 use Rattle.slice_queues.specs.Line.{LineChannels, core_at, empty_line, no_messages}
 use Rattle.slice_queues_message.specs.declared.channel.Channel.{Channel}
 use Rattle.slice_queues_message.specs.declared.channel.Channel.TheVariants as channels
 use Rattle.slice_queues_message.specs.declared.message.DataMessage.{DataMessage}
 use Rattle.slice_queues_message.specs.declared.message.ForwardedMessage.{ForwardedMessage}
 use Rattle.slice_queues_message.specs.declared.message.RequestMessage.{RequestMessage}
-use Rattle.slice_core_answer.specs.declared.answer.Delivery.TheVariants as deliveries
-use Rattle.slice_core_answer.specs.declared.answer.Delivery.{Delivery}
+use Rattle.slice_answer.specs.declared.answer.Delivery.TheVariants as deliveries
+use Rattle.slice_answer.specs.declared.answer.Delivery.{Delivery}
 use Rattle.slice_core_plan.specs.Plan.{directory_move, forwarded_move}
 use Rattle.slice_core_plan.specs.declared.transition.Transition.TheVariants as transitions
 use Rattle.slice_core_plan.specs.declared.transition.Transition.{Transition}
@@ -66,7 +66,7 @@ home-for_none false row = refl
 
 module _ (v : View) (local : Local) (shaped : IsShaped v) where
   -- No line has channels for a core that isn't there.
-  few-cores : length (channels_at v local).cores ≤ length v.sides
+  few-cores : length (channels_at v local).cores ≤ length v.caches
   few-cores =
       ⊎_elim (λ inside. let all = shaped.cores local inside in omega (arith, all))
       (λ past.
@@ -78,20 +78,20 @@ module _ (v : View) (local : Local) (shaped : IsShaped v) where
       (cases_lt local.0 v.lines.lines)
 
   -- So nothing waits for it.
-  pub nothing-past : (core : CoreId) → length v.sides ≤ core.0 → core_at (channels_at v local) core.0 ≡ no_messages
+  pub nothing-past : (core : CoreId) → length v.caches ≤ core.0 → core_at (channels_at v local) core.0 ≡ no_messages
   nothing-past core past =
       let few = few-cores in
       get_or_past (channels_at v local).cores core.0 no_messages (omega (arith, past, few))
 
   there : (channel : Channel) (core : CoreId)
       → (core_at (channels_at v local) core.0 ≡ no_messages → is_for_copy (plan_of v local channel) ≡ false)
-      → is_for_copy (plan_of v local channel) ≡ true → core.0 < length v.sides
+      → is_for_copy (plan_of v local channel) ≡ true → core.0 < length v.caches
   there channel core idle passes =
       ⊎_elim (λ inside. inside) (λ past. absurd (false≢true (sym (idle (nothing-past core past)) ∙ passes)))
-      (cases_lt core.0 (length v.sides))
+      (cases_lt core.0 (length v.caches))
 
   pub planned-core : (channel : Channel) → is_for_copy (plan_of v local channel) ≡ true
-      → (core_of channel).0 < length v.sides
+      → (core_of channel).0 < length v.caches
   planned-core (channels.Req core) passes = there (channels.Req core) core (λ none. rw none refl) passes
   planned-core (channels.Fwd core) passes = there (channels.Fwd core) core (λ none. rw none refl) passes
   planned-core (channels.Data core) passes = there (channels.Data core) core (λ none. rw none refl) passes
@@ -104,125 +104,125 @@ module _ (v : View) (local : Local) (shaped : IsShaped v) where
 -- ---- the line
 
 -- where the plan finds the copy that it changes
-abbrev pub place_in : Delivery Transition → Option ℕ
-place_in (deliveries.Moved (transitions.Fill step)) = Some step.place
-place_in (deliveries.Moved (transitions.Acknowledge step)) = Some step.place
-place_in plan = None
+abbrev pub way_in : Delivery Transition → Option ℕ
+way_in (deliveries.Moved (transitions.Fill step)) = Some step.way
+way_in (deliveries.Moved (transitions.Acknowledge step)) = Some step.way
+way_in plan = None
 
 None_apart : {A : Type 0} (x : A) → None ≢ Some x
 None_apart x same = cc
 
 module _ (v : View) (local : Local) where
-  place-request : (core : CoreId) → place_in (request_plan v local core) ≡ None
-  place-request core = by (core_at (channels_at v local) core.0).request
+  way-request : (core : CoreId) → way_in (request_plan v local core) ≡ None
+  way-request core = by (core_at (channels_at v local) core.0).request
     where
-      room : (b : Bool) (one other : Delivery Transition) → place_in one ≡ None → place_in other ≡ None
-          → place_in (if b then one else other) ≡ None
+      room : (b : Bool) (one other : Delivery Transition) → way_in one ≡ None → way_in other ≡ None
+          → way_in (if b then one else other) ≡ None
       room true one other first second = first
       room false one other first second = second
 
-      row : (r : DirRow) → place_in (by_directory_row (channels_at v local) core r) ≡ None
+      row : (r : DirRow) → way_in (by_directory_row (channels_at v local) core r) ≡ None
       row dir_rows.NoEntry = refl
       row dir_rows.Blocked = refl
       row (dir_rows.Go step) = room (directory_room (channels_at v local) core step.sends) (directory_move step)
           (deliveries.Broken cells.Full) refl refl
 
-      by : (waits : Option RequestMessage) → place_in (request_by v local core waits) ≡ None
+      by : (waits : Option RequestMessage) → way_in (request_by v local core waits) ≡ None
       by None = refl
       by (Some message) = row (dir_row_of v.exclusive (entry_at v local) (event_of_request core message))
 
-  place-forwarded : (core : CoreId) → place_in (forwarded_plan v local core) ≡ None
-  place-forwarded core = by (slice_get (core_at (channels_at v local) core.0).forwarded 0)
+  way-forwarded : (core : CoreId) → way_in (forwarded_plan v local core) ≡ None
+  way-forwarded core = by (slice_get (core_at (channels_at v local) core.0).forwarded 0)
     where
       tests : (b c : Bool) (next : CopyState) (sent : CacheSends) (requester : CoreId)
-          → place_in (if b then deliveries.Broken cells.Full else if c then deliveries.Broken cells.Early
+          → way_in (if b then deliveries.Broken cells.Full else if c then deliveries.Broken cells.Early
           else forwarded_move next sent requester) ≡ None
       tests true c next sent requester = refl
       tests false true next sent requester = refl
       tests false false next sent requester = refl
 
-      row : (message : ForwardedMessage) (r : Row) → place_in (by_forwarded_row v local core message r) ≡ None
+      row : (message : ForwardedMessage) (r : Row) → way_in (by_forwarded_row v local core message r) ≡ None
       row message rows.NoEntry = refl
       row message rows.Blocked = refl
       row message (rows.Go next sent) =
           tests (not (cache_room (channels_at v local) core (requester_of core message) sent))
           (is_put_ack message && asks v local core) next sent (requester_of core message)
 
-      by : (waits : Option ForwardedMessage) → place_in (forwarded_by v local core waits) ≡ None
+      by : (waits : Option ForwardedMessage) → way_in (forwarded_by v local core waits) ≡ None
       by None = refl
-      by (Some message) = row message (row_of (copy_of (side_at v core) local).state (event_of_forwarded message))
+      by (Some message) = row message (row_of (copy_of (cache_at v core) local).state (event_of_forwarded message))
 
-  place-data : (core : CoreId) (place : ℕ) → place_in (data_plan v local core) ≡ Some place
-      → stands_at v local core ≡ Some place
-  place-data core place = by (core_at (channels_at v local) core.0).data
+  way-data : (core : CoreId) (way : ℕ) → way_in (data_plan v local core) ≡ Some way
+      → stands_at v local core ≡ Some way
+  way-data core way = by (core_at (channels_at v local) core.0).data
     where
-      filled : (stands : Option ℕ) (next : CopyState) → place_in (fill_at stands next) ≡ stands
+      filled : (stands : Option ℕ) (next : CopyState) → way_in (fill_at stands next) ≡ stands
       filled None next = refl
-      filled (Some place) next = refl
+      filled (Some way) next = refl
 
       early : (b : Bool) (next : CopyState)
-          → place_in (if b then deliveries.Broken cells.Early else fill_at (stands_at v local core) next) ≡ Some place
-          → stands_at v local core ≡ Some place
-      early true next found = absurd (None_apart place found)
+          → way_in (if b then deliveries.Broken cells.Early else fill_at (stands_at v local core) next) ≡ Some way
+          → stands_at v local core ≡ Some way
+      early true next found = absurd (None_apart way found)
       early false next found = sym (filled (stands_at v local core) next) ∙ found
 
-      row : (r : Row) → place_in (by_data_row v local core r) ≡ Some place → stands_at v local core ≡ Some place
-      row rows.NoEntry found = absurd (None_apart place found)
-      row rows.Blocked found = absurd (None_apart place found)
+      row : (r : Row) → way_in (by_data_row v local core r) ≡ Some way → stands_at v local core ≡ Some way
+      row rows.NoEntry found = absurd (None_apart way found)
+      row rows.Blocked found = absurd (None_apart way found)
       row (rows.Go next sent) found = early (asks v local core) next found
 
-      by : (waits : Option DataMessage) → place_in (data_by v local core waits) ≡ Some place
-          → stands_at v local core ≡ Some place
-      by None found = absurd (None_apart place found)
+      by : (waits : Option DataMessage) → way_in (data_by v local core waits) ≡ Some way
+          → stands_at v local core ≡ Some way
+      by None found = absurd (None_apart way found)
       by (Some message) found =
-          row (row_of (copy_of (side_at v core) local).state (event_of_data v local core message)) found
+          row (row_of (copy_of (cache_at v core) local).state (event_of_data v local core message)) found
 
-  place-ack : (to from : CoreId) (place : ℕ) → place_in (ack_plan v local to from) ≡ Some place
-      → stands_at v local to ≡ Some place
-  place-ack to from place = by (has (core_at (channels_at v local) to.0).acks from.0)
-      (row_of (copy_of (side_at v to) local).state
-      (events.InvAck (copy_of (side_at v to) local).wants (copy_of (side_at v to) local).counted))
+  way-ack : (to from : CoreId) (way : ℕ) → way_in (ack_plan v local to from) ≡ Some way
+      → stands_at v local to ≡ Some way
+  way-ack to from way = by (has (core_at (channels_at v local) to.0).acks from.0)
+      (row_of (copy_of (cache_at v to) local).state
+      (cache_events.InvAck (copy_of (cache_at v to) local).wants (copy_of (cache_at v to) local).counted))
     where
-      counted : (stands : Option ℕ) (next : CopyState) → place_in (acknowledge_at stands next) ≡ stands
+      counted : (stands : Option ℕ) (next : CopyState) → way_in (acknowledge_at stands next) ≡ stands
       counted None next = refl
-      counted (Some place) next = refl
+      counted (Some way) next = refl
 
-      by : (waits : Bool) (r : Row) → place_in (if waits then by_ack_row v local to r else deliveries.Nothing) ≡ Some place
-          → stands_at v local to ≡ Some place
-      by true rows.NoEntry found = absurd (None_apart place found)
-      by true rows.Blocked found = absurd (None_apart place found)
+      by : (waits : Bool) (r : Row) → way_in (if waits then by_ack_row v local to r else deliveries.Nothing) ≡ Some way
+          → stands_at v local to ≡ Some way
+      by true rows.NoEntry found = absurd (None_apart way found)
+      by true rows.Blocked found = absurd (None_apart way found)
       by true (rows.Go next sent) found = sym (counted (stands_at v local to) next) ∙ found
-      by false r found = absurd (None_apart place found)
+      by false r found = absurd (None_apart way found)
 
-  place-home : place_in (home_plan v local) ≡ None
-  place-home = by (is_some (channels_at v local).home) (dir_row_of v.exclusive (entry_at v local) dir_events.DataHome)
+  way-home : way_in (home_plan v local) ≡ None
+  way-home = by (is_some (channels_at v local).home) (dir_row_of v.exclusive (entry_at v local) dir_events.DataHome)
     where
-      by : (waits : Bool) (r : DirRow) → place_in (if waits then by_home_row r else deliveries.Nothing) ≡ None
+      by : (waits : Bool) (r : DirRow) → way_in (if waits then by_home_row r else deliveries.Nothing) ≡ None
       by true dir_rows.NoEntry = refl
       by true dir_rows.Blocked = refl
       by true (dir_rows.Go step) = refl
       by false r = refl
 
-  pub planned-place : (channel : Channel) (place : ℕ) → place_in (plan_of v local channel) ≡ Some place
-      → stands_at v local (core_of channel) ≡ Some place
-  planned-place (channels.Req core) place found = absurd (None_apart place (sym (place-request core) ∙ found))
-  planned-place (channels.Fwd core) place found = absurd (None_apart place (sym (place-forwarded core) ∙ found))
-  planned-place (channels.Data core) place found = place-data core place found
-  planned-place (channels.Ack to from) place found = place-ack to from place found
-  planned-place channels.Home place found = absurd (None_apart place (sym place-home ∙ found))
+  pub planned-way : (channel : Channel) (way : ℕ) → way_in (plan_of v local channel) ≡ Some way
+      → stands_at v local (core_of channel) ≡ Some way
+  planned-way (channels.Req core) way found = absurd (None_apart way (sym (way-request core) ∙ found))
+  planned-way (channels.Fwd core) way found = absurd (None_apart way (sym (way-forwarded core) ∙ found))
+  planned-way (channels.Data core) way found = way-data core way found
+  planned-way (channels.Ack to from) way found = way-ack to from way found
+  planned-way channels.Home way found = absurd (None_apart way (sym way-home ∙ found))
 
 -- A line that stands somewhere in its set is held.
-pub held-at_place : (side : SideView) (local : Local) (place : ℕ)
-    → position (holds local) (slots_at side.array local) ≡ Some place → IsSome (array_at side.array local)
-held-at_place side local place stands =
-    let found = found_at (slots_at side.array local) (holds local) stands in
+pub held-at_way : (cache : CoreCacheView) (local : Local) (way : ℕ)
+    → position (holds local) (slots_at cache.array local) ≡ Some way → IsSome (array_at cache.array local)
+held-at_way cache local way stands =
+    let found = found_at (slots_at cache.array local) (holds local) stands in
     rw found refl
   where
-    inside : (b : Bool) (n : ℕ) → cond b (Some n) None ≡ Some place → b ≡ true
+    inside : (b : Bool) (n : ℕ) → cond b (Some n) None ≡ Some way → b ≡ true
     inside true n found = refl
-    inside false n found = absurd (None_apart place found)
+    inside false n found = absurd (None_apart way found)
 
-    found_at : (slots : List (Slot CacheCopy)) (p : Slot CacheCopy → Bool) → position p slots ≡ Some place
+    found_at : (slots : List (Slot CacheCopy)) (p : Slot CacheCopy → Bool) → position p slots ≡ Some way
         → find p slots ≡ Some (get_or slots (position_or_len p slots) (record { line = local; value = no_copy }))
     found_at slots p found =
         find_at p slots

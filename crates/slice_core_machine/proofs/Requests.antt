@@ -8,14 +8,14 @@ use Rattle.address_map.specs.Locator.{IsOfMachine, Lines, line_at}
 use Rattle.address_map.specs.declared.address.CoreId.{CoreId}
 use Rattle.address_map.specs.declared.address.Local.{Local}
 use Rattle.mshr_file.specs.Miss.{targets_of}
-use Rattle.slice_core_log.specs.Log.{IsLegal, value}
-use Rattle.slice_core_log.specs.Op.{reply_of}
-use Rattle.slice_core_log.specs.declared.entry.Entry.{Entry}
+use Rattle.slice_log.specs.Log.{IsLegal, value}
+use Rattle.slice_log.specs.Op.{reply_of}
+use Rattle.slice_log.specs.declared.entry.Entry.{Entry}
 use Rattle.slice_core_machine.proofs.Kept.{same_core}
-use Rattle.slice_core_machine.specs.Machine.{Asked, entry_for}
+use Rattle.slice_core_machine.specs.SmallMachine.{Asked, entry_for}
 use Rattle.slice_core_machine.specs.Shows.{IsAccounted, Waits}
-use Rattle.slice_core_plan.specs.View.{View, first_word, no_side, side_at}
-use Rattle.slice_core_side.specs.Targets.{IsPerformable}
+use Rattle.slice_core_plan.specs.View.{View, first_word, no_cache, cache_at}
+use Rattle.slice_core_cache.specs.Targets.{IsPerformable}
 use Rattle.slice_core_standing.proofs.Facts.{all-performable, targets-below}
 use Rattle.std.proofs.lemmas.Bool.{cases_lt}
 use Rattle.std.proofs.lemmas.List.{get_or_past}
@@ -59,27 +59,28 @@ none-contained x there = let inside = there.1 in omega (arith, inside)
 
 -- Somebody for whom a target waits is there.
 pub waits-known : (v : View) (core : CoreId) (line : ℕ) (target : Target)
-    → Contains (targets_of (side_at v core).misses line) target → core.0 < length v.sides
-waits-known v core line target there = elim (cases_lt core.0 (length v.sides)) [
+    → Contains (targets_of (cache_at v core).misses line) target → core.0 < length v.caches
+waits-known v core line target there = elim (cases_lt core.0 (length v.caches)) [
   | inl known ↦ known
   | inr past ↦ absurd (none-contained target
-      (subst (λ side. Contains (targets_of side.misses line) target) (get_or_past v.sides core.0 no_side past) there))
+      (subst (λ cache. Contains (targets_of cache.misses line) target) (get_or_past v.caches core.0 no_cache past)
+      there))
 ]
 
 module _ (v : View) (accounted : IsAccounted v) where
   pub waits-performable : (core : CoreId) (line : ℕ) (target : Target)
-      → Contains (targets_of (side_at v core).misses line) target → IsPerformable target
+      → Contains (targets_of (cache_at v core).misses line) target → IsPerformable target
   waits-performable core line target there =
       let account = accounted.accounts core (waits-known v core line target there) in
-      All-contains IsPerformable (targets_of (side_at v core).misses line) target
-      (all-performable v.log (side_at v core).misses line account.waits) there
+      All-contains IsPerformable (targets_of (cache_at v core).misses line) target
+      (all-performable v.log (cache_at v core).misses line account.waits) there
 
   pub waits-below : (core : CoreId) (line : ℕ) (target : Target)
-      → Contains (targets_of (side_at v core).misses line) target → target.seq < (side_at v core).accepted
+      → Contains (targets_of (cache_at v core).misses line) target → target.seq < (cache_at v core).accepted
   waits-below core line target there =
       let account = accounted.accounts core (waits-known v core line target there) in
-      All-contains (λ t. t.seq < (side_at v core).accepted) (targets_of (side_at v core).misses line) target
-      (targets-below v.log core.0 (side_at v core).misses (side_at v core).accepted line account.standing) there
+      All-contains (λ t. t.seq < (cache_at v core).accepted) (targets_of (cache_at v core).misses line) target
+      (targets-below v.log core.0 (cache_at v core).misses (cache_at v core).accepted line account.standing) there
 
   -- A request that waits on the line of a place is a target of that place.
   pub waits-on : (r : Asked) (local : Local) → (waits : Waits v r) → r.word.0 / 8 ≡ (line_at v.lines local).0
@@ -91,16 +92,16 @@ module _ (v : View) (accounted : IsAccounted v) where
       (sym (word_line v waits.local waits.target.offset.0 can.word) ∙ sym of ∙ on)
 
   -- What waits has a number that was given out.
-  pub numbered-below : (r : Asked) → Waits v r → r.seq < (side_at v r.core).accepted
+  pub numbered-below : (r : Asked) → Waits v r → r.seq < (cache_at v r.core).accepted
   numbered-below r waits =
       let below = waits-below r.core waits.local.0 waits.target waits.there in
       let same = ap (λ (a : Asked). a.seq) waits.same in omega (arith, below, same)
 
   -- So it was accepted before the core's next request.
   pub all-earlier : (core : CoreId) (other : Asked) → Waits v other → other.core.0 ≡ core.0
-      → other.seq < (side_at v core).accepted
+      → other.seq < (cache_at v core).accepted
   all-earlier core other waits core_is =
-      subst (λ c. other.seq < (side_at v c).accepted) (same_core other.core core core_is) (numbered-below other waits)
+      subst (λ c. other.seq < (cache_at v c).accepted) (same_core other.core core core_is) (numbered-below other waits)
 
 -- ---- the log
 

@@ -1,12 +1,13 @@
 -- Runs of the small machine: one goes on where another ended.
 use Rattle.std.proofs.Common.{ℕ, List, [], ◌∷◌, ◌++◌, length, inl, inr, sym, ap, ◌∙◌, subst, ⊎_elim}
-use Rattle.slice_core_log.specs.Log.{initially}
-use Rattle.slice_core_log.specs.declared.entry.Entry.{Entry}
-use Rattle.slice_core_machine.specs.Machine.{Can, IsSame, Machine, Run, Step, accept, after, entry_for, hand, perform}
-use Rattle.slice_core_machine.specs.Shows.{Leads, shown}
+use Rattle.slice_core_machine.specs.SmallMachine.{Can, IsSame, SmallMachine, Run, Step, accept, after, entry_for, hand}
+use Rattle.slice_core_machine.specs.SmallMachine.{perform}
+use Rattle.slice_core_machine.specs.Shows.{Leads, small_machine_of}
 use Rattle.slice_core_plan.specs.View.{View}
+use Rattle.slice_log.specs.Log.{initially}
+use Rattle.slice_log.specs.declared.entry.Entry.{Entry}
 
-same-then : (m n o : Machine) → IsSame m n → IsSame n o → IsSame m o
+same-then : (m n o : SmallMachine) → IsSame m n → IsSame n o → IsSame m o
 same-then m n o first second = record {
   log = first.log ∙ second.log;
   waiting = λ r. (
@@ -19,7 +20,7 @@ same-then m n o first second = record {
   );
 }
 
-module _ (initial : ℕ → ℕ) (m n : Machine) (same : IsSame m n) where
+module _ (initial : ℕ → ℕ) (m n : SmallMachine) (same : IsSame m n) where
   -- Machines that are the same can make the same steps.
   can-same : (step : Step) → Can n step → Can m step
   can-same (accept r) can = (
@@ -67,7 +68,7 @@ module _ (initial : ℕ → ℕ) (m n : Machine) (same : IsSame m n) where
   }
 
 -- So one makes the run that the other makes.
-run-same : (initial : ℕ → ℕ) (steps : List Step) (m n now : Machine) → IsSame m n → Run initial steps n now
+run-same : (initial : ℕ → ℕ) (steps : List Step) (m n now : SmallMachine) → IsSame m n → Run initial steps n now
     → Run initial steps m now
 run-same initial [] m n now same run = same-then m n now same run
 run-same initial (step ∷ steps) m n now same run = (
@@ -75,7 +76,7 @@ run-same initial (step ∷ steps) m n now same run = (
   run-same initial steps (after initial m step) (after initial n step) now (after-same initial m n same step) run.1,
 )
 
-run-on : (initial : ℕ → ℕ) (first second : List Step) (m n now : Machine) → Run initial first m n
+run-on : (initial : ℕ → ℕ) (first second : List Step) (m n now : SmallMachine) → Run initial first m n
     → Run initial second n now → Run initial (first ++ second) m now
 run-on initial [] second m n now one other = run-same initial second m n now one other
 run-on initial (step ∷ first) second m n now one other =
@@ -87,6 +88,6 @@ pub leads-on : (u v w : View) (first second : List Step) → Leads first u v →
 leads-on u v w first second one other = record {
   init = other.init ∙ one.init;
   run =
-      run-on (initially u.init) first second (shown u) (shown v) (shown w) one.run
-      (subst (λ init. Run (initially init) second (shown v) (shown w)) one.init other.run);
+      run-on (initially u.init) first second (small_machine_of u) (small_machine_of v) (small_machine_of w) one.run
+      (subst (λ init. Run (initially init) second (small_machine_of v) (small_machine_of w)) one.init other.run);
 }

@@ -10,22 +10,22 @@ use Rattle.address_map.specs.Words.{IsAscendingBy}
 use Rattle.address_map.specs.declared.block.Block.{Block}
 use Rattle.mshr_file.specs.Miss.{TakesTargets, count_of, has_tag, targets_of}
 use Rattle.mshr_file.specs.declared.registers.Register.{Register}
-use Rattle.slice_core_log.specs.Log.{IsLegal, initially}
+use Rattle.slice_core_cache.specs.Copy.{performed_on}
+use Rattle.slice_core_cache.specs.Perform.{entries_of, tags_after}
+use Rattle.slice_core_cache.specs.CoreCache.{tag_at}
+use Rattle.slice_core_cache.specs.Tags.{tag_in}
+use Rattle.slice_core_cache.specs.Targets.{IsPerformable}
+use Rattle.slice_core_cache.specs.declared.tags.TagState.{TagState}
+use Rattle.slice_core_cache.specs.declared.tags.TagState.TheVariants as tag_states
 use Rattle.slice_core_machine.proofs.Kept.{same_core}
 use Rattle.slice_core_machine.proofs.Named.{AreApart, named-each, named-out, none-has, tag-kept}
 use Rattle.slice_core_machine.proofs.Performed.{IsAmong, Replying, Waiting, performed-run}
 use Rattle.slice_core_machine.proofs.Requests.{waits-on, word_line}
-use Rattle.slice_core_machine.specs.Machine.{Asked}
-use Rattle.slice_core_machine.specs.Shows.{IsAccounted, IsNamed, Performs, Waits, asked, shown}
-use Rattle.slice_core_plan.specs.View.{View, first_word, side_at}
-use Rattle.slice_core_side.specs.Copy.{performed_on}
-use Rattle.slice_core_side.specs.Perform.{entries_of, tags_after}
-use Rattle.slice_core_side.specs.Side.{tag_at}
-use Rattle.slice_core_side.specs.Tags.{tag_in}
-use Rattle.slice_core_side.specs.Targets.{IsPerformable}
-use Rattle.slice_core_side.specs.declared.tags.TagState.{TagState}
-use Rattle.slice_core_side.specs.declared.tags.TagState.TheVariants as tags
+use Rattle.slice_core_machine.specs.SmallMachine.{Asked}
+use Rattle.slice_core_machine.specs.Shows.{IsAccounted, IsNamed, Performs, Waits, request_of_target, small_machine_of}
+use Rattle.slice_core_plan.specs.View.{View, first_word, cache_at}
 use Rattle.slice_core_standing.proofs.Facts.{all-performable, each-tag_once}
+use Rattle.slice_log.specs.Log.{IsLegal, initially}
 use Rattle.target_list.specs.declared.target.Target.{Target}
 
 -- The first targets of a core's line were performed on this block, and all else is as it was.
@@ -34,10 +34,10 @@ pub record HasPerformed (old new : View) (core : CoreId) (local : Local) (taken 
     pub lines : new.lines ≡ old.lines
     pub init : new.init ≡ old.init
     pub log : new.log ≡ old.log ++ entries_of core (first_word old local) block taken
-    pub takes : TakesTargets (side_at old core).misses (side_at new core).misses local.0 taken
-    pub tags : (side_at new core).tags ≡ tags_after (side_at old core).tags (length old.log) taken
-    pub misses : (other : CoreId) → other.0 ≢ core.0 → (side_at new other).misses ≡ (side_at old other).misses
-    pub names : (other : CoreId) → other.0 ≢ core.0 → (side_at new other).tags ≡ (side_at old other).tags
+    pub takes : TakesTargets (cache_at old core).misses (cache_at new core).misses local.0 taken
+    pub tags : (cache_at new core).tags ≡ tags_after (cache_at old core).tags (length old.log) taken
+    pub misses : (other : CoreId) → other.0 ≢ core.0 → (cache_at new other).misses ≡ (cache_at old other).misses
+    pub names : (other : CoreId) → other.0 ≢ core.0 → (cache_at new other).tags ≡ (cache_at old other).tags
 
 entries-length : (core : CoreId) (first : ℕ) (block : Block) (taken : List Target)
     → length (entries_of core first block taken) ≡ length taken
@@ -58,22 +58,22 @@ All-front P xs ys all k d inside =
     rw same at (all k d (omega (arith, inside, long)))
 
 module _ (old new : View) (core : CoreId) (local : Local) (taken : List Target) (block : Block)
-    (accounted : IsAccounted old) (known : core.0 < length old.sides)
+    (accounted : IsAccounted old) (known : core.0 < length old.caches)
     (done : HasPerformed old new core local taken block) where
   abbrev left : List Target
-  left = targets_of (side_at new core).misses local.0
+  left = targets_of (cache_at new core).misses local.0
 
   abbrev first : ℕ
   first = first_word old local
 
   abbrev at_place : View → CoreId → ℕ → List Target
-  at_place v other line = targets_of (side_at v other).misses line
+  at_place v other line = targets_of (cache_at v other).misses line
 
   can_all : All IsPerformable taken
   can_all =
       All-front IsPerformable taken left
       (subst (All IsPerformable) done.takes.here
-      (all-performable old.log (side_at old core).misses local.0 (accounted.accounts core known).waits))
+      (all-performable old.log (cache_at old core).misses local.0 (accounted.accounts core known).waits))
 
   -- ---- what waits
 
@@ -98,13 +98,13 @@ module _ (old new : View) (core : CoreId) (local : Local) (taken : List Target) 
       let there = same_core r.core core core_is in
       let here = subst (λ c. Contains (at_place v c waits.local.0) waits.target) there waits.there in
       let placed : ℕ → Local = λ n. record { 0 = n } in
-      let same : r ≡ asked (first_word old waits.local) r.core waits.target = rw lines at waits.same in
+      let same : r ≡ request_of_target (first_word old waits.local) r.core waits.target = rw lines at waits.same in
       inl (record {
         target = waits.target;
         there = subst (λ n. Contains (at_place v core n) waits.target) line_is here;
         same =
-            same ∙ ap (λ n. asked (first_word old (placed n)) r.core waits.target) line_is
-            ∙ ap (λ c. asked first c waits.target) there;
+            same ∙ ap (λ n. request_of_target (first_word old (placed n)) r.core waits.target) line_is
+            ∙ ap (λ c. request_of_target first c waits.target) there;
       }))
       (λ apart. inr (λ is. apart is.1)) (cases_eq waits.local.0 local.0))
       (λ apart. inr (λ is. apart is.0)) (cases_eq r.core.0 core.0)
@@ -176,7 +176,7 @@ module _ (old new : View) (core : CoreId) (local : Local) (taken : List Target) 
   -- ---- replies
 
   abbrev states : List TagState
-  states = (side_at old core).tags
+  states = (cache_at old core).tags
 
   sized : length states ≡ 64
   sized = (accounted.accounts core known).tags.sized
@@ -184,15 +184,15 @@ module _ (old new : View) (core : CoreId) (local : Local) (taken : List Target) 
   apart_all : AreApart taken
   apart_all tag =
       let account = accounted.accounts core known in
-      let once = each-tag_once old.log core.0 (side_at old core).misses states account.tags tag in
+      let once = each-tag_once old.log core.0 (cache_at old core).misses states account.tags tag in
       let parts = done.takes.counts (has_tag tag) in
       omega (arith, once, parts)
 
   -- A tag that names an entry is that of no target.
-  none_has : (tag number : ℕ) → tag_in states tag ≡ tags.Performed number → All (λ target. target.tag ≢ tag) taken
+  none_has : (tag number : ℕ) → tag_in states tag ≡ tag_states.Performed number → All (λ target. target.tag ≢ tag) taken
   none_has tag number names =
       let count = (accounted.accounts core known).tags.opened tag in
-      let none : count_of (has_tag tag) (side_at old core).misses ≡ 0 = rw names at count in
+      let none : count_of (has_tag tag) (cache_at old core).misses ≡ 0 = rw names at count in
       let parts = done.takes.counts (has_tag tag) in
       none-has tag taken (omega (arith, none, parts))
 
@@ -203,12 +203,12 @@ module _ (old new : View) (core : CoreId) (local : Local) (taken : List Target) 
       let same = ap (λ l. length l) done.log in
       omega (arith, all, each, same)
 
-  names_new : (other : CoreId) (tag number : ℕ) → tag_at (side_at new other) tag ≡ tags.Performed number
+  names_new : (other : CoreId) (tag number : ℕ) → tag_at (cache_at new other) tag ≡ tag_states.Performed number
       → IsNamed old number ⊎ ((length old.log ≤ number) × (number < length new.log))
   names_new other tag number names =
       ⊎_elim
       (λ same.
-      let here = ap (λ c. tag_at (side_at new c) tag) (sym (same_core other core same)) ∙ names in
+      let here = ap (λ c. tag_at (cache_at new c) tag) (sym (same_core other core same)) ∙ names in
       ⊎_elim (λ before. inl (record { core = core; tag = tag; names = before }))
       (λ between. let high = between.1 in inr (between.0, omega (arith, high, grown)))
       (named-out states (length old.log) taken tag number sized can_all
@@ -219,12 +219,12 @@ module _ (old new : View) (core : CoreId) (local : Local) (taken : List Target) 
         names = sym (ap (λ t. tag_in t tag) (done.names other away)) ∙ names;
       })) (cases_eq other.0 core.0)
 
-  names_old : (other : CoreId) (tag number : ℕ) → tag_at (side_at old other) tag ≡ tags.Performed number
+  names_old : (other : CoreId) (tag number : ℕ) → tag_at (cache_at old other) tag ≡ tag_states.Performed number
       → IsNamed new number
   names_old other tag number names =
       ⊎_elim
       (λ same.
-      let here = ap (λ c. tag_at (side_at old c) tag) (sym (same_core other core same)) ∙ names in record {
+      let here = ap (λ c. tag_at (cache_at old c) tag) (sym (same_core other core same)) ∙ names in record {
         core = core;
         tag = tag;
         names =
@@ -253,12 +253,13 @@ module _ (old new : View) (core : CoreId) (local : Local) (taken : List Target) 
   -- Each of them is performed, in order.
   pub settled_performs : IsLegal (initially old.init) new.log → Performs old new
   settled_performs legal = record {
-    requests = map (asked first core) taken;
-    grows = grown ∙ ap (λ n. length old.log + n) (sym (requests-length (asked first core) taken));
+    requests = map (request_of_target first core) taken;
+    grows = grown ∙ ap (λ n. length old.log + n) (sym (requests-length (request_of_target first core) taken));
     leads = record {
       init = done.init;
       run =
-          performed-run (initially old.init) first core left IsOther far taken block (shown old) (shown new) can_all
+          performed-run (initially old.init) first core left IsOther far taken block (small_machine_of old)
+              (small_machine_of new) can_all
           (subst (λ ts. IsAscendingBy (λ t. t.seq) ts) done.takes.here
           ((accounted.accounts core known).order.targets local.0)) waits_old waits_new replies done.log legal;
     };

@@ -1,2 +1,2 @@
-pub mod Machine
+pub mod SmallMachine
 pub mod Shows

@@ -6,12 +6,12 @@ use Rattle.std.proofs.lemmas.List.{get_or-drop, get_or_append_left, length-appen
 use Rattle.std.proofs.lemmas.Option.{get_or_from_slice_get, slice_get-get_or, slice_get_within}
 use Rattle.address_map.specs.Locator.{line_at}
 use Rattle.address_map.specs.declared.address.Local.{Local}
-use Rattle.slice_core_answer.specs.declared.answer.Delivered.{Delivered}
-use Rattle.slice_core_answer.specs.declared.answer.Delivered.TheVariants as delivered
+use Rattle.slice_answer.specs.declared.answer.Delivered.{Delivered}
+use Rattle.slice_answer.specs.declared.answer.Delivered.TheVariants as delivered
 use Rattle.slice_core_plan.specs.Next.{better_of, next_by}
 use Rattle.slice_core_plan.specs.Calls.{AfterDeliverNext, AfterPlan, IsDone, IsMove, PartsView}
 use Rattle.slice_core_plan.specs.Plan.{plan_of, planned_at}
-use Rattle.slice_core_plan.specs.Ring.{first_of, is_move, looked_at, next_at, next_in, pick_of, turned}
+use Rattle.slice_core_plan.specs.Ring.{first_of, is_move, looked_at, next_at, next_in, pick_of, ring_after_turn}
 use Rattle.slice_core_plan.specs.Turn.{CanMove, PassOver, StandsAt, StandsBefore, TakesFrom}
 use Rattle.slice_core_plan.specs.View.{View}
 use Rattle.slice_queues.specs.Ring.{is_listed, with_listed}
@@ -19,8 +19,8 @@ use Rattle.slice_queues_message.specs.Pick.{line_of, pick_at}
 use Rattle.slice_queues_message.specs.declared.channel.Channel.{Channel}
 use Rattle.slice_queues_message.specs.declared.channel.Channel.TheVariants as channels
 use Rattle.slice_queues_message.specs.declared.channel.Class.{Class}
-use Rattle.slice_core_answer.specs.declared.answer.Delivery.TheVariants as deliveries
-use Rattle.slice_core_answer.specs.declared.answer.Delivery.{Delivery}
+use Rattle.slice_answer.specs.declared.answer.Delivery.TheVariants as deliveries
+use Rattle.slice_answer.specs.declared.answer.Delivery.{Delivery}
 use Rattle.slice_core_plan.specs.declared.transition.Transition.TheVariants as transitions
 use Rattle.slice_core_plan.specs.declared.transition.Transition.{Transition}
 use Rattle.slice_queues_message.specs.declared.channel.Pick.{Pick}
@@ -266,8 +266,8 @@ module _ (old : PartsView) (class : Class) (answer : Delivery Pick) (new : Parts
       let within = slice_get_within old.ring place local.0 stands in
       let some = looked-some old.view class old.ring (omega (arith, within)) in
       let extends = extends-done old after.done answer after.made in
-      let at : slice_get (turned after.done.view looked after.done.ring) (place - looked) ≡ Some local.0 =
-      subst (λ (ring : List ℕ). slice_get (turned after.done.view looked ring) (place - looked) ≡ Some local.0)
+      let at : slice_get (ring_after_turn after.done.view looked after.done.ring) (place - looked) ≡ Some local.0 =
+      subst (λ (ring : List ℕ). slice_get (ring_after_turn after.done.view looked ring) (place - looked) ≡ Some local.0)
       (sym extends.1) (get-turned old.ring extends.0 _ looked place local.0 few stands) in (
         place - looked,
         omega (arith, few, some),

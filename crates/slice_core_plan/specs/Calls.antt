@@ -11,45 +11,45 @@ use Rattle.address_map.specs.declared.config.Config.{Config}
 use Rattle.address_map.specs.declared.request.Request.{Request}
 use Rattle.cache_array.specs.Array.{held_at as array_at}
 use Rattle.mshr_file.specs.Miss.{Bound, targets_of}
-use Rattle.slice_core_answer.specs.Stats.{no_stats, after_stall}
-use Rattle.slice_core_answer.specs.declared.answer.Delivered.TheVariants as delivered
-use Rattle.slice_core_answer.specs.declared.answer.Issue.TheVariants as issues
-use Rattle.slice_core_answer.specs.declared.answer.Issue.{Issue}
-use Rattle.slice_core_answer.specs.declared.answer.Refused.TheVariants as refusals
-use Rattle.slice_core_answer.specs.declared.answer.Refused.{Refused}
-use Rattle.slice_core_log.specs.declared.entry.Numbered.{Numbered}
+use Rattle.slice_answer.specs.Stats.{no_stats, after_stall}
+use Rattle.slice_answer.specs.declared.answer.Delivered.TheVariants as delivered
+use Rattle.slice_answer.specs.declared.answer.Issue.TheVariants as issues
+use Rattle.slice_answer.specs.declared.answer.Issue.{Issue}
+use Rattle.slice_answer.specs.declared.answer.Refused.TheVariants as refusals
+use Rattle.slice_answer.specs.declared.answer.Refused.{Refused}
+use Rattle.slice_log.specs.declared.entry.Numbered.{Numbered}
 use Rattle.slice_core_plan.specs.Decision.{decision_of}
 pub use Rattle.slice_core_plan.specs.Delivery.{Moves, Settles, filled_by, core_of, AfterPlan, local_in, AfterDelivery}
 pub use Rattle.slice_core_plan.specs.Eviction.{AfterEvict}
 use Rattle.slice_core_plan.specs.Hit.{AfterHit}
 use Rattle.address_map.specs.Place.{counters_of, init_of}
-use Rattle.slice_core_plan.specs.Initial.{AreInitialEntries, AreNewSides}
+use Rattle.slice_core_plan.specs.Initial.{AreInitialEntries, AreNewCaches}
 use Rattle.slice_core_plan.specs.Join.{AfterJoin}
 pub use Rattle.slice_core_plan.specs.Join.{target_for}
 use Rattle.slice_core_plan.specs.Plan.{plan_of, planned_at}
 use Rattle.slice_core_plan.specs.PrimaryMiss.{AfterPrimaryMiss}
 pub use Rattle.slice_core_plan.specs.PrimaryMiss.{opened_stats, opened_ring}
-use Rattle.slice_core_plan.specs.Ring.{looked_at, next_in, pick_of, turned}
+use Rattle.slice_core_plan.specs.Ring.{looked_at, next_in, pick_of, ring_after_turn}
 pub use Rattle.slice_core_plan.specs.Parts.{PartsView, Accepts}
 use Rattle.slice_core_plan.specs.Steps.{after_hand}
-use Rattle.slice_core_plan.specs.View.{View, channels_at, side_at, IsShaped}
+use Rattle.slice_core_plan.specs.View.{View, channels_at, cache_at, IsShaped}
 use Rattle.slice_core_plan.specs.declared.decision.Decision.TheVariants as decisions
 use Rattle.slice_core_plan.specs.declared.decision.Decision.{Decision}
-use Rattle.slice_core_side.specs.Access.{is_idle, IsWithin}
-use Rattle.slice_core_side.specs.Side.{state_of, tag_at}
-use Rattle.slice_core_side.specs.Tags.{IsLeastReply}
-use Rattle.slice_core_side.specs.Targets.{IsPerformable}
-use Rattle.slice_core_side.specs.declared.access.Access.TheVariants as accesses
-use Rattle.slice_core_side.specs.declared.access.Access.{Access}
-use Rattle.slice_core_side.specs.declared.tags.TagState.TheVariants as tags
+use Rattle.slice_core_cache.specs.Access.{is_idle, IsWithin}
+use Rattle.slice_core_cache.specs.CoreCache.{state_of, tag_at}
+use Rattle.slice_core_cache.specs.Tags.{IsLeastReply}
+use Rattle.slice_core_cache.specs.Targets.{IsPerformable}
+use Rattle.slice_core_cache.specs.declared.access.AccessKind.TheVariants as access_kinds
+use Rattle.slice_core_cache.specs.declared.access.AccessKind.{AccessKind}
+use Rattle.slice_core_cache.specs.declared.tags.TagState.TheVariants as tag_states
 use Rattle.slice_queues.specs.Line.{core_at, empty_line}
 use Rattle.slice_queues_message.specs.Class.{is_of_class}
 use Rattle.slice_queues_message.specs.Pick.{channel_of}
 use Rattle.slice_queues_message.specs.declared.channel.Channel.{Channel}
 use Rattle.slice_queues_message.specs.declared.channel.Class.{Class}
 use Rattle.writeback_buffer.specs.Buffer.{held_at as buffer_at}
-use Rattle.slice_core_answer.specs.declared.answer.Delivery.TheVariants as deliveries
-use Rattle.slice_core_answer.specs.declared.answer.Delivery.{Delivery}
+use Rattle.slice_answer.specs.declared.answer.Delivery.TheVariants as deliveries
+use Rattle.slice_answer.specs.declared.answer.Delivery.{Delivery}
 use Rattle.slice_core_plan.specs.declared.transition.Transition.{Transition}
 use Rattle.slice_queues_message.specs.declared.channel.Pick.{Pick}
 
@@ -59,7 +59,7 @@ pub record IsNew (c : Config) (bound : Bound) (slice : SliceId) (p : PartsView) 
   pub lines : p.view.lines ≡ lines_of c slice
   pub entries : AreInitialEntries c (lines_of c slice) (slice_lines c) p.view.entries
   pub channels_are : p.view.channels ≡ replicate (slice_lines c) (empty_line c.cores)
-  pub sides : AreNewSides c bound slice.0 c.cores p.view.sides
+  pub caches : AreNewCaches c bound slice.0 c.cores p.view.caches
   pub log : p.view.log ≡ []
   pub init : p.view.init ≡ init_of c slice.0
   pub counters : p.view.counters ≡ counters_of c slice.0
@@ -74,16 +74,16 @@ pub record IsNew (c : Config) (bound : Bound) (slice : SliceId) (p : PartsView) 
 -- A core's request is safe to judge: the counts have room for one more; a copy stands in one place; the array has lines
 -- of the slice alone; and for a copy that asks for nothing nothing is asked of the directory.
 pub record CanIssue (p : PartsView) (core : CoreId) : Type 0 where
-  pub known : core.0 < length p.view.sides
+  pub known : core.0 < length p.view.caches
   pub shaped : IsShaped p.view
-  pub stats : length p.stats.cores ≡ length p.view.sides
-  pub counted : (side_at p.view core).accepted + 1 < 2 ^ 64
+  pub stats : length p.stats.cores ≡ length p.view.caches
+  pub counted : (cache_at p.view core).accepted + 1 < 2 ^ 64
   pub pending : p.pending + 1 < 2 ^ 64
   pub bounded : p.room < 2 ^ 63
-  pub apart : (local : Local) → IsSome (array_at (side_at p.view core).array local)
-      → buffer_at (side_at p.view core).buffer.entries local.0 ≡ None
-  pub own : (local : Local) → IsSome (array_at (side_at p.view core).array local) → local.0 < p.view.lines.lines
-  pub idle : (local : Local) → is_idle (state_of (side_at p.view core) local) ≡ true
+  pub apart : (local : Local) → IsSome (array_at (cache_at p.view core).array local)
+      → buffer_at (cache_at p.view core).buffer.write_backs local.0 ≡ None
+  pub own : (local : Local) → IsSome (array_at (cache_at p.view core).array local) → local.0 < p.view.lines.lines
+  pub idle : (local : Local) → is_idle (state_of (cache_at p.view core) local) ≡ true
       → (core_at (channels_at p.view local) core.0).request ≡ None
 
 -- A message of a line is safe to take: each target of the line can be performed, and the log has room for those of a
@@ -91,10 +91,10 @@ pub record CanIssue (p : PartsView) (core : CoreId) : Type 0 where
 pub record CanDeliver (p : PartsView) : Type 0 where
   pub shaped : IsShaped p.view
   pub performable : (core : CoreId) (local : Local)
-      → All IsPerformable (targets_of (side_at p.view core).misses local.0)
+      → All IsPerformable (targets_of (cache_at p.view core).misses local.0)
   pub room : (core : CoreId) (local : Local)
-      → length p.view.log + length (targets_of (side_at p.view core).misses local.0) ≤ p.room
-  pub pending : (core : CoreId) (local : Local) → length (targets_of (side_at p.view core).misses local.0) ≤ p.pending
+      → length p.view.log + length (targets_of (cache_at p.view core).misses local.0) ≤ p.room
+  pub pending : (core : CoreId) (local : Local) → length (targets_of (cache_at p.view core).misses local.0) ≤ p.pending
 
 -- ---- issue
 
@@ -105,16 +105,18 @@ pub record LacksMemory (old : PartsView) (answer : Result Issue Refused) (new : 
   pub unchanged : new ≡ old
 
 -- What an access that is accepted answers and leaves, where the log has room: a hit, a join or a primary miss.
-abbrev pub AfterAccepting : Access → PartsView → CoreId → Request → Local → Issue → PartsView → Type 0
-AfterAccepting (accesses.Stall stall) old core request local answer new = (answer ≡ issues.Stall stall) × (new ≡ old)
-AfterAccepting (accesses.Hit place next silent) old core request local answer new =
+abbrev pub AfterAccepting : AccessKind → PartsView → CoreId → Request → Local → Issue → PartsView → Type 0
+AfterAccepting (access_kinds.Stall stall) old core request local answer new = (answer ≡ issues.Stall stall)
+    × (new ≡ old)
+AfterAccepting (access_kinds.Hit way next silent) old core request local answer new =
     AfterHit old core request local next silent answer new
-AfterAccepting accesses.Join old core request local answer new = AfterJoin old core request local answer new
-AfterAccepting (accesses.Open next ask way) old core request local answer new =
-    AfterPrimaryMiss old core request local way next ask answer new
+AfterAccepting access_kinds.SecondaryMiss old core request local answer new =
+    AfterJoin old core request local answer new
+AfterAccepting (access_kinds.PrimaryMiss next ask placement) old core request local answer new =
+    AfterPrimaryMiss old core request local placement next ask answer new
 
 -- The access is accepted: the log first got room for all that waits and this request, and then the access was done.
-abbrev pub IsAccepted : Access → PartsView → CoreId → Request → Local → Result Issue Refused → PartsView → Type 0
+abbrev pub IsAccepted : AccessKind → PartsView → CoreId → Request → Local → Result Issue Refused → PartsView → Type 0
 IsAccepted access old core request local answer new =
     (room : ℕ) × (issue : Issue)
     × (old.room ≤ room) × (length old.view.log + old.pending + 1 ≤ room)
@@ -122,8 +124,8 @@ IsAccepted access old core request local answer new =
     × AfterAccepting access (record old { room = room }) core request local issue new
 
 -- What an access answers and leaves: a stall is counted, and changes nothing else; all else needs room in the log.
-abbrev pub AfterAccess : Access → PartsView → CoreId → Request → Local → Result Issue Refused → PartsView → Type 0
-AfterAccess (accesses.Stall stall) old core request local answer new =
+abbrev pub AfterAccess : AccessKind → PartsView → CoreId → Request → Local → Result Issue Refused → PartsView → Type 0
+AfterAccess (access_kinds.Stall stall) old core request local answer new =
     (answer ≡ Ok (issues.Stall stall)) × (new ≡ record old { stats = after_stall old.stats core stall })
 AfterAccess access old core request local answer new =
     LacksMemory old answer new ⊎ IsAccepted access old core request local answer new
@@ -133,7 +135,7 @@ AfterAccess access old core request local answer new =
 abbrev pub IsDecided : View → CoreId → Request → Decision → Type 0
 IsDecided v core request (decisions.Refuse refused) = Unit {0}
 IsDecided v core request (decisions.Access local access) =
-    (local.0 < v.lines.lines) × (request.tag < 64) × IsWithin (side_at v core) local request.tag access
+    (local.0 < v.lines.lines) × (request.tag < 64) × IsWithin (cache_at v core) local request.tag access
 
 -- What an issue answers and leaves.
 abbrev pub AfterIssue : PartsView → CoreId → Request → Result Issue Refused → PartsView → Type 0
@@ -194,19 +196,20 @@ pub record AfterDeliverNext (old : PartsView) (class : Class) (answer : Delivery
   -- the slice once that is done, before the ring turns
   pub done : PartsView
   pub made : IsDone old answer done
-  pub turns : new ≡ record done { ring = turned done.view (looked_at old.view class old.ring) done.ring }
+  pub turns : new ≡ record done { ring = ring_after_turn done.view (looked_at old.view class old.ring) done.ring }
 
 -- ---- hand
 
 -- Each performed entry that a tag of the core names is in the log.
 abbrev pub HasEntries : View → CoreId → Type 0
-HasEntries v core = (tag number : ℕ) → tag_at (side_at v core) tag ≡ tags.Performed number → number < length v.log
+HasEntries v core = (tag number : ℕ) → tag_at (cache_at v core) tag ≡ tag_states.Performed number → number
+    < length v.log
 
 -- The entry of the least number that isn't handed out is given, and its tag is free; or there is none, and nothing has
 -- changed.
 abbrev pub AfterHand : PartsView → CoreId → Option Numbered → PartsView → Type 0
-AfterHand old core None new = IsLeastReply (side_at old.view core).tags None × (new ≡ old)
+AfterHand old core None new = IsLeastReply (cache_at old.view core).tags None × (new ≡ old)
 AfterHand old core (Some given) new =
-    (tag : ℕ) × IsLeastReply (side_at old.view core).tags (Some (tag, given.number))
+    (tag : ℕ) × IsLeastReply (cache_at old.view core).tags (Some (tag, given.number))
     × (slice_get old.view.log given.number ≡ Some given.entry)
     × (new ≡ record old { view = after_hand old.view core tag })

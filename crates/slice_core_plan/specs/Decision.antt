@@ -9,11 +9,11 @@ use Rattle.address_map.specs.declared.address.WordAddr.{WordAddr}
 use Rattle.address_map.specs.declared.request.Op.{Op}
 use Rattle.address_map.specs.declared.request.Op.TheVariants as ops
 use Rattle.address_map.specs.declared.request.Request.{Request}
-use Rattle.slice_core_answer.specs.declared.answer.Refused.TheVariants as refusals
-use Rattle.slice_core_side.specs.Access.{access_of}
-use Rattle.slice_core_side.specs.Side.{tag_at}
-use Rattle.slice_core_side.specs.Tags.{is_free}
-use Rattle.slice_core_plan.specs.View.{View, side_at}
+use Rattle.slice_answer.specs.declared.answer.Refused.TheVariants as refusals
+use Rattle.slice_core_cache.specs.Access.{access_of}
+use Rattle.slice_core_cache.specs.CoreCache.{tag_at}
+use Rattle.slice_core_cache.specs.Tags.{is_free}
+use Rattle.slice_core_plan.specs.View.{View, cache_at}
 use Rattle.slice_core_plan.specs.declared.decision.Decision.{Decision}
 use Rattle.slice_core_plan.specs.declared.decision.Decision.TheVariants as decisions
 
@@ -31,9 +31,9 @@ is_counter v word = list_any (λ counter. counter.0 == word.0) v.counters
 abbrev pub decision_at : View → CoreId → Request → Local → Decision
 decision_at v core request local =
     if not (nat_lt request.tag 64) then decisions.Refuse refusals.TagRange
-    else if not (is_free (tag_at (side_at v core) request.tag)) then decisions.Refuse refusals.TagBusy
+    else if not (is_free (tag_at (cache_at v core) request.tag)) then decisions.Refuse refusals.TagBusy
     else if overwrites request.op && is_counter v request.word then decisions.Refuse refusals.CounterStore
-    else decisions.Access local (access_of (side_at v core) local request.tag request.op)
+    else decisions.Access local (access_of (cache_at v core) local request.tag request.op)
 
 -- A request, in the order in which it is judged: its word must be of the memory, and of this slice.
 abbrev pub decision_of : View → CoreId → Request → Decision

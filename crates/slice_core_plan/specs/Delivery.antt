@@ -1,6 +1,6 @@
 -- A delivery: the message in front of a channel is taken, and the row of its table is done, the directory's or a
--- cache's. The core's own parts in it are `after_advance`, `filled`, `acknowledged` and `after_settle` of
--- `slice_core_side` (specs/Steps.antt).
+-- cache's. The core's own parts in it are `after_advance`, `copy_after_fill`, `copy_after_ack` and `after_settle` of
+-- `slice_core_cache` (specs/Steps.antt).
 use Rattle.std.specs.Prelude.{◌≡◌, ℕ, ◌-◌, true, List, length, Option, Some, None, Bool, false, ◌++◌, unwrap_or}
 use Rattle.std.specs.Prelude.{if◌then◌else◌}
 use Rattle.address_map.specs.Locator.{local_at}
@@ -13,32 +13,32 @@ use Rattle.directory_table.specs.declared.row.DirStep.{DirStep}
 use Rattle.directory_table.specs.declared.state.DirState.{DirState}
 use Rattle.mshr_file.specs.Miss.{targets_of, IsMissFile, TakesTargets}
 use Rattle.mshr_file.specs.declared.registers.Register.{Register}
-use Rattle.slice_core_answer.specs.Stats.{after_message}
-use Rattle.slice_core_answer.specs.declared.answer.Delivered.TheVariants as delivered
-use Rattle.slice_core_answer.specs.declared.answer.Delivered.{Delivered}
+use Rattle.slice_answer.specs.Stats.{after_message}
+use Rattle.slice_answer.specs.declared.answer.Delivered.TheVariants as delivered
+use Rattle.slice_answer.specs.declared.answer.Delivered.{Delivered}
 use Rattle.slice_core_plan.specs.Plan.{planned_at}
 use Rattle.slice_core_plan.specs.Sends.{cache_sent, directory_sent}
 use Rattle.slice_core_plan.specs.Parts.{PartsView}
-use Rattle.slice_core_plan.specs.View.{View, channels_at, side_at, entry_at, first_word, with_channels, with_entry}
-use Rattle.slice_core_plan.specs.View.{with_side}
-use Rattle.slice_core_side.specs.Perform.{performed_in, asks_to_write, entries_of}
-use Rattle.slice_core_side.specs.Side.{array_copy, copy_of}
-use Rattle.slice_core_side.specs.Steps as sides
-use Rattle.slice_core_side.specs.Steps.{acknowledged, filled}
-use Rattle.slice_core_side.specs.declared.copy.CacheCopy.{CacheCopy}
+use Rattle.slice_core_plan.specs.View.{View, channels_at, cache_at, entry_at, first_word, with_channels, with_entry}
+use Rattle.slice_core_plan.specs.View.{with_cache}
+use Rattle.slice_core_cache.specs.Perform.{performed_in, asks_to_write, entries_of}
+use Rattle.slice_core_cache.specs.CoreCache.{array_copy, copy_of}
+use Rattle.slice_core_cache.specs.Steps as caches
+use Rattle.slice_core_cache.specs.Steps.{copy_after_ack, copy_after_fill}
+use Rattle.slice_core_cache.specs.declared.copy.CacheCopy.{CacheCopy}
 use Rattle.slice_queues.specs.Line.{core_at, LineChannels, after_send, after_take}
 use Rattle.slice_queues.specs.Ring.{with_listed}
 use Rattle.slice_queues_message.specs.Pick.{channel_of, line_of}
 use Rattle.slice_queues_message.specs.declared.channel.Channel.TheVariants as channels
 use Rattle.slice_queues_message.specs.declared.channel.Channel.{Channel}
 use Rattle.slice_queues_message.specs.declared.channel.Pick.{Pick}
-use Rattle.slice_queues_message.specs.declared.message.DataMessage.TheVariants as replies
+use Rattle.slice_queues_message.specs.declared.message.DataMessage.TheVariants as data_messages
 use Rattle.slice_queues_message.specs.declared.message.DataMessage.{DataMessage}
 use Rattle.slice_queues_message.specs.declared.message.Message.TheVariants as messages
-use Rattle.slice_queues_message.specs.declared.message.RequestMessage.TheVariants as requests
+use Rattle.slice_queues_message.specs.declared.message.RequestMessage.TheVariants as request_messages
 use Rattle.slice_queues_message.specs.declared.message.RequestMessage.{RequestMessage}
-use Rattle.slice_core_answer.specs.declared.answer.Delivery.TheVariants as deliveries
-use Rattle.slice_core_answer.specs.declared.answer.Delivery.{Delivery}
+use Rattle.slice_answer.specs.declared.answer.Delivery.TheVariants as deliveries
+use Rattle.slice_answer.specs.declared.answer.Delivery.{Delivery}
 use Rattle.slice_core_plan.specs.declared.transition.Transition.TheVariants as transitions
 use Rattle.slice_core_plan.specs.declared.transition.Transition.{Transition}
 
@@ -46,7 +46,7 @@ use Rattle.slice_core_plan.specs.declared.transition.Transition.{Transition}
 
 -- the block that goes along with a request, which PutM alone has
 abbrev pub block_in : Block → Option RequestMessage → Block
-block_in home (Some (requests.PutM block)) = block
+block_in home (Some (request_messages.PutM block)) = block
 block_in home _ = home
 
 -- The directory did its row for a core's request: the entry, the home copy where the row writes it, and what is sent.
@@ -75,24 +75,24 @@ after_home v local state owner sharers =
 abbrev pub after_forwarded : View → Local → CoreId → CopyState → CacheSends → CoreId → View
 after_forwarded v local core next sent requester =
     with_channels
-    (with_side v core (sides.after_advance (side_at v core) local next))
+    (with_cache v core (caches.after_advance (cache_at v core) local next))
     local
     (cache_sent (after_take (channels_at v local) (channels.Fwd core)) core requester
-    (copy_of (side_at v core) local).block sent)
+    (copy_of (cache_at v core) local).block sent)
 
 -- the right to write is asked for, where a write is left
 abbrev pub asked_by : Bool → LineChannels → CoreId → LineChannels
-asked_by true line core = after_send line (channels.Req core) (messages.Request requests.GetM)
+asked_by true line core = after_send line (channels.Req core) (messages.Request request_messages.GetM)
 asked_by false line core = line
 
 -- The core's copy has changed by a message of a channel: the targets that it allows now are performed and logged, and
 -- the right to write is asked for where a write is left.
 abbrev pub after_settling : View → Local → CoreId → Channel → CacheCopy → List Register → View
 after_settling v local core channel copy misses =
-    let side = sides.after_change (side_at v core) local copy in
-    let targets = targets_of side.misses local.0 in
+    let cache = caches.after_change (cache_at v core) local copy in
+    let targets = targets_of cache.misses local.0 in
     let line = after_take (channels_at v local) channel in
-    record (with_channels (with_side v core (sides.after_settle side local (length v.log) misses)) local
+    record (with_channels (with_cache v core (caches.after_settle cache local (length v.log) misses)) local
     (asked_by (asks_to_write copy.state targets) line core)) {
       log = v.log ++ entries_of core (first_word v local) copy.block (performed_in copy.state targets);
     }
@@ -113,11 +113,11 @@ Moves old local channel view new =
 -- A message changed the core's copy: the targets that it allows are performed, and wait no more.
 abbrev pub Settles : PartsView → Local → CoreId → Channel → CacheCopy → PartsView → Type 0
 Settles old local core channel copy new =
-    let targets = targets_of (side_at old.view core).misses local.0 in
+    let targets = targets_of (cache_at old.view core).misses local.0 in
     let taken = performed_in copy.state targets in
     (misses : List Register)
-    × TakesTargets (side_at old.view core).misses misses local.0 taken
-    × (IsMissFile (side_at old.view core).misses → IsMissFile misses)
+    × TakesTargets (cache_at old.view core).misses misses local.0 taken
+    × (IsMissFile (cache_at old.view core).misses → IsMissFile misses)
     × (new ≡ record old {
       view = after_settling old.view local core channel copy misses;
       stats = after_message old.stats channel;
@@ -128,8 +128,8 @@ Settles old local core channel copy new =
 -- the copy with the data that wait for the core
 abbrev pub filled_by : CacheCopy → Option DataMessage → CopyState → CacheCopy
 filled_by copy None next = record copy { state = next }
-filled_by copy (Some (replies.Data block acks)) next = filled copy block acks next
-filled_by copy (Some (replies.DataE block)) next = filled copy block 0 next
+filled_by copy (Some (data_messages.Data block acks)) next = copy_after_fill copy block acks next
+filled_by copy (Some (data_messages.DataE block)) next = copy_after_fill copy block 0 next
 
 -- the core at a channel of a core
 abbrev pub core_of : Channel → CoreId
@@ -151,11 +151,11 @@ AfterMove (transitions.Forwarded step) old local channel new =
 AfterMove (transitions.Fill step) old local channel new =
     let core = core_of channel in
     Settles old local core channel
-    (filled_by (array_copy (side_at old.view core) local) (core_at (channels_at old.view local) core.0).data step.next)
+    (filled_by (array_copy (cache_at old.view core) local) (core_at (channels_at old.view local) core.0).data step.next)
     new
 AfterMove (transitions.Acknowledge step) old local channel new =
     let core = core_of channel in
-    Settles old local core channel (acknowledged (array_copy (side_at old.view core) local) step.next) new
+    Settles old local core channel (copy_after_ack (array_copy (cache_at old.view core) local) step.next) new
 
 -- What a delivery at a channel of a line answers and leaves, by what is planned.
 abbrev pub AfterPlan : Delivery Transition → PartsView → Local → Channel → Delivered → PartsView → Type 0

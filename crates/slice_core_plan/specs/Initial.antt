@@ -6,9 +6,9 @@ use Rattle.address_map.specs.declared.address.Local.{Local}
 use Rattle.address_map.specs.declared.block.Block.{Block}
 use Rattle.address_map.specs.declared.config.Config.{Config}
 use Rattle.directory_table.specs.declared.state.DirEntry.{DirEntry}
-use Rattle.slice_core_side.specs.Side.{SideView, new_side}
+use Rattle.slice_core_cache.specs.CoreCache.{CoreCacheView, new_cache}
 use Rattle.mshr_file.specs.Miss.{Bound}
-use Rattle.slice_core_plan.specs.View.{no_entry, no_side}
+use Rattle.slice_core_plan.specs.View.{no_entry, no_cache}
 
 -- the block has the initial values of the line's words, of 64 bits each
 pub record IsInitialBlock (c : Config) (own : Lines) (local : Local) (block : Block) : Type 0 where
@@ -17,17 +17,17 @@ pub record IsInitialBlock (c : Config) (own : Lines) (local : Local) (block : Bl
   pub fits : (i : ℕ) → i < 8 → slice_index block.words i < 2 ^ 64
 
 -- a line that nobody has, with this home copy
-abbrev pub unowned : Block → DirEntry
-unowned block = record no_entry { home = block }
+abbrev pub unowned_entry : Block → DirEntry
+unowned_entry block = record no_entry { home = block }
 
 -- so many of the slice's lines, with their initial values, which nobody has yet
 pub record AreInitialEntries (c : Config) (own : Lines) (count : ℕ) (entries : List DirEntry) : Type 0 where
   pub count_is : length entries ≡ count
   pub each : (local : ℕ) → local < count
       → (block : Block) × IsInitialBlock c own (record { 0 = local }) block
-      × (slice_index_or entries local no_entry ≡ unowned block)
+      × (slice_index_or entries local no_entry ≡ unowned_entry block)
 
 -- so many cores, none of which has asked for anything yet
-pub record AreNewSides (c : Config) (bound : Bound) (slice count : ℕ) (sides : List SideView) : Type 0 where
-  pub count_is : length sides ≡ count
-  pub each : (core : ℕ) → core < count → slice_index_or sides core no_side ≡ new_side c bound slice core
+pub record AreNewCaches (c : Config) (bound : Bound) (slice count : ℕ) (caches : List CoreCacheView) : Type 0 where
+  pub count_is : length caches ≡ count
+  pub each : (core : ℕ) → core < count → slice_index_or caches core no_cache ≡ new_cache c bound slice core

@@ -2,11 +2,11 @@
 -- told by a line of the slice and one of its channels.
 use Rattle.std.specs.Prelude.{◌≡◌, ◌<◌, ◌⊎◌, IsTrue}
 use Rattle.address_map.specs.declared.address.Local.{Local}
-use Rattle.slice_core_answer.specs.Delivery.{delivered_with, delivery_with}
-pub use Rattle.slice_core_answer.specs.Delivery.{better_of}
-use Rattle.slice_core_answer.specs.declared.answer.Delivered.{Delivered}
-use Rattle.slice_core_answer.specs.declared.answer.Delivery.TheVariants as deliveries
-use Rattle.slice_core_answer.specs.declared.answer.Delivery.{Delivery}
+use Rattle.slice_answer.specs.Delivery.{delivered_with, delivery_with}
+pub use Rattle.slice_answer.specs.Delivery.{better_of}
+use Rattle.slice_answer.specs.declared.answer.Delivered.{Delivered}
+use Rattle.slice_answer.specs.declared.answer.Delivery.TheVariants as deliveries
+use Rattle.slice_answer.specs.declared.answer.Delivery.{Delivery}
 use Rattle.slice_core_plan.specs.Plan.{plan_of}
 use Rattle.slice_core_plan.specs.View.{View}
 use Rattle.slice_core_plan.specs.declared.transition.Transition.{Transition}

@@ -2,8 +2,8 @@
 use Rattle.std.specs.Prelude.{◌≡◌, ℕ, List, map}
 use Rattle.address_map.specs.Locator.{line_at}
 use Rattle.address_map.specs.declared.address.LineAddr.{LineAddr}
-use Rattle.slice_core_answer.specs.Stats.{StatsView}
-use Rattle.slice_core_answer.specs.declared.answer.Issue.{Issue}
+use Rattle.slice_answer.specs.Stats.{StatsView}
+use Rattle.slice_answer.specs.declared.answer.Issue.{Issue}
 use Rattle.slice_core_plan.specs.View.{View}
 
 pub record PartsView : Type 0 where

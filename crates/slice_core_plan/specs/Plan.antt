@@ -11,7 +11,7 @@ use Rattle.cache_array.specs.Set.{holds}
 use Rattle.cache_table.specs.Row.{row_of}
 use Rattle.cache_table.specs.declared.state.CopyState.{CopyState}
 use Rattle.cache_table.specs.declared.row.CacheEvent.{CacheEvent}
-use Rattle.cache_table.specs.declared.row.CacheEvent.TheVariants as events
+use Rattle.cache_table.specs.declared.row.CacheEvent.TheVariants as cache_events
 use Rattle.cache_table.specs.declared.row.Row.{Row}
 use Rattle.cache_table.specs.declared.row.Row.TheVariants as rows
 use Rattle.directory_table.specs.Row.{row_of as dir_row_of}
@@ -20,25 +20,25 @@ use Rattle.directory_table.specs.declared.row.DirEvent.TheVariants as dir_events
 use Rattle.directory_table.specs.declared.row.DirRow.{DirRow}
 use Rattle.directory_table.specs.declared.row.DirRow.TheVariants as dir_rows
 use Rattle.mshr_file.specs.Miss.{targets_of}
-use Rattle.slice_core_answer.specs.declared.answer.Cell.TheVariants as cells
-use Rattle.slice_core_side.specs.Side.{copy_of}
-use Rattle.slice_core_side.specs.declared.copy.CacheCopy.{CacheCopy}
+use Rattle.slice_answer.specs.declared.answer.Cell.TheVariants as cells
+use Rattle.slice_core_cache.specs.CoreCache.{copy_of}
+use Rattle.slice_core_cache.specs.declared.copy.CacheCopy.{CacheCopy}
 use Rattle.slice_core_plan.specs.Sends.{cache_room, directory_room}
-use Rattle.slice_core_plan.specs.View.{View, channels_at, entry_at, side_at}
+use Rattle.slice_core_plan.specs.View.{View, channels_at, entry_at, cache_at}
 use Rattle.slice_queues.specs.Line.{LineChannels, core_at}
 use Rattle.slice_queues_message.specs.Pick.{channel_of, line_of}
 use Rattle.slice_queues_message.specs.declared.channel.Channel.{Channel}
 use Rattle.slice_queues_message.specs.declared.channel.Channel.TheVariants as channels
 use Rattle.slice_queues_message.specs.declared.channel.Pick.{Pick}
 use Rattle.slice_queues_message.specs.declared.message.DataMessage.{DataMessage}
-use Rattle.slice_queues_message.specs.declared.message.DataMessage.TheVariants as replies
+use Rattle.slice_queues_message.specs.declared.message.DataMessage.TheVariants as data_messages
 use Rattle.slice_queues_message.specs.declared.message.ForwardedMessage.{ForwardedMessage}
-use Rattle.slice_queues_message.specs.declared.message.ForwardedMessage.TheVariants as forwards
+use Rattle.slice_queues_message.specs.declared.message.ForwardedMessage.TheVariants as forwarded_messages
 use Rattle.slice_queues_message.specs.declared.message.RequestMessage.{RequestMessage}
-use Rattle.slice_queues_message.specs.declared.message.RequestMessage.TheVariants as requests
+use Rattle.slice_queues_message.specs.declared.message.RequestMessage.TheVariants as request_messages
 use Rattle.target_list.specs.Target.{is_load}
-use Rattle.slice_core_answer.specs.declared.answer.Delivery.TheVariants as deliveries
-use Rattle.slice_core_answer.specs.declared.answer.Delivery.{Delivery}
+use Rattle.slice_answer.specs.declared.answer.Delivery.TheVariants as deliveries
+use Rattle.slice_answer.specs.declared.answer.Delivery.{Delivery}
 use Rattle.slice_core_plan.specs.declared.transition.Transition.TheVariants as transitions
 use Rattle.directory_table.specs.declared.row.DirStep.{DirStep}
 use Rattle.directory_table.specs.declared.state.DirState.{DirState}
@@ -61,7 +61,7 @@ abbrev pub forwarded_move : CopyState → CacheSends → CoreId → Delivery Tra
 forwarded_move next sends requester =
     deliveries.Moved (transitions.Forwarded (record { next = next; sends = sends; requester = requester }))
 
--- a core takes its data, or counts an acknowledgement, for the copy in this place of its set
+-- a core takes its data, or counts an acknowledgement, for the copy in this way of its set
 abbrev pub fill_move : ℕ → CopyState → Delivery Transition
 fill_move place next = deliveries.Moved (transitions.Fill (record { place = place; next = next }))
 
@@ -72,10 +72,10 @@ ack_move place next = deliveries.Moved (transitions.Acknowledge (record { place 
 
 -- the event of the directory's table that a core's request is
 abbrev pub event_of_request : CoreId → RequestMessage → DirEvent
-event_of_request core requests.GetS = dir_events.GetS core
-event_of_request core requests.GetM = dir_events.GetM core
-event_of_request core requests.PutS = dir_events.PutS core
-event_of_request core (requests.PutM block) = dir_events.PutM core
+event_of_request core request_messages.GetS = dir_events.GetS core
+event_of_request core request_messages.GetM = dir_events.GetM core
+event_of_request core request_messages.PutS = dir_events.PutS core
+event_of_request core (request_messages.PutM block) = dir_events.PutM core
 
 -- what follows from the directory's row for a core's request
 abbrev pub by_directory_row : LineChannels → CoreId → DirRow → Delivery Transition
@@ -109,19 +109,19 @@ home_plan v local =
 
 -- the event of the cache's table that a forwarded message is, and the core that it names
 abbrev pub event_of_forwarded : ForwardedMessage → CacheEvent
-event_of_forwarded (forwards.FwdGetS requester) = events.FwdGetS
-event_of_forwarded (forwards.FwdGetM requester) = events.FwdGetM
-event_of_forwarded (forwards.Inv requester) = events.Inv
-event_of_forwarded forwards.PutAck = events.PutAck
+event_of_forwarded (forwarded_messages.FwdGetS requester) = cache_events.FwdGetS
+event_of_forwarded (forwarded_messages.FwdGetM requester) = cache_events.FwdGetM
+event_of_forwarded (forwarded_messages.Inv requester) = cache_events.Inv
+event_of_forwarded forwarded_messages.PutAck = cache_events.PutAck
 
 abbrev pub requester_of : CoreId → ForwardedMessage → CoreId
-requester_of core (forwards.FwdGetS requester) = requester
-requester_of core (forwards.FwdGetM requester) = requester
-requester_of core (forwards.Inv requester) = requester
-requester_of core forwards.PutAck = core
+requester_of core (forwarded_messages.FwdGetS requester) = requester
+requester_of core (forwarded_messages.FwdGetM requester) = requester
+requester_of core (forwarded_messages.Inv requester) = requester
+requester_of core forwarded_messages.PutAck = core
 
 abbrev pub is_put_ack : ForwardedMessage → Bool
-is_put_ack forwards.PutAck = true
+is_put_ack forwarded_messages.PutAck = true
 is_put_ack _ = false
 
 -- the core's own request for the line still waits
@@ -140,20 +140,21 @@ by_forwarded_row v local core message (rows.Go next sent) =
 abbrev pub forwarded_by : View → Local → CoreId → Option ForwardedMessage → Delivery Transition
 forwarded_by v local core None = deliveries.Nothing
 forwarded_by v local core (Some message) =
-    by_forwarded_row v local core message (row_of (copy_of (side_at v core) local).state (event_of_forwarded message))
+    by_forwarded_row v local core message (row_of (copy_of (cache_at v core) local).state (event_of_forwarded message))
 
 abbrev pub forwarded_plan : View → Local → CoreId → Delivery Transition
 forwarded_plan v local core = forwarded_by v local core (slice_get (core_at (channels_at v local) core.0).forwarded 0)
 
 -- the event of the cache's table that data are, for a copy and the targets that wait for it
 abbrev pub event_of_data : View → Local → CoreId → DataMessage → CacheEvent
-event_of_data v local core (replies.Data block acks) = events.Data acks (copy_of (side_at v core) local).counted
-event_of_data v local core (replies.DataE block) =
-    events.DataE (list_all is_load (targets_of (side_at v core).misses local.0))
+event_of_data v local core (data_messages.Data block acks) =
+    cache_events.Data acks (copy_of (cache_at v core) local).counted
+event_of_data v local core (data_messages.DataE block) =
+    cache_events.DataE (list_all is_load (targets_of (cache_at v core).misses local.0))
 
 -- where a copy stands in its set, if the core's array holds it: only there data and acknowledgements come for it
 abbrev pub stands_at : View → Local → CoreId → Option ℕ
-stands_at v local core = position (holds local) (slots_at (side_at v core).array local)
+stands_at v local core = position (holds local) (slots_at (cache_at v core).array local)
 
 -- what data do to a copy that stands there
 abbrev pub fill_at : Option ℕ → CopyState → Delivery Transition
@@ -170,7 +171,7 @@ by_data_row v local core (rows.Go next sent) =
 abbrev pub data_by : View → Local → CoreId → Option DataMessage → Delivery Transition
 data_by v local core None = deliveries.Nothing
 data_by v local core (Some message) =
-    by_data_row v local core (row_of (copy_of (side_at v core) local).state (event_of_data v local core message))
+    by_data_row v local core (row_of (copy_of (cache_at v core) local).state (event_of_data v local core message))
 
 abbrev pub data_plan : View → Local → CoreId → Delivery Transition
 data_plan v local core = data_by v local core (core_at (channels_at v local) core.0).data
@@ -188,9 +189,9 @@ by_ack_row v local core (rows.Go next sent) = acknowledge_at (stands_at v local 
 
 abbrev pub ack_plan : View → Local → CoreId → CoreId → Delivery Transition
 ack_plan v local to from =
-    let copy : CacheCopy = copy_of (side_at v to) local in
+    let copy : CacheCopy = copy_of (cache_at v to) local in
     if has (core_at (channels_at v local) to.0).acks from.0
-    then by_ack_row v local to (row_of copy.state (events.InvAck copy.wants copy.counted))
+    then by_ack_row v local to (row_of copy.state (cache_events.InvAck copy.wants copy.counted))
     else deliveries.Nothing
 
 -- What is to be done at the front of a channel of a line.

@@ -3,7 +3,7 @@
 use Rattle.std.specs.Prelude.{ℕ, ◌+◌, ◌++◌, Bool, true, false, if◌then◌else◌, List, [], ◌∷◌, drop, filter, take}
 use Rattle.address_map.specs.Locator.{Lines, line_at}
 use Rattle.address_map.specs.declared.address.Local.{Local}
-use Rattle.slice_core_answer.specs.Delivery.{better_of, delivery_map}
+use Rattle.slice_answer.specs.Delivery.{better_of, delivery_map}
 use Rattle.slice_core_plan.specs.Next.{next_by}
 use Rattle.slice_core_plan.specs.Plan.{plan_of}
 use Rattle.slice_core_plan.specs.View.{View, channels_at}
@@ -13,8 +13,8 @@ use Rattle.slice_queues_message.specs.Class.{is_of_class}
 use Rattle.slice_queues_message.specs.Pick.{pick_at}
 use Rattle.slice_queues_message.specs.declared.channel.Channel.{Channel}
 use Rattle.slice_queues_message.specs.declared.channel.Class.{Class}
-use Rattle.slice_core_answer.specs.declared.answer.Delivery.TheVariants as deliveries
-use Rattle.slice_core_answer.specs.declared.answer.Delivery.{Delivery}
+use Rattle.slice_answer.specs.declared.answer.Delivery.TheVariants as deliveries
+use Rattle.slice_answer.specs.declared.answer.Delivery.{Delivery}
 use Rattle.slice_queues_message.specs.declared.channel.Pick.{Pick}
 
 -- ---- which message is next
@@ -59,5 +59,5 @@ abbrev pub has_mail_at : View → ℕ → Bool
 has_mail_at v local = has_mail (channels_at v (record { 0 = local }))
 
 -- so many lines were looked at: those that still have mail go behind the others, and the rest leave the ring
-abbrev pub turned : View → ℕ → List ℕ → List ℕ
-turned v looked ring = drop looked ring ++ filter (has_mail_at v) (take looked ring)
+abbrev pub ring_after_turn : View → ℕ → List ℕ → List ℕ
+ring_after_turn v looked ring = drop looked ring ++ filter (has_mail_at v) (take looked ring)

@@ -7,9 +7,9 @@ pub use Rattle.slice_core_plan.specs.Eviction.{after_request, after_evict}
 pub use Rattle.slice_core_plan.specs.Hit.{after_hit}
 pub use Rattle.slice_core_plan.specs.Join.{after_join}
 pub use Rattle.slice_core_plan.specs.PrimaryMiss.{request_of, with_way, is_held, after_opening, after_open}
-use Rattle.slice_core_plan.specs.View.{View, side_at, with_side}
-use Rattle.slice_core_side.specs.Steps as sides
+use Rattle.slice_core_cache.specs.Steps as caches
+use Rattle.slice_core_plan.specs.View.{View, cache_at, with_cache}
 
 -- the tag's entry is handed out
 abbrev pub after_hand : View → CoreId → ℕ → View
-after_hand v core tag = with_side v core (sides.after_hand (side_at v core) tag)
+after_hand v core tag = with_cache v core (caches.after_hand (cache_at v core) tag)

@@ -10,8 +10,8 @@ use Rattle.slice_core_plan.specs.View.{View}
 use Rattle.slice_queues_message.specs.Pick.{line_of}
 use Rattle.slice_queues_message.specs.declared.channel.Channel.{Channel}
 use Rattle.slice_queues_message.specs.declared.channel.Class.{Class}
-use Rattle.slice_core_answer.specs.declared.answer.Delivery.TheVariants as deliveries
-use Rattle.slice_core_answer.specs.declared.answer.Delivery.{Delivery}
+use Rattle.slice_answer.specs.declared.answer.Delivery.TheVariants as deliveries
+use Rattle.slice_answer.specs.declared.answer.Delivery.{Delivery}
 use Rattle.slice_queues_message.specs.declared.channel.Pick.{Pick}
 
 -- of the messages of the class that wait in front of the line's channels one can be moved

@@ -2,8 +2,8 @@ ghost use Rattle.std.specs.Prelude.{◌≡◌};
 ghost use Rattle.slice_core_plan.specs.Decision.{overwrites};
 
 use address_map::{Local, Op};
-use slice_core_answer::Refused;
-use slice_core_side::Access;
+use slice_answer::Refused;
+use slice_core_cache::Access;
 
 /// What is to be done with a request, before memory is asked for.
 #[derive(Clone, Copy, Debug, PartialEq, Eq)]
@@ -12,7 +12,7 @@ pub enum Decision {
     Refuse(Refused),
     /// An access to the line at this place of the slice: a hit, a miss of its own, a miss that joins another, or a
     /// stall.
-    Access(Local, Access),
+    Access(Local, AccessKind),
 }
 
 /// Whether an access may overwrite its word: a counter refuses it then.

@@ -5,7 +5,7 @@ ghost use Rattle.slice_core_plan.specs.Plan.{event_of_forwarded, event_of_reques
 use address_map::{CoreId, CoreSet};
 use cache_table::{CacheEvent, CacheSends, CopyState};
 use directory_table::{DirEvent, DirState, DirStep};
-use slice_core_answer::Delivery;
+use slice_answer::Delivery;
 use slice_queues_message::{ForwardedMessage, RequestMessage};
 
 /// What is done with a message that is moved: the row of its table, for each kind of channel.
@@ -42,10 +42,10 @@ pub struct ForwardedStep {
     pub requester: CoreId,
 }
 
-/// The next state of a core's copy, which stands in this place of its set.
+/// The next state of a core's copy, which stands in this way of its set.
 #[derive(Clone, Copy, Debug, PartialEq, Eq)]
 pub struct CopyStep {
-    pub place: usize,
+    pub way: usize,
     pub next: CopyState,
 }
 

@@ -1,7 +1,7 @@
 //! Next deliveries serve the lines in turn.
 ghost use Rattle.std.specs.Prelude.{ℕ, ◌≤◌, List, length};
 ghost use Rattle.address_map.specs.declared.address.Local.{Local};
-ghost use Rattle.slice_core_answer.specs.declared.answer.Delivery.{Delivery};
+ghost use Rattle.slice_answer.specs.declared.answer.Delivery.{Delivery};
 ghost use Rattle.slice_core_plan.specs.Calls.{PartsView};
 ghost use Rattle.slice_core_plan.specs.Turn.{PassOver, StandsAt};
 ghost use Rattle.slice_queues_message.specs.declared.channel.Class.{Class};

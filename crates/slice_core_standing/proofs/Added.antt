@@ -9,14 +9,15 @@ use Rattle.address_map.specs.Locator.{Lines}
 use Rattle.mshr_file.proofs.Changes.{count_of-added_none}
 use Rattle.mshr_file.specs.Miss.{count_of, has_tag, targets_of, AddsTarget, IsMissFile}
 use Rattle.mshr_file.specs.declared.registers.Register.{Register}
-use Rattle.slice_core_log.specs.declared.entry.Entry.{Entry}
-use Rattle.slice_core_side.specs.Tags.{tag_in}
-use Rattle.slice_core_side.specs.declared.tags.TagState.{TagState}
-use Rattle.slice_core_side.specs.declared.tags.TagState.TheVariants as tags
+use Rattle.slice_core_cache.specs.Tags.{tag_in}
+use Rattle.slice_core_cache.specs.declared.tags.TagState.{TagState}
+use Rattle.slice_core_cache.specs.declared.tags.TagState.TheVariants as tag_states
 use Rattle.slice_core_standing.proofs.Facts.{entries-below, tag-names_none, targets-below}
 use Rattle.slice_core_standing.proofs.Lists.{below_next, count_by-cons, one, one_if, none}
-use Rattle.slice_core_standing.specs.Standing.{has_seq, is_asked_by, is_open, is_performable, waiting, CanWait, HasTags}
+use Rattle.slice_core_standing.specs.Standing.{has_seq, is_asked_by, is_open, is_performable, target_count, CanWait}
+use Rattle.slice_core_standing.specs.Standing.{HasTags}
 use Rattle.slice_core_standing.specs.Standing.{IsAccount, StandsInOrder, StandsOnce}
+use Rattle.slice_log.specs.declared.entry.Entry.{Entry}
 use Rattle.target_list.specs.declared.target.Target.{Target}
 
 -- what one target adds to a count
@@ -29,7 +30,7 @@ added test old new line target adds =
 
 -- One more waits.
 pub waiting-added : (old new : List Register) (line : ℕ) (target : Target) → AddsTarget old new line target
-    → waiting new ≡ waiting old + 1
+    → target_count new ≡ target_count old + 1
 waiting-added old new line target adds = added (λ t. true) old new line target adds
 
 once-added : (log : List Entry) (core : ℕ) (old new : List Register) (accepted line : ℕ) (target : Target)
@@ -64,28 +65,28 @@ waits-added log old new line target adds file word tag now waits = record {
 
 tags-added : (log : List Entry) (core : ℕ) (old new : List Register) (states : List TagState) (line : ℕ)
     (target : Target)
-    → AddsTarget old new line target → target.tag < 64 → tag_in states target.tag ≡ tags.Free
+    → AddsTarget old new line target → target.tag < 64 → tag_in states target.tag ≡ tag_states.Free
     → HasTags log core old states
-    → HasTags log core new (slice_set states target.tag tags.Open)
+    → HasTags log core new (slice_set states target.tag tag_states.Open)
 tags-added log core old new states line target adds small free named = record {
-  sized = length-set states target.tag tags.Open ∙ named.sized;
+  sized = length-set states target.tag tag_states.Open ∙ named.sized;
   opened = λ tag. ⊎_elim (opened_here tag) (opened_there tag) (cases_eq tag target.tag);
   replies = λ tag number is.
       ⊎_elim (λ same. absurd (Open_names number (sym (here tag same) ∙ is)))
       (λ other. named.replies tag number (sym (there tag other) ∙ is)) (cases_eq tag target.tag);
 }
   where
-    here : (tag : ℕ) → tag ≡ target.tag → tag_in (slice_set states target.tag tags.Open) tag ≡ tags.Open
+    here : (tag : ℕ) → tag ≡ target.tag → tag_in (slice_set states target.tag tag_states.Open) tag ≡ tag_states.Open
     here tag same =
         let size = named.sized in
-        ap (tag_in (slice_set states target.tag tags.Open)) same
-        ∙ get_or-set_same states target.tag tags.Open tags.Free (omega (arith, small, size))
+        ap (tag_in (slice_set states target.tag tag_states.Open)) same
+        ∙ get_or-set_same states target.tag tag_states.Open tag_states.Free (omega (arith, small, size))
 
-    there : (tag : ℕ) → tag ≢ target.tag → tag_in (slice_set states target.tag tags.Open) tag ≡ tag_in states tag
-    there tag other = get_or-set_other states target.tag tag tags.Open tags.Free other
+    there : (tag : ℕ) → tag ≢ target.tag → tag_in (slice_set states target.tag tag_states.Open) tag ≡ tag_in states tag
+    there tag other = get_or-set_other states target.tag tag tag_states.Open tag_states.Free other
 
     opened_here : (tag : ℕ) → tag ≡ target.tag
-        → count_of (has_tag tag) new ≡ one_if (is_open (tag_in (slice_set states target.tag tags.Open) tag))
+        → count_of (has_tag tag) new ≡ one_if (is_open (tag_in (slice_set states target.tag tag_states.Open) tag))
     opened_here tag same =
         let before = tag-names_none log core old states tag named (ap (λ t. tag_in states t) same ∙ free) in
         let more = added (has_tag tag) old new line target adds in
@@ -94,7 +95,7 @@ tags-added log core old new states line target adds small free named = record {
         omega (arith, before, more, mine, now)
 
     opened_there : (tag : ℕ) → tag ≢ target.tag
-        → count_of (has_tag tag) new ≡ one_if (is_open (tag_in (slice_set states target.tag tags.Open) tag))
+        → count_of (has_tag tag) new ≡ one_if (is_open (tag_in (slice_set states target.tag tag_states.Open) tag))
     opened_there tag other =
         let before = named.opened tag in
         let more = added (has_tag tag) old new line target adds in
@@ -102,7 +103,7 @@ tags-added log core old new states line target adds small free named = record {
         let now = ap (λ state. one_if (is_open state)) (there tag other) in
         omega (arith, before, more, mine, now)
 
-    Open_names : (number : ℕ) → tags.Open ≢ tags.Performed number
+    Open_names : (number : ℕ) → tag_states.Open ≢ tag_states.Performed number
     Open_names number same = cc
 
 order-added : (lines : Lines) (log : List Entry) (core : ℕ) (old new : List Register) (accepted line : ℕ)
@@ -131,9 +132,9 @@ order-added lines log core old new accepted line target adds next stands order =
 pub account-added : (lines : Lines) (log : List Entry) (core : ℕ) (old new : List Register) (states : List TagState)
     (accepted line : ℕ)
     (target : Target) → AddsTarget old new line target → IsMissFile new → target.offset.0 < 8 → target.tag < 64
-    → target.seq ≡ accepted → target.since ≡ length log → tag_in states target.tag ≡ tags.Free
+    → target.seq ≡ accepted → target.since ≡ length log → tag_in states target.tag ≡ tag_states.Free
     → IsAccount lines log core old states accepted
-    → IsAccount lines log core new (slice_set states target.tag tags.Open) (accepted + 1)
+    → IsAccount lines log core new (slice_set states target.tag tag_states.Open) (accepted + 1)
 account-added lines log core old new states accepted line target adds file word tag next now free account = record {
   standing = once-added log core old new accepted line target adds next account.standing;
   waits = waits-added log old new line target adds file word tag now account.waits;

@@ -4,12 +4,12 @@ use Rattle.std.specs.Prelude.{slice_set}
 use Rattle.address_map.specs.Locator.{Lines}
 use Rattle.address_map.specs.declared.request.Op.TheVariants as ops
 use Rattle.mshr_file.specs.declared.registers.Register.{Register}
-use Rattle.slice_core_log.specs.declared.entry.Entry.{Entry}
-use Rattle.slice_core_side.specs.declared.tags.TagState.{TagState}
-use Rattle.slice_core_side.specs.declared.tags.TagState.TheVariants as tags
+use Rattle.slice_core_cache.specs.declared.tags.TagState.{TagState}
+use Rattle.slice_core_cache.specs.declared.tags.TagState.TheVariants as tag_states
 use Rattle.slice_core_standing.proofs.Begins.{account-begins}
 use Rattle.slice_core_standing.proofs.Hit.{account-hit}
 use Rattle.slice_core_standing.specs.Standing.{HasTags, IsAccount, StandsInOrder, StandsOnce}
+use Rattle.slice_log.specs.declared.entry.Entry.{Entry}
 use Rattle.target_list.specs.declared.target.Target.{Target}
 
 -- one slice of four lines
@@ -29,7 +29,7 @@ waits : ℕ → List Register
 waits seq = record { targets = asked seq ∷ []; line = record { 0 = 1 } } ∷ []
 
 free : List TagState
-free = replicate 64 tags.Free
+free = replicate 64 tag_states.Free
 
 differ : (a b : ℕ) → a < b → a ≡ b → ⊥
 differ a b below same = omega arith
@@ -55,12 +55,12 @@ unfolding performed
 unasked stands = differ 0 1 (omega arith) (sym (stands.once 0))
 
 -- An open tag that no target has.
-idle_tag : HasTags [] 0 [] (slice_set free 5 tags.Open) → ⊥
+idle_tag : HasTags [] 0 [] (slice_set free 5 tag_states.Open) → ⊥
 unfolding free
 idle_tag named = differ 0 1 (omega arith) (named.opened 5)
 
 -- A tag that names an entry past the log's end.
-no_reply : HasTags [] 0 [] (slice_set free 5 (tags.Performed 0)) → ⊥
+no_reply : HasTags [] 0 [] (slice_set free 5 (tag_states.Performed 0)) → ⊥
 unfolding free
 no_reply named = let found = named.replies 5 0 refl in no_entry found.0 found.1
   where

@@ -8,14 +8,14 @@ use Rattle.std.proofs.lemmas.Option.{same_Some}
 use Rattle.mshr_file.proofs.Changes.{all_pass, count_of-line}
 use Rattle.mshr_file.specs.Miss.{count_of, has_tag, targets_of, HasEachTagOnce}
 use Rattle.mshr_file.specs.declared.registers.Register.{Register}
-use Rattle.slice_core_log.specs.declared.entry.Entry.{Entry}
-use Rattle.slice_core_side.specs.Tags.{tag_in}
-use Rattle.slice_core_side.specs.Targets.{IsPerformable}
-use Rattle.slice_core_side.specs.declared.tags.TagState.{TagState}
-use Rattle.slice_core_side.specs.declared.tags.TagState.TheVariants as tags
+use Rattle.slice_core_cache.specs.Tags.{tag_in}
+use Rattle.slice_core_cache.specs.Targets.{IsPerformable}
+use Rattle.slice_core_cache.specs.declared.tags.TagState.{TagState}
+use Rattle.slice_core_cache.specs.declared.tags.TagState.TheVariants as tag_states
 use Rattle.slice_core_standing.proofs.Lists.{at_most_one, none, is_below, count_by-all, counted_at}
-use Rattle.slice_core_standing.specs.Standing.{is_request, has_seq, waiting, is_performable, is_asked_by, is_open}
+use Rattle.slice_core_standing.specs.Standing.{is_request, has_seq, target_count, is_performable, is_asked_by, is_open}
 use Rattle.slice_core_standing.specs.Standing.{StandsOnce, CanWait, HasTags}
+use Rattle.slice_log.specs.declared.entry.Entry.{Entry}
 use Rattle.target_list.specs.declared.target.Target.{Target}
 
 -- An entry of the core is numbered below what it asks for next.
@@ -71,15 +71,15 @@ each-tag_once log core misses states named tag =
     omega (arith, all, few)
 
 pub tag-names_none : (log : List Entry) (core : ℕ) (misses : List Register) (states : List TagState) (tag : ℕ)
-    → HasTags log core misses states → tag_in states tag ≡ tags.Free → count_of (has_tag tag) misses ≡ 0
+    → HasTags log core misses states → tag_in states tag ≡ tag_states.Free → count_of (has_tag tag) misses ≡ 0
 tag-names_none log core misses states tag named free =
     named.opened tag ∙ none (is_open (tag_in states tag)) (ap is_open free)
 
 -- Two tags never name one entry.
 pub replies-apart : (log : List Entry) (core : ℕ) (misses : List Register) (states : List TagState)
     (tag other number : ℕ)
-    → HasTags log core misses states → tag_in states tag ≡ tags.Performed number
-    → tag_in states other ≡ tags.Performed number → tag ≡ other
+    → HasTags log core misses states → tag_in states tag ≡ tag_states.Performed number
+    → tag_in states other ≡ tag_states.Performed number → tag ≡ other
 replies-apart log core misses states tag other number named first second =
     let a = named.replies tag number first in
     let b = named.replies other number second in
@@ -87,7 +87,7 @@ replies-apart log core misses states tag other number named first second =
     sym a.3 ∙ ap (λ (e : Entry). e.tag) same ∙ b.3
 
 -- No more wait for a line than wait in all.
-pub waiting-line : (misses : List Register) (line : ℕ) → length (targets_of misses line) ≤ waiting misses
+pub waiting-line : (misses : List Register) (line : ℕ) → length (targets_of misses line) ≤ target_count misses
 waiting-line misses line =
     let among = count_of-line (λ target. true) misses line in
     let all = count_by-all (targets_of misses line) in

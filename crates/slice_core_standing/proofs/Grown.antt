@@ -8,12 +8,12 @@ use Rattle.std.proofs.lemmas.List.Elements.{All-append, All-weaker}
 use Rattle.address_map.specs.Locator.{Lines, line_at}
 use Rattle.address_map.specs.declared.address.Local.{Local}
 use Rattle.mshr_file.specs.declared.registers.Register.{Register}
-use Rattle.slice_core_log.specs.declared.entry.Entry.{Entry}
-use Rattle.slice_core_side.specs.declared.tags.TagState.{TagState}
+use Rattle.slice_core_cache.specs.declared.tags.TagState.{TagState}
 use Rattle.slice_core_standing.proofs.Lists.{count_by-append, count_by-more, count_by-none, count_of-more}
 use Rattle.slice_core_standing.proofs.Lists.{slice_get-kept}
 use Rattle.slice_core_standing.specs.Standing.{is_of, is_request, is_asked_by, HasNoEntry, CanWait, HasTags, IsAhead}
 use Rattle.slice_core_standing.specs.Standing.{IsAccount, standings}
+use Rattle.slice_log.specs.declared.entry.Entry.{Entry}
 use Rattle.target_list.specs.declared.target.Target.{Target}
 
 -- ---- lines

@@ -9,14 +9,14 @@ use Rattle.address_map.specs.Locator.{Lines, line_at}
 use Rattle.address_map.specs.declared.address.Local.{Local}
 use Rattle.mshr_file.specs.Miss.{has_miss, is_waited, targets_of}
 use Rattle.mshr_file.specs.declared.registers.Register.{Register}
-use Rattle.slice_core_log.proofs.Pushes.{IsOrdered-push}
-use Rattle.slice_core_log.specs.Log.{IsAfter, IsOrdered}
-use Rattle.slice_core_log.specs.declared.entry.Entry.{Entry}
-use Rattle.slice_core_side.specs.declared.tags.TagState.{TagState}
+use Rattle.slice_core_cache.specs.declared.tags.TagState.{TagState}
 use Rattle.slice_core_standing.proofs.Facts.{entries-below}
 use Rattle.slice_core_standing.proofs.Grown.{CanWait-grown, HasTags-grown, one_place}
 use Rattle.slice_core_standing.proofs.Lists.{below_next, one, one_if}
 use Rattle.slice_core_standing.specs.Standing.{is_of, is_request, StandsOnce, IsAhead, IsAccount}
+use Rattle.slice_log.proofs.Pushes.{IsOrdered-push}
+use Rattle.slice_log.specs.Log.{IsAfter, IsOrdered}
+use Rattle.slice_log.specs.declared.entry.Entry.{Entry}
 use Rattle.target_list.specs.declared.target.Target.{Target}
 
 -- Nothing waits for a line that has no register.

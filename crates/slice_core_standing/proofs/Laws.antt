@@ -1,9 +1,9 @@
 -- The laws that the public functions state.
 use Rattle.std.proofs.Common.{◌≡◌, ◌≢◌, false, refl, ap, ◌∙◌}
 use Rattle.std.proofs.lemmas.Bool.{le-ltb, lt-ltb}
-use Rattle.slice_core_side.specs.Tags.{tag_in}
-use Rattle.slice_core_side.specs.declared.tags.TagState.{TagState}
-use Rattle.slice_core_side.specs.declared.tags.TagState.TheVariants as tags
+use Rattle.slice_core_cache.specs.Tags.{tag_in}
+use Rattle.slice_core_cache.specs.declared.tags.TagState.{TagState}
+use Rattle.slice_core_cache.specs.declared.tags.TagState.TheVariants as tag_states
 use Rattle.slice_core_standing.proofs.Facts.{replies-apart}
 use Rattle.slice_core_standing.proofs.Lists.{none, one}
 use Rattle.slice_core_standing.specs.Laws.{AcceptedIsAll, EachStandsOnce, OpenTagNamesOne, RepliesApart}
@@ -24,10 +24,10 @@ open_tag_names_one lines log core misses states accepted account tag = (
   λ other. account.tags.opened tag ∙ none _ (shut (tag_in states tag) other),
 )
   where
-    shut : (state : TagState) → state ≢ tags.Open → is_open state ≡ false
-    shut tags.Free other = refl
-    shut tags.Open other = absurd (other refl)
-    shut (tags.Performed number) other = refl
+    shut : (state : TagState) → state ≢ tag_states.Open → is_open state ≡ false
+    shut tag_states.Free other = refl
+    shut tag_states.Open other = absurd (other refl)
+    shut (tag_states.Performed number) other = refl
 
 pub replies_are_apart : RepliesApart
 replies_are_apart lines log core misses states accepted account tag other number first second =

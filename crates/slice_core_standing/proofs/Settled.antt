@@ -13,19 +13,19 @@ use Rattle.address_map.specs.declared.block.Block.{Block}
 use Rattle.mshr_file.proofs.Changes.{count_of-taken_none}
 use Rattle.mshr_file.specs.Miss.{count_of, has_tag, targets_of, IsMissFile, TakesTargets}
 use Rattle.mshr_file.specs.declared.registers.Register.{Register}
-use Rattle.slice_core_log.specs.declared.entry.Entry.{Entry}
-use Rattle.slice_core_side.specs.Copy.{performed_on}
-use Rattle.slice_core_side.specs.Perform.{entries_of, entry_of, tags_after}
-use Rattle.slice_core_side.specs.Tags.{tag_in}
-use Rattle.slice_core_side.specs.Targets.{IsPerformable}
-use Rattle.slice_core_side.specs.declared.tags.TagState.{TagState}
-use Rattle.slice_core_side.specs.declared.tags.TagState.TheVariants as tags
+use Rattle.slice_core_cache.specs.Copy.{performed_on}
+use Rattle.slice_core_cache.specs.Perform.{entries_of, entry_of, tags_after}
+use Rattle.slice_core_cache.specs.Tags.{tag_in}
+use Rattle.slice_core_cache.specs.Targets.{IsPerformable}
+use Rattle.slice_core_cache.specs.declared.tags.TagState.{TagState}
+use Rattle.slice_core_cache.specs.declared.tags.TagState.TheVariants as tag_states
 use Rattle.slice_core_standing.proofs.Facts.{all-performable}
 use Rattle.slice_core_standing.proofs.Grown.{CanWait-grown, one_place}
 use Rattle.slice_core_standing.proofs.Lists.{ascending-apart, at_most_one, count_by-all, count_by-append, count_by-cons}
 use Rattle.slice_core_standing.proofs.Lists.{none, one, one_if, slice_get-kept, slice_get-next, All-right}
-use Rattle.slice_core_standing.specs.Standing.{is_of, is_open, is_request, has_seq, waiting, CanWait, HasTags}
+use Rattle.slice_core_standing.specs.Standing.{is_of, is_open, is_request, has_seq, target_count, CanWait, HasTags}
 use Rattle.slice_core_standing.specs.Standing.{IsAccount, IsAhead, StandsInOrder, StandsOnce}
+use Rattle.slice_log.specs.declared.entry.Entry.{Entry}
 use Rattle.target_list.specs.declared.target.Target.{Target}
 
 -- ---- the entries of targets
@@ -74,8 +74,8 @@ tags-length : (states : List TagState) (number : ℕ) (taken : List Target)
 unfolding tags_after
 tags-length states number [] = refl
 tags-length states number (target ∷ taken) =
-    tags-length (slice_set states target.tag (tags.Performed number)) (number + 1) taken
-    ∙ length-set states target.tag (tags.Performed number)
+    tags-length (slice_set states target.tag (tag_states.Performed number)) (number + 1) taken
+    ∙ length-set states target.tag (tag_states.Performed number)
 
 -- A tag that no target has names what it did.
 tag-kept : (states : List TagState) (number tag : ℕ) (taken : List Target) → count_by (has_tag tag) taken ≡ 0
@@ -89,13 +89,15 @@ tag-kept states number tag (target ∷ taken) none =
     let mine = one (has_tag tag target) (eq-eqb target.tag tag (sym same)) in
     absurd (omega (arith, all, mine, none)))
     (λ apart.
-    tag-kept (slice_set states target.tag (tags.Performed number)) (number + 1) tag taken (omega (arith, all, none))
-    ∙ get_or-set_other states target.tag tag (tags.Performed number) tags.Free apart) (cases_eq tag target.tag)
+    tag-kept (slice_set states target.tag (tag_states.Performed number)) (number + 1) tag taken
+        (omega (arith, all, none))
+    ∙ get_or-set_other states target.tag tag (tag_states.Performed number) tag_states.Free apart)
+    (cases_eq tag target.tag)
 
 -- The tag names an entry of the log that its core asked for by it.
 abbrev NamesEntry : List Entry → CoreId → List TagState → ℕ → Type 0
 NamesEntry log core states tag =
-    (number : ℕ) × (e : Entry) × (tag_in states tag ≡ tags.Performed number) × (slice_get log number ≡ Some e) ×
+    (number : ℕ) × (e : Entry) × (tag_in states tag ≡ tag_states.Performed number) × (slice_get log number ≡ Some e) ×
     (e.core.0 ≡ core.0)
     × (e.tag ≡ tag)
 
@@ -104,10 +106,10 @@ tag-first : (log more : List Entry) (core : CoreId) (first : ℕ) (block : Block
     (target : Target)
     (taken : List Target) → length states ≡ 64 → target.tag < 64 → target.tag ≡ tag → count_by (has_tag tag) taken ≡ 0
     → NamesEntry (log ++ entry_of core first block target ∷ more) core
-    (tags_after (slice_set states target.tag (tags.Performed (length log))) (length log + 1) taken) tag
+    (tags_after (slice_set states target.tag (tag_states.Performed (length log))) (length log + 1) taken) tag
 tag-first log more core first block states tag target taken sized small same none =
-    let now = slice_set states target.tag (tags.Performed (length log)) in
-    let set_here = get_or-set_same states target.tag (tags.Performed (length log)) tags.Free
+    let now = slice_set states target.tag (tag_states.Performed (length log)) in
+    let set_here = get_or-set_same states target.tag (tag_states.Performed (length log)) tag_states.Free
     (omega (arith, small, sized)) in (
       length log,
       entry_of core first block target,
@@ -127,10 +129,10 @@ tag-performed log core first block states tag [] sized can has = absurd (omega (
 tag-performed log core first block states tag (target ∷ taken) sized can has =
     let entry = entry_of core first block target in
     let after = performed_on block target.offset.0 target.op in
-    let now = slice_set states target.tag (tags.Performed (length log)) in
+    let now = slice_set states target.tag (tag_states.Performed (length log)) in
     elim (cases_lt 0 (count_by (has_tag tag) taken)) [
       | inl more ↦
-          let size = length-set states target.tag (tags.Performed (length log)) ∙ sized in
+          let size = length-set states target.tag (tag_states.Performed (length log)) ∙ sized in
           let found =
           tag-performed (log ++ entry ∷ []) core first after now tag taken size
           (All-tail IsPerformable target taken can) more in
@@ -158,7 +160,7 @@ some-taken old line taken left is P all k d inside =
 
 -- Fewer wait.
 pub waiting-taken : (old new : List Register) (line : ℕ) (taken : List Target) → TakesTargets old new line taken
-    → waiting old ≡ waiting new + length taken
+    → target_count old ≡ target_count new + length taken
 waiting-taken old new line taken takes =
     let fewer = takes.counts (λ target. true) in
     let all = count_by-all taken in
@@ -237,10 +239,10 @@ module _ (log : List Entry) (core : CoreId) (first : ℕ) (block : Block) (old n
           let now = ap (λ state. one_if (is_open state)) (tag-kept states (length log) tag taken none) in
           omega (arith, fewer, before, now, none)
 
-      number_of : (m n : ℕ) → tags.Performed m ≡ tags.Performed n → m ≡ n
+      number_of : (m n : ℕ) → tag_states.Performed m ≡ tag_states.Performed n → m ≡ n
       number_of m n same = cc
 
-      answered : (tag number : ℕ) → tag_in (tags_after states (length log) taken) tag ≡ tags.Performed number
+      answered : (tag number : ℕ) → tag_in (tags_after states (length log) taken) tag ≡ tag_states.Performed number
           → NamesEntry (log ++ entries_of core first block taken) core (tags_after states (length log) taken) tag
           → (e : Entry) × (slice_get (log ++ entries_of core first block taken) number ≡ Some e) × (e.core.0 ≡ core.0)
           × (e.tag ≡ tag)

@@ -6,10 +6,10 @@ use Rattle.address_map.specs.Locator.{Lines, line_at}
 use Rattle.address_map.specs.declared.address.Local.{Local}
 use Rattle.mshr_file.specs.Miss.{count_of, has_tag, targets_of, IsInOrder, IsMissFile}
 use Rattle.mshr_file.specs.declared.registers.Register.{Register}
-use Rattle.slice_core_log.specs.declared.entry.Entry.{Entry}
-use Rattle.slice_core_side.specs.Tags.{tag_in}
-use Rattle.slice_core_side.specs.declared.tags.TagState.{TagState}
-use Rattle.slice_core_side.specs.declared.tags.TagState.TheVariants as tags
+use Rattle.slice_core_cache.specs.Tags.{tag_in}
+use Rattle.slice_core_cache.specs.declared.tags.TagState.{TagState}
+use Rattle.slice_core_cache.specs.declared.tags.TagState.TheVariants as tag_states
+use Rattle.slice_log.specs.declared.entry.Entry.{Entry}
 use Rattle.target_list.specs.declared.target.Target.{Target}
 
 -- ---- where a request stands
@@ -31,8 +31,8 @@ abbrev pub standings : List Register → List Entry → ℕ → ℕ → ℕ
 standings misses log core seq = count_of (has_seq seq) misses + count_by (is_request core seq) log
 
 -- how many targets there are
-abbrev pub waiting : List Register → ℕ
-waiting misses = count_of (λ target. true) misses
+abbrev pub target_count : List Register → ℕ
+target_count misses = count_of (λ target. true) misses
 
 -- The core has nothing in the log: it is not there, or has asked for nothing yet.
 abbrev pub HasNoEntry : ℕ → List Entry → Type 0
@@ -42,7 +42,7 @@ HasNoEntry core log = count_by (is_of core) log ≡ 0
 -- anywhere.
 pub record StandsOnce (log : List Entry) (core : ℕ) (misses : List Register) (accepted : ℕ) : Type 0 where
   pub once : (seq : ℕ) → standings misses log core seq ≡ (if nat_lt seq accepted then 1 else 0)
-  pub counted : accepted ≡ waiting misses + count_by (is_of core) log
+  pub counted : accepted ≡ target_count misses + count_by (is_of core) log
 
 -- ---- what waits
 
@@ -68,7 +68,7 @@ pub record CanWait (log : List Entry) (misses : List Register) : Type 0 where
 
 -- a request goes by the tag that isn't performed yet
 abbrev pub is_open : TagState → Bool
-is_open tags.Open = true
+is_open tag_states.Open = true
 is_open _ = false
 
 -- An open tag names one target, and no other tag names any. A performed tag names an entry that the core asked for
@@ -76,7 +76,7 @@ is_open _ = false
 pub record HasTags (log : List Entry) (core : ℕ) (misses : List Register) (states : List TagState) : Type 0 where
   pub sized : length states ≡ 64
   pub opened : (tag : ℕ) → count_of (has_tag tag) misses ≡ (if is_open (tag_in states tag) then 1 else 0)
-  pub replies : (tag number : ℕ) → tag_in states tag ≡ tags.Performed number
+  pub replies : (tag number : ℕ) → tag_in states tag ≡ tag_states.Performed number
       → (e : Entry) × (slice_get log number ≡ Some e) × (e.core.0 ≡ core) × (e.tag ≡ tag)
 
 -- ---- order

@@ -9,23 +9,23 @@ use Rattle.address_map.specs.declared.config.PolicyKind.{PolicyKind}
 use Rattle.cache_array.specs.declared.set.Slot.{Slot}
 use Rattle.cache_array.specs.Array.{ArrayView, held_at as array_at, set_index, set_of, slots_at}
 use Rattle.cache_array.specs.Set.{SetView, empty_set, holds, after_write, value_in}
+use Rattle.slice_core_cache.proofs.Places.{written_there}
+use Rattle.slice_core_cache.specs.Copy.{no_copy}
+use Rattle.slice_core_cache.specs.CoreCache.{CoreCacheView, array_copy}
+use Rattle.slice_core_cache.specs.Steps.{after_change, with_copy}
+use Rattle.slice_core_cache.specs.declared.copy.CacheCopy.{CacheCopy}
 use Rattle.slice_core_plan.specs.Within.{StandsAt}
-use Rattle.slice_core_side.proofs.Places.{written_there}
-use Rattle.slice_core_side.specs.Copy.{no_copy}
-use Rattle.slice_core_side.specs.Side.{SideView, array_copy}
-use Rattle.slice_core_side.specs.Steps.{after_change, with_copy}
-use Rattle.slice_core_side.specs.declared.copy.CacheCopy.{CacheCopy}
 
 -- a line that was found has a set
-set_within : (array : ArrayView CacheCopy PolicyKind) (line : Local) (place : ℕ) →
-    position (holds line) (slots_at array line) ≡ Some place → set_index array line < length array.sets
-set_within array line place found =
+set_within : (array : ArrayView CacheCopy PolicyKind) (line : Local) (way : ℕ) →
+    position (holds line) (slots_at array line) ≡ Some way → set_index array line < length array.sets
+set_within array line way found =
     elim (cases_lt (set_index array line) (length array.sets)) [
       | inl within ↦ within
       | inr past ↦
           let none : set_of array line ≡ empty_set 0 =
           get_or_past array.sets (set_index array line) (empty_set 0) past in
-          let nowhere : None ≡ Some place =
+          let nowhere : None ≡ Some way =
           ap (λ (s : SetView CacheCopy). position (holds line) s.slots) (sym none) ∙ found in
           cc
     ]
@@ -55,22 +55,22 @@ found_within p xs place found = by_test (nat_lt (position_or_len p xs) (length x
     by_test true e f = ltb-true (position_or_len p xs) (length xs) e
     by_test false e f = absurd (cc f)
 
-held_changed : (array : ArrayView CacheCopy PolicyKind) (line : Local) (place : ℕ) (copy : CacheCopy) →
-    position (holds line) (slots_at array line) ≡ Some place → array_at (with_copy array line copy) line ≡ Some copy
-held_changed array line place copy found =
+held_changed : (array : ArrayView CacheCopy PolicyKind) (line : Local) (way : ℕ) (copy : CacheCopy) →
+    position (holds line) (slots_at array line) ≡ Some way → array_at (with_copy array line copy) line ≡ Some copy
+held_changed array line way copy found =
     let left : SetView CacheCopy = record (set_of array line) { slots = after_write (slots_at array line) line copy } in
     let at = set_index array line in
     let there : set_of (with_copy array line copy) line ≡ left =
     ap (λ n. get_or (set array.sets at left) (line.0 % n) (empty_set 0)) (length-set array.sets at left)
-    ∙ get_or-set_same array.sets at left (empty_set 0) (set_within array line place found) in
+    ∙ get_or-set_same array.sets at left (empty_set 0) (set_within array line way found) in
     ap (λ (s : SetView CacheCopy). value_in s.slots line) there
-    ∙ value_written (slots_at array line) line copy (found_within (holds line) (slots_at array line) place found)
+    ∙ value_written (slots_at array line) line copy (found_within (holds line) (slots_at array line) way found)
 
-pub changed_copy : (side : SideView) (local : Local) (place : ℕ) (copy : CacheCopy) → StandsAt side local place →
-    array_copy (after_change side local copy) local ≡ copy
-changed_copy side local place copy found =
-    ap (λ held. unwrap_or held no_copy) (held_changed side.array local place copy found)
+pub changed_copy : (cache : CoreCacheView) (local : Local) (way : ℕ) (copy : CacheCopy) → StandsAt cache local way →
+    array_copy (after_change cache local copy) local ≡ copy
+changed_copy cache local way copy found =
+    ap (λ held. unwrap_or held no_copy) (held_changed cache.array local way copy found)
 
-pub changed_stands : (side : SideView) (local : Local) (place : ℕ) (copy : CacheCopy) → StandsAt side local place →
-    StandsAt (after_change side local copy) local place
-changed_stands side local place copy found = written_there side.array local place copy found
+pub changed_stands : (cache : CoreCacheView) (local : Local) (way : ℕ) (copy : CacheCopy) → StandsAt cache local way →
+    StandsAt (after_change cache local copy) local way
+changed_stands cache local way copy found = written_there cache.array local way copy found

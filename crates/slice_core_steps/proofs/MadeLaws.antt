@@ -2,8 +2,8 @@
 use Rattle.std.proofs.Common.{◌≡◌, ◌≢◌, ◌∙◌, ap, refl, sym, subst}
 use Rattle.address_map.specs.Locator.{line_at}
 use Rattle.address_map.specs.declared.address.Local.{Local}
-use Rattle.slice_core_answer.specs.declared.answer.Delivered.{Delivered}
-use Rattle.slice_core_answer.specs.declared.answer.Delivered.TheVariants as delivered
+use Rattle.slice_answer.specs.declared.answer.Delivered.{Delivered}
+use Rattle.slice_answer.specs.declared.answer.Delivered.TheVariants as delivered
 use Rattle.slice_core_plan.specs.Next.{next_by, next_told}
 use Rattle.slice_core_plan.specs.Calls.{AfterDelivery, AfterPlan, IsDone, PartsView}
 use Rattle.slice_core_plan.specs.Plan.{plan_of}
@@ -13,8 +13,8 @@ use Rattle.slice_core_steps.specs.Found.{IsLocated, IsMade}
 use Rattle.slice_queues_message.specs.Pick.{pick_at}
 use Rattle.slice_queues_message.specs.declared.channel.Channel.{Channel}
 use Rattle.slice_queues_message.specs.declared.channel.Pick.{Pick}
-use Rattle.slice_core_answer.specs.declared.answer.Delivery.TheVariants as deliveries
-use Rattle.slice_core_answer.specs.declared.answer.Delivery.{Delivery}
+use Rattle.slice_answer.specs.declared.answer.Delivery.TheVariants as deliveries
+use Rattle.slice_answer.specs.declared.answer.Delivery.{Delivery}
 use Rattle.slice_core_plan.specs.declared.transition.Transition.{Transition}
 
 -- the answer tells what was planned

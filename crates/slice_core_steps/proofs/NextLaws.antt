@@ -13,15 +13,15 @@ use Rattle.address_map.specs.declared.address.Local.{Local}
 use Rattle.slice_core_plan.specs.Next.{better_of, next_by, IsNextAt, IsNextIn, IsNoBetter}
 use Rattle.address_map.specs.declared.block.Block.{Block}
 use Rattle.cache_table.specs.Row.{row_of}
-use Rattle.cache_table.specs.declared.row.CacheEvent.TheVariants as events
+use Rattle.cache_table.specs.declared.row.CacheEvent.TheVariants as cache_events
 use Rattle.directory_table.specs.Row.{row_of as dir_row_of}
 use Rattle.directory_table.specs.declared.row.DirEvent.TheVariants as dir_events
-use Rattle.slice_core_side.specs.Side.{copy_of}
+use Rattle.slice_core_cache.specs.CoreCache.{copy_of}
 use Rattle.slice_core_plan.specs.Plan.{by_ack_row, by_home_row, data_by, forwarded_by, plan_of, request_by}
 use Rattle.slice_core_plan.specs.Calls.{IsMove, PartsView}
 use Rattle.slice_core_plan.specs.Ring.{has_mail_at}
 use Rattle.slice_core_plan.specs.Turn.{CanMove, StandsAt}
-use Rattle.slice_core_plan.specs.View.{View, channels_at, entry_at, side_at, IsShaped}
+use Rattle.slice_core_plan.specs.View.{View, channels_at, entry_at, cache_at, IsShaped}
 use Rattle.slice_queues.specs.Line.{LineChannels, empty_line, messages_at, request_messages, data_messages}
 use Rattle.slice_queues.specs.Line.{ack_messages, home_messages}
 use Rattle.slice_queues.specs.Waiting.{channels_left, is_same_channel, is_waiting, HasEachOnceIn}
@@ -35,8 +35,8 @@ use Rattle.slice_queues_message.specs.declared.message.ForwardedMessage.{Forward
 use Rattle.slice_queues_message.specs.declared.message.Message.{Message}
 use Rattle.slice_queues_message.specs.declared.message.Message.TheVariants as messages
 use Rattle.slice_queues_message.specs.declared.message.RequestMessage.{RequestMessage}
-use Rattle.slice_core_answer.specs.declared.answer.Delivery.TheVariants as deliveries
-use Rattle.slice_core_answer.specs.declared.answer.Delivery.{Delivery}
+use Rattle.slice_answer.specs.declared.answer.Delivery.TheVariants as deliveries
+use Rattle.slice_answer.specs.declared.answer.Delivery.{Delivery}
 use Rattle.slice_core_plan.specs.declared.transition.Transition.{Transition}
 
 -- ---- the better of two
@@ -152,8 +152,8 @@ plan-idle v local (channels.Fwd core) none =
 plan-idle v local (channels.Data core) none = ap (data_by v local core) (no_data _ none)
 plan-idle v local (channels.Ack to from) none =
     ap (λ there. if there then by_ack_row v local to
-    (row_of (copy_of (side_at v to) local).state
-    (events.InvAck (copy_of (side_at v to) local).wants (copy_of (side_at v to) local).counted))
+    (row_of (copy_of (cache_at v to) local).state
+    (cache_events.InvAck (copy_of (cache_at v to) local).wants (copy_of (cache_at v to) local).counted))
     else deliveries.Nothing) (no_ack _ none)
 plan-idle v local channels.Home none =
     ap (λ home. if is_some home then by_home_row (dir_row_of v.exclusive (entry_at v local) dir_events.DataHome)

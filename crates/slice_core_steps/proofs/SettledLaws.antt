@@ -1,25 +1,25 @@
 -- How many targets are performed: as many as entries are logged, and no more than wait.
 use Rattle.std.proofs.Common.{◌≡◌, ◌∙◌, ℕ, ◌-◌, ◌≤◌, ◌++◌, Bool, false, subst, List, [], ◌∷◌, length, refl, ap, arith}
 use Rattle.std.proofs.lemmas.List.{length-take}
-use Rattle.slice_core_side.proofs.Allowed.{take-front_loads}
+use Rattle.slice_core_cache.proofs.Allowed.{take-front_loads}
 use Rattle.address_map.specs.declared.address.CoreId.{CoreId}
 use Rattle.address_map.specs.declared.block.Block.{Block}
 use Rattle.cache_table.specs.declared.state.CopyState.{CopyState}
-use Rattle.cache_table.specs.declared.state.CopyState.TheVariants as states
+use Rattle.cache_table.specs.declared.state.CopyState.TheVariants as copy_states
 use Rattle.address_map.specs.declared.address.Local.{Local}
 use Rattle.mshr_file.specs.Miss.{IsMissFile, TakesTargets, targets_of}
 use Rattle.mshr_file.specs.declared.registers.Register.{Register}
-use Rattle.slice_core_answer.specs.Stats.{StatsView, after_message}
-use Rattle.slice_core_log.specs.declared.entry.Entry.{Entry}
+use Rattle.slice_answer.specs.Stats.{StatsView, after_message}
+use Rattle.slice_log.specs.declared.entry.Entry.{Entry}
 use Rattle.slice_core_plan.specs.Calls.{PartsView, Settles}
 use Rattle.slice_core_plan.specs.Steps.{asked_by}
-use Rattle.slice_core_plan.specs.View.{channels_at, first_word, side_at, with_channels, with_side}
+use Rattle.slice_core_plan.specs.View.{channels_at, first_word, cache_at, with_channels, with_cache}
 use Rattle.slice_core_plan.specs.Within.{StandsAt, is_shared}
-use Rattle.slice_core_side.specs.Copy.{performed_on}
-use Rattle.slice_core_side.specs.Perform.{asks_to_write, entries_of, performed_in}
-use Rattle.slice_core_side.specs.Side.{SideView, array_copy}
-use Rattle.slice_core_side.specs.Steps.{after_change, after_settle}
-use Rattle.slice_core_side.specs.declared.copy.CacheCopy.{CacheCopy}
+use Rattle.slice_core_cache.specs.Copy.{performed_on}
+use Rattle.slice_core_cache.specs.Perform.{asks_to_write, entries_of, performed_in}
+use Rattle.slice_core_cache.specs.CoreCache.{CoreCacheView, array_copy}
+use Rattle.slice_core_cache.specs.Steps.{after_change, after_settle}
+use Rattle.slice_core_cache.specs.declared.copy.CacheCopy.{CacheCopy}
 use Rattle.slice_core_steps.proofs.ChangedLaws.{changed_copy}
 use Rattle.slice_queues.specs.Line.{LineChannels, after_take}
 use Rattle.slice_queues.specs.Ring.{with_listed}
@@ -39,82 +39,84 @@ length-entries_of core first block (target ∷ targets) =
 -- no more are performed than wait
 pub length-performed_in : (state : CopyState) (targets : List Target) →
     length (performed_in state targets) ≤ length targets
-length-performed_in states.S targets =
+length-performed_in copy_states.S targets =
     let front = length (front_loads targets) in
     omega (arith, ap length (take-front_loads targets), length-take front targets)
-length-performed_in states.M targets = omega arith
-length-performed_in states.E targets = omega arith
-length-performed_in states.I targets = omega arith
-length-performed_in states.IS_D targets = omega arith
-length-performed_in states.IM_AD targets = omega arith
-length-performed_in states.IM_A targets = omega arith
-length-performed_in states.SM_AD targets = omega arith
-length-performed_in states.SM_A targets = omega arith
-length-performed_in states.MI_A targets = omega arith
-length-performed_in states.SI_A targets = omega arith
-length-performed_in states.II_A targets = omega arith
+length-performed_in copy_states.M targets = omega arith
+length-performed_in copy_states.E targets = omega arith
+length-performed_in copy_states.I targets = omega arith
+length-performed_in copy_states.IS_D targets = omega arith
+length-performed_in copy_states.IM_AD targets = omega arith
+length-performed_in copy_states.IM_A targets = omega arith
+length-performed_in copy_states.SM_AD targets = omega arith
+length-performed_in copy_states.SM_A targets = omega arith
+length-performed_in copy_states.MI_A targets = omega arith
+length-performed_in copy_states.SI_A targets = omega arith
+length-performed_in copy_states.II_A targets = omega arith
 
 -- a copy that isn't shared asks for nothing
 pub asks-unshared : (state : CopyState) (targets : List Target) → is_shared state ≡ false →
     asks_to_write state targets ≡ false
-asks-unshared states.S targets e = absurd (cc e)
-asks-unshared states.M targets e = refl
-asks-unshared states.E targets e = refl
-asks-unshared states.I targets e = refl
-asks-unshared states.IS_D targets e = refl
-asks-unshared states.IM_AD targets e = refl
-asks-unshared states.IM_A targets e = refl
-asks-unshared states.SM_AD targets e = refl
-asks-unshared states.SM_A targets e = refl
-asks-unshared states.MI_A targets e = refl
-asks-unshared states.SI_A targets e = refl
-asks-unshared states.II_A targets e = refl
+asks-unshared copy_states.S targets e = absurd (cc e)
+asks-unshared copy_states.M targets e = refl
+asks-unshared copy_states.E targets e = refl
+asks-unshared copy_states.I targets e = refl
+asks-unshared copy_states.IS_D targets e = refl
+asks-unshared copy_states.IM_AD targets e = refl
+asks-unshared copy_states.IM_A targets e = refl
+asks-unshared copy_states.SM_AD targets e = refl
+asks-unshared copy_states.SM_A targets e = refl
+asks-unshared copy_states.MI_A targets e = refl
+asks-unshared copy_states.SI_A targets e = refl
+asks-unshared copy_states.II_A targets e = refl
 
 -- a core whose copy was changed and then settled is as a message leaves it
 pub settles : (old new : PartsView) (local : Local) (core : CoreId) (channel : Channel) (place : ℕ) (copy : CacheCopy)
-    (changed side : SideView) (asks : Bool) (line : LineChannels) (log : List Entry) (stats : StatsView) (pending : ℕ) →
-    StandsAt (side_at old.view core) local place →
-    changed ≡ after_change (side_at old.view core) local copy →
+    (changed cache : CoreCacheView) (asks : Bool) (line : LineChannels) (log : List Entry) (stats : StatsView)
+    (pending : ℕ) →
+    StandsAt (cache_at old.view core) local place →
+    changed ≡ after_change (cache_at old.view core) local copy →
     asks ≡ asks_to_write (array_copy changed local).state (targets_of changed.misses local.0) →
-    TakesTargets changed.misses side.misses local.0
+    TakesTargets changed.misses cache.misses local.0
     (performed_in (array_copy changed local).state (targets_of changed.misses local.0)) →
-    (IsMissFile changed.misses → IsMissFile side.misses) →
-    side ≡ after_settle changed local (length old.view.log) side.misses →
+    (IsMissFile changed.misses → IsMissFile cache.misses) →
+    cache ≡ after_settle changed local (length old.view.log) cache.misses →
     log ≡ old.view.log ++ entries_of core (first_word old.view local) (array_copy changed local).block
     (performed_in (array_copy changed local).state (targets_of changed.misses local.0)) →
     pending ≡ old.pending - length (performed_in (array_copy changed local).state (targets_of changed.misses local.0)) →
     line ≡ asked_by asks (after_take (channels_at old.view local) channel) core →
     stats ≡ after_message old.stats channel →
     new ≡ record old {
-      view = record (with_channels (with_side old.view core side) local line) { log = log };
+      view = record (with_channels (with_cache old.view core cache) local line) { log = log };
       stats = stats;
       pending = pending;
       ring = with_listed old.ring local.0;
     } →
     Settles old local core channel copy new
-settles old new local core channel place copy changed side asks line log stats pending stands is asked taken sound after
+settles old new local core channel place copy changed cache asks line log stats pending stands is asked taken sound
+    after
     logged left
     sent counted made =
     let here : array_copy changed local ≡ copy =
-    ap (λ (s : SideView). array_copy s local) is ∙ changed_copy (side_at old.view core) local place copy stands in
-    let kept : changed.misses ≡ (side_at old.view core).misses = ap (λ (s : SideView). s.misses) is in
-    let settled : side
-    ≡ after_settle (after_change (side_at old.view core) local copy) local (length old.view.log) side.misses =
-    after ∙ ap (λ (s : SideView). after_settle s local (length old.view.log) side.misses) is in
+    ap (λ (s : CoreCacheView). array_copy s local) is ∙ changed_copy (cache_at old.view core) local place copy stands in
+    let kept : changed.misses ≡ (cache_at old.view core).misses = ap (λ (s : CoreCacheView). s.misses) is in
+    let settled : cache
+    ≡ after_settle (after_change (cache_at old.view core) local copy) local (length old.view.log) cache.misses =
+    after ∙ ap (λ (s : CoreCacheView). after_settle s local (length old.view.log) cache.misses) is in
     let targets : List Register → List Target = λ misses. targets_of misses local.0 in
     let both_in : (P : CacheCopy → List Register → Type 0) → P (array_copy changed local) changed.misses →
-    P copy (side_at old.view core).misses =
+    P copy (cache_at old.view core).misses =
     λ P old_fact. subst (λ (m : List Register). P copy m) kept
     (subst (λ (k : CacheCopy). P k changed.misses) here old_fact) in
-    let waiting = targets (side_at old.view core).misses in
+    let waiting = targets (cache_at old.view core).misses in
     let taken_now = performed_in copy.state waiting in
-    let side_now =
-    after_settle (after_change (side_at old.view core) local copy) local (length old.view.log) side.misses in
+    let cache_now =
+    after_settle (after_change (cache_at old.view core) local copy) local (length old.view.log) cache.misses in
     let asks_at_last = asks_to_write copy.state waiting in
     let log_now = old.view.log ++ entries_of core (first_word old.view local) copy.block taken_now in
-    let all : SideView → Bool → List Entry → ℕ → PartsView = λ s a l p. record old {
+    let all : CoreCacheView → Bool → List Entry → ℕ → PartsView = λ s a l p. record old {
       view = record
-          (with_channels (with_side old.view core s) local
+          (with_channels (with_cache old.view core s) local
           (asked_by a (after_take (channels_at old.view local) channel) core))
           { log = l };
       stats = after_message old.stats channel;
@@ -122,7 +124,7 @@ settles old new local core channel place copy changed side asks line log stats p
       ring = with_listed old.ring local.0;
     } in
     let plain : LineChannels → StatsView → PartsView = λ l st. record old {
-      view = record (with_channels (with_side old.view core side) local l) { log = log };
+      view = record (with_channels (with_cache old.view core cache) local l) { log = log };
       stats = st;
       pending = pending;
       ring = with_listed old.ring local.0;
@@ -133,14 +135,14 @@ settles old new local core channel place copy changed side asks line log stats p
     ≡ old.view.log ++ entries_of core (first_word old.view local) k.block (performed_in k.state (targets m)))
     logged in
     let left_now = both_in (λ k m. pending ≡ old.pending - length (performed_in k.state (targets m))) left in (
-      side.misses,
-      both_in (λ k m. TakesTargets m side.misses local.0 (performed_in k.state (targets m))) taken,
-      both_in (λ k m. IsMissFile m → IsMissFile side.misses) sound,
+      cache.misses,
+      both_in (λ k m. TakesTargets m cache.misses local.0 (performed_in k.state (targets m))) taken,
+      both_in (λ k m. IsMissFile m → IsMissFile cache.misses) sound,
       made
           ∙ ap (λ l. plain l stats) sent
           ∙ ap (plain (asked_by asks (after_take (channels_at old.view local) channel) core)) counted
           ∙ ap (λ s. all s asks log pending) settled
-          ∙ ap (λ a. all side_now a log pending) asked_now
-          ∙ ap (λ l. all side_now asks_at_last l pending) logged_now
-          ∙ ap (all side_now asks_at_last log_now) left_now,
+          ∙ ap (λ a. all cache_now a log pending) asked_now
+          ∙ ap (λ l. all cache_now asks_at_last l pending) logged_now
+          ∙ ap (all cache_now asks_at_last log_now) left_now,
     )

@@ -7,42 +7,43 @@ use Rattle.cache_table.specs.Row.{row_of}
 use Rattle.cache_table.specs.declared.row.CacheSends.{CacheSends}
 use Rattle.cache_table.specs.declared.row.Row.TheVariants as rows
 use Rattle.cache_table.specs.declared.state.CopyState.{CopyState}
-use Rattle.cache_table.specs.declared.state.CopyState.TheVariants as states
+use Rattle.cache_table.specs.declared.state.CopyState.TheVariants as copy_states
+use Rattle.slice_core_cache.specs.Copy.{found_in}
+use Rattle.slice_core_cache.specs.CoreCache.{CoreCacheView, copy_of}
+use Rattle.slice_core_cache.specs.declared.copy.CacheCopy.{CacheCopy}
 use Rattle.slice_core_plan.specs.Plan.{event_of_forwarded}
-use Rattle.slice_core_plan.specs.View.{no_side}
+use Rattle.slice_core_plan.specs.View.{no_cache}
 use Rattle.slice_core_plan.specs.Within.{HasCopy}
-use Rattle.slice_core_side.specs.Copy.{found_in}
-use Rattle.slice_core_side.specs.Side.{SideView, copy_of}
-use Rattle.slice_core_side.specs.declared.copy.CacheCopy.{CacheCopy}
 use Rattle.slice_queues_message.specs.declared.message.ForwardedMessage.{ForwardedMessage}
-use Rattle.slice_queues_message.specs.declared.message.ForwardedMessage.TheVariants as forwards
+use Rattle.slice_queues_message.specs.declared.message.ForwardedMessage.TheVariants as forwarded_messages
 use Rattle.writeback_buffer.specs.Buffer.{held_at as buffer_at}
-use Rattle.writeback_buffer.specs.declared.entry.Leaving.{Leaving}
+use Rattle.writeback_buffer.specs.declared.pending.Leaving.{Leaving}
 
--- the side that was read is the core's
-pub read_side : (sides all : List SideView) (core : ℕ) (side : SideView) → side ≡ get_or sides core side → sides ≡ all →
-    core < length all → side ≡ get_or all core no_side
-read_side sides all core side read same there =
-    read ∙ ap (λ list. get_or list core side) same ∙ default all core there
+-- the cache that was read is the core's
+pub read_cache : (caches all : List CoreCacheView) (core : ℕ) (cache : CoreCacheView) → cache ≡ get_or caches core cache
+    → caches ≡ all →
+    core < length all → cache ≡ get_or all core no_cache
+read_cache caches all core cache read same there =
+    read ∙ ap (λ list. get_or list core cache) same ∙ default all core there
   where
-    default : (list : List SideView) (at : ℕ) → at < length list → get_or list at side ≡ get_or list at no_side
+    default : (list : List CoreCacheView) (at : ℕ) → at < length list → get_or list at cache ≡ get_or list at no_cache
     default [] at within = absurd (omega arith)
     default (first ∷ rest) zero within = refl
     default (first ∷ rest) (suc at) within = default rest at (omega arith)
 
 -- no forwarded message has a row where there is no copy
 none_forwarded : (message : ForwardedMessage) (next : CopyState) (sends : CacheSends) →
-    row_of states.I (event_of_forwarded message) ≡ rows.Go next sends → ⊥
-none_forwarded (forwards.FwdGetS requester) next sends e = cc
-none_forwarded (forwards.FwdGetM requester) next sends e = cc
-none_forwarded (forwards.Inv requester) next sends e = cc
-none_forwarded forwards.PutAck next sends e = cc
+    row_of copy_states.I (event_of_forwarded message) ≡ rows.Go next sends → ⊥
+none_forwarded (forwarded_messages.FwdGetS requester) next sends e = cc
+none_forwarded (forwarded_messages.FwdGetM requester) next sends e = cc
+none_forwarded (forwarded_messages.Inv requester) next sends e = cc
+none_forwarded forwarded_messages.PutAck next sends e = cc
 
-pub stands_forwarded : (side : SideView) (local : Local) (message : ForwardedMessage) (next : CopyState)
+pub stands_forwarded : (cache : CoreCacheView) (local : Local) (message : ForwardedMessage) (next : CopyState)
     (sends : CacheSends) →
-    row_of (copy_of side local).state (event_of_forwarded message) ≡ rows.Go next sends → HasCopy side local
-stands_forwarded side local message next sends =
-    found (array_at side.array local) (buffer_at side.buffer.entries local.0)
+    row_of (copy_of cache local).state (event_of_forwarded message) ≡ rows.Go next sends → HasCopy cache local
+stands_forwarded cache local message next sends =
+    found (array_at cache.array local) (buffer_at cache.buffer.write_backs local.0)
   where
     found : (held : Option CacheCopy) (leaving : Option Leaving) →
         row_of (found_in held leaving).state (event_of_forwarded message) ≡ rows.Go next sends →

@@ -1,12 +1,12 @@
 -- What comes of what is to be delivered next.
 use Rattle.std.specs.Prelude.{◌≡◌, ◌<◌, Some}
 use Rattle.address_map.specs.Locator.{Lines, line_at, local_at}
-use Rattle.slice_core_answer.specs.declared.answer.Delivered.TheVariants as delivered
+use Rattle.slice_answer.specs.declared.answer.Delivered.TheVariants as delivered
 use Rattle.slice_core_plan.specs.Calls.{AfterPlan, PartsView}
 use Rattle.slice_core_plan.specs.Plan.{plan_of}
 use Rattle.address_map.specs.declared.address.Local.{Local}
-use Rattle.slice_core_answer.specs.declared.answer.Delivery.TheVariants as deliveries
-use Rattle.slice_core_answer.specs.declared.answer.Delivery.{Delivery}
+use Rattle.slice_answer.specs.declared.answer.Delivery.TheVariants as deliveries
+use Rattle.slice_answer.specs.declared.answer.Delivery.{Delivery}
 use Rattle.slice_queues_message.specs.declared.channel.Channel.{Channel}
 
 -- where a message could be moved it was delivered, and else nothing has changed

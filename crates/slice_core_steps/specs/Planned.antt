@@ -2,13 +2,13 @@
 use Rattle.std.specs.Prelude.{◌≡◌, true, false, None, IsSome}
 use Rattle.address_map.specs.declared.address.Local.{Local}
 use Rattle.slice_core_plan.specs.Sends.{cache_room, directory_room}
-use Rattle.slice_core_plan.specs.View.{View, channels_at, side_at}
+use Rattle.slice_core_plan.specs.View.{View, channels_at, cache_at}
 use Rattle.slice_core_plan.specs.Within.{HasCopy, StandsAt, is_shared}
 use Rattle.slice_queues.specs.Line.{core_at}
 use Rattle.slice_queues_message.specs.declared.channel.Channel.{Channel}
 use Rattle.slice_queues_message.specs.declared.channel.Channel.TheVariants as channels
-use Rattle.slice_core_answer.specs.declared.answer.Delivery.TheVariants as deliveries
-use Rattle.slice_core_answer.specs.declared.answer.Delivery.{Delivery}
+use Rattle.slice_answer.specs.declared.answer.Delivery.TheVariants as deliveries
+use Rattle.slice_answer.specs.declared.answer.Delivery.{Delivery}
 use Rattle.slice_core_plan.specs.declared.transition.Transition.TheVariants as transitions
 use Rattle.slice_core_plan.specs.declared.transition.Transition.{Transition}
 
@@ -22,10 +22,10 @@ IsPlanned v local (channels.Req core) (deliveries.Moved (transitions.Directory s
     directory_room (channels_at v local) core step.sends ≡ true
 IsPlanned v local channels.Home (deliveries.Moved (transitions.Home step)) = IsSome (channels_at v local).home
 IsPlanned v local (channels.Fwd core) (deliveries.Moved (transitions.Forwarded step)) =
-    HasCopy (side_at v core) local × (cache_room (channels_at v local) core step.requester step.sends ≡ true)
+    HasCopy (cache_at v core) local × (cache_room (channels_at v local) core step.requester step.sends ≡ true)
 IsPlanned v local (channels.Data core) (deliveries.Moved (transitions.Fill step)) =
-    StandsAt (side_at v core) local step.place
+    StandsAt (cache_at v core) local step.way
     × IsSome (core_at (channels_at v local) core.0).data × ((core_at (channels_at v local) core.0).request ≡ None)
 IsPlanned v local (channels.Ack to from) (deliveries.Moved (transitions.Acknowledge step)) =
-    StandsAt (side_at v to) local step.place × (is_shared step.next ≡ false)
+    StandsAt (cache_at v to) local step.way × (is_shared step.next ≡ false)
 IsPlanned v local channel plan = ⊥

@@ -1,6 +1,6 @@
 //! The parts of one slice and the exact steps on them.
 //!
-//! [`Parts`] puts the directory, the channels, each core's side and the log together. A call decides first, by a pure
+//! [`Parts`] puts the directory, the channels, each core's cache and the log together. A call decides first, by a pure
 //! function of the state, then changes what was decided, and counts it. The contracts here say exactly what each call
 //! answers and leaves, by the definitions of `slice_core_plan`, and nothing of why that is right: `slice_core` stands
 //! on them.

@@ -3,9 +3,9 @@ ghost use Rattle.std.specs.Prelude.{◌≡◌, length};
 use address_map::{Locator, WordAddr};
 use directory_table::DirEntry;
 use mshr_file::MissFile;
-use slice_core_answer::Stats;
-use slice_core_log::Entry;
-use slice_core_side::Side;
+use slice_answer::Stats;
+use slice_log::Entry;
+use slice_core_cache::CoreCache;
 use slice_queues::Queues;
 use std::boxed::BoxedSlice;
 use std::marker::Model;
@@ -19,12 +19,12 @@ mod look;
 mod next;
 mod plan;
 
-/// One slice: its directory, its channels, each core's side and the log. What is in a boxed slice can't grow.
+/// One slice: its directory, its channels, each core's cache and the log. What is in a boxed slice can't grow.
 #[derive(Drop)]
 pub struct Parts<F: MissFile> {
     entries: BoxedSlice<DirEntry>,
     queues: Queues,
-    sides: BoxedSlice<Side<F>>,
+    caches: BoxedSlice<CoreCache<F>>,
     log: Vec<Entry>,
     stats: Stats,
     /// The configured initial values and counters of this slice.
@@ -44,7 +44,7 @@ impl<F: MissFile> Model for Parts<F> {
     ghost Value = { PartsView };
 
     ghost view = { λ p. record {
-      view = record { entries = boxed_slice_items p.entries; channels = p.queues.channels.lines; sides = boxed_slice_items p.sides; log = p.log.items; init = boxed_slice_items p.init; counters = boxed_slice_items p.counters; lines = p.lines; exclusive = p.exclusive };
+      view = record { entries = boxed_slice_items p.entries; channels = p.queues.channels.lines; caches = boxed_slice_items p.caches; log = p.log.items; init = boxed_slice_items p.init; counters = boxed_slice_items p.counters; lines = p.lines; exclusive = p.exclusive };
       stats = p.stats;
       pending = p.pending;
       room = vec_capacity p.log;
@@ -61,11 +61,11 @@ impl<F: MissFile> Parts<F> {
         &self.log
     }
 
-    /// Each core's side.
-    pub fn sides(&self) -> &[Side<F>]
-        ensures { result.now ≡ self.now.view.sides }
+    /// Each core's cache.
+    pub fn caches(&self) -> &[CoreCache<F>]
+        ensures { result.now ≡ self.now.view.caches }
     {
-        &self.sides
+        &self.caches
     }
 
     /// The configured initial values of the slice's words.

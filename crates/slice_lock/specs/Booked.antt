@@ -8,7 +8,7 @@ use Rattle.receipt_ledger.specs.Slice.{IsSliceOf}
 use Rattle.receipt_shares.specs.Totals.{Totals}
 use Rattle.slice_core.specs.Facts.{Holds}
 use Rattle.slice_core_plan.specs.Calls.{PartsView}
-use Rattle.slice_core_plan.specs.View.{View, side_at}
+use Rattle.slice_core_plan.specs.View.{View, cache_at}
 
 -- a slice's state, and the totals of its book
 pub record BookedView : Type 0 where
@@ -17,7 +17,7 @@ pub record BookedView : Type 0 where
 
 -- Each core's miss file has these bounds, by which a machine with its kind of miss files is configured.
 abbrev pub AreBounded : Config → Bound → View → Type 0
-AreBounded c bound v = (core : CoreId) → core.0 < c.cores → (side_at v core).bound ≡ bound
+AreBounded c bound v = (core : CoreId) → core.0 < c.cores → (cache_at v core).bound ≡ bound
 
 -- State and book are those of the slice of this number, of a machine that is configured so.
 pub record IsBookedSlice (c : Config) (bound : Bound) (number : ℕ) (b : BookedView) : Type 0 where

@@ -7,11 +7,11 @@ use Rattle.receipt_ledger.specs.History.{AreHeld, AreHistory, receipts_in}
 use Rattle.receipt_ledger.specs.Port.{PortView, entries_of}
 use Rattle.receipt_ledger.specs.Settled.{accepted_in}
 use Rattle.address_map.specs.Place.{counters_of, init_of}
-use Rattle.slice_core_log.specs.Log.{IsLegal, IsOrdered, initially, named, value}
-use Rattle.slice_core_log.specs.declared.entry.Entry.{Entry}
+use Rattle.slice_log.specs.Log.{IsLegal, IsOrdered, initially, named, value}
+use Rattle.slice_log.specs.declared.entry.Entry.{Entry}
 use Rattle.slice_core_plan.specs.View.{View, IsQuiet}
 use Rattle.slice_lock.specs.declared.slice.Unsettled.{Unsettled}
-use Rattle.slice_lock.specs.declared.slice.Unsettled.TheVariants as faults
+use Rattle.slice_lock.specs.declared.slice.Unsettled.TheVariants as unsettled_kinds
 
 -- As many receipts as requests were accepted. By number they are exactly a log, which is legal and in each core's
 -- order. And these are the values of the slice's counters, ascending by word: each is what the log leaves there, and
@@ -30,5 +30,5 @@ pub record AreSettled (c : Config) (number : ℕ) (ports : List PortView) (value
 
 -- Why the slice isn't settled with these ports.
 abbrev pub IsUnsettledBy : View → List PortView → Unsettled → Type 0
-IsUnsettledBy v ports faults.NotQuiet = IsQuiet v → ⊥
-IsUnsettledBy v ports faults.Differs = IsQuiet v × (AreHeld ports v.log → ⊥)
+IsUnsettledBy v ports unsettled_kinds.NotQuiet = IsQuiet v → ⊥
+IsUnsettledBy v ports unsettled_kinds.Differs = IsQuiet v × (AreHeld ports v.log → ⊥)

@@ -17,7 +17,7 @@ use mshr_file::MissFile;
 use receipt_ledger::{Book, LearnError, Lends, Port, Receipt};
 use receipt_shares::SliceNames;
 use slice_core::SliceState;
-use slice_core_answer::{Delivered, DeliveredNext, Evicted, Issue, Refused};
+use slice_answer::{Delivered, DeliveredNext, Evicted, Issue, Refused};
 use slice_queues_message::{Class, Pick};
 use std::marker::Model;
 

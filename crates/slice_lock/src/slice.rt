@@ -13,7 +13,7 @@ use mshr_file::MissFile;
 use receipt_ledger::{Answer, Book, LearnError, Lends, Port, Receipt};
 use receipt_shares::{Blanks, SliceNames};
 use slice_core::SliceState;
-use slice_core_answer::{Delivered, DeliveredNext, Evicted, Issue, Refused};
+use slice_answer::{Delivered, DeliveredNext, Evicted, Issue, Refused};
 use slice_queues_message::{Class, Pick};
 use std::alloc::{AllocError, Global};
 use std::sync::{Mutex, MutexGuard, Wait};

@@ -12,7 +12,7 @@ use Rattle.address_map.specs.CoreSet.{has, members}
 use Rattle.address_map.proofs.CoreSets.{has-below}
 use Rattle.slice_queues_message.specs.declared.channel.Channel.TheVariants as channels
 use Rattle.slice_queues_message.specs.declared.message.Message.TheVariants as messages
-use Rattle.slice_queues_message.specs.declared.message.ForwardedMessage.TheVariants as forwards
+use Rattle.slice_queues_message.specs.declared.message.ForwardedMessage.TheVariants as forwarded_messages
 use Rattle.slice_queues.specs.Line.{CoreChannels, LineChannels, no_messages, core_at, HasChannel, HasRoom, after_send}
 use Rattle.slice_queues.specs.Line.{TakesInvalidations, with_invalidation, after_invalidating}
 
@@ -24,7 +24,7 @@ TakesForwarded line core =
 -- the line once an Inv for the requester went to one core
 abbrev pub after_one : CoreId → LineChannels → ℕ → LineChannels
 after_one requester line core =
-    after_send line (channels.Fwd (record { 0 = core })) (messages.Forwarded (forwards.Inv requester))
+    after_send line (channels.Fwd (record { 0 = core })) (messages.Forwarded (forwarded_messages.Inv requester))
 
 -- the line once it went to these cores, one after another
 abbrev pub after_each : CoreId → List ℕ → LineChannels → LineChannels

@@ -5,7 +5,7 @@ use Rattle.slice_queues.specs.declared.forwarded_queue.ForwardedQueue.{Forwarded
 use Rattle.slice_queues.specs.declared.forwarded_queue.ForwardedQueue.TheVariants.{Empty, One, Two}
 
 -- the messages that wait
-abbrev pub queued : ForwardedQueue → List ForwardedMessage
-queued Empty = []
-queued (One first) = first ∷ []
-queued (Two first second) = first ∷ second ∷ []
+abbrev pub queued_messages : ForwardedQueue → List ForwardedMessage
+queued_messages Empty = []
+queued_messages (One first) = first ∷ []
+queued_messages (Two first second) = first ∷ second ∷ []

@@ -11,7 +11,7 @@ use Rattle.slice_queues_message.specs.declared.message.Message.{Message}
 use Rattle.slice_queues_message.specs.declared.message.Message.TheVariants as messages
 use Rattle.slice_queues_message.specs.declared.message.RequestMessage.{RequestMessage}
 use Rattle.slice_queues_message.specs.declared.message.ForwardedMessage.{ForwardedMessage}
-use Rattle.slice_queues_message.specs.declared.message.ForwardedMessage.TheVariants as forwards
+use Rattle.slice_queues_message.specs.declared.message.ForwardedMessage.TheVariants as forwarded_messages
 use Rattle.slice_queues_message.specs.declared.message.DataMessage.{DataMessage}
 
 -- one core's channels: what it asks of the directory, and what waits for it. The acknowledgements that wait for it
@@ -187,7 +187,7 @@ TakesInvalidations line cores =
 -- the core's channels with one more forwarded message: an Inv that names the requester
 abbrev pub with_invalidation : CoreId → CoreChannels → CoreChannels
 with_invalidation requester core =
-    record core { forwarded = core.forwarded ++ forwards.Inv requester ∷ [] }
+    record core { forwarded = core.forwarded ++ forwarded_messages.Inv requester ∷ [] }
 
 -- the line once an Inv that names the requester went to each core of the set, behind what waits there
 abbrev pub after_invalidating : LineChannels → ℕ → CoreId → LineChannels

@@ -18,13 +18,13 @@ pub struct CoreQueues {
 
 impl Model for CoreQueues {
     ghost use Rattle.slice_queues.specs.Line.{CoreChannels};
-    ghost use Rattle.slice_queues.specs.Forwarded.{queued};
+    ghost use Rattle.slice_queues.specs.Forwarded.{queued_messages};
 
     ghost Value = { CoreChannels };
 
     ghost view = { λ core. record {
       request = core.request;
-      forwarded = queued core.forwarded;
+      forwarded = queued_messages core.forwarded;
       «data» = core.data_message;
       acks =
           core.acks;

@@ -12,22 +12,22 @@ pub enum ForwardedQueue {
 }
 
 impl ForwardedQueue {
-    ghost use Rattle.slice_queues.specs.Forwarded.{queued};
+    ghost use Rattle.slice_queues.specs.Forwarded.{queued_messages};
 
     pub fn holds_any(&self) -> bool
-        ensures { result ≡ nat_lt 0 (length (queued self.now)) }
+        ensures { result ≡ nat_lt 0 (length (queued_messages self.now)) }
     {
         !matches!(self, ForwardedQueue::Empty)
     }
 
     pub fn is_full(&self) -> bool
-        ensures { IsTrue result ↔ (length (queued self.now) ≡ 2) }
+        ensures { IsTrue result ↔ (length (queued_messages self.now) ≡ 2) }
     {
         matches!(self, ForwardedQueue::Two(..))
     }
 
     pub fn front(&self) -> Option<&ForwardedMessage>
-        ensures { option_copied result ≡ slice_get (queued self.now) 0 }
+        ensures { option_copied result ≡ slice_get (queued_messages self.now) 0 }
     {
         match self {
             ForwardedQueue::Empty => None,
@@ -36,8 +36,8 @@ impl ForwardedQueue {
     }
 
     pub fn push(&mut self, message: ForwardedMessage)
-        requires { length (queued self.old) < 2 }
-        ensures { queued self.new ≡ queued self.old ++ message ∷ [] }
+        requires { length (queued_messages self.old) < 2 }
+        ensures { queued_messages self.new ≡ queued_messages self.old ++ message ∷ [] }
     {
         *self = match *self {
             ForwardedQueue::Empty => ForwardedQueue::One(message),
@@ -47,8 +47,8 @@ impl ForwardedQueue {
     }
 
     pub fn pop(&mut self) -> Option<ForwardedMessage>
-        ensures front { result ≡ slice_get (queued self.old) 0 }
-        ensures rest { queued self.new ≡ drop 1 (queued self.old) }
+        ensures front { result ≡ slice_get (queued_messages self.old) 0 }
+        ensures rest { queued_messages self.new ≡ drop 1 (queued_messages self.old) }
     {
         match *self {
             ForwardedQueue::Empty => None,

@@ -3,7 +3,7 @@ use super::setting::FileKind;
 use super::shape::Shape;
 use address_map::{CoreId, Op};
 use cache_table::CopyState;
-use slice_core_answer::{Evicted, Issue, Stall};
+use slice_answer::{Evicted, Issue, Stall};
 use slice_core_steps::LineView;
 
 /// How much of a core's cache is taken.

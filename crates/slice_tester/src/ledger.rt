@@ -1,7 +1,7 @@
 use super::fault::Fault;
 use super::shape::CORES;
 use address_map::{CoreId, LineAddr, Request};
-use slice_core_log::Entry;
+use slice_log::Entry;
 use std::alloc::Global;
 
 /// A request that was accepted and isn't performed.

@@ -10,22 +10,22 @@ use std::alloc::Global;
 
 /// The slices of a machine, with the memory that they are compared with.
 #[derive(Drop)]
-struct Machine<F: MissFile> {
+struct TestedSlices<F: MissFile> {
     slices: Vec<Tester<F>>,
     memory: Memory,
 }
 
-impl<F: MissFile> Machine<F> {
+impl<F: MissFile> TestedSlices<F> {
     fn build(alloc: Global, shape: Shape) -> Result<Self, Fault> {
         let config = shape.configure(alloc)?;
-        let mut machine = Machine {
+        let mut tested = TestedSlices {
             slices: Vec::new(alloc),
             memory: Memory::build(alloc, &shape)?,
         };
         for slice in 0..SLICES {
-            machine.add_slice(alloc, &config, shape, SliceId(slice))?;
+            tested.add_slice(alloc, &config, shape, SliceId(slice))?;
         }
-        Ok(machine)
+        Ok(tested)
     }
 
     fn add_slice(
@@ -73,8 +73,8 @@ impl<F: MissFile> Machine<F> {
 /// Makes all calls of one run.
 pub fn test_seed<F: MissFile>(alloc: Global, setting: Setting, seed: u64) -> Result<(), Failure> {
     let shape = Shape::of_run(setting, seed);
-    match Machine::<F>::build(alloc, shape) {
-        Ok(mut machine) => machine.test(seed, shape),
+    match TestedSlices::<F>::build(alloc, shape) {
+        Ok(mut tested) => tested.test(seed, shape),
         Err(fault) => Err(failure(seed, 0, None, fault)),
     }
 }

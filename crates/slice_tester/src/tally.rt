@@ -1,7 +1,7 @@
 use super::fault::Fault;
 use super::shape::CORES;
 use address_map::CoreId;
-use slice_core_answer::{CoreStats, MessageCounts, Stall, Stats};
+use slice_answer::{CoreStats, MessageCounts, Stall, Stats};
 use slice_queues_message::Channel;
 
 /// What the answers come to, counted one by one.

@@ -1,7 +1,7 @@
 ghost use Rattle.std.specs.Prelude.{◌≡◌, ◌<◌, length};
 
 use address_map::{CoreId, LineAddr};
-use slice_core_answer::{
+use slice_answer::{
     Cell, CoreStats, Delivered, DeliveredNext, Evicted, MessageCounts, Refused, Stall, Stats,
 };
 use slice_queues_message::{Channel, Pick};

@@ -16,6 +16,6 @@ mod settings;
 #[cfg(test)]
 mod shares;
 #[cfg(test)]
-mod sides;
+mod caches;
 #[cfg(test)]
 mod theorems;

@@ -1,5 +1,5 @@
 use address_map::{CoreId, Op, WordAddr};
-use slice_core_log::{Entry, is_legal, is_ordered, named_sum, value_after};
+use slice_log::{Entry, is_legal, is_ordered, named_sum, value_after};
 
 // An access of core 0 to word 3, with its reply.
 const fn performed(op: Op, reply: u64) -> Entry {

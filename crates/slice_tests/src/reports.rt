@@ -2,7 +2,7 @@ ghost use Rattle.std.specs.Prelude.{◌≡◌, length};
 ghost use Rattle.stats_report.specs.Report.{AreAlike, views_of};
 
 use address_map::{CoreId, LineAddr};
-use slice_core_answer::{Stall, Stats};
+use slice_answer::{Stall, Stats};
 use slice_queues_message::{Channel, Pick};
 use stats_report::{Cut, ReportError, write_report, write_text};
 use std::alloc::Global;

@@ -3,7 +3,7 @@ ghost use Rattle.receipt_shares.specs.Names.{AreCounters, AreLedgersOf};
 
 use address_map::{CoreId, Op, WordAddr};
 use receipt_shares::{Blanks, Books, SliceNames};
-use slice_core_log::Entry;
+use slice_log::Entry;
 use std::marker::Brand;
 
 // An add to word 3, the one counter.

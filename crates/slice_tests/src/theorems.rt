@@ -1,12 +1,12 @@
 #[test]
 fn theorems_of_the_protocol_are_calls() {
-    slice_core_protocol::one_writer();
-    slice_core_protocol::each_message_has_a_row();
-    slice_core_protocol::each_send_has_room();
-    slice_core_protocol::nothing_comes_early();
-    slice_core_protocol::owner_has_the_line();
-    slice_core_protocol::each_block_is_newest();
-    slice_core_protocol::cores_read_and_write();
+    protocol_coherence::one_writer();
+    protocol_coherence::each_message_has_a_row();
+    protocol_coherence::each_send_has_room();
+    protocol_coherence::nothing_comes_early();
+    protocol_coherence::owner_has_the_line();
+    protocol_coherence::each_block_is_newest();
+    protocol_coherence::cores_read_and_write();
 }
 
 #[test]

@@ -8,10 +8,10 @@ use Rattle.address_map.specs.declared.address.Local.{Local}
 use Rattle.cache_table.specs.declared.state.CopyState.{CopyState}
 use Rattle.directory_table.specs.declared.state.DirEntry.{DirEntry}
 use Rattle.slice_core.specs.Facts.{ShowsLine}
+use Rattle.slice_core_cache.specs.Copy.{is_gone}
+use Rattle.slice_core_cache.specs.CoreCache.{state_of}
+use Rattle.slice_core_cache.specs.declared.copy.CacheCopy.{CacheCopy}
 use Rattle.slice_core_plan.specs.View.{View, entry_at}
-use Rattle.slice_core_side.specs.Copy.{is_gone}
-use Rattle.slice_core_side.specs.Side.{state_of}
-use Rattle.slice_core_side.specs.declared.copy.CacheCopy.{CacheCopy}
 use Rattle.slice_core_steps.specs.declared.line_view.LineView.{LineView}
 use Rattle.slice_text.specs.Line.{entry_in, text_of_line, text_of_state}
 use Rattle.slice_text.specs.Shown.{is_idle, rests, text_of_copy, text_of_cores_of, text_of_held, text_of_place}
@@ -31,11 +31,11 @@ whole_copy core line held copy targets is not = rw is (rw not refl)
 
 -- what is shown of a line is what the slice has of it
 shown_of : (v : View) (local : Local) (view : LineView) → ShowsLine v (Some local) (Some view)
-    → (entry_in view ≡ entry_at v local) × (view.copies.items ≡ map (λ side. state_of side local) v.sides)
+    → (entry_in view ≡ entry_at v local) × (view.copies.items ≡ map (λ cache. state_of cache local) v.caches)
 shown_of v local view (given, is, dir, owner, sharers, home, copies) =
     let same : given ≡ view = cc in
     subst (λ (x : LineView). (entry_in x ≡ entry_at v local)
-    × (x.copies.items ≡ map (λ side. state_of side local) v.sides)) same
+    × (x.copies.items ≡ map (λ cache. state_of cache local) v.caches)) same
     (rw (dir, owner, sharers, home) refl, copies)
 
 rests_as : (v : View) (local : Local) (view : LineView) (b : Bool) → ShowsLine v (Some local) (Some view)

@@ -13,15 +13,15 @@ use Rattle.address_map.specs.declared.request.Op.{Op}
 use Rattle.cache_table.specs.Name.{name_of as name_of_copy}
 use Rattle.cache_table.specs.declared.state.CopyState.{CopyState}
 use Rattle.directory_table.specs.declared.state.DirState.{DirState}
-use Rattle.directory_table.specs.declared.state.DirState.TheVariants as directories
+use Rattle.directory_table.specs.declared.state.DirState.TheVariants as dir_states
 use Rattle.slice_core.specs.Facts.{copy_at, targets_at}
+use Rattle.slice_core_cache.specs.Copy.{is_gone}
+use Rattle.slice_core_cache.specs.CoreCache.{state_of, tag_at}
+use Rattle.slice_core_cache.specs.declared.copy.CacheCopy.{CacheCopy}
+use Rattle.slice_core_cache.specs.declared.tags.TagState.{TagState}
+use Rattle.slice_core_cache.specs.declared.tags.TagState.TheVariants as tag_states
 use Rattle.slice_core_plan.specs.Parts.{PartsView, ring_lines}
-use Rattle.slice_core_plan.specs.View.{View, entry_at, side_at}
-use Rattle.slice_core_side.specs.Copy.{is_gone}
-use Rattle.slice_core_side.specs.Side.{state_of, tag_at}
-use Rattle.slice_core_side.specs.declared.copy.CacheCopy.{CacheCopy}
-use Rattle.slice_core_side.specs.declared.tags.TagState.{TagState}
-use Rattle.slice_core_side.specs.declared.tags.TagState.TheVariants as tags
+use Rattle.slice_core_plan.specs.View.{View, entry_at, cache_at}
 use Rattle.slice_text.specs.Line.{text_of_state, text_of_words}
 use Rattle.step_text.specs.Performed.{text_of_op}
 use Rattle.target_list.specs.declared.target.Target.{Target}
@@ -79,24 +79,24 @@ text_of_core v line core =
 -- ---- a line
 
 abbrev pub is_idle : DirState → Bool
-is_idle directories.I = true
+is_idle dir_states.I = true
 is_idle _ = false
 
 -- a line is at rest where no core has a copy of it, and the directory waits for none
 abbrev pub rests : View → Local → Bool
-rests v local = is_idle (entry_at v local).state && list_all is_gone (map (λ side. state_of side local) v.sides)
+rests v local = is_idle (entry_at v local).state && list_all is_gone (map (λ cache. state_of cache local) v.caches)
 
 -- each core's copy
 abbrev pub text_of_cores_of : View → LineAddr → List ℕ
 text_of_cores_of v line =
-    flat_map (λ core. text_of_core v line (record { 0 = core })) (range_with_len 0 (length v.sides))
+    flat_map (λ core. text_of_core v line (record { 0 = core })) (range_with_len 0 (length v.caches))
 
 -- a line that isn't at rest: what the directory has of it, and then each core's copy
 abbrev pub text_of_place : View → LineAddr → Option Local → List ℕ
 text_of_place v line None = []
 text_of_place v line (Some local) =
     if rests v local then []
-    else text_of_state line (entry_at v local) (map (λ side. state_of side local) v.sides) ++ text_of_cores_of v line
+    else text_of_state line (entry_at v local) (map (λ cache. state_of cache local) v.caches) ++ text_of_cores_of v line
 
 -- the same of a line of the memory; of one of another slice nothing
 abbrev pub text_at_line : View → LineAddr → List ℕ
@@ -106,12 +106,12 @@ text_at_line v line = text_of_place v line (local_at v.lines line.0)
 
 -- a reply that isn't handed out: its number in the log
 abbrev pub text_of_reply : CoreId → ℕ → TagState → List ℕ
-text_of_reply core tag (tags.Performed number) =
+text_of_reply core tag (tag_states.Performed number) =
     codes "core " ++ decimal core.0 ++ codes " tag " ++ decimal tag ++ codes " reply " ++ decimal number ++ codes "\n"
 text_of_reply core tag state = []
 
 abbrev pub text_under : View → CoreId → ℕ → List ℕ
-text_under v core tag = text_of_reply core tag (tag_at (side_at v core) tag)
+text_under v core tag = text_of_reply core tag (tag_at (cache_at v core) tag)
 
 abbrev pub text_of_replies_to : View → CoreId → List ℕ
 text_of_replies_to v core = flat_map (text_under v core) (range_with_len 0 64)
@@ -155,4 +155,4 @@ text_of_machine config slices = text_of_slices config.cores config.lines 0 slice
 
 -- each of the slices has so many cores
 abbrev pub HaveCores : ℕ → List PartsView → Type 0
-HaveCores cores slices = All (λ p. length p.view.sides ≡ cores) slices
+HaveCores cores slices = All (λ p. length p.view.caches ≡ cores) slices

@@ -1,7 +1,7 @@
 //! A core's copy of a line, and the accesses that wait for it.
 ghost use Rattle.std.specs.Prelude.{◌≡◌, ◌<◌, ◌≤◌, OnOk, length};
 ghost use Rattle.std.specs.Fmt.{WritesInCalls};
-ghost use Rattle.slice_core_side.specs.Copy.{is_gone};
+ghost use Rattle.slice_core_cache.specs.Copy.{is_gone};
 ghost use Rattle.slice_text.specs.Shown.{text_of_acks, text_of_copy, text_of_core, text_of_cores_of, text_of_access};
 ghost use Rattle.slice_text.specs.Shown.{text_of_held, text_of_name, text_of_order, text_of_target, text_of_targets};
 
@@ -21,7 +21,7 @@ pub(crate) fn write_cores<F: MissFile, W: Write>(
     out: &mut W,
 ) -> fmt::Result
     requires line { line.0 < 65536 }
-    requires cores { cores ≡ length state.now.view.sides }
+    requires cores { cores ≡ length state.now.view.caches }
     requires few { cores ≤ 64 }
     ensures { OnOk result (WritesInCalls W.write_str_gives out.old (text_of_cores_of state.now.view line) out.new) }
 {
@@ -38,7 +38,7 @@ fn write_core<F: MissFile, W: Write>(
     out: &mut W,
 ) -> fmt::Result
     requires line { line.0 < 65536 }
-    requires core { core.0 < length state.now.view.sides }
+    requires core { core.0 < length state.now.view.caches }
     ensures { OnOk result (WritesInCalls W.write_str_gives out.old (text_of_core state.now.view line core) out.new) }
 {
     let Some(copy) = state.copy(core, line) else {

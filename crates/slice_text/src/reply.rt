@@ -18,7 +18,7 @@ pub(crate) fn write_replies<F: MissFile, W: Write>(
     cores: u8,
     out: &mut W,
 ) -> fmt::Result
-    requires cores { cores ≡ length state.now.view.sides }
+    requires cores { cores ≡ length state.now.view.caches }
     requires few { cores ≤ 64 }
     ensures { OnOk result (WritesInCalls W.write_str_gives out.old (text_of_replies state.now.view cores) out.new) }
 {
@@ -33,7 +33,7 @@ fn write_replies_to<F: MissFile, W: Write>(
     core: CoreId,
     out: &mut W,
 ) -> fmt::Result
-    requires { core.0 < length state.now.view.sides }
+    requires { core.0 < length state.now.view.caches }
     ensures { OnOk result (WritesInCalls W.write_str_gives out.old (text_of_replies_to state.now.view core) out.new) }
 {
     for tag in 0..TAGS {
@@ -49,7 +49,7 @@ fn write_reply_under<F: MissFile, W: Write>(
     tag: u8,
     out: &mut W,
 ) -> fmt::Result
-    requires core { core.0 < length state.now.view.sides }
+    requires core { core.0 < length state.now.view.caches }
     requires tag { tag < 64 }
     ensures { OnOk result (WritesInCalls W.write_str_gives out.old (text_under state.now.view core tag) out.new) }
 {

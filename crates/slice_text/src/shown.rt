@@ -2,7 +2,7 @@
 ghost use Rattle.std.specs.Prelude.{◌≡◌, ◌<◌, ◌≤◌, ◌&&◌, OnOk, length};
 ghost use Rattle.std.specs.List.{list_all};
 ghost use Rattle.std.specs.Fmt.{WritesInCalls};
-ghost use Rattle.slice_core_side.specs.Copy.{is_gone};
+ghost use Rattle.slice_core_cache.specs.Copy.{is_gone};
 ghost use Rattle.slice_text.specs.Shown.{HaveCores, is_idle, text_at_line, text_of_listed, text_of_lines};
 ghost use Rattle.slice_text.specs.Shown.{text_of_machine, text_of_number, text_of_ring, text_of_slice, text_at_place};
 
@@ -47,7 +47,7 @@ fn write_slice<F: MissFile, W: Write>(
     state: &SliceState<F>,
     out: &mut W,
 ) -> fmt::Result
-    requires cores { cores ≡ length state.now.view.sides }
+    requires cores { cores ≡ length state.now.view.caches }
     requires few { cores ≤ 64 }
     requires lines { lines ≤ 65536 }
     ensures { OnOk result (WritesInCalls W.write_str_gives out.old

@@ -7,8 +7,8 @@ use Rattle.std.specs.Fmt.{decimal, format_spec, styled_decimal, styled_text, pad
 use Rattle.std.specs.Fmt.{take_chars}
 use Rattle.stats_report.specs.declared.column.Column.{Column}
 use Rattle.stats_report.specs.declared.column.Column.TheVariants.{Hits, Primary, Secondary, Stall, Evictions, Silent}
-use Rattle.slice_core_answer.specs.declared.answer.Stall.TheVariants.{NoRegister, NoTarget, NoWay, WriteBackFull}
-use Rattle.slice_core_answer.specs.declared.answer.Stall.TheVariants.{WriteBackBusy}
+use Rattle.slice_answer.specs.declared.answer.Stall.TheVariants.{NoRegister, NoTarget, NoWay, WriteBackFull}
+use Rattle.slice_answer.specs.declared.answer.Stall.TheVariants.{WriteBackBusy}
 use Rattle.stats_report.specs.Column.{name_of}
 use Rattle.stats_report.specs.Report.{right_in_10}
 

@@ -5,8 +5,8 @@ use Rattle.std.specs.Prelude.{sum_by, All}
 use Rattle.std.proofs.lemmas.List.{map_more, get_or-map, length-map}
 use Rattle.std.proofs.lemmas.List.Elements.{All-get_or}
 use Rattle.std.proofs.lemmas.List.Sums.{sum_by_push}
-use Rattle.slice_core_answer.specs.Stats.{StatsView}
-use Rattle.stats_report.specs.Report.{capped, total_by}
+use Rattle.slice_answer.specs.Stats.{StatsView}
+use Rattle.stats_report.specs.Report.{capped_sum, total_by}
 
 -- a sum that has stopped stays there
 min-again : (a b : ℕ) → min (min a (2 ^ 64 - 1) + b) (2 ^ 64 - 1) ≡ min (a + b) (2 ^ 64 - 1)
@@ -15,7 +15,7 @@ min-again a b = omega arith
 -- with one more slice the sum goes on from the sum before
 pub total_more : {X : Type 0} (view : X → StatsView) (count : StatsView → ℕ) (xs : List X) (i : ℕ) (x : X)
     → i < length xs → x ≡ get_or xs i x
-    → total_by count (map view (take (i + 1) xs)) ≡ capped (total_by count (map view (take i xs)) + count (view x))
+    → total_by count (map view (take (i + 1) xs)) ≡ capped_sum (total_by count (map view (take i xs)) + count (view x))
 total_more view count xs i x within here =
     let before = map view (take i xs) in
     let last : sum_by count (map view (take (i + 1) xs)) ≡ sum_by count before + count (view x) =

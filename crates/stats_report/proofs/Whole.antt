@@ -1,6 +1,6 @@
 -- The report as a whole, from its pieces.
 use Rattle.std.proofs.Common.{◌≡◌, ℕ, List, [], ◌∷◌, ◌++◌, length, map, get_or, sym, ap, ◌∙◌, append_assoc, append-nil}
-use Rattle.slice_core_answer.specs.Stats.{StatsView}
+use Rattle.slice_answer.specs.Stats.{StatsView}
 use Rattle.stats_report.specs.declared.column.Column.{Column}
 use Rattle.stats_report.specs.Column.{columns_of}
 use Rattle.stats_report.specs.Report.{AreAlike, heading_of, core_lines, message_line, message_totals, report_of}

@@ -1,9 +1,9 @@
 -- The columns of the report behind the core's number.
 use Rattle.std.specs.Prelude.{ℕ, Bool, List, [], ◌∷◌, codes, if◌then◌else◌, slice_index}
-use Rattle.slice_core_answer.specs.declared.answer.Stall.TheVariants.{NoRegister, NoTarget, NoWay, WriteBackFull}
-use Rattle.slice_core_answer.specs.declared.answer.Stall.TheVariants.{WriteBackBusy}
-use Rattle.slice_core_answer.specs.declared.stats.CoreStats.{CoreStats}
-use Rattle.slice_core_answer.specs.Stats.{place_of}
+use Rattle.slice_answer.specs.declared.answer.Stall.TheVariants.{NoRegister, NoTarget, NoWay, WriteBackFull}
+use Rattle.slice_answer.specs.declared.answer.Stall.TheVariants.{WriteBackBusy}
+use Rattle.slice_answer.specs.declared.stats.CoreStats.{CoreStats}
+use Rattle.slice_answer.specs.Stats.{index_of_stall}
 use Rattle.stats_report.specs.declared.column.Column.{Column}
 use Rattle.stats_report.specs.declared.column.Column.TheVariants.{Hits, Primary, Secondary, Stall, Evictions, Silent}
 
@@ -32,6 +32,6 @@ abbrev pub count_in : Column → CoreStats → ℕ
 count_in Hits counts = counts.hits
 count_in Primary counts = counts.primary
 count_in Secondary counts = counts.secondary
-count_in (Stall stall) counts = slice_index counts.stalls (place_of stall)
+count_in (Stall stall) counts = slice_index counts.stalls (index_of_stall stall)
 count_in Evictions counts = counts.evictions
 count_in Silent counts = counts.silent

@@ -4,8 +4,8 @@ use Rattle.std.specs.Prelude.{codes, slice_index_or, All}
 use Rattle.std.specs.List.{concat, flat_map, range_with_len}
 use Rattle.std.specs.Fmt.{decimal}
 use Rattle.std.specs.Borrow.{Bor}
-use Rattle.slice_core_answer.specs.declared.stats.MessageCounts.{MessageCounts}
-use Rattle.slice_core_answer.specs.Stats.{StatsView, no_counts}
+use Rattle.slice_answer.specs.declared.stats.MessageCounts.{MessageCounts}
+use Rattle.slice_answer.specs.Stats.{StatsView, no_counts}
 use Rattle.stats_report.specs.declared.column.Column.{Column}
 use Rattle.stats_report.specs.Column.{columns_of, name_of, count_in}
 
@@ -32,12 +32,12 @@ AreAlike [] = ⊥
 AreAlike (first ∷ rest) = All (IsLike first) rest
 
 -- a sum, which stops at the largest number of 64 bits
-abbrev pub capped : ℕ → ℕ
-capped n = min n (2 ^ 64 - 1)
+abbrev pub capped_sum : ℕ → ℕ
+capped_sum n = min n (2 ^ 64 - 1)
 
 -- the sum over the slices
 abbrev pub total_by : (StatsView → ℕ) → List StatsView → ℕ
-total_by count slices = capped (sum_by count slices)
+total_by count slices = capped_sum (sum_by count slices)
 
 -- what a column shows of one slice, for a core
 abbrev pub shown_of : ℕ → Column → StatsView → ℕ
@@ -60,11 +60,11 @@ message_totals slices = record {
 -- two counts of messages together
 abbrev pub sum_of : MessageCounts → MessageCounts → MessageCounts
 sum_of one other = record {
-  requests = capped (one.requests + other.requests);
-  forwarded = capped (one.forwarded + other.forwarded);
-  data_replies = capped (one.data_replies + other.data_replies);
-  acknowledgements = capped (one.acknowledgements + other.acknowledgements);
-  home = capped (one.home + other.home);
+  requests = capped_sum (one.requests + other.requests);
+  forwarded = capped_sum (one.forwarded + other.forwarded);
+  data_replies = capped_sum (one.data_replies + other.data_replies);
+  acknowledgements = capped_sum (one.acknowledgements + other.acknowledgements);
+  home = capped_sum (one.home + other.home);
 }
 
 -- a text to the right in 10 places; one that is longer stands whole

@@ -1,7 +1,7 @@
 ghost use Rattle.std.specs.Prelude.{◌≡◌, ◌≤◌, length};
 ghost use Rattle.stats_report.specs.Column.{name_of, count_in, columns_of};
 
-use slice_core_answer::{CoreStats, Stall};
+use slice_answer::{CoreStats, Stall};
 
 /// A column of the report behind the core's number, by what it counts.
 #[derive(Clone, Copy, Debug, PartialEq, Eq)]

@@ -11,7 +11,7 @@
 #![tactic(auto)]
 
 pub use report::{ReportError, write_report};
-pub use slice_core_answer::Stats;
+pub use slice_answer::Stats;
 pub use write::{Cut, write_text};
 
 mod column;

@@ -22,7 +22,7 @@ ghost use Rattle.stats_report.specs.Report.{
 use super::column::{Column, columns};
 use super::total::{total, total_messages};
 use super::write::{Cut, write_text};
-use slice_core_answer::{MessageCounts, Stats};
+use slice_answer::{MessageCounts, Stats};
 use std::alloc::{AllocError, Global};
 use std::error::Error;
 use std::fmt;

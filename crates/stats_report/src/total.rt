@@ -2,7 +2,7 @@ ghost use Rattle.std.specs.Prelude.{◌≡◌, All};
 ghost use Rattle.stats_report.specs.Report.{views_of, HasCore, shown_of, core_total, message_totals, sum_of};
 
 use super::column::Column;
-use slice_core_answer::{MessageCounts, Stats};
+use slice_answer::{MessageCounts, Stats};
 
 /// The sum over the slices of one core's counts.
 pub fn total(stats: &[&Stats], core: usize, column: Column) -> u64

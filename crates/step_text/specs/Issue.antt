@@ -5,21 +5,21 @@ use Rattle.address_map.specs.declared.request.Op.TheVariants as ops
 use Rattle.address_map.specs.declared.request.Request.{Request}
 use Rattle.cache_table.specs.Name.{name_of}
 use Rattle.cache_table.specs.declared.state.CopyState.{CopyState}
-use Rattle.slice_core_answer.specs.declared.answer.Evicted.{Evicted}
-use Rattle.slice_core_answer.specs.declared.answer.Evicted.TheVariants as evictions
-use Rattle.slice_core_answer.specs.declared.answer.Refused.{Refused}
-use Rattle.slice_core_answer.specs.declared.answer.Refused.TheVariants as refusals
-use Rattle.slice_core_answer.specs.declared.answer.Stall.{Stall}
-use Rattle.slice_core_answer.specs.declared.answer.Stall.TheVariants as stalls
+use Rattle.slice_answer.specs.declared.answer.Evicted.{Evicted}
+use Rattle.slice_answer.specs.declared.answer.Evicted.TheVariants as evictions
+use Rattle.slice_answer.specs.declared.answer.Refused.{Refused}
+use Rattle.slice_answer.specs.declared.answer.Refused.TheVariants as refusals
+use Rattle.slice_answer.specs.declared.answer.Stall.{Stall}
+use Rattle.slice_answer.specs.declared.answer.Stall.TheVariants as stalls
+use Rattle.slice_core_cache.specs.declared.access.AccessKind.{AccessKind}
+use Rattle.slice_core_cache.specs.declared.access.AccessKind.TheVariants as access_kinds
+use Rattle.slice_core_cache.specs.declared.access.Ask.{Ask}
+use Rattle.slice_core_cache.specs.declared.access.Ask.TheVariants as asks
 use Rattle.slice_core_plan.specs.declared.decision.Decision.{Decision}
 use Rattle.slice_core_plan.specs.declared.decision.Decision.TheVariants as decisions
-use Rattle.slice_core_side.specs.declared.access.Access.{Access}
-use Rattle.slice_core_side.specs.declared.access.Access.TheVariants as accesses
-use Rattle.slice_core_side.specs.declared.access.Ask.{Ask}
-use Rattle.slice_core_side.specs.declared.access.Ask.TheVariants as asks
 use Rattle.slice_queues_message.specs.declared.message.Message.{Message}
 use Rattle.step_text.specs.Case.{text_of_case}
-use Rattle.step_text.specs.Deeds.{text_of_awaited}
+use Rattle.step_text.specs.Effects.{text_of_awaited}
 use Rattle.step_text.specs.Message.{text_of_message}
 use Rattle.step_text.specs.declared.case.Event.{Event}
 use Rattle.step_text.specs.declared.case.Event.TheVariants as events
@@ -49,13 +49,13 @@ text_of_shortage stalls.NoWay = codes "no way is free"
 text_of_shortage stalls.WriteBackFull = codes "the write-back buffer is full"
 text_of_shortage stalls.WriteBackBusy = codes "waits for Put-Ack"
 
-abbrev pub text_of_access : ℕ → Access → List ℕ
-text_of_access slice (accesses.Hit place next silent) = codes "hit; to " ++ name_of next ++ text_of_silent silent
-text_of_access slice (accesses.Open next ask way) =
+abbrev pub text_of_access : ℕ → AccessKind → List ℕ
+text_of_access slice (access_kinds.Hit way next silent) = codes "hit; to " ++ name_of next ++ text_of_silent silent
+text_of_access slice (access_kinds.PrimaryMiss next ask placement) =
     codes "primary miss; to " ++ name_of next ++ codes "; sends " ++ text_of_ask ask
     ++ codes " to dir " ++ decimal slice
-text_of_access slice accesses.Join = codes "secondary miss; joins"
-text_of_access slice (accesses.Stall stall) = text_of_shortage stall
+text_of_access slice access_kinds.SecondaryMiss = codes "secondary miss; joins"
+text_of_access slice (access_kinds.Stall stall) = text_of_shortage stall
 
 -- why a request is refused
 abbrev pub text_of_reason : Request → Refused → List ℕ

@@ -1,6 +1,6 @@
 pub mod Case
 pub mod Cores
-pub mod Deeds
+pub mod Effects
 pub mod Delivery
 pub mod Issue
 pub mod Message

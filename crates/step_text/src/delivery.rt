@@ -1,5 +1,5 @@
 use super::case::Case;
-use super::deeds::{
+use super::effects::{
     AskedOfDirectory, Done, Entry, FromCore, FromDirectory, Numbers, awaited, broken, home,
 };
 use address_map::CoreId;

@@ -3,13 +3,13 @@ ghost use Rattle.std.specs.Prelude.{◌≡◌};
 ghost use Rattle.step_text.specs.Issue.{event_of, text_of_ask, text_of_shortage, text_of_silent};
 
 use super::case::{Case, Event};
-use super::deeds::awaited;
+use super::effects::awaited;
 use super::message::MessageName;
 use address_map::{Op, Request};
 use cache_table::CopyState;
-use slice_core_answer::{Evicted, Refused, Stall};
+use slice_answer::{Evicted, Refused, Stall};
 use slice_core_plan::Decision;
-use slice_core_side::{Access, Ask};
+use slice_core_cache::{AccessKind, Ask};
 use slice_queues_message::Message;
 use std::fmt;
 
@@ -49,7 +49,7 @@ impl fmt::Display for Issue {
             }
             Decision::Access(_, access) => {
                 let slice = self.slice;
-                write!(f, "{case}: {}", Deed { slice, access })
+                write!(f, "{case}: {}", Effect { slice, access })
             }
         }
     }
@@ -57,31 +57,31 @@ impl fmt::Display for Issue {
 
 /// What an access does.
 #[derive(Clone, Copy)]
-struct Deed {
+struct Effect {
     slice: usize,
-    access: Access,
+    access: AccessKind,
 }
 
-impl fmt::Display for Deed {
+impl fmt::Display for Effect {
     ghost use Rattle.std.specs.Prelude.{Some};
     ghost use Rattle.step_text.specs.Issue.{text_of_access};
 
-    ghost output = { λ deed. Some (text_of_access deed.slice deed.access) };
+    ghost output = { λ effect. Some (text_of_access effect.slice effect.access) };
 
     fn fmt<W: fmt::Write>(&self, f: &mut fmt::Formatter<W>) -> fmt::Result {
         let slice = self.slice;
         match self.access {
-            Access::Hit { next, silent, .. } => write!(
+            AccessKind::Hit { next, silent, .. } => write!(
                 f,
                 "hit; to {next}{}",
                 said_of_silent(silent)
             ),
-            Access::Open { next, ask, .. } => {
+            AccessKind::PrimaryMiss { next, ask, .. } => {
                 let sent = name_of(ask);
                 write!(f, "primary miss; to {next}; sends {sent} to dir {slice}")
             }
-            Access::Join => f.write_str("secondary miss; joins"),
-            Access::Stall(stall) => f.write_str(shortage(stall)),
+            AccessKind::SecondaryMiss => f.write_str("secondary miss; joins"),
+            AccessKind::Stall(stall) => f.write_str(shortage(stall)),
         }
     }
 }

@@ -1,15 +1,15 @@
-//! What a step of a slice does, as a text: which row of the tables was done, deed by deed.
+//! What a step of a slice does, as a text: which row of the tables was done, effect by effect.
 //!
 //! A text begins with the case that was met, [`Case`]: who, in which state, at which event. Behind it stands what was
 //! done, in the words of the tables that `lockup table` prints, as the slice's own plan ([`ExplainedDelivery`]), decision
 //! ([`Issue`]) or answer ([`Eviction`]) has it. The contracts say what each displays byte for byte (specs/Case.antt,
-//! Deeds.antt, Delivery.antt and Issue.antt). [`Performed`] is an access that was performed, [`MessageName`] a message
+//! Effects.antt, Delivery.antt and Issue.antt). [`Performed`] is an access that was performed, [`MessageName`] a message
 //! under its name in the tables, and [`Cores`] the cores of a set. A text takes no memory.
 #![tactic(auto)]
 
 pub use case::{Case, Event, Who};
 pub use cores::Cores;
-pub use deeds::Done;
+pub use effects::Done;
 pub use delivery::ExplainedDelivery;
 pub use issue::{Eviction, Issue};
 pub use message::MessageName;
@@ -17,7 +17,7 @@ pub use performed::{Asked, Performed};
 
 mod case;
 mod cores;
-mod deeds;
+mod effects;
 mod delivery;
 mod issue;
 mod message;

@@ -1,5 +1,5 @@
 use address_map::{CoreId, Op, WordAddr};
-use slice_core_log::Entry;
+use slice_log::Entry;
 use std::fmt;
 
 /// An access that was performed: whose, which of the core's requests, and in a script's words what it asked for.

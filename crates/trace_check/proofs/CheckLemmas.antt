@@ -9,8 +9,8 @@ use Rattle.std.proofs.lemmas.List.Quantifiers.{all_pairs_push}
 use Rattle.std.proofs.lemmas.Option.{slice_get_within}
 use Rattle.address_map.specs.declared.address.WordAddr.{WordAddr}
 use Rattle.address_map.specs.Words.{IsAscendingBy}
-use Rattle.slice_core_log.specs.Log.{initially}
-use Rattle.slice_core_log.specs.declared.entry.Entry.{Entry}
+use Rattle.slice_log.specs.Log.{initially}
+use Rattle.slice_log.specs.declared.entry.Entry.{Entry}
 use Rattle.trace_check.specs.declared.judge.Judge.{Judge}
 use Rattle.trace_check.specs.declared.check.Check.{Check}
 use Rattle.trace_check.specs.declared.verdict.Reason.{Reason}

@@ -5,8 +5,8 @@ use Rattle.std.specs.Prelude.{slice_get}
 use Rattle.std.proofs.lemmas.List.{get_or-take, length-take-le, take-take}
 use Rattle.std.proofs.lemmas.Bool.{cases_lt}
 use Rattle.std.proofs.lemmas.Option.{slice_get_within, slice_get-get_or, get_or_from_slice_get}
-use Rattle.slice_core_log.specs.Log.{IsLegal, IsOrdered, IsAfter}
-use Rattle.slice_core_log.specs.declared.entry.Entry.{Entry}
+use Rattle.slice_log.specs.Log.{IsLegal, IsOrdered, IsAfter}
+use Rattle.slice_log.specs.declared.entry.Entry.{Entry}
 use Rattle.trace_check.specs.declared.verdict.Reason.{Reason}
 use Rattle.trace_check.specs.declared.verdict.Reason.TheVariants as reasons
 use Rattle.trace_check.specs.declared.verdict.Verdict.{Verdict}

@@ -14,9 +14,9 @@ use Rattle.litmus_text.proofs.FormLemmas.{wrong_count}
 use Rattle.trace_check.specs.declared.judge.TheConstants.{MOST_WORDS}
 use Rattle.trace_check.specs.declared.trace_line.Version.{Version}
 use Rattle.trace_check.specs.declared.trace_line.Version.TheVariants as versions
-use Rattle.slice_core_log.specs.declared.entry.Entry.{Entry}
-use Rattle.trace_check.specs.declared.trace_line.TraceLine.TheVariants as lines
-use Rattle.trace_check.specs.TraceLine.{IsOfVersion, BeginsWith, IsInRange, IsEntryOf, IsNoLineOf, ended}
+use Rattle.slice_log.specs.declared.entry.Entry.{Entry}
+use Rattle.trace_check.specs.declared.trace_line.TraceLine.TheVariants as trace_lines
+use Rattle.trace_check.specs.TraceLine.{IsOfVersion, BeginsWith, IsInRange, IsEntryOf, IsNoLineOf, with_since}
 use Rattle.trace_check.specs.TraceLine.{parts_of_line}
 
 -- words behind words write parts behind parts
@@ -45,7 +45,8 @@ pub entry_written : (all : List (List ℕ)) (core seq tag : List ℕ) (access : 
     → all ≡ core ∷ seq ∷ tag ∷ (access ++ reply ∷ since ∷ []) → IsNumber core × (e.core.0 ≡ digits_value 10 core)
     → IsNumber seq × (e.seq ≡ digits_value 10 seq) → IsNumber tag × (e.tag ≡ digits_value 10 tag)
     → Writes access (parts_of_op e.op e.word.0) → IsNumber reply × (e.reply ≡ digits_value 10 reply)
-    → IsNumber since × (e.since ≡ digits_value 10 since) → Writes (codes "entry" ∷ all) (parts_of_line (lines.Entry e))
+    → IsNumber since × (e.since ≡ digits_value 10 since) →
+    Writes (codes "entry" ∷ all) (parts_of_line (trace_lines.Entry e))
 entry_written all core seq tag access reply since e shape is_core is_seq is_tag is_access is_reply is_since =
     let tail : Writes (reply ∷ since ∷ []) (num e.reply ∷ num e.since ∷ []) =
     (is_reply.0, sym is_reply.1, (is_since.0, sym is_since.1, tt)) in
@@ -116,8 +117,8 @@ pub init_refused : (version : Version) (ws : List (List ℕ))
     → ((word value : ℕ) → Writes ws (num word ∷ num value ∷ []) → word < MOST_WORDS → ⊥)
     → IsNoLineOf version (codes "init" ∷ ws)
 unfolding IsInRange
-init_refused version ws none (lines.Init word value) is = none word.0 value is.written.1 is.in_range
-init_refused version ws none (lines.Entry e) is =
+init_refused version ws none (trace_lines.Init word value) is = none word.0 value is.written.1 is.in_range
+init_refused version ws none (trace_lines.Entry e) is =
     two_names (codes "init") (codes "init") (codes "entry") refl is.written.0 refl
 
 -- a word of the number
@@ -135,7 +136,7 @@ pub record AreWordsOf (e : Entry) (ws : List (List ℕ)) (access : List (List �
 
 -- the words of an entry, one by one
 pub entry_words : (core seq tag : List ℕ) (access : List (List ℕ)) (reply since : List ℕ) (e : Entry)
-    → Writes (codes "entry" ∷ core ∷ seq ∷ tag ∷ (access ++ reply ∷ since ∷ [])) (parts_of_line (lines.Entry e))
+    → Writes (codes "entry" ∷ core ∷ seq ∷ tag ∷ (access ++ reply ∷ since ∷ [])) (parts_of_line (trace_lines.Entry e))
     → AreWordsOf e (core ∷ seq ∷ tag ∷ []) access (reply ∷ since ∷ [])
 entry_words core seq tag access reply since e h =
     let op : List Part = parts_of_op e.op e.word.0 in
@@ -161,15 +162,15 @@ one_number word m n spells is = sym spells.1 ∙ sym is
 -- words that an entry doesn't have write no line behind its name
 pub entry_refused : (version : Version) (all : List (List ℕ)) (core seq tag : List ℕ) (access : List (List ℕ))
     (reply since : List ℕ)
-    → ended version all ≡ core ∷ seq ∷ tag ∷ (access ++ reply ∷ since ∷ [])
+    → with_since version all ≡ core ∷ seq ∷ tag ∷ (access ++ reply ∷ since ∷ [])
     → ((e : Entry) → AreWordsOf e (core ∷ seq ∷ tag ∷ []) access (reply ∷ since ∷ []) → IsEntryOf version e → ⊥)
     → IsNoLineOf version (codes "entry" ∷ all)
 unfolding IsInRange
-entry_refused version all core seq tag access reply since shape none (lines.Init word value) is =
+entry_refused version all core seq tag access reply since shape none (trace_lines.Init word value) is =
     two_names (codes "entry") (codes "entry") (codes "init") refl is.written.0 refl
-entry_refused version all core seq tag access reply since shape none (lines.Entry e) is =
+entry_refused version all core seq tag access reply since shape none (trace_lines.Entry e) is =
     none e (entry_words core seq tag access reply since e
-    (subst (λ ws. Writes (codes "entry" ∷ ws) (parts_of_line (lines.Entry e))) shape is.written)) is.in_range
+    (subst (λ ws. Writes (codes "entry" ∷ ws) (parts_of_line (trace_lines.Entry e))) shape is.written)) is.in_range
 
 -- an access is of two words at least
 pub access_count : (op : Op) (word : ℕ) → 2 ≤ length (parts_of_op op word)
@@ -180,13 +181,14 @@ access_count (ops.Add delta) word = lit≤ tt
 access_count (ops.Cas expect new) word = lit≤ tt
 
 -- few words write no entry
-pub entry_too_short : (version : Version) (ws : List (List ℕ)) → length (ended version ws) < 5
+pub entry_too_short : (version : Version) (ws : List (List ℕ)) → length (with_since version ws) < 5
     → IsNoLineOf version (codes "entry" ∷ ws)
-entry_too_short version ws few (lines.Init word value) is =
+entry_too_short version ws few (trace_lines.Init word value) is =
     two_names (codes "entry") (codes "entry") (codes "init") refl is.written.0 refl
-entry_too_short version ws few (lines.Entry e) is =
+entry_too_short version ws few (trace_lines.Entry e) is =
     let op : List Part = parts_of_op e.op e.word.0 in
     let parts : List Part = num e.core.0 ∷ num e.seq ∷ num e.tag ∷ (op ++ num e.reply ∷ num e.since ∷ []) in
-    let whole : length (ended version ws) ≡ length parts = word_for_each (ended version ws) parts is.written.1 in
+    let whole : length (with_since version ws) ≡ length parts =
+        word_for_each (with_since version ws) parts is.written.1 in
     let two : 2 ≤ length op = access_count e.op e.word.0 in
     omega (arith, simp length-append at whole)

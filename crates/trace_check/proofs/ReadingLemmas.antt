@@ -5,17 +5,17 @@ use Rattle.address_map.specs.declared.address.CoreId.{CoreId}
 use Rattle.address_map.specs.declared.address.WordAddr.{WordAddr}
 use Rattle.address_map.specs.declared.request.Op.{Op}
 use Rattle.address_map.specs.declared.request.Op.TheVariants as ops
-use Rattle.slice_core_log.specs.declared.entry.Entry.{Entry}
+use Rattle.slice_log.specs.declared.entry.Entry.{Entry}
 use Rattle.litmus_text.specs.Form.{Part, key, num, Writes}
 use Rattle.litmus_text.specs.Command.{parts_of_op}
-use Rattle.slice_core_log.specs.Log.{initially}
+use Rattle.slice_log.specs.Log.{initially}
 use Rattle.trace_check.specs.declared.verdict.Verdict.{Verdict}
 use Rattle.trace_check.specs.Verdict.{IsVerdict}
 use Rattle.trace_check.specs.declared.trace_line.Version.{Version}
 use Rattle.trace_check.specs.declared.trace_line.Version.TheVariants as versions
 use Rattle.trace_check.specs.declared.trace_line.TraceLine.{TraceLine}
 use Rattle.trace_check.specs.declared.trace_line.TraceLine.TheVariants as trace_lines
-use Rattle.trace_check.specs.TraceLine.{completed, parts_of_line, parts_of_first}
+use Rattle.trace_check.specs.TraceLine.{line_with_since, parts_of_line, parts_of_first}
 use Rattle.trace_check.specs.Trace.{AreLines, body_of, IsJudged}
 use Rattle.trace_check.proofs.FormLemmas.{two_names}
 use Rattle.trace_check.proofs.ExactLemmas.{one_verdict}
@@ -191,7 +191,7 @@ same_lines version [] [] (b ∷ ls) h k = absurd k
 same_lines version (s ∷ ss) [] ls h k = absurd h
 same_lines version (s ∷ ss) (a ∷ ks) [] h k = absurd k
 same_lines version (s ∷ ss) (a ∷ ks) (b ∷ ls) h k =
-    same_list a b ks ls (one_line (completed version s.1) a b h.0.written k.0.written)
+    same_list a b ks ls (one_line (line_with_since version s.1) a b h.0.written k.0.written)
     (same_lines version ss ks ls h.1 k.1)
 
 same_entries : (a b : List Entry) → map trace_lines.Entry a ≡ map trace_lines.Entry b → a ≡ b

@@ -7,12 +7,12 @@ use Rattle.std.proofs.Math.Seq.{get_or-append_seam}
 use Rattle.std.proofs.lemmas.List.{map-append}
 use Rattle.address_map.specs.declared.address.WordAddr.{WordAddr}
 use Rattle.address_map.specs.Words.{IsAscendingBy}
-use Rattle.slice_core_log.specs.declared.entry.Entry.{Entry}
+use Rattle.slice_log.specs.declared.entry.Entry.{Entry}
 use Rattle.litmus_text.specs.Fault.{IsAtLine, IsFirstFault}
 use Rattle.litmus_text.specs.Form.{Writes}
 use Rattle.litmus_text.specs.Statement.{statements_from}
 use Rattle.litmus_text.specs.declared.fault.TextFault.{TextFault}
-use Rattle.litmus_text.specs.declared.fault.TextFault.TheVariants as faults
+use Rattle.litmus_text.specs.declared.fault.TextFault.TheVariants as text_faults
 use Rattle.trace_check.specs.declared.check.Check.{Check}
 use Rattle.trace_check.specs.declared.trace_line.Version.{Version}
 use Rattle.trace_check.specs.declared.trace_line.TraceLine.{TraceLine}
@@ -204,12 +204,12 @@ pub at_first_fault : (check : Check) (version : Version) (all left : List (ℕ �
     (words : List (List ℕ)) (fault : TextFault) → check.version ≡ version → IsReading check all ((number, words) ∷ left)
     → IsNoMemoryOrLine (IsNoNextLine check words) fault → IsAtLine (λ n. n ≡ number) fault
     → IsAtLine (IsFirstFault (AreSomeTrace version) all) fault
-at_first_fault check version all left number words faults.NoMemory same reading none at = tt
-at_first_fault check version all left number words (faults.Line n fault) same reading none at =
+at_first_fault check version all left number words text_faults.NoMemory same reading none at = tt
+at_first_fault check version all left number words (text_faults.Line n fault) same reading none at =
     subst (IsFirstFault (AreSomeTrace version) all) (sym at)
     (first_fault check version all left number words same reading none)
-at_first_fault check version all left number words (faults.Config error) same reading none at = tt
-at_first_fault check version all left number words faults.CannotWrite same reading none at = tt
+at_first_fault check version all left number words (text_faults.Config error) same reading none at = tt
+at_first_fault check version all left number words text_faults.CannotWrite same reading none at = tt
 
 -- a text with a first line, and no trace behind it, is no trace
 pub no_text : (text : List ℕ) (number : ℕ) (first : List (List ℕ)) (rest : List (ℕ × List (List ℕ))) (version : Version)
@@ -238,19 +238,19 @@ no_text text number first rest version is begins none other init entries trace =
 pub at_fault : (statements rest : List (ℕ × List (List ℕ))) (number : ℕ) (first : List (List ℕ)) (version : Version)
     (fault : TextFault) → statements ≡ (number, first) ∷ rest → Writes first (parts_of_first version)
     → IsAtLine (IsFirstFault (AreSomeTrace version) rest) fault → IsAtLine (IsFaultAt statements) fault
-at_fault statements rest number first version faults.NoMemory is begins at = tt
-at_fault statements rest number first version (faults.Line n fault) is begins at =
+at_fault statements rest number first version text_faults.NoMemory is begins at = tt
+at_fault statements rest number first version (text_faults.Line n fault) is begins at =
     subst (λ ss. IsFaultAt ss n) (sym is) (inr (version, begins, at))
-at_fault statements rest number first version (faults.Config error) is begins at = tt
-at_fault statements rest number first version faults.CannotWrite is begins at = tt
+at_fault statements rest number first version (text_faults.Config error) is begins at = tt
+at_fault statements rest number first version text_faults.CannotWrite is begins at = tt
 
 -- a fault that is no want of memory comes also where less is refused
 pub IsNoMemoryOrLine-weaker : (P Q : Type 0) (fault : TextFault) → (P → Q) → IsNoMemoryOrLine P fault
     → IsNoMemoryOrLine Q fault
-IsNoMemoryOrLine-weaker P Q faults.NoMemory f h = tt
-IsNoMemoryOrLine-weaker P Q (faults.Line number fault) f h = f h
-IsNoMemoryOrLine-weaker P Q (faults.Config error) f h = absurd h
-IsNoMemoryOrLine-weaker P Q faults.CannotWrite f h = absurd h
+IsNoMemoryOrLine-weaker P Q text_faults.NoMemory f h = tt
+IsNoMemoryOrLine-weaker P Q (text_faults.Line number fault) f h = f h
+IsNoMemoryOrLine-weaker P Q (text_faults.Config error) f h = absurd h
+IsNoMemoryOrLine-weaker P Q text_faults.CannotWrite f h = absurd h
 
 -- ---- what is wrong with the line at fault
 

@@ -6,9 +6,9 @@ use Rattle.std.specs.Prelude.{slice_get}
 use Rattle.std.proofs.lemmas.Bool.{eqb-true}
 use Rattle.std.proofs.lemmas.Option.{slice_get_within, get_or_from_slice_get, slice_get-get_or}
 use Rattle.address_map.specs.declared.address.CoreId.{CoreId}
-use Rattle.slice_core_log.specs.declared.entry.Entry.{Entry}
-use Rattle.slice_core_log.specs.Log.{IsAfter}
-use Rattle.slice_core_log.proofs.Pushes.{slice_get-push}
+use Rattle.slice_log.specs.declared.entry.Entry.{Entry}
+use Rattle.slice_log.specs.Log.{IsAfter}
+use Rattle.slice_log.proofs.Pushes.{slice_get-push}
 use Rattle.trace_check.specs.Verdict.{IsInOrder}
 use Rattle.trace_check.specs.Judge.{AreGreatest, Reaches, IsUpTo}
 use Rattle.trace_check.specs.Latest.{latest_of}

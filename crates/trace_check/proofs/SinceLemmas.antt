@@ -8,8 +8,8 @@ use Rattle.std.specs.Str.Parse.{digits_value}
 use Rattle.address_map.specs.declared.address.WordAddr.{WordAddr}
 use Rattle.litmus_text.specs.Form.{Part, key, num, Writes}
 use Rattle.litmus_text.specs.Command.{parts_of_op}
-use Rattle.slice_core_log.specs.declared.entry.Entry.{Entry}
-use Rattle.trace_check.specs.TraceLine.{completed, parts_of_line}
+use Rattle.slice_log.specs.declared.entry.Entry.{Entry}
+use Rattle.trace_check.specs.TraceLine.{line_with_since, parts_of_line}
 use Rattle.trace_check.specs.Trace.{AreLines, body_of}
 use Rattle.trace_check.specs.Verdict.{IsVerdict, IsWrong}
 use Rattle.trace_check.specs.declared.trace_line.Version.TheVariants as versions
@@ -45,12 +45,12 @@ first_named : (b : Bool) (name text : List ℕ) (xs ys : List (List ℕ)) (ps : 
 first_named true name text xs ys ps written = written.0
 first_named false name text xs ys ps written = written.0
 
-bare_line : (words : List (List ℕ)) (e : Entry) → Writes (completed versions.WithoutSince words)
+bare_line : (words : List (List ℕ)) (e : Entry) → Writes (line_with_since versions.WithoutSince words)
     (parts_of_line (trace_lines.Entry e)) → e.since ≡ 0
 bare_line [] e written = absurd written
 bare_line (name ∷ ws) e written =
     let named = first_named (bytes_eq name (codes "entry")) name (codes "entry") (ws ++ codes "0" ∷ []) ws _ written in
-    bare_words ws e (subst (λ n. Writes (completed versions.WithoutSince (n ∷ ws))
+    bare_words ws e (subst (λ n. Writes (line_with_since versions.WithoutSince (n ∷ ws))
     (parts_of_line (trace_lines.Entry e))) named written)
 
 bare_entries : (statements : List (ℕ × List (List ℕ))) (entries : List Entry)

@@ -8,10 +8,10 @@ use Rattle.std.proofs.lemmas.Bool.Decides.{eqb_tells}
 use Rattle.std.proofs.lemmas.List.Elements.{All-head, All-tail}
 use Rattle.address_map.specs.declared.address.WordAddr.{WordAddr}
 use Rattle.address_map.specs.Words.{IsAscendingBy}
-use Rattle.slice_core_log.specs.Log.{value, initially}
-use Rattle.slice_core_log.specs.Op.{value_of}
-use Rattle.slice_core_log.specs.declared.entry.Entry.{Entry}
-use Rattle.slice_core_log.proofs.Values.{value-nil, value-perform, value-perform_other}
+use Rattle.slice_log.specs.Log.{value, initially}
+use Rattle.slice_log.specs.Op.{value_of}
+use Rattle.slice_log.specs.declared.entry.Entry.{Entry}
+use Rattle.slice_log.proofs.Values.{value-nil, value-perform, value-perform_other}
 use Rattle.trace_check.specs.Verdict.{IsItsReply}
 
 choice-same : (b : Bool) (pair : WordAddr × ℕ) → option_map_or (λ (p : WordAddr × ℕ). p.1) (cond b (Some pair) None) 0

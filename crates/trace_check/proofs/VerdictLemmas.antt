@@ -3,11 +3,11 @@ use Rattle.std.proofs.Common.{◌≡◌, ℕ, ◌<◌, ◌^◌, ◌/◌, ◌&&�
 use Rattle.std.proofs.Common.{lit<}
 use Rattle.std.specs.Prelude.{All}
 use Rattle.address_map.specs.declared.address.WordAddr.{WordAddr}
-use Rattle.slice_core_log.specs.Log.{initially}
-use Rattle.slice_core_log.specs.Op.{value_of}
-use Rattle.slice_core_log.specs.declared.entry.Entry.{Entry}
-use Rattle.slice_core_log.proofs.Values.{value-nil}
-use Rattle.slice_core_log.proofs.Pushes.{IsLegal-nil, IsLegal-push, IsOrdered-nil, IsOrdered-push}
+use Rattle.slice_log.specs.Log.{initially}
+use Rattle.slice_log.specs.Op.{value_of}
+use Rattle.slice_log.specs.declared.entry.Entry.{Entry}
+use Rattle.slice_log.proofs.Values.{value-nil}
+use Rattle.slice_log.proofs.Pushes.{IsLegal-nil, IsLegal-push, IsOrdered-nil, IsOrdered-push}
 use Rattle.trace_check.specs.declared.judge.Judge.{Judge}
 use Rattle.trace_check.specs.Verdict.{IsRight}
 use Rattle.trace_check.specs.Judge.{Knows}

@@ -1,7 +1,7 @@
 -- What a judge keeps of the entries that it took.
 use Rattle.std.specs.Prelude.{◌≡◌, ℕ, ◌/◌, ◌<◌, ◌≤◌, List, slice_get, slice_index, Option, Some, None}
-use Rattle.slice_core_log.specs.Log.{value, IsLegal, IsOrdered}
-use Rattle.slice_core_log.specs.declared.entry.Entry.{Entry}
+use Rattle.slice_log.specs.Log.{value, IsLegal, IsOrdered}
+use Rattle.slice_log.specs.declared.entry.Entry.{Entry}
 use Rattle.trace_check.specs.declared.judge.Judge.{Judge}
 use Rattle.trace_check.specs.Latest.{latest_of}
 use Rattle.trace_check.specs.declared.latest.LatestSeqs.{LatestSeqs}

@@ -3,15 +3,15 @@ use Rattle.std.specs.Prelude.{◌≡◌, ◌⊎◌, ℕ, List, [], ◌∷◌, �
 use Rattle.std.specs.Str.Lines.{lines}
 use Rattle.address_map.specs.declared.address.WordAddr.{WordAddr}
 use Rattle.address_map.specs.Words.{IsAscendingBy}
-use Rattle.slice_core_log.specs.Log.{initially}
-use Rattle.slice_core_log.specs.declared.entry.Entry.{Entry}
+use Rattle.slice_log.specs.Log.{initially}
+use Rattle.slice_log.specs.declared.entry.Entry.{Entry}
 use Rattle.litmus_text.specs.Fault.{IsFirstFault}
 use Rattle.litmus_text.specs.Form.{Writes}
 use Rattle.litmus_text.specs.Statement.{statements_from}
 use Rattle.litmus_text.specs.declared.fault.LineFault.{LineFault}
 use Rattle.litmus_text.specs.declared.fault.LineFault.TheVariants as line_faults
 use Rattle.litmus_text.specs.declared.fault.TextFault.{TextFault}
-use Rattle.litmus_text.specs.declared.fault.TextFault.TheVariants as faults
+use Rattle.litmus_text.specs.declared.fault.TextFault.TheVariants as text_faults
 use Rattle.trace_check.specs.declared.trace_line.Version.{Version}
 use Rattle.trace_check.specs.declared.trace_line.TraceLine.{TraceLine}
 use Rattle.trace_check.specs.declared.trace_line.TraceLine.TheVariants as trace_lines
@@ -76,10 +76,10 @@ AreNoTrace version statements = ¬ AreSomeTrace version statements
 
 -- why a text was read no further: there was no memory, or a line is at fault, and then it is refused for this
 abbrev pub IsNoMemoryOrLine : Type 0 → TextFault → Type 0
-IsNoMemoryOrLine refused faults.NoMemory = Unit {0}
-IsNoMemoryOrLine refused (faults.Line number fault) = refused
-IsNoMemoryOrLine refused (faults.Config error) = ⊥
-IsNoMemoryOrLine refused faults.CannotWrite = ⊥
+IsNoMemoryOrLine refused text_faults.NoMemory = Unit {0}
+IsNoMemoryOrLine refused (text_faults.Line number fault) = refused
+IsNoMemoryOrLine refused (text_faults.Config error) = ⊥
+IsNoMemoryOrLine refused text_faults.CannotWrite = ⊥
 
 -- The line at fault of a text, by its statements: line 1 where there are none, the first of them where it begins no
 -- trace, and else the first at fault behind it.
@@ -179,5 +179,5 @@ IsFaultOfTrace (first ∷ rest) number fault =
 
 -- what holds of the line and of what is wrong with it, where a fault is of a line
 abbrev pub IsOfLine : (ℕ → LineFault → Type 0) → TextFault → Type 0
-IsOfLine holds (faults.Line number fault) = holds number fault
+IsOfLine holds (text_faults.Line number fault) = holds number fault
 IsOfLine holds other = Unit {0}

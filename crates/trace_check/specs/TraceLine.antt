@@ -3,7 +3,7 @@ use Rattle.std.specs.Prelude.{◌≡◌, ℕ, ◌<◌, List, [], ◌∷◌, ◌+
 use Rattle.std.specs.Str.{bytes_eq}
 use Rattle.address_map.specs.declared.request.Op.{Op}
 use Rattle.address_map.specs.declared.request.Op.TheVariants as ops
-use Rattle.slice_core_log.specs.declared.entry.Entry.{Entry}
+use Rattle.slice_log.specs.declared.entry.Entry.{Entry}
 use Rattle.litmus_text.specs.Form.{Part, key, num, Writes, HasForm, IsFaultOf}
 use Rattle.litmus_text.specs.Command.{parts_of_op}
 use Rattle.litmus_text.specs.declared.fault.LineFault.{LineFault}
@@ -12,7 +12,7 @@ use Rattle.trace_check.specs.declared.trace_line.TheConstants.{MOST_TAGS}
 use Rattle.trace_check.specs.declared.trace_line.Version.{Version}
 use Rattle.trace_check.specs.declared.trace_line.Version.TheVariants as versions
 use Rattle.trace_check.specs.declared.trace_line.TraceLine.{TraceLine}
-use Rattle.trace_check.specs.declared.trace_line.TraceLine.TheVariants as lines
+use Rattle.trace_check.specs.declared.trace_line.TraceLine.TheVariants as trace_lines
 
 -- the first line
 abbrev pub number_of : Version → List ℕ
@@ -29,8 +29,8 @@ IsNoFirstLine words = (version : Version) → ¬ Writes words (parts_of_first ve
 
 -- each other line
 abbrev pub parts_of_line : TraceLine → List Part
-parts_of_line (lines.Init word value) = key (codes "init") ∷ num word.0 ∷ num value ∷ []
-parts_of_line (lines.Entry e) =
+parts_of_line (trace_lines.Init word value) = key (codes "init") ∷ num word.0 ∷ num value ∷ []
+parts_of_line (trace_lines.Entry e) =
     key (codes "entry") ∷ num e.core.0 ∷ num e.seq ∷ num e.tag
     ∷ (parts_of_op e.op e.word.0 ++ num e.reply ∷ num e.since ∷ [])
 
@@ -59,22 +59,23 @@ pub record IsEntryOf (version : Version) (e : Entry) : Type 0 where
 
 -- what a line may name
 unfoldable pub IsInRange : Version → TraceLine → Type 0
-IsInRange version (lines.Init word value) = word.0 < MOST_WORDS
-IsInRange version (lines.Entry e) = IsEntryOf version e
+IsInRange version (trace_lines.Init word value) = word.0 < MOST_WORDS
+IsInRange version (trace_lines.Entry e) = IsEntryOf version e
 
 -- the words of an entry behind its name, with SINCE: where the version leaves it out, it is 0
-abbrev pub ended : Version → List (List ℕ) → List (List ℕ)
-ended versions.WithoutSince words = words ++ codes "0" ∷ []
-ended version words = words
+abbrev pub with_since : Version → List (List ℕ) → List (List ℕ)
+with_since versions.WithoutSince words = words ++ codes "0" ∷ []
+with_since version words = words
 
 -- .. of a line: of an entry alone, which begins with its name
-abbrev pub completed : Version → List (List ℕ) → List (List ℕ)
-completed version [] = []
-completed version (name ∷ words) = if bytes_eq name (codes "entry") then name ∷ ended version words else name ∷ words
+abbrev pub line_with_since : Version → List (List ℕ) → List (List ℕ)
+line_with_since version [] = []
+line_with_since version (name ∷ words) = if bytes_eq name (codes "entry") then name ∷ with_since version words else name
+    ∷ words
 
 -- the words write the line
 pub record IsLineOf (version : Version) (words : List (List ℕ)) (line : TraceLine) : Type 0 where
-  pub written : Writes (completed version words) (parts_of_line line)
+  pub written : Writes (line_with_since version words) (parts_of_line line)
   pub in_range : IsInRange version line
 
 -- the words write no line of a trace of this version
@@ -83,16 +84,16 @@ IsNoLineOf version words = (line : TraceLine) → ¬ IsLineOf version words line
 
 -- the version has words for the line
 abbrev pub IsKnownTo : Version → TraceLine → Type 0
-IsKnownTo version (lines.Init word value) = Unit {0}
-IsKnownTo version (lines.Entry e) = IsOfVersion version e.op
+IsKnownTo version (trace_lines.Init word value) = Unit {0}
+IsKnownTo version (trace_lines.Entry e) = IsOfVersion version e.op
 
 -- the words have the form of the line
 abbrev pub HasFormOf : Version → List (List ℕ) → TraceLine → Type 0
-HasFormOf version words line = HasForm (completed version words) (parts_of_line line) × IsKnownTo version line
+HasFormOf version words line = HasForm (line_with_since version words) (parts_of_line line) × IsKnownTo version line
 
 -- the words say the line, whether a trace can name what it names or not
 abbrev pub SaysLine : Version → List (List ℕ) → TraceLine → Type 0
-SaysLine version words line = Writes (completed version words) (parts_of_line line) × IsKnownTo version line
+SaysLine version words line = Writes (line_with_since version words) (parts_of_line line) × IsKnownTo version line
 
 -- What is wrong with words that are no line of a trace of this version. They have the form of none; or of one, but with
 -- a number that can't be read; or they say one that names what no trace can.

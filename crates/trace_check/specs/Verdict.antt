@@ -1,8 +1,8 @@
 -- What the entries of a trace come to: the first of them that is at fault, and the first reason.
 use Rattle.std.specs.Prelude.{◌≡◌, ℕ, ◌<◌, ◌≤◌, List, length, take, slice_get, Some, All}
-use Rattle.slice_core_log.specs.Op.{reply_of}
-use Rattle.slice_core_log.specs.Log.{value, IsLegal, IsOrdered, IsAfter}
-use Rattle.slice_core_log.specs.declared.entry.Entry.{Entry}
+use Rattle.slice_log.specs.Op.{reply_of}
+use Rattle.slice_log.specs.Log.{value, IsLegal, IsOrdered, IsAfter}
+use Rattle.slice_log.specs.declared.entry.Entry.{Entry}
 use Rattle.trace_check.specs.declared.verdict.Reason.{Reason}
 use Rattle.trace_check.specs.declared.verdict.Reason.TheVariants as reasons
 use Rattle.trace_check.specs.declared.verdict.Verdict.{Verdict}

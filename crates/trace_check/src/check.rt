@@ -3,8 +3,8 @@ ghost use Rattle.std.specs.Str.Lines.{lines};
 ghost use Rattle.address_map.specs.declared.address.WordAddr.{WordAddr};
 ghost use Rattle.litmus_text.specs.Fault.{IsAtLine, IsFirstFault};
 ghost use Rattle.litmus_text.specs.Statement.{statements_from};
-ghost use Rattle.slice_core_log.specs.Log.{initially};
-ghost use Rattle.slice_core_log.specs.declared.entry.Entry.{Entry};
+ghost use Rattle.slice_log.specs.Log.{initially};
+ghost use Rattle.slice_log.specs.declared.entry.Entry.{Entry};
 ghost use Rattle.trace_check.specs.Judge.{IsNameable};
 ghost use Rattle.trace_check.specs.declared.judge.TheConstants.{MOST_WORDS};
 ghost use Rattle.trace_check.specs.TraceLine.{IsLineOf};
@@ -22,7 +22,7 @@ use super::trace_line::{TraceLine, Version, begins_with};
 use super::verdict::{Reason, Verdict};
 use address_map::WordAddr;
 use litmus_text::{LineFault, Statement, Statements, TextFault};
-use slice_core_log::Entry;
+use slice_log::Entry;
 use std::alloc::{AllocError, Global};
 
 /// What was read of a trace.

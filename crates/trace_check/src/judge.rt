@@ -2,8 +2,8 @@ ghost use Rattle.std.specs.Prelude.{◌≡◌, ◌<◌, ℕ, List, [], ◌∷◌
 ghost use Rattle.std.specs.Prelude.{slice_index, IsTrue, ◌↔◌, ◌/◌};
 ghost use Rattle.address_map.specs.declared.address.WordAddr.{WordAddr};
 ghost use Rattle.address_map.specs.Words.{IsAscendingBy};
-ghost use Rattle.slice_core_log.specs.Log.{initially};
-ghost use Rattle.slice_core_log.specs.declared.entry.Entry.{Entry};
+ghost use Rattle.slice_log.specs.Log.{initially};
+ghost use Rattle.slice_log.specs.declared.entry.Entry.{Entry};
 ghost use Rattle.trace_check.specs.declared.verdict.Verdict.{Verdict};
 ghost use Rattle.trace_check.specs.Verdict.{IsVerdict, IsWrong, IsRight, IsInOrder};
 ghost use Rattle.trace_check.specs.Judge.{Knows, AreGreatest, IsNameable};
@@ -12,7 +12,7 @@ use super::latest::LatestSeqs;
 use super::slots::set_slot;
 use super::verdict::{Reason, Verdict};
 use address_map::WordAddr;
-use slice_core_log::{Entry, performed, reply_to};
+use slice_log::{Entry, performed, reply_to};
 use std::alloc::{AllocError, Global};
 
 /// How many cores a trace can name.

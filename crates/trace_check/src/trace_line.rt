@@ -4,7 +4,7 @@ ghost use Rattle.std.specs.Result.{OkIff};
 ghost use Rattle.std.specs.Str.Parse.{digits_value};
 ghost use Rattle.litmus_text.specs.Number.{IsNumber};
 ghost use Rattle.trace_check.specs.TraceLine.{IsFaultOfLine, IsLineOf, IsNoLineOf, IsNoFirstLine, IsOfVersion};
-ghost use Rattle.trace_check.specs.TraceLine.{BeginsWith, cores_of, ended, number_of, parts_of_first};
+ghost use Rattle.trace_check.specs.TraceLine.{BeginsWith, cores_of, with_since, number_of, parts_of_first};
 ghost use Rattle.litmus_text.specs.Form.{HasForm, Writes, key};
 ghost use Rattle.litmus_text.specs.Command.{parts_of_op};
 ghost use Rattle.address_map.specs.declared.request.Op.{Op};
@@ -13,7 +13,7 @@ ghost use Rattle.trace_check.specs.declared.trace_line.Version.{Version};
 use super::judge::{MOST_CORES, MOST_WORDS};
 use address_map::{CoreId, WordAddr};
 use litmus_text::{LineFault, parse_access, parse_number, two_numbers};
-use slice_core_log::Entry;
+use slice_log::Entry;
 
 /// How many tags a core has.
 pub const MOST_TAGS: u64 = 64;
@@ -152,9 +152,9 @@ struct EntryWords<'a> {
 
 fn entry_words<'a>(version: Version, words: &'a [&'a [u8]]) -> Option<EntryWords<'a>>
     ensures parts { IfSome result
-        (λ e. ended version (map (λ w. w.now) words.now)
+        (λ e. with_since version (map (λ w. w.now) words.now)
         ≡ e.core.now ∷ e.seq.now ∷ e.tag.now ∷ (map (λ w. w.now) e.access.now ++ e.reply.now ∷ e.since.now ∷ [])) }
-    ensures short { IfNone result (length (ended version (map (λ w. w.now) words.now)) < 5) }
+    ensures short { IfNone result (length (with_since version (map (λ w. w.now) words.now)) < 5) }
 {
     match version {
         Version::One | Version::Two => full_words(words),

@@ -2,19 +2,19 @@ ghost use Rattle.std.specs.Prelude.{◌≡◌, ℕ, ◌+◌, ◌<◌, ◌↔◌,
 ghost use Rattle.std.specs.Option.{option_copied, option_map};
 ghost use Rattle.writeback_buffer.specs.Buffer.{is_of};
 
-use super::entry::{Entry, Leaving};
+use super::pending::{PendingWriteBack, Leaving};
 use address_map::{Checked, Local};
 use arrayvec::ArrayVec;
 use cache_table::CopyState;
 use std::marker::Model;
 
-/// The most entries that a buffer may be configured with.
-pub const MOST_ENTRIES: usize = 16;
+/// The most write-backs that a buffer may be configured with.
+pub const MOST_WRITE_BACKS: usize = 16;
 
 /// The lines that a core has evicted from one slice and that wait for the directory's acknowledgement.
 #[derive(Debug, Drop)]
 pub struct WritebackBuffer {
-    entries: ArrayVec<Entry, MOST_ENTRIES>,
+    write_backs: ArrayVec<PendingWriteBack, MOST_WRITE_BACKS>,
     capacity: usize,
 }
 
@@ -23,105 +23,105 @@ impl Model for WritebackBuffer {
 
     ghost Value = { Buffer };
 
-    ghost view = { λ buffer. record { entries = buffer.entries.items; capacity = buffer.capacity } };
+    ghost view = { λ buffer. record { write_backs = buffer.write_backs.items; capacity = buffer.capacity } };
 
-    ghost invariant = { λ buffer. IsBuffer (record { entries = buffer.entries.items; capacity = buffer.capacity }) };
+    ghost invariant = { λ buffer. IsBuffer (record { write_backs = buffer.write_backs.items; capacity = buffer.capacity }) };
 }
 
 impl WritebackBuffer {
     ghost use Rattle.writeback_buffer.specs.Buffer.{IsBuffer, ChangesOnly, empty_buffer, held_at, in_state, with_line};
     ghost use Rattle.writeback_buffer.specs.Buffer.{with_state, without_line};
 
-    /// An empty buffer, with room for as many entries as the configuration has.
+    /// An empty buffer, with room for as many write-backs as the configuration has.
     pub fn make(config: &Checked) -> Self
         ensures { result ≡ empty_buffer config.now.writebacks }
     {
         WritebackBuffer {
-            entries: ArrayVec::new(),
+            write_backs: ArrayVec::new(),
             capacity: config.writebacks(),
         }
     }
 
-    /// What is held of a line. A line has one entry at most.
+    /// What is held of a line. A line has one write-back at most.
     pub fn get(&self, line: Local) -> Option<&Leaving>
-        ensures held { option_copied result ≡ held_at self.now.entries line.0 }
+        ensures held { option_copied result ≡ held_at self.now.write_backs line.0 }
         ensures sound { IsBuffer self.now }
     {
         let Some(place) = self.place_of(line) else {
             return None;
         };
-        Some(&self.entries[place].leaving)
+        Some(&self.write_backs[place].leaving)
     }
 
     /// What is held, in the order in which it came.
-    pub fn entries(&self) -> &[Entry]
-        ensures entries { result.now ≡ self.now.entries }
+    pub fn write_backs(&self) -> &[PendingWriteBack]
+        ensures write_backs { result.now ≡ self.now.write_backs }
         ensures sound { IsBuffer self.now }
     {
-        self.entries.as_slice()
+        self.write_backs.as_slice()
     }
 
     /// Whether another line may be put.
     pub fn has_room(&self) -> bool
-        ensures { IsTrue result ↔ (length self.now.entries < self.now.capacity) }
+        ensures { IsTrue result ↔ (length self.now.write_backs < self.now.capacity) }
     {
-        self.entries.len() < self.capacity
+        self.write_backs.len() < self.capacity
     }
 
     /// Whether no line waits.
     pub fn is_empty(&self) -> bool
-        ensures empty { IsTrue result ↔ (self.now.entries ≡ []) }
-        ensures nothing_held { IsTrue result ↔ ((line : ℕ) → held_at self.now.entries line ≡ None) }
+        ensures empty { IsTrue result ↔ (self.now.write_backs ≡ []) }
+        ensures nothing_held { IsTrue result ↔ ((line : ℕ) → held_at self.now.write_backs line ≡ None) }
     {
-        self.entries.is_empty()
+        self.write_backs.is_empty()
     }
 
     /// Takes in a line that the cache has just evicted.
     pub fn put(&mut self, line: Local, leaving: Leaving)
-        requires room { length self.old.entries < self.old.capacity }
-        requires absent { held_at self.old.entries line.0 ≡ None }
+        requires room { length self.old.write_backs < self.old.capacity }
+        requires absent { held_at self.old.write_backs line.0 ≡ None }
 
         ensures put { self.new ≡ with_line self.old line.0 leaving }
         ensures held { ChangesOnly self.old self.new line.0 (Some leaving) }
-        ensures one_more { length self.new.entries ≡ length self.old.entries + 1 }
+        ensures one_more { length self.new.write_backs ≡ length self.old.write_backs + 1 }
     {
-        self.entries.push(Entry { leaving, line });
+        self.write_backs.push(PendingWriteBack { leaving, line });
     }
 
     /// Moves a line that is held to this state. Its block stays.
     pub fn advance(&mut self, line: Local, state: CopyState)
-        requires held { IsSome (held_at self.old.entries line.0) }
+        requires held { IsSome (held_at self.old.write_backs line.0) }
 
         ensures advanced { self.new ≡ with_state self.old line.0 state }
         ensures kept { ChangesOnly self.old self.new line.0
-            (option_map (in_state state) (held_at self.old.entries line.0)) }
-        ensures as_many { length self.new.entries ≡ length self.old.entries }
+            (option_map (in_state state) (held_at self.old.write_backs line.0)) }
+        ensures as_many { length self.new.write_backs ≡ length self.old.write_backs }
     {
         let Some(place) = self.place_of(line) else {
             unreachable!();
         };
-        self.entries[place].leaving.state = state;
+        self.write_backs[place].leaving.state = state;
     }
 
     /// Gives a line up, once it is acknowledged.
     pub fn remove(&mut self, line: Local) -> Option<Leaving>
-        ensures taken { result ≡ held_at self.old.entries line.0 }
+        ensures taken { result ≡ held_at self.old.write_backs line.0 }
         ensures removed { self.new ≡ without_line self.old line.0 }
         ensures absent { ChangesOnly self.old self.new line.0 None }
-        ensures one_less { IsSome result → length self.new.entries + 1 ≡ length self.old.entries }
+        ensures one_less { IsSome result → length self.new.write_backs + 1 ≡ length self.old.write_backs }
         ensures unchanged { result ≡ None → self.new ≡ self.old }
     {
         let Some(place) = self.place_of(line) else {
             return None;
         };
-        Some(self.entries.remove(place).leaving)
+        Some(self.write_backs.remove(place).leaving)
     }
 
     // Where the line stands.
     fn place_of(&self, line: Local) -> Option<usize>
-        ensures place { result ≡ position (is_of line.0) self.now.entries }
+        ensures place { result ≡ position (is_of line.0) self.now.write_backs }
         ensures sound { IsBuffer self.now }
     {
-        self.entries.iter().position(|entry| entry.line == line)
+        self.write_backs.iter().position(|write_back| write_back.line == line)
     }
 }

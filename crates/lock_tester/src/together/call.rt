@@ -2,7 +2,7 @@ use address_map::{CoreId, LineAddr, Op, Request, WordAddr};
 use mshr_file::ExplicitFile;
 use receipt_ledger::{Answer, Port, Receipt};
 use receipt_shares::SliceNames;
-use slice_core_answer::{Delivered, DeliveredNext, Evicted, Stall};
+use slice_answer::{Delivered, DeliveredNext, Evicted, Stall};
 use slice_lock::Slice;
 use slice_queues_message::{Class, Pick};
 use std::sync::Wait;

@@ -5,7 +5,7 @@ use address_map::{Checked, CoreId, LineAddr, Request, SliceId};
 use mshr_file::MissFile;
 use receipt_ledger::{Answer, Receipt};
 use slice_core::SliceState;
-use slice_core_answer::{DeliveredNext, Issue};
+use slice_answer::{DeliveredNext, Issue};
 use slice_queues_message::Class;
 use std::alloc::{AllocError, Global};
 

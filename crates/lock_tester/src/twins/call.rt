@@ -1,6 +1,6 @@
 use address_map::{CoreId, LineAddr, Request, SliceId};
 use receipt_ledger::{Answer, LearnError, Receipt};
-use slice_core_answer::{Delivered, DeliveredNext, Evicted, Refused};
+use slice_answer::{Delivered, DeliveredNext, Evicted, Refused};
 use slice_queues_message::{Class, Pick};
 
 /// A call on what is shared.

@@ -7,7 +7,7 @@ use address_map::{CoreId, LineAddr, Op, Request, SliceId, WordAddr};
 use rand_core::{Rng, SeedableRng};
 use rand_xoshiro::Xoshiro256PlusPlus;
 use receipt_ledger::Receipt;
-use slice_core_log::Entry;
+use slice_log::Entry;
 use slice_queues_message::{Channel, Class, Pick};
 
 /// Tags that requests are mostly drawn with.

@@ -1,7 +1,7 @@
 use super::call::Told;
 use super::setting::Through;
 use receipt_ledger::Answer;
-use slice_core_answer::{Delivered, DeliveredNext, Evicted, Refused, Stall};
+use slice_answer::{Delivered, DeliveredNext, Evicted, Refused, Stall};
 
 /// In what answers differ, whatever numbers they give.
 #[derive(Clone, Copy, Debug)]

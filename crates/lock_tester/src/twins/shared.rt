@@ -4,7 +4,7 @@ use address_map::{CoreId, LineAddr, SliceId};
 use mshr_file::MissFile;
 use receipt_ledger::Receipt;
 use slice_core::SliceState;
-use slice_core_answer::Stats;
+use slice_answer::Stats;
 use slice_core_steps::LineView;
 use slice_lock::Question;
 use std::sync::Wait;

@@ -4,7 +4,7 @@ use super::setting::{CORES, SLICES, Through};
 use address_map::{Checked, CoreId, LineAddr, Request, SliceId};
 use mshr_file::MissFile;
 use receipt_ledger::{Answer, LearnError, Receipt};
-use slice_core_answer::Refused;
+use slice_answer::Refused;
 use slice_queues_message::Class;
 use std::alloc::{AllocError, Global};
 

@@ -8,7 +8,7 @@ use mshr_file::ExplicitFile;
 use receipt_ledger::{Answer, Port};
 use receipt_shares::{Blanks, SliceNames};
 use slice_core::SliceState;
-use slice_core_answer::{DeliveredNext, Issue, Refused};
+use slice_answer::{DeliveredNext, Issue, Refused};
 use slice_lock::Slice;
 use slice_queues_message::Class;
 use std::alloc::{AllocError, Global};

@@ -1,6 +1,6 @@
 ghost use Rattle.std.specs.Box.{boxed_slice_items};
 ghost use Rattle.std.specs.Prelude.{◌≡◌, ◌<◌, IfOk};
-ghost use Rattle.slice_core_plan.specs.Initial.{IsInitialBlock, AreInitialEntries, AreNewSides};
+ghost use Rattle.slice_core_plan.specs.Initial.{IsInitialBlock, AreInitialEntries, AreNewCaches};
 ghost use Rattle.slice_core_plan.specs.Calls.{PartsView, IsNew};
 
 use super::Parts;
@@ -9,8 +9,8 @@ use address_map::{
 };
 use directory_table::{DirEntry, DirState};
 use mshr_file::MissFile;
-use slice_core_answer::Stats;
-use slice_core_side::Side;
+use slice_answer::Stats;
+use slice_core_cache::CoreCache;
 use slice_queues::Queues;
 use std::alloc::{AllocError, Global};
 use std::boxed::BoxedSlice;
@@ -25,7 +25,7 @@ impl<F: MissFile> Parts<F> {
         Ok(Parts {
             entries: new_entries(alloc, config, lines)?,
             queues: Queues::build(alloc, config.cores(), lines)?,
-            sides: new_sides(alloc, config, slice)?,
+            caches: new_caches(alloc, config, slice)?,
             log: Vec::new(alloc),
             stats: Stats::new(alloc, config.cores(), config.exclusive())?,
             init: init_of(alloc, config, slice)?,
@@ -68,18 +68,18 @@ fn initial_block(config: &Checked, lines: Locator, local: Local) -> Block
     Block { words }
 }
 
-fn new_sides<F: MissFile>(
+fn new_caches<F: MissFile>(
     alloc: Global,
     config: &Checked,
     slice: SliceId,
-) -> Result<BoxedSlice<Side<F>>, AllocError>
+) -> Result<BoxedSlice<CoreCache<F>>, AllocError>
     requires { slice.0 < config.now.slices }
-    ensures { IfOk result (λ v. AreNewSides config.now (F.bound_by config.now) slice.0 config.now.cores
+    ensures { IfOk result (λ v. AreNewCaches config.now (F.bound_by config.now) slice.0 config.now.cores
         (boxed_slice_items v)) }
 {
     let mut all = Vec::with_capacity(alloc, config.cores())?;
     for core in 0..config.cores() {
-        all.push(Side::make(alloc, config, slice, CoreId(core as u8))?)?;
+        all.push(CoreCache::make(alloc, config, slice, CoreId(core as u8))?)?;
     }
     Ok(all.into_boxed_slice())
 }

@@ -1,15 +1,15 @@
 ghost use Rattle.std.specs.Prelude.{◌≡◌, ◌+◌, ◌-◌, ◌^◌, ◌++◌, ◌<◌, ◌≤◌, All, vec_capacity, if◌then◌else◌, length, true};
 ghost use Rattle.std.specs.Prelude.{false, IsSome, Some, None};
 ghost use Rattle.mshr_file.specs.Miss.{targets_of, IsMissFile, TakesTargets};
-ghost use Rattle.slice_core_side.specs.Perform.{asks_to_write, entries_of, performed_in};
-ghost use Rattle.slice_core_side.specs.Side.{array_copy};
-ghost use Rattle.slice_core_side.specs.Steps.{acknowledged, after_change, after_settle};
-ghost use Rattle.slice_core_side.specs.Targets.{IsPerformable};
+ghost use Rattle.slice_core_cache.specs.Perform.{asks_to_write, entries_of, performed_in};
+ghost use Rattle.slice_core_cache.specs.CoreCache.{array_copy};
+ghost use Rattle.slice_core_cache.specs.Steps.{copy_after_ack, after_change, after_settle};
+ghost use Rattle.slice_core_cache.specs.Targets.{IsPerformable};
 ghost use Rattle.slice_core_plan.specs.Calls.{AfterDelivery, AfterPlan, CanDeliver, Moves, Settles, filled_by};
 ghost use Rattle.slice_core_plan.specs.Plan.{ack_plan, data_plan, forwarded_plan, home_plan, plan_of, request_plan};
 ghost use Rattle.slice_core_plan.specs.Sends.{cache_room, directory_room, directory_sent};
 ghost use Rattle.slice_core_plan.specs.Steps.{after_directory, after_forwarded, after_home, asked_by, block_in};
-ghost use Rattle.slice_core_plan.specs.View.{channels_at, side_at, IsShaped};
+ghost use Rattle.slice_core_plan.specs.View.{channels_at, cache_at, IsShaped};
 ghost use Rattle.slice_core_plan.specs.Within.{HasCopy, StandsAt, is_shared};
 ghost use Rattle.slice_queues.specs.Lending.{with_lent};
 ghost use Rattle.slice_queues.specs.Line.{after_take, core_at};
@@ -23,10 +23,10 @@ use address_map::{Block, CoreId, Local, Offset};
 use cache_table::CopyState;
 use directory_table::DirStep;
 use mshr_file::MissFile;
-use slice_core_answer::{Delivered, Delivery};
-use slice_core_log::Entry;
+use slice_answer::{Delivered, Delivery};
+use slice_log::Entry;
 use slice_core_plan::{CopyStep, ForwardedStep, HomeStep};
-use slice_core_side::Side;
+use slice_core_cache::CoreCache;
 use slice_queues::{Channel, DataMessage, Message, Pick, Queues, RequestMessage};
 
 impl<F: MissFile> Parts<F> {
@@ -65,7 +65,7 @@ impl<F: MissFile> Parts<F> {
     // Does the directory's row for the core's request.
     fn deliver_request(&mut self, local: Local, core: CoreId) -> Delivered
         requires line { local.0 < self.old.view.lines.lines }
-        requires core { core.0 < length self.old.view.sides }
+        requires core { core.0 < length self.old.view.caches }
         requires delivers { CanDeliver self.old }
         ensures { AfterPlan (request_plan self.old.view local core) self.old local (channels.Req core) result
             self.new }
@@ -101,7 +101,7 @@ impl<F: MissFile> Parts<F> {
     // Does the cache's row for the forwarded message that waits for the core.
     fn deliver_forwarded(&mut self, local: Local, core: CoreId) -> Delivered
         requires line { local.0 < self.old.view.lines.lines }
-        requires core { core.0 < length self.old.view.sides }
+        requires core { core.0 < length self.old.view.caches }
         requires delivers { CanDeliver self.old }
         ensures { AfterPlan (forwarded_plan self.old.view local core) self.old local (channels.Fwd core) result
             self.new }
@@ -120,7 +120,7 @@ impl<F: MissFile> Parts<F> {
     // Does the cache's row for the data that wait for the core.
     fn deliver_data(&mut self, local: Local, core: CoreId) -> Delivered
         requires line { local.0 < self.old.view.lines.lines }
-        requires core { core.0 < length self.old.view.sides }
+        requires core { core.0 < length self.old.view.caches }
         requires delivers { CanDeliver self.old }
         ensures { AfterPlan (data_plan self.old.view local core) self.old local (channels.Data core) result self.new }
     {
@@ -138,8 +138,8 @@ impl<F: MissFile> Parts<F> {
     // Does the cache's row for an acknowledgement that waits for the core.
     fn deliver_ack(&mut self, local: Local, to: CoreId, from: CoreId) -> Delivered
         requires line { local.0 < self.old.view.lines.lines }
-        requires to { to.0 < length self.old.view.sides }
-        requires from { from.0 < length self.old.view.sides }
+        requires to { to.0 < length self.old.view.caches }
+        requires from { from.0 < length self.old.view.caches }
         requires delivers { CanDeliver self.old }
         ensures { AfterPlan (ack_plan self.old.view local to from) self.old local (channels.Ack to from) result
             self.new }
@@ -158,7 +158,7 @@ impl<F: MissFile> Parts<F> {
     // The directory takes a core's request, and does its row.
     fn serve(&mut self, local: Local, core: CoreId, step: &DirStep)
         requires line { local.0 < self.old.view.lines.lines }
-        requires core { core.0 < length self.old.view.sides }
+        requires core { core.0 < length self.old.view.caches }
         requires shaped { IsShaped self.old.view }
         requires room { directory_room (channels_at self.old.view local) core step.now.sends ≡ true }
         ensures { Moves self.old local (channels.Req core)
@@ -195,66 +195,66 @@ impl<F: MissFile> Parts<F> {
     // A core takes a forwarded message, and does its row for the requester.
     fn forward(&mut self, local: Local, core: CoreId, step: ForwardedStep)
         requires line { local.0 < self.old.view.lines.lines }
-        requires core { core.0 < length self.old.view.sides }
+        requires core { core.0 < length self.old.view.caches }
         requires shaped { IsShaped self.old.view }
-        requires stands { HasCopy (side_at self.old.view core) local }
+        requires stands { HasCopy (cache_at self.old.view core) local }
         requires room { cache_room (channels_at self.old.view local) core step.requester step.sends ≡ true }
         ensures { Moves self.old local (channels.Fwd core)
             (after_forwarded self.old.view local core step.next step.sends step.requester) self.new }
     {
         self.stats.count_message(Channel::Fwd(core));
-        let side = &mut self.sides[core.0 as usize];
+        let cache = &mut self.caches[core.0 as usize];
         let queues = &mut self.queues;
         queues.drop_at(local, Channel::Fwd(core));
-        send_from_core(queues, local, core, step.requester, side.block(local), step.sends);
-        side.advance(local, step.next);
+        send_from_core(queues, local, core, step.requester, cache.block(local), step.sends);
+        cache.advance(local, step.next);
     }
 
     // A core takes its data. What its copy then allows is performed.
     fn fill(&mut self, local: Local, core: CoreId, step: CopyStep)
         requires line { local.0 < self.old.view.lines.lines }
-        requires core { core.0 < length self.old.view.sides }
+        requires core { core.0 < length self.old.view.caches }
         requires delivers { CanDeliver self.old }
-        requires stands { StandsAt (side_at self.old.view core) local step.place }
+        requires stands { StandsAt (cache_at self.old.view core) local step.way }
         requires comes { IsSome (core_at (channels_at self.old.view local) core.0).data }
         requires idle { (core_at (channels_at self.old.view local) core.0).request ≡ None }
         ensures { Settles self.old local core (channels.Data core)
-            (filled_by (array_copy (side_at self.old.view core) local)
+            (filled_by (array_copy (cache_at self.old.view core) local)
             (core_at (channels_at self.old.view local) core.0).data step.next)
             self.new }
     {
         self.stats.count_message(Channel::Data(core));
-        let side = &mut self.sides[core.0 as usize];
+        let cache = &mut self.caches[core.0 as usize];
         let queues = &mut self.queues;
         match queues.line(local).front_data(core) {
-            Some(message) => fill_copy(side, local, step.place, message, step.next),
+            Some(message) => fill_copy(cache, local, step.way, message, step.next),
             None => unreachable!(),
         }
         queues.drop_at(local, Channel::Data(core));
         let first = self.lines.word_at(local, Offset(0)).0;
         let log = &mut self.log;
-        let asks = settle_copy(side, log, &mut self.pending, core, local, step.place, first);
+        let asks = settle_copy(cache, log, &mut self.pending, core, local, step.way, first);
         ask_to_write(queues, local, core, asks);
     }
 
     // A core counts an acknowledgement. What its copy then allows is performed.
     fn acknowledge(&mut self, local: Local, to: CoreId, from: CoreId, step: CopyStep)
         requires line { local.0 < self.old.view.lines.lines }
-        requires to { to.0 < length self.old.view.sides }
-        requires from { from.0 < length self.old.view.sides }
+        requires to { to.0 < length self.old.view.caches }
+        requires from { from.0 < length self.old.view.caches }
         requires delivers { CanDeliver self.old }
-        requires stands { StandsAt (side_at self.old.view to) local step.place }
+        requires stands { StandsAt (cache_at self.old.view to) local step.way }
         requires waits { is_shared step.next ≡ false }
         ensures { Settles self.old local to (channels.Ack to from)
-            (acknowledged (array_copy (side_at self.old.view to) local) step.next) self.new }
+            (copy_after_ack (array_copy (cache_at self.old.view to) local) step.next) self.new }
     {
         self.stats.count_message(Channel::Ack { to, from });
-        let side = &mut self.sides[to.0 as usize];
-        side.acknowledge(local, step.place, step.next);
+        let cache = &mut self.caches[to.0 as usize];
+        cache.acknowledge(local, step.way, step.next);
         self.queues.drop_at(local, Channel::Ack { to, from });
         let first = self.lines.word_at(local, Offset(0)).0;
         let log = &mut self.log;
-        let _ = settle_copy(side, log, &mut self.pending, to, local, step.place, first);
+        let _ = settle_copy(cache, log, &mut self.pending, to, local, step.way, first);
     }
 }
 
@@ -285,50 +285,50 @@ fn serve_request(queues: &mut Queues, local: Local, home: &mut Block, core: Core
 
 // The copy gets the data that came, and goes to the next state.
 fn fill_copy<F: MissFile>(
-    side: &mut Side<F>,
+    cache: &mut CoreCache<F>,
     local: Local,
-    place: usize,
+    way: usize,
     message: &DataMessage,
     next: CopyState,
 )
-    requires { StandsAt side.old local place }
-    ensures { side.new ≡ after_change side.old local (filled_by (array_copy side.old local) (Some message.now) next) }
+    requires { StandsAt cache.old local way }
+    ensures { cache.new ≡ after_change cache.old local (filled_by (array_copy cache.old local) (Some message.now) next) }
 {
     match message {
-        DataMessage::Data { block, acks } => side.fill(local, place, block, *acks, next),
-        DataMessage::DataE(block) => side.fill(local, place, block, 0, next),
+        DataMessage::Data { block, acks } => cache.fill(local, way, block, *acks, next),
+        DataMessage::DataE(block) => cache.fill(local, way, block, 0, next),
     }
 }
 
 // The targets that the copy now allows are performed and logged, and wait no more. Returns whether a write is left, for
 // which the right to write has to be asked.
 fn settle_copy<F: MissFile>(
-    side: &mut Side<F>,
+    cache: &mut CoreCache<F>,
     log: &mut Vec<Entry>,
     pending: &mut usize,
     core: CoreId,
     local: Local,
-    place: usize,
+    way: usize,
     first: u64,
 ) -> bool
-    requires held { StandsAt side.old local place }
-    requires performable { All IsPerformable (targets_of side.old.misses local.0) }
-    requires room { length log.old.items + length (targets_of side.old.misses local.0) ≤ vec_capacity log.old }
-    requires pending { length (targets_of side.old.misses local.0) ≤ pending.old }
+    requires held { StandsAt cache.old local way }
+    requires performable { All IsPerformable (targets_of cache.old.misses local.0) }
+    requires room { length log.old.items + length (targets_of cache.old.misses local.0) ≤ vec_capacity log.old }
+    requires pending { length (targets_of cache.old.misses local.0) ≤ pending.old }
     requires first { first + 8 ≤ 2 ^ 64 }
-    ensures asks { result ≡ asks_to_write (array_copy side.old local).state (targets_of side.old.misses local.0) }
-    ensures taken { TakesTargets side.old.misses side.new.misses local.0
-        (performed_in (array_copy side.old local).state (targets_of side.old.misses local.0)) }
-    ensures sound { IsMissFile side.old.misses → IsMissFile side.new.misses }
-    ensures after { side.new ≡ after_settle side.old local (length log.old.items) side.new.misses }
-    ensures log { log.new.items ≡ log.old.items ++ entries_of core first (array_copy side.old local).block
-        (performed_in (array_copy side.old local).state (targets_of side.old.misses local.0)) }
+    ensures asks { result ≡ asks_to_write (array_copy cache.old local).state (targets_of cache.old.misses local.0) }
+    ensures taken { TakesTargets cache.old.misses cache.new.misses local.0
+        (performed_in (array_copy cache.old local).state (targets_of cache.old.misses local.0)) }
+    ensures sound { IsMissFile cache.old.misses → IsMissFile cache.new.misses }
+    ensures after { cache.new ≡ after_settle cache.old local (length log.old.items) cache.new.misses }
+    ensures log { log.new.items ≡ log.old.items ++ entries_of core first (array_copy cache.old local).block
+        (performed_in (array_copy cache.old local).state (targets_of cache.old.misses local.0)) }
     ensures room { vec_capacity log.new ≡ vec_capacity log.old }
     ensures pending { pending.new ≡ pending.old
-        - length (performed_in (array_copy side.old local).state (targets_of side.old.misses local.0)) }
+        - length (performed_in (array_copy cache.old local).state (targets_of cache.old.misses local.0)) }
 {
     let before = log.len();
-    let asks = side.settle(core, local, place, first, log);
+    let asks = cache.settle(core, local, way, first, log);
     *pending -= log.len() - before;
     asks
 }

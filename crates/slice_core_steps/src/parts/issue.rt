@@ -1,15 +1,15 @@
 ghost use Rattle.std.specs.Prelude.{◌≡◌, ◌+◌, ◌^◌, ◌<◌, ◌≤◌, length, true, false, None, OnOk, OnErr, IfErr};
 ghost use Rattle.mshr_file.specs.Miss.{has_miss, can_open, can_join, AddsTarget, IsMissFile};
-ghost use Rattle.slice_core_answer.specs.Stats.{after_hit as hit_counted, after_eviction, after_primary};
-ghost use Rattle.slice_core_answer.specs.Stats.{after_secondary};
-ghost use Rattle.slice_core_side.specs.Access.{CanReplace, CanStand, IsWithin};
+ghost use Rattle.slice_answer.specs.Stats.{after_hit as hit_counted, after_eviction, after_primary};
+ghost use Rattle.slice_answer.specs.Stats.{after_secondary};
+ghost use Rattle.slice_core_cache.specs.Access.{CanReplace, CanStand, IsWithin};
 ghost use Rattle.slice_core_plan.specs.Decision.{decision_of};
 ghost use Rattle.slice_core_plan.specs.Calls.{PartsView, AfterAccepting, AfterIssue, CanIssue, IsDecided, opened_ring};
 ghost use Rattle.slice_core_plan.specs.Calls.{opened_stats, target_for};
 ghost use Rattle.slice_core_plan.specs.Steps.{after_hit, after_join, after_open, after_opening, with_way};
-ghost use Rattle.slice_core_plan.specs.View.{View, channels_at, side_at, IsShaped};
+ghost use Rattle.slice_core_plan.specs.View.{View, channels_at, cache_at, IsShaped};
 ghost use Rattle.slice_core_plan.specs.Within.{StandsAt};
-ghost use Rattle.slice_core_side.specs.Steps.{victim_for};
+ghost use Rattle.slice_core_cache.specs.Steps.{victim_for};
 ghost use Rattle.slice_queues.specs.Line.{core_at};
 ghost use Rattle.slice_queues.specs.Ring.{with_listed};
 
@@ -17,10 +17,10 @@ use super::Parts;
 use address_map::{CoreId, Local, Request};
 use cache_table::CopyState;
 use mshr_file::MissFile;
-use slice_core_answer::{Issue, Refused};
-use slice_core_log::Entry;
+use slice_answer::{Issue, Refused};
+use slice_log::Entry;
 use slice_core_plan::{Decision, overwrites};
-use slice_core_side::{Access, Ask, TagState, Way};
+use slice_core_cache::{AccessKind, Ask, TagState, Placement};
 use slice_queues_message::{Channel, Message, RequestMessage};
 
 impl<F: MissFile> Parts<F> {
@@ -32,7 +32,7 @@ impl<F: MissFile> Parts<F> {
     {
         match self.decide(core, request) {
             Decision::Refuse(refused) => Err(refused),
-            Decision::Access(_, Access::Stall(stall)) => {
+            Decision::Access(_, AccessKind::Stall(stall)) => {
                 self.stats.count_stall(core, stall);
                 Ok(Issue::Stall(stall))
             }
@@ -45,7 +45,7 @@ impl<F: MissFile> Parts<F> {
 
     /// What is to be done with the request, in the order in which it is judged.
     pub fn decide(&self, core: CoreId, request: Request) -> Decision
-        requires { core.0 < length self.now.view.sides }
+        requires { core.0 < length self.now.view.caches }
         ensures decided { result ≡ decision_of self.now.view core request }
         ensures within { IsDecided self.now.view core request result }
     {
@@ -58,14 +58,14 @@ impl<F: MissFile> Parts<F> {
         if request.tag > 63 {
             return Decision::Refuse(Refused::TagRange);
         }
-        let side = &self.sides[core.0 as usize];
-        if !matches!(side.tag(request.tag), TagState::Free) {
+        let cache = &self.caches[core.0 as usize];
+        if !matches!(cache.tag(request.tag), TagState::Free) {
             return Decision::Refuse(Refused::TagBusy);
         }
         if overwrites(request.op) && self.counters.contains(&request.word) {
             return Decision::Refuse(Refused::CounterStore);
         }
-        Decision::Access(local, side.decide(local, request.tag, request.op))
+        Decision::Access(local, cache.decide(local, request.tag, request.op))
     }
 
     // Makes room in the log for all that waits and one entry more.
@@ -87,26 +87,26 @@ impl<F: MissFile> Parts<F> {
     }
 
     // Does what was decided of an access, for which the log has room.
-    fn accept(&mut self, core: CoreId, request: Request, local: Local, access: Access) -> Issue
+    fn accept(&mut self, core: CoreId, request: Request, local: Local, access: AccessKind) -> Issue
         requires can { CanIssue self.old core }
         requires line { local.0 < self.old.view.lines.lines }
         requires tag { request.tag < 64 }
-        requires within { IsWithin (side_at self.old.view core) local request.tag access }
+        requires within { IsWithin (cache_at self.old.view core) local request.tag access }
         requires room { length self.old.view.log + self.old.pending + 1 ≤ self.old.room }
         ensures done { AfterAccepting access self.old core request local result self.new }
         ensures room { self.new.room ≡ self.old.room }
     {
         match access {
-            Access::Hit {
-                place,
+            AccessKind::Hit {
+                way,
                 next,
                 silent,
-            } => Issue::Done(self.hit(core, request, local, place, next, silent)),
-            Access::Join => Issue::Pending(self.join(core, request, local)),
-            Access::Open { next, ask, way } => {
-                Issue::Pending(self.open(core, request, local, way, next, ask))
+            } => Issue::Done(self.hit(core, request, local, way, next, silent)),
+            AccessKind::SecondaryMiss => Issue::Pending(self.join(core, request, local)),
+            AccessKind::PrimaryMiss { next, ask, placement } => {
+                Issue::Pending(self.open(core, request, local, placement, next, ask))
             }
-            Access::Stall(stall) => Issue::Stall(stall),
+            AccessKind::Stall(stall) => Issue::Stall(stall),
         }
     }
 
@@ -116,14 +116,14 @@ impl<F: MissFile> Parts<F> {
         core: CoreId,
         request: Request,
         local: Local,
-        place: usize,
+        way: usize,
         next: CopyState,
         silent: bool,
     ) -> u64
-        requires core { core.0 < length self.old.view.sides }
-        requires stats { length self.old.stats.cores ≡ length self.old.view.sides }
-        requires stands { StandsAt (side_at self.old.view core) local place }
-        requires counted { (side_at self.old.view core).accepted + 1 < 2 ^ 64 }
+        requires core { core.0 < length self.old.view.caches }
+        requires stats { length self.old.stats.cores ≡ length self.old.view.caches }
+        requires stands { StandsAt (cache_at self.old.view core) local way }
+        requires counted { (cache_at self.old.view core).accepted + 1 < 2 ^ 64 }
         requires room { length self.old.view.log < self.old.room }
         ensures number { result ≡ length self.old.view.log }
         ensures after { self.new ≡ record self.old {
@@ -134,9 +134,9 @@ impl<F: MissFile> Parts<F> {
     {
         self.stats.count_hit(core, silent);
         let number = self.log.len() as u64;
-        let side = &mut self.sides[core.0 as usize];
-        let seq = side.accepted();
-        let reply = side.hit(local, place, request.word.offset(), request.op, next);
+        let cache = &mut self.caches[core.0 as usize];
+        let seq = cache.accepted();
+        let reply = cache.hit(local, way, request.word.offset(), request.op, next);
         self.log.push_reserved(Entry {
             op: request.op,
             word: request.word,
@@ -153,17 +153,17 @@ impl<F: MissFile> Parts<F> {
     fn join(&mut self, core: CoreId, request: Request, local: Local) -> u64
         requires can { CanIssue self.old core }
         requires tag { request.tag < 64 }
-        requires found { has_miss (side_at self.old.view core).misses local.0 ≡ true }
-        requires room { can_join (side_at self.old.view core).bound
-            (side_at self.old.view core).misses local.0 request.tag
+        requires found { has_miss (cache_at self.old.view core).misses local.0 ≡ true }
+        requires room { can_join (cache_at self.old.view core).bound
+            (cache_at self.old.view core).misses local.0 request.tag
             ≡ true }
-        ensures seq { result ≡ (side_at self.old.view core).accepted }
-        ensures added { AddsTarget (side_at self.old.view core).misses (side_at self.new.view core).misses local.0
+        ensures seq { result ≡ (cache_at self.old.view core).accepted }
+        ensures added { AddsTarget (cache_at self.old.view core).misses (cache_at self.new.view core).misses local.0
             (target_for self.old core request) }
-        ensures sound { IsMissFile (side_at self.new.view core).misses }
+        ensures sound { IsMissFile (cache_at self.new.view core).misses }
         ensures after { self.new
             ≡ record self.old {
-              view = after_join self.old.view core request (side_at self.new.view core).misses;
+              view = after_join self.old.view core request (cache_at self.new.view core).misses;
               stats = after_secondary self.old.stats core;
               pending = self.old.pending + 1;
             } }
@@ -171,8 +171,8 @@ impl<F: MissFile> Parts<F> {
         let since = self.log.len() as u64;
         self.pending += 1;
         self.stats.count_secondary(core);
-        let side = &mut self.sides[core.0 as usize];
-        side.join(local, request.word.offset(), request, since)
+        let cache = &mut self.caches[core.0 as usize];
+        cache.join(local, request.word.offset(), request, since)
     }
 
     // Opens a miss register for the access, once a victim has left where one has to. Returns its `seq`.
@@ -181,32 +181,32 @@ impl<F: MissFile> Parts<F> {
         core: CoreId,
         request: Request,
         local: Local,
-        way: Way,
+        placement: Placement,
         next: CopyState,
         ask: Ask,
     ) -> u64
         requires can { CanIssue self.old core }
         requires line { local.0 < self.old.view.lines.lines }
         requires tag { request.tag < 64 }
-        requires within { IsWithin (side_at self.old.view core) local request.tag (Access.Open next ask way) }
-        ensures seq { result ≡ (side_at self.old.view core).accepted }
-        ensures added { AddsTarget (side_at self.old.view core).misses (side_at self.new.view core).misses local.0
+        requires within { IsWithin (cache_at self.old.view core) local request.tag (AccessKind.PrimaryMiss next ask placement) }
+        ensures seq { result ≡ (cache_at self.old.view core).accepted }
+        ensures added { AddsTarget (cache_at self.old.view core).misses (cache_at self.new.view core).misses local.0
             (target_for self.old core request) }
-        ensures sound { IsMissFile (side_at self.new.view core).misses }
+        ensures sound { IsMissFile (cache_at self.new.view core).misses }
         ensures after { self.new
             ≡ record self.old {
               view =
-                  after_open self.old.view core request local way next ask (side_at self.new.view core).misses;
+                  after_open self.old.view core request local placement next ask (cache_at self.new.view core).misses;
               stats =
-                  opened_stats self.old.stats core way;
+                  opened_stats self.old.stats core placement;
               pending = self.old.pending + 1;
-              ring = opened_ring self.old core local way;
+              ring = opened_ring self.old core local placement;
             } }
     {
-        match way {
-            Way::Held => self.open_way(core, request, local, true, next, ask),
-            Way::Free => self.open_way(core, request, local, false, next, ask),
-            Way::Victim => {
+        match placement {
+            Placement::Held => self.open_way(core, request, local, true, next, ask),
+            Placement::Free => self.open_way(core, request, local, false, next, ask),
+            Placement::Victim => {
                 self.replace(core, local);
                 self.open_way(core, request, local, false, next, ask)
             }
@@ -217,19 +217,19 @@ impl<F: MissFile> Parts<F> {
     fn replace(&mut self, core: CoreId, local: Local)
         requires can { CanIssue self.old core }
         requires line { local.0 < self.old.view.lines.lines }
-        requires replaces { CanReplace (side_at self.old.view core) local }
+        requires replaces { CanReplace (cache_at self.old.view core) local }
         ensures after { self.new ≡ record self.old {
-          view = with_way self.old.view core local Way.Victim;
+          view = with_way self.old.view core local Placement.Victim;
           stats =
               after_eviction self.old.stats core;
-          ring = with_listed self.old.ring (victim_for (side_at self.old.view core) local).0;
+          ring = with_listed self.old.ring (victim_for (cache_at self.old.view core) local).0;
         } }
-        ensures stands { CanStand (side_at self.new.view core) local false }
+        ensures stands { CanStand (cache_at self.new.view core) local false }
         ensures idle { (core_at (channels_at self.new.view local) core.0).request ≡ None }
     {
         self.stats.count_eviction(core);
-        let side = &mut self.sides[core.0 as usize];
-        let (victim, put) = side.replace(local);
+        let cache = &mut self.caches[core.0 as usize];
+        let (victim, put) = cache.replace(local);
         let channel = Channel::Req(core);
         self.queues.send_at(victim, channel, Message::Request(put));
     }
@@ -245,26 +245,26 @@ impl<F: MissFile> Parts<F> {
         next: CopyState,
         ask: Ask,
     ) -> u64
-        requires core { core.0 < length self.old.view.sides }
+        requires core { core.0 < length self.old.view.caches }
         requires line { local.0 < self.old.view.lines.lines }
         requires shaped { IsShaped self.old.view }
-        requires stats { length self.old.stats.cores ≡ length self.old.view.sides }
+        requires stats { length self.old.stats.cores ≡ length self.old.view.caches }
         requires tag { request.tag < 64 }
-        requires free { has_miss (side_at self.old.view core).misses local.0 ≡ false }
-        requires room { can_open (side_at self.old.view core).bound (side_at self.old.view core).misses request.tag
+        requires free { has_miss (cache_at self.old.view core).misses local.0 ≡ false }
+        requires room { can_open (cache_at self.old.view core).bound (cache_at self.old.view core).misses request.tag
             ≡ true }
-        requires stands { CanStand (side_at self.old.view core) local held }
+        requires stands { CanStand (cache_at self.old.view core) local held }
         requires idle { (core_at (channels_at self.old.view local) core.0).request ≡ None }
-        requires counted { (side_at self.old.view core).accepted + 1 < 2 ^ 64 }
+        requires counted { (cache_at self.old.view core).accepted + 1 < 2 ^ 64 }
         requires pending { self.old.pending + 1 < 2 ^ 64 }
-        ensures seq { result ≡ (side_at self.old.view core).accepted }
-        ensures added { AddsTarget (side_at self.old.view core).misses (side_at self.new.view core).misses local.0
+        ensures seq { result ≡ (cache_at self.old.view core).accepted }
+        ensures added { AddsTarget (cache_at self.old.view core).misses (cache_at self.new.view core).misses local.0
             (target_for self.old core request) }
-        ensures sound { IsMissFile (side_at self.new.view core).misses }
+        ensures sound { IsMissFile (cache_at self.new.view core).misses }
         ensures after { self.new
             ≡ record self.old {
               view =
-                  after_opening self.old.view core request local held next ask (side_at self.new.view core).misses;
+                  after_opening self.old.view core request local held next ask (cache_at self.new.view core).misses;
               stats =
                   after_primary self.old.stats core;
               pending = self.old.pending + 1;
@@ -281,7 +281,7 @@ impl<F: MissFile> Parts<F> {
         let channel = Channel::Req(core);
         self.queues
             .send_at(local, channel, Message::Request(message));
-        let side = &mut self.sides[core.0 as usize];
-        side.open(local, held, next, request.word.offset(), request, since)
+        let cache = &mut self.caches[core.0 as usize];
+        cache.open(local, held, next, request.word.offset(), request, since)
     }
 }

@@ -1,8 +1,8 @@
 ghost use Rattle.std.specs.Prelude.{◌≡◌, ◌<◌, ◌≤◌, ◌↔◌, All, IfOk, IsTrue, length, map, slice_get};
 ghost use Rattle.address_map.specs.Locator.{line_at};
+ghost use Rattle.slice_core_cache.specs.CoreCache.{CoreCacheView, state_of, IsCoreCacheQuiet};
 ghost use Rattle.slice_core_plan.specs.Parts.{ring_lines};
 ghost use Rattle.slice_core_plan.specs.View.{View, channels_at, entry_at, word_now, IsOwned, IsQuiet, IsShaped};
-ghost use Rattle.slice_core_side.specs.Side.{SideView, state_of, IsSideQuiet};
 ghost use Rattle.slice_core_steps.specs.CoreLines.{core_lines, last_written_back, places_of};
 ghost use Rattle.slice_queues.specs.Line.{messages_at};
 ghost use Rattle.slice_queues.specs.Waiting.{line_waiting, lines_waiting, placed_by, HasEachOnce, HasEachPickOnce};
@@ -14,7 +14,7 @@ use address_map::{CoreId, LineAddr, Local, Locator, Offset};
 use arrayvec::ArrayVec;
 use cache_table::CopyState;
 use mshr_file::MissFile;
-use slice_core_side::Side;
+use slice_core_cache::CoreCache;
 use slice_queues::{LineWaiting, Picks};
 use slice_queues_message::{Channel, Message};
 use std::alloc::{AllocError, Global};
@@ -23,12 +23,12 @@ impl<F: MissFile> Parts<F> {
     /// What the slice has of a line.
     pub fn line_view(&self, local: Local) -> LineView
         requires line { local.0 < length self.now.view.entries }
-        requires cores { length self.now.view.sides ≤ 64 }
+        requires cores { length self.now.view.caches ≤ 64 }
         ensures dir { result.dir ≡ (entry_at self.now.view local).state }
         ensures owner { result.owner ≡ (entry_at self.now.view local).owner }
         ensures sharers { result.sharers ≡ (entry_at self.now.view local).sharers }
         ensures home { result.home ≡ (entry_at self.now.view local).home.words }
-        ensures copies { result.copies.items ≡ map (λ side. state_of side local) self.now.view.sides }
+        ensures copies { result.copies.items ≡ map (λ cache. state_of cache local) self.now.view.caches }
     {
         let entry = &self.entries[local.0];
         let block = entry.home;
@@ -38,7 +38,7 @@ impl<F: MissFile> Parts<F> {
             owner: entry.owner,
             sharers: entry.sharers.bits(),
             home,
-            copies: states_of(&self.sides, local),
+            copies: states_of(&self.caches, local),
         }
     }
 
@@ -49,7 +49,7 @@ impl<F: MissFile> Parts<F> {
         core: CoreId,
         which: CoreLines,
     ) -> Result<Vec<LineAddr>, AllocError>
-        requires core { core.0 < length self.now.view.sides }
+        requires core { core.0 < length self.now.view.caches }
         requires own { All (λ local. local.0 < self.now.view.lines.lines) (places_of self.now.view core which) }
         ensures { IfOk result (λ lines. lines.items ≡ core_lines self.now.view core which) }
     {
@@ -64,15 +64,15 @@ impl<F: MissFile> Parts<F> {
         core: CoreId,
         which: CoreLines,
     ) -> Result<Vec<Local>, AllocError>
-        requires { core.0 < length self.now.view.sides }
+        requires { core.0 < length self.now.view.caches }
         ensures { IfOk result (λ places. places.items ≡ places_of self.now.view core which) }
     {
-        let side = &self.sides[core.0 as usize];
+        let cache = &self.caches[core.0 as usize];
         match which {
-            CoreLines::Waiting => side.waited(alloc),
-            CoreLines::Leaving => side.leaving(alloc),
+            CoreLines::Waiting => cache.waited(alloc),
+            CoreLines::Leaving => cache.leaving(alloc),
             CoreLines::InSetOf(line) => match self.lines.local_of(line) {
-                Some(local) => side.in_set_of(alloc, local),
+                Some(local) => cache.in_set_of(alloc, local),
                 None => Ok(Vec::new(alloc)),
             },
         }
@@ -80,12 +80,12 @@ impl<F: MissFile> Parts<F> {
 
     /// The line that the core's write-back buffer took in last.
     pub fn last_written_back(&self, core: CoreId) -> Option<LineAddr>
-        requires core { core.0 < length self.now.view.sides }
+        requires core { core.0 < length self.now.view.caches }
         requires own { All (λ local. local.0 < self.now.view.lines.lines)
             (places_of self.now.view core CoreLines.Leaving) }
         ensures { result ≡ last_written_back self.now.view core }
     {
-        let local = self.sides[core.0 as usize].last_written_back()?;
+        let local = self.caches[core.0 as usize].last_written_back()?;
         Some(self.lines.line_at(local))
     }
 
@@ -132,7 +132,7 @@ impl<F: MissFile> Parts<F> {
     pub fn is_quiet(&self) -> bool
         ensures { IsTrue result ↔ IsQuiet self.now.view }
     {
-        self.queues.is_empty() && are_quiet(&self.sides)
+        self.queues.is_empty() && are_quiet(&self.caches)
     }
 
     /// The word at a place of a line of a quiet slice: the owner's copy has it where there is an owner, else the home
@@ -145,38 +145,38 @@ impl<F: MissFile> Parts<F> {
     {
         let entry = &self.entries[local.0];
         let block = match entry.owner {
-            Some(owner) => self.sides[owner.0 as usize].copy(local).block,
+            Some(owner) => self.caches[owner.0 as usize].copy(local).block,
             None => entry.home,
         };
         block.words[offset.0 as usize]
     }
 }
 
-fn states_of<F: MissFile>(sides: &[Side<F>], local: Local) -> ArrayVec<CopyState, 64>
-    requires { length sides.now ≤ 64 }
-    ensures { result.items ≡ map (λ side. state_of side local) sides.now }
+fn states_of<F: MissFile>(caches: &[CoreCache<F>], local: Local) -> ArrayVec<CopyState, 64>
+    requires { length caches.now ≤ 64 }
+    ensures { result.items ≡ map (λ cache. state_of cache local) caches.now }
 {
     let mut states = ArrayVec::new();
-    for side in sides {
-        states.push(side.copy(local).state);
+    for cache in caches {
+        states.push(cache.copy(local).state);
     }
     states
 }
 
-fn are_quiet<F: MissFile>(sides: &[Side<F>]) -> bool
-    ensures { IsTrue result ↔ All IsSideQuiet sides.now }
+fn are_quiet<F: MissFile>(caches: &[CoreCache<F>]) -> bool
+    ensures { IsTrue result ↔ All IsCoreCacheQuiet caches.now }
 {
-    sides.iter().all(|side| side.is_quiet())
+    caches.iter().all(|cache| cache.is_quiet())
 }
 
 // The lines at these places of the slice.
 fn lines_at(alloc: Global, own: Locator, places: &[Local]) -> Result<Vec<LineAddr>, AllocError>
-    requires { All (λ place. place.0 < own.lines) places.now }
+    requires { All (λ way. way.0 < own.lines) places.now }
     ensures { IfOk result (λ lines. lines.items ≡ map (line_at own) places.now) }
 {
     let mut lines = Vec::new(alloc);
-    for place in places {
-        lines.push(own.line_at(*place))?;
+    for way in places {
+        lines.push(own.line_at(*way))?;
     }
     Ok(lines)
 }

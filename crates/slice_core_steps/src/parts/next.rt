@@ -10,7 +10,7 @@ ghost use Rattle.slice_core_steps.specs.Found.{IsLocated, IsMade, IsOfSlice};
 use super::Parts;
 use address_map::{Local, Locator};
 use mshr_file::MissFile;
-use slice_core_answer::{DeliveredNext, Delivery};
+use slice_answer::{DeliveredNext, Delivery};
 use slice_queues::{Channel, Class, Pick};
 
 impl<F: MissFile> Parts<F> {

@@ -1,7 +1,7 @@
 ghost use Rattle.std.specs.Prelude.{◌≡◌, ◌<◌, length};
 ghost use Rattle.slice_core_plan.specs.Plan.{plan_of, planned_at, request_plan, home_plan, forwarded_plan, data_plan};
 ghost use Rattle.slice_core_plan.specs.Plan.{ack_plan};
-ghost use Rattle.slice_core_answer.specs.Delivery.{delivery_map};
+ghost use Rattle.slice_answer.specs.Delivery.{delivery_map};
 ghost use Rattle.slice_core_plan.specs.View.{View, IsShaped};
 ghost use Rattle.slice_core_plan.specs.declared.transition.Transition.TheVariants as transitions;
 ghost use Rattle.slice_core_steps.specs.Planned.{IsPlanned};
@@ -13,7 +13,7 @@ use address_map::{CoreId, Local};
 use cache_table::{CacheEvent, Row, cache_row};
 use directory_table::{DirEvent, DirRow, DirStep, dir_row};
 use mshr_file::MissFile;
-use slice_core_answer::{Cell, Delivery};
+use slice_answer::{Cell, Delivery};
 use slice_core_plan::{
     CopyStep, ForwardedStep, HomeStep, Plan, Transition, event_of_forwarded, event_of_request,
     is_put_ack, requester_of,
@@ -54,7 +54,7 @@ impl<F: MissFile> Parts<F> {
     #[inline(always)]
     pub(super) fn plan_request(&self, local: Local, core: CoreId) -> Delivery<DirStep>
         requires line { local.0 < self.now.view.lines.lines }
-        requires core { core.0 < length self.now.view.sides }
+        requires core { core.0 < length self.now.view.caches }
         requires shaped { IsShaped self.now.view }
         ensures planned { delivery_map transitions.Directory result ≡ request_plan self.now.view local core }
         ensures within { IsPlanned self.now.view local (channels.Req core)
@@ -102,7 +102,7 @@ impl<F: MissFile> Parts<F> {
     #[inline(always)]
     pub(super) fn plan_forwarded(&self, local: Local, core: CoreId) -> Delivery<ForwardedStep>
         requires line { local.0 < self.now.view.lines.lines }
-        requires core { core.0 < length self.now.view.sides }
+        requires core { core.0 < length self.now.view.caches }
         requires shaped { IsShaped self.now.view }
         ensures planned { delivery_map transitions.Forwarded result ≡ forwarded_plan self.now.view local core }
         ensures within { IsPlanned self.now.view local (channels.Fwd core)
@@ -114,7 +114,7 @@ impl<F: MissFile> Parts<F> {
         };
         let message = *message;
         let requester = requester_of(core, message);
-        let look = self.sides[core.0 as usize].look(local);
+        let look = self.caches[core.0 as usize].look(local);
         match cache_row(look.state, event_of_forwarded(message)) {
             Row::NoEntry => Delivery::Broken(Cell::Entry),
             Row::Blocked => Delivery::Blocked,
@@ -136,7 +136,7 @@ impl<F: MissFile> Parts<F> {
     #[inline(always)]
     pub(super) fn plan_data(&self, local: Local, core: CoreId) -> Delivery<CopyStep>
         requires line { local.0 < self.now.view.lines.lines }
-        requires core { core.0 < length self.now.view.sides }
+        requires core { core.0 < length self.now.view.caches }
         requires shaped { IsShaped self.now.view }
         ensures planned { delivery_map transitions.Fill result ≡ data_plan self.now.view local core }
         ensures within { IsPlanned self.now.view local (channels.Data core)
@@ -146,23 +146,23 @@ impl<F: MissFile> Parts<F> {
         let Some(message) = line.front_data(core) else {
             return Delivery::Nothing;
         };
-        let side = &self.sides[core.0 as usize];
-        let look = side.look(local);
+        let cache = &self.caches[core.0 as usize];
+        let look = cache.look(local);
         let event = match message {
             DataMessage::Data { acks, .. } => CacheEvent::Data {
                 n: *acks,
                 k: look.counted,
             },
             DataMessage::DataE(_) => CacheEvent::DataE {
-                all_loads: side.all_loads(local),
+                all_loads: cache.all_loads(local),
             },
         };
         match cache_row(look.state, event) {
             Row::NoEntry => Delivery::Broken(Cell::Entry),
             Row::Blocked => Delivery::Blocked,
             Row::Go(_, _) if line.front_request(core).is_some() => Delivery::Broken(Cell::Early),
-            Row::Go(next, _) => match look.place {
-                Some(place) => Delivery::Moved(CopyStep { place, next }),
+            Row::Go(next, _) => match look.way {
+                Some(way) => Delivery::Moved(CopyStep { way, next }),
                 None => Delivery::Broken(Cell::Entry),
             },
         }
@@ -172,8 +172,8 @@ impl<F: MissFile> Parts<F> {
     #[inline(always)]
     pub(super) fn plan_ack(&self, local: Local, to: CoreId, from: CoreId) -> Delivery<CopyStep>
         requires line { local.0 < self.now.view.lines.lines }
-        requires to { to.0 < length self.now.view.sides }
-        requires from { from.0 < length self.now.view.sides }
+        requires to { to.0 < length self.now.view.caches }
+        requires from { from.0 < length self.now.view.caches }
         requires shaped { IsShaped self.now.view }
         ensures planned { delivery_map transitions.Acknowledge result ≡ ack_plan self.now.view local to from }
         ensures within { IsPlanned self.now.view local (channels.Ack to from)
@@ -182,7 +182,7 @@ impl<F: MissFile> Parts<F> {
         if !self.queues.line(local).has_ack(to, from) {
             return Delivery::Nothing;
         }
-        let look = self.sides[to.0 as usize].look(local);
+        let look = self.caches[to.0 as usize].look(local);
         let event = CacheEvent::InvAck {
             n: look.wants,
             k: look.counted,
@@ -190,8 +190,8 @@ impl<F: MissFile> Parts<F> {
         match cache_row(look.state, event) {
             Row::NoEntry => Delivery::Broken(Cell::Entry),
             Row::Blocked => Delivery::Blocked,
-            Row::Go(next, _) => match look.place {
-                Some(place) => Delivery::Moved(CopyStep { place, next }),
+            Row::Go(next, _) => match look.way {
+                Some(way) => Delivery::Moved(CopyStep { way, next }),
                 None => Delivery::Broken(Cell::Entry),
             },
         }

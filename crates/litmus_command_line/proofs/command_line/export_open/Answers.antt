@@ -2,7 +2,7 @@ use Rattle.std.proofs.Common.{◌≡◌, ◌∙◌, ◌||◌, Some, false, rules
 use Rattle.std.proofs.lemmas.Result.{IfOk-weaker}
 use Rattle.clap.specs.declared.builder.command.Command.TheViews.{out-Command as fields_of}
 use Rattle.clap.specs.Words.{app_of, new_app, rule_of, with_rule}
-use Rattle.clap.specs.declared.builder.value_parser.ValueParser.TheVariants as parsers
+use Rattle.clap.specs.declared.builder.value_parser.ValueParser.TheVariants as value_parsers
 use Rattle.litmus_command_line.specs.CommandLine.{cores_rule, form_rule}
 use Rattle.litmus_command_line.proofs.command_line.export_open.Goals as goal
 
@@ -11,10 +11,10 @@ returns-clause-reads c =
     let forms = c.as_slice.result in
     let numbers = c.as_slice-2.result in
     let given = c.value_parser.ensures.given in
-    let parser : c.value_parser.result.value_parser ≡ Some (parsers.Names forms) = given.1 ∙ ap Some given.2 in
+    let parser : c.value_parser.result.value_parser ≡ Some (value_parsers.Names forms) = given.1 ∙ ap Some given.2 in
     let rule : rule_of c.value_parser.result ≡ form_rule forms = search rules in
     let given_2 = c.value_parser-2.ensures.given in
-    let parser_2 : c.value_parser-2.result.value_parser ≡ Some (parsers.Names numbers) =
+    let parser_2 : c.value_parser-2.result.value_parser ≡ Some (value_parsers.Names numbers) =
     given_2.1 ∙ ap Some given_2.2 in
     let rule_2 : rule_of c.value_parser-2.result ≡ cores_rule numbers = search rules in
     let named : app_of c.after_help.result ≡ new_app (codes "export") = search rules in

@@ -5,5 +5,6 @@ use Rattle.litmus_rounds.proofs.outcome.read_outcome.Goals as goal
 pub returns-then-not-branch-clause-none : goal.returns-then-not-branch-clause-none
 returns-then-not-branch-clause-none g c = λ is values outcome.
     c.in_ok-read_replies.ensures.none c.if-not-branch.true outcome.replies
-    (subst (λ sought. Match (HasReply c.args.recorded.now.slices) sought outcome.replies) (sym c.requires.sought)
+    (subst (λ named_request. Match (HasReply c.args.recorded.now.slices) named_request outcome.replies)
+    (sym c.requires.named_requests)
     outcome.named)

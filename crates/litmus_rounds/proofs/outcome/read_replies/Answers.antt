@@ -8,11 +8,12 @@ loop-request-init g c = rw c.requires tt
 pub loop-request-preserved : goal.loop-request-preserved
 loop-request-preserved g c =
     rw c.in_ok-push.ensures.items
-    (match_next (HasReply c.args.recorded.now.slices) c.args.sought.now c.loop-request.request-index _ _ c.in-Some.reply
+    (match_next (HasReply c.args.recorded.now.slices) c.args.named_requests.now c.loop-request.request-index _ _
+    c.in-Some.reply
     c.loop-request.invariant c.in-Some.ensures.reply c.loop-request-test.true)
 
 pub returns-in_default-clause-none : goal.returns-in_default-clause-none
 returns-in_default-clause-none g c = λ is values all.
-    let (value, has) = match_at (HasReply c.args.recorded.now.slices) c.args.sought.now values
+    let (value, has) = match_at (HasReply c.args.recorded.now.slices) c.args.named_requests.now values
     c.loop-request.request-index _ c.loop-request-test.true all in
     no_reply c.args.recorded.now.slices _ value c.in_default.ensures.none has

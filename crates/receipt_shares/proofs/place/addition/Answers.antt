@@ -1,6 +1,6 @@
 use Rattle.std.proofs.Common.{◌==◌, sym, ◌∙◌, ap, arith}
 use Rattle.std.proofs.lemmas.List.Quantifiers.{position-Some}
-use Rattle.slice_core_log.specs.Log.{added_by}
+use Rattle.slice_log.specs.Log.{added_by}
 use Rattle.receipt_shares.specs.Sums.{only}
 use Rattle.receipt_shares.proofs.Places.{adds_nothing, adds_nowhere, adds_there}
 use Rattle.receipt_shares.proofs.place.addition.Goals as goal

@@ -4,7 +4,7 @@ use Rattle.address_map.specs.declared.config.Config.{Config}
 use Rattle.litmus_script.proofs.PlayLemmas.{all_shown, up_to_shown}
 use Rattle.litmus_script.specs.Play.{PlaysAll, PlaysUpTo}
 use Rattle.litmus_script.specs.Script.{commands_of}
-use Rattle.script_waves.specs.Waves.{IsTick, IsWritten, Shown, Ticks, begun, next}
+use Rattle.script_waves.specs.Waves.{IsTick, IsWritten, Shown, Ticks, shown_first, next}
 use Rattle.script_waves.proofs.WavesLemmas.{played_from, stopped_from}
 use Rattle.script_waves.proofs.waves.waves.Goals as goal
 
@@ -19,7 +19,7 @@ returns-in-Ok-clause-waves g c =
       named = c.new-player.result.named.items;
       played = c.new-player.result.played;
     }
-    ≡ begun c.args.machine.slices.items = rw (new.machine, new.named, new.played) refl in
+    ≡ shown_first c.args.machine.slices.items = rw (new.machine, new.named, new.played) refl in
     let played = all_shown (λ p. record { slices = p.machine.slices.items; named = p.named.items; played = p.played })
     (λ p. p.machine.config ≡ config) _ (Ticks config)
     (λ old new line command before after same made. (
@@ -39,7 +39,7 @@ returns-in-Ok-clause-waves g c =
       end = end;
       ticks = c.play.new.out.items;
       played = subst (λ (text : List ℕ). PlaysAll (Ticks config) config (commands_of c.args.commands)
-          (begun c.args.machine.slices.items) end
+          (shown_first c.args.machine.slices.items) end
           (Some text) (Some c.play.new.out.items)) c.new-ticks.ensures.items
           (played_from config _ (commands_of c.args.commands) _ c.args.machine.slices.items _
           (Some c.play.new.out.items)
@@ -63,7 +63,7 @@ returns-clause-fault g c =
       named = c.new-player.result.named.items;
       played = c.new-player.result.played;
     }
-    ≡ begun c.args.machine.slices.items = rw (new.machine, new.named, new.played) refl in
+    ≡ shown_first c.args.machine.slices.items = rw (new.machine, new.named, new.played) refl in
     let stopped = up_to_shown (λ p. record {
       slices = p.machine.slices.items;
       named = p.named.items;
@@ -84,7 +84,7 @@ returns-clause-fault g c =
     inr (record {
       ticks = Some c.play.new.out.items;
       stopped = subst (λ (text : List ℕ). PlaysUpTo (Ticks config) config (commands_of c.args.commands)
-          (begun c.args.machine.slices.items)
+          (shown_first c.args.machine.slices.items)
           (Some text) (Some c.play.new.out.items) c.in-Err.fault) c.new-ticks.ensures.items
           (stopped_from config _ (commands_of c.args.commands) _ c.args.machine.slices.items _
           (Some c.play.new.out.items)

@@ -4,7 +4,7 @@ use Rattle.slice_queues.specs.Line.{LineChannels, after_send}
 use Rattle.slice_queues.specs.Slice.{at_local}
 use Rattle.slice_queues.proofs.LentLaws.{lent_again, read-lent}
 use Rattle.slice_queues_message.specs.declared.channel.Channel.TheVariants as channels
-use Rattle.slice_queues_message.specs.declared.message.DataMessage.TheVariants as replies
+use Rattle.slice_queues_message.specs.declared.message.DataMessage.TheVariants as data_messages
 use Rattle.slice_queues_message.specs.declared.message.Message.TheVariants as messages
 use Rattle.slice_core_plan.proofs.RoomLaws.{both_true, takes-there}
 use Rattle.slice_core_steps.proofs.send.send_from_core.Goals as goal
@@ -34,7 +34,7 @@ send_at-requires-in-InvAckToRequester-clause-room c =
 pub returns-in-DataToRequesterAndHome : goal.returns-in-DataToRequesterAndHome
 returns-in-DataToRequesterAndHome c =
     let line = at_local c.args.queues.now.channels c.args.local.0 in
-    let reply : c.data_reply-in-DataToRequesterAndHome.result ≡ replies.Data c.args.block.now 0 = search rules in
+    let reply : c.data_reply-in-DataToRequesterAndHome.result ≡ data_messages.Data c.args.block.now 0 = search rules in
     let home : LineChannels → LineChannels = λ l. after_send l channels.Home (messages.Home c.args.block.now) in
     rw c.in-DataToRequesterAndHome.is
     (c.send_at.ensures.after

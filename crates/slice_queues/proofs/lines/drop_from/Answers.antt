@@ -1,6 +1,6 @@
 use Rattle.std.proofs.Common.{◌≡◌, ◌∙◌, ◌<◌, ap, if◌then◌else◌, get_or, length, nat_lt, refl, sym}
 use Rattle.address_map.specs.CoreSet.{without}
-use Rattle.slice_queues.specs.Forwarded.{queued}
+use Rattle.slice_queues.specs.Forwarded.{queued_messages}
 use Rattle.slice_queues.specs.Line.{CoreChannels, has_forwarded}
 use Rattle.slice_queues.proofs.LineLaws.{core-there, core-read}
 use Rattle.slice_queues.proofs.MailLaws.{IsLine-taken_request, IsLine-taken_forwarded, IsLine-taken_data}
@@ -11,7 +11,7 @@ pub returns-in-Req-clause-marked : goal.returns-in-Req-clause-marked
 returns-in-Req-clause-marked c = λ line there is marked.
     let old : CoreChannels = record {
       request = c.queues.inside.request;
-      forwarded = queued c.queues.inside.forwarded;
+      forwarded = queued_messages c.queues.inside.forwarded;
       «data» = c.queues.inside.data_message;
       acks = c.queues.inside.acks;
     } in
@@ -24,7 +24,7 @@ pub returns-in-Fwd-clause-marked : goal.returns-in-Fwd-clause-marked
 returns-in-Fwd-clause-marked c = λ line there is marked.
     let old : CoreChannels = record {
       request = c.queues.inside.request;
-      forwarded = queued c.queues.inside.forwarded;
+      forwarded = queued_messages c.queues.inside.forwarded;
       «data» = c.queues.inside.data_message;
       acks = c.queues.inside.acks;
     } in
@@ -32,7 +32,8 @@ returns-in-Fwd-clause-marked c = λ line there is marked.
     let read : old ≡ get_or line.cores c.args.core.0 old =
     core-read line c.args.core.0 old within (is ∙ sym c.queues.view_is) in
     let marks : c.without_unless-mail.result
-    ≡ (if has_forwarded (record old { forwarded = queued c.pop.new.self }) then c.args.mail.now.forwarded else without
+    ≡ (if has_forwarded (record old { forwarded = queued_messages c.pop.new.self }) then c.args.mail.now.forwarded else
+    without
     c.args.mail.now.forwarded c.args.core.0) =
     c.without_unless-mail.ensures
     ∙ ap (λ waits. if waits then c.args.mail.now.forwarded else without c.args.mail.now.forwarded c.args.core.0)
@@ -44,7 +45,7 @@ pub returns-in-Data-clause-marked : goal.returns-in-Data-clause-marked
 returns-in-Data-clause-marked c = λ line there is marked.
     let old : CoreChannels = record {
       request = c.queues.inside.request;
-      forwarded = queued c.queues.inside.forwarded;
+      forwarded = queued_messages c.queues.inside.forwarded;
       «data» = c.queues.inside.data_message;
       acks = c.queues.inside.acks;
     } in
@@ -57,7 +58,7 @@ pub returns-in-Ack-clause-marked : goal.returns-in-Ack-clause-marked
 returns-in-Ack-clause-marked c = λ line there is marked.
     let old : CoreChannels = record {
       request = c.queues.inside.request;
-      forwarded = queued c.queues.inside.forwarded;
+      forwarded = queued_messages c.queues.inside.forwarded;
       «data» = c.queues.inside.data_message;
       acks = c.queues.inside.acks;
     } in

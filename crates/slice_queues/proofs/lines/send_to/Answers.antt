@@ -1,5 +1,5 @@
 use Rattle.std.proofs.Common.{◌≡◌, ◌∙◌, ◌<◌, ap, get_or, length, refl, sym}
-use Rattle.slice_queues.specs.Forwarded.{queued}
+use Rattle.slice_queues.specs.Forwarded.{queued_messages}
 use Rattle.slice_queues.specs.Line.{CoreChannels}
 use Rattle.slice_queues.proofs.LineLaws.{core-there, core-read}
 use Rattle.slice_queues.proofs.MailLaws.{IsLine-sent_request, IsLine-sent_forwarded, IsLine-sent_data, IsLine-sent_ack}
@@ -9,7 +9,7 @@ pub returns-in-Req-Request-clause-marked : goal.returns-in-Req-Request-clause-ma
 returns-in-Req-Request-clause-marked c = λ line there is marked.
     let old : CoreChannels = record {
       request = c.queues.inside.request;
-      forwarded = queued c.queues.inside.forwarded;
+      forwarded = queued_messages c.queues.inside.forwarded;
       «data» = c.queues.inside.data_message;
       acks = c.queues.inside.acks;
     } in
@@ -23,7 +23,7 @@ pub returns-in-Fwd-Forwarded-clause-marked : goal.returns-in-Fwd-Forwarded-claus
 returns-in-Fwd-Forwarded-clause-marked c = λ line there is marked.
     let old : CoreChannels = record {
       request = c.queues.inside.request;
-      forwarded = queued c.queues.inside.forwarded;
+      forwarded = queued_messages c.queues.inside.forwarded;
       «data» = c.queues.inside.data_message;
       acks = c.queues.inside.acks;
     } in
@@ -37,7 +37,7 @@ pub returns-in-Data-Data-clause-marked : goal.returns-in-Data-Data-clause-marked
 returns-in-Data-Data-clause-marked c = λ line there is marked.
     let old : CoreChannels = record {
       request = c.queues.inside.request;
-      forwarded = queued c.queues.inside.forwarded;
+      forwarded = queued_messages c.queues.inside.forwarded;
       «data» = c.queues.inside.data_message;
       acks = c.queues.inside.acks;
     } in
@@ -51,7 +51,7 @@ pub returns-in-Ack-InvAck-clause-marked : goal.returns-in-Ack-InvAck-clause-mark
 returns-in-Ack-InvAck-clause-marked c = λ line there is marked.
     let old : CoreChannels = record {
       request = c.queues.inside.request;
-      forwarded = queued c.queues.inside.forwarded;
+      forwarded = queued_messages c.queues.inside.forwarded;
       «data» = c.queues.inside.data_message;
       acks = c.queues.inside.acks;
     } in

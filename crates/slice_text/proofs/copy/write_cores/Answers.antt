@@ -10,7 +10,7 @@ loop-core-preserved g c = λ new rest.
     c.loop-core.invariant new
     (next_number g.W.Write.write_str_gives (λ core. text_of_core c.args.state.now.view
     c.args.line (record { 0 = core }))
-    (length c.args.state.now.view.sides) c.loop-core.core (omega (arith, below, count)) _ _ new
+    (length c.args.state.now.view.caches) c.loop-core.core (omega (arith, below, count)) _ _ new
     c.in_ok-write_core.ensures rest)
 
 pub returns : goal.returns
@@ -20,4 +20,4 @@ returns g c =
     c.loop-core.invariant _
     (last_number g.W.Write.write_str_gives (λ core. text_of_core c.args.state.now.view
     c.args.line (record { 0 = core }))
-    (length c.args.state.now.view.sides) c.loop-core.core (omega (arith, end, count)) _)
+    (length c.args.state.now.view.caches) c.loop-core.core (omega (arith, end, count)) _)

@@ -11,6 +11,6 @@ invariant-loop-core g l =
     let took = g.W.Write.write_str_gives in
     (new : g.row.W.Denot)
     → WritesInCalls took l.out (flat_map (λ core. text_of_core l.state.view l.line (record { 0 = core }))
-    (drop l.core (range_with_len 0 (length l.state.view.sides)))) new
+    (drop l.core (range_with_len 0 (length l.state.view.caches)))) new
     → WritesInCalls took l.fn.out (flat_map (λ core. text_of_core l.state.view l.line (record { 0 = core }))
-    (range_with_len 0 (length l.state.view.sides))) new
+    (range_with_len 0 (length l.state.view.caches))) new

@@ -1,5 +1,5 @@
 use Rattle.std.proofs.Common.{take, []}
-use Rattle.slice_core_log.specs.Log.{initially}
+use Rattle.slice_log.specs.Log.{initially}
 use Rattle.trace_check.specs.Judge.{Knows}
 use Rattle.trace_check.proofs.judge.judge_log.Given as goal
 

@@ -11,13 +11,13 @@ returns g c =
       (
         refl,
         λ value.
-            left_there inside c.args.self.now c.args.line c.args.place slot value c.self.view_is c.requires
+            left_there inside c.args.self.now c.args.line c.args.way slot value c.self.view_is c.requires
             c.index_mut-slot.ensures.value,
       ),
       record {
         lends = record {};
         value =
-            value_there inside c.args.self.now c.args.line c.args.place slot c.self.view_is c.requires
+            value_there inside c.args.self.now c.args.line c.args.way slot c.self.view_is c.requires
             c.index_mut-slot.ensures.value;
       },
     )

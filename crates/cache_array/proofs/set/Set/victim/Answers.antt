@@ -11,7 +11,7 @@ pub index-requires : goal.index-requires
 index-requires g c =
     let allowed = subst (λ flags. IsAllowed flags c.choose.result) c.deref-2.ensures.0 c.choose.ensures.allowed in
     let within =
-    choice_within _ c.deref.result.now c.flags_of-flags.result.items c.choose.result c.in-Some.place
+    choice_within _ c.deref.result.now c.flags_of-flags.result.items c.choose.result c.in-Some.way
     c.flags_of-flags.ensures allowed c.in-Some.is in
     omega (arith, within, ap length c.deref.ensures.value, c.self.inside.slots.ok.0)
 
@@ -24,10 +24,10 @@ returns g c =
     let asked =
     asked_as _ says (λ x y e. record { shown = e.shown; shows = e.shows; says = record { met = e.says.met } })
     c.deref.result.now c.flags_of-flags.result.items c.flags_of-flags.ensures in
-    let within : c.in-Some.place < length c.self.inside.slots.items =
+    let within : c.in-Some.way < length c.self.inside.slots.items =
     omega (
       arith,
-      choice_within _ c.deref.result.now c.flags_of-flags.result.items c.choose.result c.in-Some.place
+      choice_within _ c.deref.result.now c.flags_of-flags.result.items c.choose.result c.in-Some.way
           c.flags_of-flags.ensures
           (subst (λ fs. IsAllowed fs c.choose.result) c.deref-2.ensures.0 c.choose.ensures.allowed)
           c.in-Some.is,
@@ -40,7 +40,7 @@ returns g c =
       subst (λ chosen.
           IfSome chosen (IsPreferred (g.P.Policy.moves c.args.policy.now) (g.P.Policy.prefers c.args.policy.now) flags))
           choice c.choose.ensures.preferred,
-      line_at c.self.inside.slots.items c.args.self.now.slots _ c.in-Some.place c.index.result.now slots within
+      line_at c.self.inside.slots.items c.args.self.now.slots _ c.in-Some.way c.index.result.now slots within
           (sym choice ∙ c.in-Some.is) c.index.ensures,
     )
 

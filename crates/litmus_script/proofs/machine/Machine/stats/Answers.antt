@@ -1,7 +1,7 @@
 use Rattle.std.proofs.Common.{◌≡◌, ◌≤◌, ◌∙◌, ap, length, arith}
 use Rattle.std.proofs.lemmas.List.{length-map, take_all}
 use Rattle.std.specs.Borrow.{Bor}
-use Rattle.slice_core_answer.specs.Stats.{StatsView}
+use Rattle.slice_answer.specs.Stats.{StatsView}
 use Rattle.stats_report.specs.Report.{views_of}
 use Rattle.litmus_script.specs.Machine.{counts_in}
 use Rattle.litmus_script.proofs.MachineLemmas.{are_alike}

@@ -8,7 +8,7 @@ use Rattle.receipt_ledger.specs.Booked.{IsTied}
 use Rattle.receipt_ledger.specs.History.{request_of}
 use Rattle.receipt_ledger.specs.Port.{IsEntryOf, PortView, with_receipt, with_request}
 use Rattle.receipt_ledger.specs.declared.receipt.Receipt.{Receipt}
-use Rattle.slice_core_log.specs.declared.entry.Entry.{Entry}
+use Rattle.slice_log.specs.declared.entry.Entry.{Entry}
 use Rattle.receipt_ledger.proofs.book.Book.ask.Given.{Over}
 use Rattle.receipt_ledger.proofs.book.Book.ask.Goals as goal
 

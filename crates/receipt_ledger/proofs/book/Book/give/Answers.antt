@@ -1,7 +1,7 @@
 use Rattle.std.proofs.Common.{◌≡◌, List, Some, subst, sym}
 use Rattle.std.specs.Prelude.{slice_get}
 use Rattle.receipt_ledger.specs.Port.{IsEntryOf}
-use Rattle.slice_core_log.specs.declared.entry.Entry.{Entry}
+use Rattle.slice_log.specs.declared.entry.Entry.{Entry}
 use Rattle.receipt_ledger.proofs.book.Book.give.Goals as goal
 
 pub receive-requires-clause-own : goal.receive-requires-clause-own

@@ -2,7 +2,7 @@ use Rattle.std.proofs.Common.{◌≡◌, List, Some, subst, sym}
 use Rattle.std.specs.Prelude.{slice_get}
 use Rattle.receipt_ledger.specs.History.{request_of}
 use Rattle.receipt_ledger.specs.Port.{IsEntryOf}
-use Rattle.slice_core_log.specs.declared.entry.Entry.{Entry}
+use Rattle.slice_log.specs.declared.entry.Entry.{Entry}
 use Rattle.receipt_ledger.proofs.book.Book.give_done.Goals as goal
 
 pub perform-requires-clause-own : goal.perform-requires-clause-own

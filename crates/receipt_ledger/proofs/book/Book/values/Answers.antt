@@ -4,7 +4,7 @@ use Rattle.address_map.specs.Locator.{local_at}
 use Rattle.address_map.specs.Place.{line_of}
 use Rattle.address_map.specs.declared.address.WordAddr.{WordAddr}
 use Rattle.receipt_ledger.proofs.Settled.{counter-line-at, shown-value}
-use Rattle.slice_core_log.specs.Log.{initially, value}
+use Rattle.slice_log.specs.Log.{initially, value}
 use Rattle.receipt_ledger.proofs.book.Book.values.Goals as goal
 
 pub word_now-requires-clause-here : goal.word_now-requires-clause-here

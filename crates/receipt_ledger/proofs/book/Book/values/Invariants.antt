@@ -1,6 +1,6 @@
 use Rattle.std.specs.Prelude.{◌≡◌, ◌≤◌, length, map, take}
 use Rattle.address_map.specs.Place.{counters_of}
-use Rattle.slice_core_log.specs.Log.{initially, value}
+use Rattle.slice_log.specs.Log.{initially, value}
 use Rattle.receipt_ledger.proofs.book.Book.values.Given as goal
 
 abbrev pub invariant-loop-word : goal.invariant-loop-word

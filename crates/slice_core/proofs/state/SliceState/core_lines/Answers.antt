@@ -6,7 +6,7 @@ use Rattle.slice_core_plan.specs.Parts.{PartsView}
 
 pub core_lines-requires-own : goal.core_lines-requires-own
 core_lines-requires-own g c =
-    let cores = ap (λ (p : PartsView). length p.view.sides) c.self.view_is in
+    let cores = ap (λ (p : PartsView). length p.view.caches) c.self.view_is in
     let called = c.requires in
-    let known : c.args.core.0 < length c.self.inside.parts.view.sides = omega (arith, cores, called) in
+    let known : c.args.core.0 < length c.self.inside.parts.view.caches = omega (arith, cores, called) in
     own_places c.self.inside.parts c.self.invariant c.args.core known c.args.which

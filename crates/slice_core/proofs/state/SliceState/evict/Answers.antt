@@ -11,9 +11,9 @@ use Rattle.slice_core_machine.proofs.Evicted.{evict_leads}
 use Rattle.slice_core_machine.specs.Shows.{Leads}
 
 -- the core is one of the slice's
-known : (g : Over) (c : goal.After-evict g) → c.args.core.0 < length c.self.inside.parts.view.sides
+known : (g : Over) (c : goal.After-evict g) → c.args.core.0 < length c.self.inside.parts.view.caches
 known g c =
-    let cores = ap (λ (p : PartsView). length p.view.sides) c.self.view_is in
+    let cores = ap (λ (p : PartsView). length p.view.caches) c.self.view_is in
     let called = c.requires in
     omega (arith, cores, called)
 

@@ -14,9 +14,9 @@ use Rattle.slice_core.proofs.Victim.{leaves_victim}
 use Rattle.slice_core_machine.specs.Shows.{Leads, issue_steps, next_of}
 
 -- the core is one of the slice's
-known : (g : Over) (c : goal.After-issue g) → c.args.core.0 < length c.self.inside.parts.view.sides
+known : (g : Over) (c : goal.After-issue g) → c.args.core.0 < length c.self.inside.parts.view.caches
 known g c =
-    let cores = ap (λ (p : PartsView). length p.view.sides) c.self.view_is in
+    let cores = ap (λ (p : PartsView). length p.view.caches) c.self.view_is in
     let called = c.requires in
     omega (arith, cores, called)
 

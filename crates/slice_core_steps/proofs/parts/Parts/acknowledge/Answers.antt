@@ -1,13 +1,13 @@
 use Rattle.std.proofs.Common.{◌≡◌, ◌∙◌, false, ap, sym, subst, refl, rules, length}
 use Rattle.std.proofs.Math.ListN.{set}
 use Rattle.mshr_file.specs.Miss.{targets_of}
-use Rattle.slice_core_plan.specs.View.{channels_at, side_at}
-use Rattle.slice_core_side.specs.Perform.{asks_to_write}
-use Rattle.slice_core_side.specs.Side.{SideView, array_copy}
-use Rattle.slice_core_side.specs.Steps.{acknowledged, after_change, after_settle}
+use Rattle.slice_core_cache.specs.Perform.{asks_to_write}
+use Rattle.slice_core_cache.specs.CoreCache.{CoreCacheView, array_copy}
+use Rattle.slice_core_cache.specs.Steps.{copy_after_ack, after_change, after_settle}
+use Rattle.slice_core_plan.specs.View.{channels_at, cache_at}
 use Rattle.slice_core_steps.proofs.ChangedLaws.{changed_copy, changed_stands}
 use Rattle.slice_core_steps.proofs.SettledLaws.{asks-unshared, settles}
-use Rattle.slice_core_steps.proofs.StandsLaws.{read_side}
+use Rattle.slice_core_steps.proofs.StandsLaws.{read_cache}
 use Rattle.slice_core_steps.proofs.parts.Parts.acknowledge.Goals as goal
 use Rattle.slice_queues.specs.Line.{LineChannels, after_take}
 use Rattle.slice_queues.specs.Ring.{with_listed}
@@ -15,31 +15,32 @@ use Rattle.slice_queues_message.specs.declared.channel.Channel.TheVariants as ch
 
 pub settle_copy-requires-clause-held : goal.settle_copy-requires-clause-held
 settle_copy-requires-clause-held g c =
-    let side : c.index_mut-side.result.now ≡ side_at c.args.self.now.view c.args.to =
-    read_side _ _ _ _ c.index_mut-side.ensures.value (ap (λ p. p.view.sides) c.self.view_is) c.requires.to in
-    rw (c.acknowledge.ensures, side)
-    (changed_stands (side_at c.args.self.now.view c.args.to) c.args.local c.args.place _ c.requires.stands)
+    let cache : c.index_mut-cache.result.now ≡ cache_at c.args.self.now.view c.args.to =
+    read_cache _ _ _ _ c.index_mut-cache.ensures.value (ap (λ p. p.view.caches) c.self.view_is) c.requires.to in
+    rw (c.acknowledge.ensures, cache)
+    (changed_stands (cache_at c.args.self.now.view c.args.to) c.args.local c.args.way _ c.requires.stands)
 
 pub returns : goal.returns
 returns g c =
     let v = c.args.self.now.view in
     let local = c.args.local in
     let core = c.args.to in
-    let old = side_at v core in
-    let side : c.index_mut-side.result.now ≡ side_at v core =
-    read_side _ _ _ _ c.index_mut-side.ensures.value (ap (λ p. p.view.sides) c.self.view_is) c.requires.to in
-    let copy = acknowledged (array_copy old local) c.args.next in
+    let old = cache_at v core in
+    let cache : c.index_mut-cache.result.now ≡ cache_at v core =
+    read_cache _ _ _ _ c.index_mut-cache.ensures.value (ap (λ p. p.view.caches) c.self.view_is) c.requires.to in
+    let copy = copy_after_ack (array_copy old local) c.args.next in
     let is : c.acknowledge.new.self ≡ after_change old local copy = subst
-    (λ (s : SideView). c.acknowledge.new.self ≡ after_change s local (acknowledged (array_copy s local) c.args.next))
-    side c.acknowledge.ensures in
+    (λ (s : CoreCacheView). c.acknowledge.new.self
+    ≡ after_change s local (copy_after_ack (array_copy s local) c.args.next))
+    cache c.acknowledge.ensures in
     let here : array_copy c.acknowledge.new.self local ≡ copy =
-    ap (λ (s : SideView). array_copy s local) is ∙ changed_copy old local c.args.place copy c.requires.stands in
+    ap (λ (s : CoreCacheView). array_copy s local) is ∙ changed_copy old local c.args.place copy c.requires.stands in
     let none : asks_to_write (array_copy c.acknowledge.new.self local).state
     (targets_of c.acknowledge.new.self.misses local.0) ≡ false =
     ap (λ k. asks_to_write k.state (targets_of c.acknowledge.new.self.misses local.0)) here
     ∙ asks-unshared c.args.next (targets_of c.acknowledge.new.self.misses local.0) c.requires.waits in
-    let after : c.settle_copy.new.side
-    ≡ after_settle c.acknowledge.new.self local (length v.log) c.settle_copy.new.side.misses =
+    let after : c.settle_copy.new.cache
+    ≡ after_settle c.acknowledge.new.self local (length v.log) c.settle_copy.new.cache.misses =
     search rules in
     let take : LineChannels → LineChannels = λ line. after_take line (channels.Ack core c.args.from) in
     let lines : c.drop_at.new.self.channels.lines ≡ set v.channels local.0 (take (channels_at v local)) =
@@ -48,7 +49,7 @@ returns g c =
     let ring : c.drop_at.new.self.ring ≡ with_listed c.args.self.now.ring local.0 =
     ap (λ k. k.ring) c.drop_at.ensures ∙ ap (λ p. with_listed p.ring local.0) c.self.view_is in
     settles c.args.self.now _ local core
-    (channels.Ack core c.args.from) c.args.place _ c.acknowledge.new.self c.settle_copy.new.side
+    (channels.Ack core c.args.from) c.args.place _ c.acknowledge.new.self c.settle_copy.new.cache
     false (after_take (channels_at v local) (channels.Ack core c.args.from)) c.settle_copy.new.log.items
     c.count_message.new.self
     c.settle_copy.new.pending c.requires.stands is (sym none)

@@ -7,7 +7,7 @@ use Rattle.slice_core_steps.proofs.NextLaws.{IsNextSoFar, line-there, ring-begin
 use Rattle.slice_core_steps.proofs.TurnLaws.{turn-begins, turn-looked, turn-more, turn-moves}
 use Rattle.slice_core_steps.proofs.parts.Parts.deliver_first.Goals as goal
 use Rattle.slice_core_steps.specs.Found.{IsMade}
-use Rattle.slice_core_answer.specs.declared.answer.Delivery.TheVariants as deliveries
+use Rattle.slice_answer.specs.declared.answer.Delivery.TheVariants as deliveries
 
 pub loop-index-init : goal.loop-index-init
 loop-index-init g c =

@@ -1,8 +1,8 @@
 use Rattle.std.proofs.Common.{◌≡◌, ◌∙◌, ap, arith, length, subst, sym}
 use Rattle.slice_core_plan.proofs.TurnLaws.{comes-nearer, extends-done, longer, looked-within}
-use Rattle.slice_core_answer.specs.declared.answer.Delivery.{Delivery}
+use Rattle.slice_answer.specs.declared.answer.Delivery.{Delivery}
 use Rattle.slice_core_plan.specs.Calls.{PartsView, IsNextPick}
-use Rattle.slice_core_plan.specs.Ring.{pick_of, turned}
+use Rattle.slice_core_plan.specs.Ring.{pick_of, ring_after_turn}
 use Rattle.slice_core_steps.proofs.MadeLaws.{made-done}
 use Rattle.slice_core_steps.proofs.NextAnswers.{found-pick, of-slice}
 use Rattle.slice_core_steps.proofs.NextLaws.{mover-stands}
@@ -50,10 +50,10 @@ returns-clause-step g c =
       made = made;
       turns =
           rw (c.rotate.ensures.ring, c.rotate.ensures.channels)
-          (ap (λ (p : PartsView). record p { ring = turned p.view c.deliver_first-next.result.1 p.ring })
+          (ap (λ (p : PartsView). record p { ring = ring_after_turn p.view c.deliver_first-next.result.1 p.ring })
           c.self-2.view_is)
           ∙ ap (λ n. record c.deliver_first-next.new.self {
-            ring = turned c.deliver_first-next.new.self.view n c.deliver_first-next.new.self.ring;
+            ring = ring_after_turn c.deliver_first-next.new.self.view n c.deliver_first-next.new.self.ring;
           }) c.deliver_first-next.ensures.looked;
     }
 

@@ -1,13 +1,13 @@
 use Rattle.std.proofs.Common.{◌≡◌, ◌<◌, ◌∙◌, ap, subst, refl, rules, length, Option, Some}
 use Rattle.std.proofs.Math.ListN.{set}
+use Rattle.slice_core_cache.specs.CoreCache.{CoreCacheView, array_copy}
+use Rattle.slice_core_cache.specs.Steps.{after_change, after_settle}
 use Rattle.slice_core_plan.specs.Calls.{filled_by}
 use Rattle.slice_core_plan.specs.Steps.{asked_by}
-use Rattle.slice_core_plan.specs.View.{channels_at, side_at}
-use Rattle.slice_core_side.specs.Side.{SideView, array_copy}
-use Rattle.slice_core_side.specs.Steps.{after_change, after_settle}
+use Rattle.slice_core_plan.specs.View.{channels_at, cache_at}
 use Rattle.slice_core_steps.proofs.ChangedLaws.{changed_stands}
 use Rattle.slice_core_steps.proofs.SettledLaws.{settles}
-use Rattle.slice_core_steps.proofs.StandsLaws.{read_side}
+use Rattle.slice_core_steps.proofs.StandsLaws.{read_cache}
 use Rattle.slice_core_steps.proofs.parts.Parts.fill.Goals as goal
 use Rattle.slice_queues.proofs.LentLaws.{lent_again}
 use Rattle.slice_queues.specs.Line.{LineChannels, after_take, core_at}
@@ -17,18 +17,18 @@ use Rattle.slice_queues_message.specs.declared.message.DataMessage.{DataMessage}
 
 pub settle_copy-asks-requires-clause-held : goal.settle_copy-asks-requires-clause-held
 settle_copy-asks-requires-clause-held g c =
-    let side : c.index_mut-side.result.now ≡ side_at c.args.self.now.view c.args.core =
-    read_side _ _ _ _ c.index_mut-side.ensures.value (ap (λ p. p.view.sides) c.self.view_is) c.requires.core in
-    rw (c.fill_copy.ensures, side)
-    (changed_stands (side_at c.args.self.now.view c.args.core) c.args.local c.args.place _ c.requires.stands)
+    let cache : c.index_mut-cache.result.now ≡ cache_at c.args.self.now.view c.args.core =
+    read_cache _ _ _ _ c.index_mut-cache.ensures.value (ap (λ p. p.view.caches) c.self.view_is) c.requires.core in
+    rw (c.fill_copy.ensures, cache)
+    (changed_stands (cache_at c.args.self.now.view c.args.core) c.args.local c.args.way _ c.requires.stands)
 
 pub returns : goal.returns
 returns g c =
     let v = c.args.self.now.view in
     let local = c.args.local in
     let core = c.args.core in
-    let side : c.index_mut-side.result.now ≡ side_at v core =
-    read_side _ _ _ _ c.index_mut-side.ensures.value (ap (λ p. p.view.sides) c.self.view_is) c.requires.core in
+    let cache : c.index_mut-cache.result.now ≡ cache_at v core =
+    read_cache _ _ _ _ c.index_mut-cache.ensures.value (ap (λ p. p.view.caches) c.self.view_is) c.requires.core in
     let q = c.self.inside.queues in
     let there : local.0 < length q.channels.lines = search rules in
     let asked : LineChannels → LineChannels = λ line.
@@ -43,19 +43,19 @@ returns g c =
     ap (λ k. k.ring) queues ∙ ap (λ p. with_listed p.ring local.0) c.self.view_is in
     let message : Some c.in-Some.message.now ≡ (core_at (channels_at v local) core.0).data = search rules in
     let is = subst
-    (λ (s : SideView). c.fill_copy.new.side
+    (λ (s : CoreCacheView). c.fill_copy.new.cache
     ≡ after_change s local (filled_by (array_copy s local) (Some c.in-Some.message.now) c.args.next))
-    side c.fill_copy.ensures in
+    cache c.fill_copy.ensures in
     let copy : Option DataMessage →
-    SideView = λ d. after_change (side_at v core) local
-    (filled_by (array_copy (side_at v core) local) d c.args.next) in
+    CoreCacheView = λ d. after_change (cache_at v core) local
+    (filled_by (array_copy (cache_at v core) local) d c.args.next) in
     let number = ap (λ p. length p.view.log) c.self.view_is in
-    let after : c.settle_copy-asks.new.side
-    ≡ after_settle c.fill_copy.new.side local (length v.log) c.settle_copy-asks.new.side.misses =
+    let after : c.settle_copy-asks.new.cache
+    ≡ after_settle c.fill_copy.new.cache local (length v.log) c.settle_copy-asks.new.cache.misses =
     search rules in
     let logged = c.settle_copy-asks.ensures.log in
     settles c.args.self.now _ local core
-    (channels.Data core) c.args.place _ c.fill_copy.new.side c.settle_copy-asks.new.side
+    (channels.Data core) c.args.place _ c.fill_copy.new.cache c.settle_copy-asks.new.cache
     c.settle_copy-asks.result (asked (channels_at v local)) c.settle_copy-asks.new.log.items c.count_message.new.self
     c.settle_copy-asks.new.pending c.requires.stands (is ∙ ap copy message) c.settle_copy-asks.ensures.asks
     c.settle_copy-asks.ensures.taken c.settle_copy-asks.ensures.sound after

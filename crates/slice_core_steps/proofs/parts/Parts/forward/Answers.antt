@@ -2,8 +2,8 @@ use Rattle.std.proofs.Common.{◌≡◌, ◌<◌, ◌∙◌, ap, length, rules}
 use Rattle.std.proofs.Math.ListN.{set}
 use Rattle.slice_core_plan.proofs.RoomLaws.{cache_room-after_forwarded}
 use Rattle.slice_core_plan.specs.Sends.{cache_sent}
-use Rattle.slice_core_plan.specs.View.{channels_at, side_at}
-use Rattle.slice_core_steps.proofs.StandsLaws.{read_side}
+use Rattle.slice_core_plan.specs.View.{channels_at, cache_at}
+use Rattle.slice_core_steps.proofs.StandsLaws.{read_cache}
 use Rattle.slice_core_steps.proofs.parts.Parts.forward.Goals as goal
 use Rattle.slice_queues.proofs.LentLaws.{lent_again, read-lent}
 use Rattle.slice_queues.specs.Line.{LineChannels, after_take}
@@ -37,6 +37,6 @@ returns g c =
     ∙ ap (λ p. set p.view.channels local.0 (sent (channels_at p.view local))) c.self.view_is in
     let ring : c.send_from_core.new.queues.ring ≡ with_listed c.args.self.now.ring local.0 =
     ap (λ k. k.ring) queues ∙ ap (λ p. with_listed p.ring local.0) c.self.view_is in
-    let side : c.index_mut-side.result.now ≡ side_at v core =
-    read_side _ _ _ _ c.index_mut-side.ensures.value (ap (λ p. p.view.sides) c.self.view_is) c.requires.core in
+    let cache : c.index_mut-cache.result.now ≡ cache_at v core =
+    read_cache _ _ _ _ c.index_mut-cache.ensures.value (ap (λ p. p.view.caches) c.self.view_is) c.requires.core in
     search rules

@@ -1,5 +1,5 @@
 use Rattle.std.proofs.Common.{◌≡◌, ◌∙◌, ap, subst, sym}
-use Rattle.slice_core_answer.specs.declared.answer.Delivery.{Delivery}
+use Rattle.slice_answer.specs.declared.answer.Delivery.{Delivery}
 use Rattle.slice_core_plan.specs.Calls.{PartsView, IsNextPick}
 use Rattle.slice_core_plan.specs.Ring.{pick_of}
 use Rattle.slice_core_steps.proofs.NextAnswers.{found-pick, of-slice}

@@ -1,15 +1,15 @@
 use Rattle.std.proofs.Common.{ap, length, length-append, arith}
-use Rattle.slice_core_log.specs.declared.entry.Entry.{Entry}
+use Rattle.slice_log.specs.declared.entry.Entry.{Entry}
 use Rattle.mshr_file.specs.Miss.{targets_of}
-use Rattle.slice_core_side.specs.Perform.{performed_in}
-use Rattle.slice_core_side.specs.Side.{array_copy}
+use Rattle.slice_core_cache.specs.Perform.{performed_in}
+use Rattle.slice_core_cache.specs.CoreCache.{array_copy}
 use Rattle.slice_core_steps.proofs.SettledLaws.{length-entries_of, length-performed_in}
 use Rattle.slice_core_steps.proofs.parts.deliver.settle_copy.Goals as goal
 
 pub overflow_sub-pending-2 : goal.overflow_sub-pending-2
 overflow_sub-pending-2 g c =
-    let copy = array_copy c.args.side.now c.args.local in
-    let targets = targets_of c.args.side.now.misses c.args.local.0 in
+    let copy = array_copy c.args.cache.now c.args.local in
+    let targets = targets_of c.args.cache.now.misses c.args.local.0 in
     omega (
       arith,
       ap length c.settle-asks.ensures.log,
@@ -22,8 +22,8 @@ overflow_sub-pending-2 g c =
 
 pub returns-clause-pending : goal.returns-clause-pending
 returns-clause-pending g c =
-    let copy = array_copy c.args.side.now c.args.local in
-    let targets = targets_of c.args.side.now.misses c.args.local.0 in
+    let copy = array_copy c.args.cache.now c.args.local in
+    let targets = targets_of c.args.cache.now.misses c.args.local.0 in
     omega (
       arith,
       ap length c.settle-asks.ensures.log,

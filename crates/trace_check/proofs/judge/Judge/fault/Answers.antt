@@ -1,6 +1,6 @@
 use Rattle.std.proofs.Common.{sym, arith, ◌∙◌, ap, ◌≡◌, true}
 use Rattle.trace_check.specs.Verdict.{IsWrong}
-use Rattle.slice_core_log.specs.Op.{reply_of}
+use Rattle.slice_log.specs.Op.{reply_of}
 use Rattle.trace_check.proofs.judge.Judge.fault.Goals as goal
 
 pub returns-then-entry-reply_to : goal.returns-then-entry-reply_to

@@ -1,6 +1,6 @@
 use Rattle.std.proofs.Common.{cond, eqb, get_or, ap, rules, ◌∙◌}
 use Rattle.std.proofs.lemmas.Result.{on_ok_weaker}
-use Rattle.slice_core_log.specs.Op.{value_of}
+use Rattle.slice_log.specs.Op.{value_of}
 use Rattle.trace_check.proofs.VerdictLemmas.{knows-take}
 use Rattle.trace_check.proofs.judge.Judge.take.Goals as goal
 

@@ -10,4 +10,4 @@ pub returns-clause-held : goal.returns-clause-held
 returns-clause-held c =
     let found = sym c.place_of.ensures.place ∙ c.in-Some.is in
     let held = held-found c.args.self.now c.args.line.0 c.in-Some.place _ c.place_of.ensures.sound found in
-    rw (c.deref.ensures.0, ap (λ b. b.entries) c.self.view_is) (sym held)
+    rw (c.deref.ensures.0, ap (λ b. b.write_backs) c.self.view_is) (sym held)

@@ -20,8 +20,8 @@ returns-clause-taken c =
     let found = sym c.place_of.ensures.place ∙ c.in-Some.is in
     let read =
     c.remove.ensures.value
-    ∙ ap (λ b. slice_index_or b.entries c.in-Some.place c.remove.result) c.self.view_is in
-    ap (λ entry. Some entry.leaving) read
+    ∙ ap (λ b. slice_index_or b.write_backs c.in-Some.place c.remove.result) c.self.view_is in
+    ap (λ write_back. Some write_back.leaving) read
     ∙ sym (held-found c.args.self.now c.args.line.0 c.in-Some.place c.remove.result c.place_of.ensures.sound found)
 
 pub returns-clause-removed : goal.returns-clause-removed

@@ -1,5 +1,0 @@
-use Rattle.slice_core_protocol.proofs.Runs.{can_be_read, can_be_written}
-use Rattle.slice_core_protocol.proofs.cores_read_and_write.Goals as goal
-
-pub returns : goal.returns
-returns c = record { written = can_be_written; read = can_be_read }

@@ -1,6 +1,0 @@
-use Rattle.slice_core_protocol.proofs.Promises.{reached_current}
-use Rattle.slice_core_protocol.proofs.ValueSteps.{with_blocks, without_blocks}
-use Rattle.slice_core_protocol.proofs.each_block_is_newest.Goals as goal
-
-pub returns : goal.returns
-returns c = record { current = reached_current; without = without_blocks; with = with_blocks }

@@ -1,5 +1,0 @@
-use Rattle.slice_core_side.proofs.Replies.{marks-none}
-use Rattle.slice_core_side.proofs.tags.Tags.new.Goals as goal
-
-pub invariant_of-result : goal.invariant_of-result
-invariant_of-result c = rw c.none-replies.ensures marks-none

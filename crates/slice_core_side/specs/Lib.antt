@@ -1,8 +1,0 @@
-pub mod Copy
-pub mod Tags
-pub mod Side
-pub mod Access
-pub mod Targets
-pub mod Perform
-pub mod Steps
-pub mod Kept

@@ -1,5 +1,0 @@
-use Rattle.slice_core_plan.specs.Initial.{AreNewSides}
-use Rattle.slice_core_steps.proofs.parts.build.new_sides.Given as goal
-
-abbrev pub invariant-loop-core : goal.invariant-loop-core
-invariant-loop-core g l = AreNewSides l.config (g.F.MissFile.bound_by l.config) l.slice.0 l.core l.all.items

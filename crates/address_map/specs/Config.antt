@@ -57,7 +57,7 @@ allows c config_errors.Counters = nat_le (length c.counters) 8
 abbrev pub fields : List ConfigError
 fields =
     config_errors.Cores ∷ config_errors.Slices ∷ config_errors.Lines ∷ config_errors.Sets ∷ config_errors.Ways
-        ∷ config_errors.Mshrs ∷ config_errors.Targets
+    ∷ config_errors.Mshrs ∷ config_errors.Targets
     ∷ config_errors.Writebacks ∷ config_errors.Init ∷ config_errors.Counters ∷ []
 
 -- what an error prints: its number in that order, and the field

@@ -30,19 +30,19 @@ counted-lawful state event waits come n last others none =
 pub row_of-lawful : (state : CopyState) (event : CacheEvent) → IsLawful state event (row_of state event)
 row_of-lawful copy_states.IM_AD (cache_events.Data n k) =
     counted-lawful copy_states.IM_AD (cache_events.Data n k) copy_states.IM_A k n
-        (λ last within. search (rules, last, within))
+    (λ last within. search (rules, last, within))
     (λ some within. search (rules, some, within)) (λ past. search (rules, past))
 row_of-lawful copy_states.SM_AD (cache_events.Data n k) =
     counted-lawful copy_states.SM_AD (cache_events.Data n k) copy_states.SM_A k n
-        (λ last within. search (rules, last, within))
+    (λ last within. search (rules, last, within))
     (λ some within. search (rules, some, within)) (λ past. search (rules, past))
 row_of-lawful copy_states.IM_A (cache_events.InvAck n k) =
     counted-lawful copy_states.IM_A (cache_events.InvAck n k) copy_states.IM_A (k + 1) n
-        (λ last within. search (rules, last, within))
+    (λ last within. search (rules, last, within))
     (λ some within. search (rules, some, within)) (λ past. search (rules, past))
 row_of-lawful copy_states.SM_A (cache_events.InvAck n k) =
     counted-lawful copy_states.SM_A (cache_events.InvAck n k) copy_states.SM_A (k + 1) n
-        (λ last within. search (rules, last, within))
+    (λ last within. search (rules, last, within))
     (λ some within. search (rules, some, within)) (λ past. search (rules, past))
 row_of-lawful copy_states.IS_D (cache_events.DataE true) = search rules
 row_of-lawful copy_states.IS_D (cache_events.DataE false) = search rules

@@ -269,7 +269,7 @@ read-owner exclusive state owner sharers core next c shares sent writes kept row
       | inl was ↦
           let modified = sym kept.owner_in_m ∙ ap (λ o. is_some o) was in
           let read = read-told state owner (dir_events.GetS core) sent kept.owner_in_m row.served row.replied
-              ∙ modified in
+          ∙ modified in
           let awaited = row.awaited.lasts ∙ ap (λ b. b || is_awaited state && true) read in
           not_both next awaited (sym (row.owner_in_m kept.owner_in_m))
       | inr asked ↦ elim asked [
@@ -290,10 +290,10 @@ owner-told exclusive state owner sharers (dir_events.GetS core) next (Some c) sh
     read-owner exclusive state owner sharers core next c shares sent writes kept row
 owner-told exclusive state owner sharers (dir_events.PutS core) next owns shares sent writes kept row =
     given_up_or_kept (is_written_back state owner (dir_events.PutS core)) owns owner row.granted.kept
-        row.granted.given_up
+    row.granted.given_up
 owner-told exclusive state owner sharers (dir_events.PutM core) next owns shares sent writes kept row =
     given_up_or_kept (is_written_back state owner (dir_events.PutM core)) owns owner row.granted.kept
-        row.granted.given_up
+    row.granted.given_up
 owner-told exclusive state owner sharers dir_events.DataHome next owns shares sent writes kept row =
     given_up_or_kept (is_written_back state owner dir_events.DataHome) owns owner row.granted.kept row.granted.given_up
 

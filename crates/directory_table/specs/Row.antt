@@ -47,7 +47,7 @@ cell exclusive dir_states.S owner sharers (dir_events.PutM core) =
 -- M: the owner has the line. It never asks for it, and gives it up by PutM; a Put of another comes late.
 cell exclusive dir_states.M (Some owner) sharers (dir_events.GetS core) =
     if owner.0 == core.0 then dir_rows.NoEntry else
-        goes dir_states.S_D None (with (only owner.0) core.0) (dir_sends.FwdGetS owner)
+    goes dir_states.S_D None (with (only owner.0) core.0) (dir_sends.FwdGetS owner)
 cell exclusive dir_states.M (Some owner) sharers (dir_events.GetM core) =
     if owner.0 == core.0 then dir_rows.NoEntry else goes dir_states.M (Some core) sharers (dir_sends.FwdGetM owner)
 cell exclusive dir_states.M (Some owner) sharers (dir_events.PutS core) =

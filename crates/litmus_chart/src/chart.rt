@@ -12,7 +12,7 @@ use super::picture::Picture;
 use super::seen::{Flight, Seen};
 use address_map::{Checked, CoreId, LineAddr, Request, SliceId};
 use litmus_script::{
-    TextWriter, Deliverer, Issued, Machine, Player, Script, pump_slices, write_delivered,
+    Deliverer, Issued, Machine, Player, Script, TextWriter, pump_slices, write_delivered,
     write_evicted, write_handed, write_issued, write_pumped, written,
 };
 use litmus_text::{Command, Settings, Statement, TextFault};

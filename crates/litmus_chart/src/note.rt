@@ -48,7 +48,10 @@ pub fn begin_cross<W: io::Write>(
 }
 
 // The words of a statement, and a colon.
-fn write_words<W: io::Write>(statement: &Statement<'_>, out: &mut TextWriter<'_, W>) -> fmt::Result {
+fn write_words<W: io::Write>(
+    statement: &Statement<'_>,
+    out: &mut TextWriter<'_, W>,
+) -> fmt::Result {
     for (place, word) in statement.words.iter().enumerate() {
         if place > 0 {
             out.write_str(" ")?;

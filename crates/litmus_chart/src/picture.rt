@@ -6,7 +6,7 @@ use super::arrow::{Arrow, Fate, sender};
 use super::names::Names;
 use super::seen::{Flight, Seen};
 use address_map::{CoreId, LineAddr};
-use litmus_script::{TextWriter, Machine, written};
+use litmus_script::{Machine, TextWriter, written};
 use litmus_text::TextFault;
 use mshr_file::MissFile;
 use slice_core::{CoreLines, ForwardedMessage, Message, Pick};

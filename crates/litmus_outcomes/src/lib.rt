@@ -10,13 +10,13 @@
 //! - [`write_table`] prints the table byte for byte (`text_of` of specs/Text.antt).
 #![tactic(auto)]
 
-pub use row::Row;
 pub use named_request::{NamedRequest, each_name_is_sought};
+pub use row::Row;
 pub use table::{Outcomes, one_table};
 pub use text::write_table;
 
 mod forbid;
-mod row;
 mod named_request;
+mod row;
 mod table;
 mod text;

@@ -64,7 +64,7 @@ pub no_reply : (slices : List PartsView) (named_request : Option NamedRequest) (
 no_reply slices None value lacks has = has
 no_reply slices (Some named_request) value lacks has =
     All-contains (λ entry. IsOf named_request named_request.slice entry → ⊥) (log_at slices named_request.slice.0)
-        has.entry lacks has.there
+    has.entry lacks has.there
     has.same
 
 -- a word whose slice isn't quiet has no value

@@ -11,7 +11,7 @@ ghost use Rattle.litmus_script.specs.Machine.{bound_of};
 ghost use Rattle.litmus_script.specs.Play.{IsOfRun};
 
 use super::outcome::read_outcome;
-use litmus_outcomes::{Outcomes, NamedRequest, write_table};
+use litmus_outcomes::{NamedRequest, Outcomes, write_table};
 use litmus_script::TextWriter;
 use litmus_test::{LitmusTest, Progress};
 use litmus_text::TextFault;

@@ -11,7 +11,7 @@
 #![tactic(auto)]
 
 pub use answers::{
-    TextWriter, Issued, Pumped, write_delivered, write_evicted, write_handed, write_issued,
+    Issued, Pumped, TextWriter, write_delivered, write_evicted, write_handed, write_issued,
     write_pumped, written,
 };
 pub use calls::issue;

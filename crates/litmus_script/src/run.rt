@@ -6,8 +6,8 @@ ghost use Rattle.litmus_text.specs.Command.{IsInRange, HasCore, HasLine};
 ghost use Rattle.litmus_text.specs.declared.command.Command.TheVariants as commands;
 
 use super::answers::{
-    TextWriter, write_delivered, write_evicted, write_handed, write_issued, write_pumped, write_word,
-    written,
+    TextWriter, write_delivered, write_evicted, write_handed, write_issued, write_pumped,
+    write_word, written,
 };
 use super::machine::Machine;
 use super::pump::pump_slices;

@@ -83,7 +83,7 @@ pub policy_fault : (words : List (List ℕ)) (fault : LineFault) → IsFormFault
     → IsFormFaultOf parts_of_config_line (name_of fields.Policy ∷ words) fault
 policy_fault words =
     form_behind (name_of fields.Policy) words parts_of_policy parts_of_config_line
-        (λ policy. config_lines.Policy policy)
+    (λ policy. config_lines.Policy policy)
     (only_policy words) (λ policy. refl)
 
 pub misses_fault : (words : List (List ℕ)) (fault : LineFault) → IsFormFaultOf parts_of_misses words fault
@@ -96,19 +96,19 @@ pub exclusive_fault : (words : List (List ℕ)) (fault : LineFault) → IsFormFa
     → IsFormFaultOf parts_of_config_line (name_of fields.Exclusive ∷ words) fault
 exclusive_fault words =
     form_behind (name_of fields.Exclusive) words parts_of_setting parts_of_config_line
-        (λ is_on. config_lines.Exclusive is_on)
+    (λ is_on. config_lines.Exclusive is_on)
     (only_exclusive words) (λ is_on. refl)
 
 pub init_fault : (words : List (List ℕ)) (fault : LineFault) → IsFormFaultOf two_parts words fault
     → IsFormFaultOf parts_of_config_line (name_of fields.Init ∷ words) fault
 init_fault words =
     form_behind (name_of fields.Init) words two_parts parts_of_config_line
-        (λ p. config_lines.Init (record { 0 = p.0 }) p.1)
+    (λ p. config_lines.Init (record { 0 = p.0 }) p.1)
     (λ P h. only_init words P (λ word value. h (word.0, value))) (λ p. refl)
 
 pub counter_fault : (words : List (List ℕ)) (fault : LineFault) → IsFormFaultOf one_part words fault
     → IsFormFaultOf parts_of_config_line (name_of fields.Counter ∷ words) fault
 counter_fault words =
     form_behind (name_of fields.Counter) words one_part parts_of_config_line
-        (λ n. config_lines.Counter (record { 0 = n }))
+    (λ n. config_lines.Counter (record { 0 = n }))
     (λ P h. only_counter words P (λ word. h word.0)) (λ n. refl)

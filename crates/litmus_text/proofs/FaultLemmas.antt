@@ -28,13 +28,11 @@ unfolding IsFaultOf
 fault_of_part FormX SaysX HasX FormY SaysY HasY line only form formed says said has says_form line_faults.NotACommand
     h =
     λ y w. only (λ z. FormY z → ⊥) (λ x f. h x (formed x f)) y w w
-fault_of_part FormX SaysX HasX FormY SaysY HasY line only form formed says said has says_form line_faults.BadNumber h =
-    (
+fault_of_part FormX SaysX HasX FormY SaysY HasY line only form formed says said has says_form line_faults.BadNumber h = (
   (line h.0.0, form h.0.0 h.0.1),
   λ y s. only (λ z. SaysY z → ⊥) (λ x t. h.1 x (said x t)) y (says_form y s) s,
 )
-fault_of_part FormX SaysX HasX FormY SaysY HasY line only form formed says said has says_form line_faults.OutOfRange h =
-    (
+fault_of_part FormX SaysX HasX FormY SaysY HasY line only form formed says said has says_form line_faults.OutOfRange h = (
   (line h.0.0, says h.0.0 h.0.1),
   λ y s. only (λ z. SaysY z → HasY z → ⊥) (λ x t k. h.1 x (said x t) (has x k)) y (says_form y s) s,
 )

@@ -72,5 +72,5 @@ pub random_fault : (words : List (List ℕ)) (fault : LineFault) → IsFormFault
     → IsFormFaultOf parts_of_policy (codes "random" ∷ words) fault
 random_fault words =
     form_behind (codes "random") words one_part parts_of_policy (λ p. policy_kinds.Random p)
-        (λ P h. only_random words P h)
+    (λ P h. only_random words P h)
     (λ p. refl)

@@ -24,7 +24,7 @@ parts_around mark text = option_map (λ k. (take k text, drop (k + length mark) 
 abbrev pub fired_by : List ℕ → Option (List ℕ × List ℕ)
 fired_by line =
     option_and_then
-        (parts_around (codes "\"")) (option_and_then (before (codes " fired.")) (behind (codes "Rule \"") line))
+    (parts_around (codes "\"")) (option_and_then (before (codes " fired.")) (behind (codes "Rule \"") line))
 
 -- the rules that fired, in order
 abbrev pub fired_in : List (List ℕ) → List (List ℕ × List ℕ)

@@ -79,7 +79,7 @@ abbrev pub after_miss : ℕ → CoreId → WordAddr → History → History
 after_miss lines core word history =
     if nat_lt core.0 64 && nat_lt word.0 (lines * 8)
     then after_count (counted_kinds.Miss core (line_of word) (cause_of core.0 word.0 history.happened)) history else
-        history
+    history
 
 -- an access that had to wait is performed: its miss is counted, and its core has the line from now on
 abbrev pub after_performing : ℕ → Entry → History → History

@@ -116,7 +116,7 @@ turn_alone cores line roles c event next sent coherent no_data no_home kept = go
     go false true e f = absurd (true≢false f)
     go false false e f =
         lift cores line
-            (record line { part = λ x. change_if (x == c) (part_after_row event 0 next sent) (line.part x) }) roles
+        (record line { part = λ x. change_if (x == c) (part_after_row event 0 next sent) (line.part x) }) roles
         coherent coherent.entry
         (λ x below. by_place (λ y q. Kept (near_of line roles y) (line.part y) q) line.part c
         (part_after_row event 0 next sent) x kept

@@ -52,7 +52,7 @@ pub acked_kept : (near : Near) (p : Part) → is_fit near (acked p.look) ≡ tru
 unfolding owes awaits
 acked_kept near p fit seen counted =
     kept_from near p (part_after_answer dir_sends.PutAck p) fit
-        (seen_from p (part_after_answer dir_sends.PutAck p) seen refl)
+    (seen_from p (part_after_answer dir_sends.PutAck p) seen refl)
     (record { owes = refl; due = refl })
     refl refl refl counted.missing counted
 
@@ -62,6 +62,6 @@ pub read_kept : (near : Near) (p : Part) → is_fit near (read p.look) ≡ true 
 unfolding owes
 read_kept near p fit seen old new count counted =
     kept_from near p (part_after_answer (dir_sends.Data 0) p) fit
-        (seen_from p (part_after_answer (dir_sends.Data 0) p) seen refl)
+    (seen_from p (part_after_answer (dir_sends.Data 0) p) seen refl)
     (record { owes = refl; due = refl }) (new ∙ sym old) (rw (new, old)) refl
     (λ h. absurd (true≢false (sym h ∙ count))) counted

@@ -65,7 +65,7 @@ ended_from n l event next sent e =
 
 all_data : each_fit (λ n l. if_so (is_shared_data l.incoming) (λ _.
     if_go (row_of l.state (cache_events.Data 0 0)) (λ next sent. is_ended n l (cache_events.Data 0 0) next sent)))
-        ≡ true
+    ≡ true
 unfolding all_words is_ended seen_alike
 all_data = refl
 
@@ -141,7 +141,7 @@ data_kept cores line roles c n k next sent coherent within here row = go (k == n
     go false true e f =
         let known = sym (data_row p.look.state n k false true e f) ∙ row in
         let alone = alone_at (cache_events.Data 1 0) true (λ n l. is_shared_data l.incoming) few_data near p.look next
-            sent
+        sent
         (coherent.fit c within) hand.incoming known in
         turn_alone cores line roles c (cache_events.Data n k) next sent coherent alone.no_data alone.no_home
         (alone_kept true near p (cache_events.Data 1 0) next sent (coherent.counted c within)
@@ -149,7 +149,7 @@ data_kept cores line roles c n k next sent coherent within here row = go (k == n
     go false false e f =
         let known = sym (data_row p.look.state n k false false e f) ∙ row in
         let alone = alone_at (cache_events.Data 0 1) false (λ n l. is_shared_data l.incoming) more_data near p.look next
-            sent
+        sent
         (coherent.fit c within) hand.incoming known in
         turn_alone cores line roles c (cache_events.Data n k) next sent coherent alone.no_data alone.no_home
         (alone_kept false near p (cache_events.Data 0 1) next sent (coherent.counted c within)

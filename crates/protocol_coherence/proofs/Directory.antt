@@ -62,8 +62,11 @@ shared_put cores roles s home part c most coherent within asks = go (without s c
         → IsKept cores
         (line_at (if b then dir_states.I else dir_states.S) None (without s c) home (told c dir_sends.PutAck part))
     go true e = (roles, last_sharer_leaves cores roles s home part c most coherent within asks e)
-    go false e = (roles, sharer_leaves cores roles (line_at dir_states.S None s home part) c most coherent within asks
-        refl)
+    go false e = (
+      roles,
+      sharer_leaves cores roles (line_at dir_states.S None s home part) c most coherent within asks
+          refl,
+    )
 
 home_comes : (cores : ℕ) (roles : Roles) (s : ℕ) (home : Bool) (part : ℕ → Part)
     → IsCoherent cores (line_at dir_states.S_D None s home part) roles → home ≡ true
@@ -126,21 +129,21 @@ rows_on cores roles dir_states.S None s home part (dir_events.PutM core) most co
 rows_on cores roles dir_states.S None s home part dir_events.DataHome most coherent within wants = tt
 rows_on cores roles dir_states.M (Some owner) s home part (dir_events.GetS core) most coherent within wants =
     choose (IsKeptBy cores (line_at dir_states.M (Some owner) s home part) (dir_events.GetS core)) (owner.0 == core.0) _
-        _
+    _
     (λ own. tt) (λ other. (
       record roles { server = owner.0; asker = core.0 },
       forward_get_s cores roles owner s home part core.0 most coherent within wants (eqb-false owner.0 core.0 other),
     ))
 rows_on cores roles dir_states.M (Some owner) s home part (dir_events.GetM core) most coherent within wants =
     choose (IsKeptBy cores (line_at dir_states.M (Some owner) s home part) (dir_events.GetM core)) (owner.0 == core.0) _
-        _
+    _
     (λ own. tt) (λ other. (
       record roles { by = by_also roles.by core.0 owner.0 },
       forward_get_m cores roles owner core s home part coherent within wants (eqb-false owner.0 core.0 other),
     ))
 rows_on cores roles dir_states.M (Some owner) s home part (dir_events.PutS core) most coherent within wants =
     choose (IsKeptBy cores (line_at dir_states.M (Some owner) s home part) (dir_events.PutS core)) (owner.0 == core.0) _
-        _
+    _
     (λ own. tt) (λ other. (
       roles,
       late_put cores roles (line_at dir_states.M (Some owner) s home part) core.0 coherent within
@@ -149,7 +152,7 @@ rows_on cores roles dir_states.M (Some owner) s home part (dir_events.PutS core)
     ))
 rows_on cores roles dir_states.M (Some owner) s home part (dir_events.PutM core) most coherent within wants =
     choose (IsKeptBy cores (line_at dir_states.M (Some owner) s home part) (dir_events.PutM core)) (owner.0 == core.0) _
-        _
+    _
     (λ own. (
       roles,
       owner_leaves cores roles owner s home part core.0 coherent within (put_m_is (part core.0).look.request wants)

@@ -28,7 +28,7 @@ if_so-at false then e so = absurd (true≢false (sym so))
 unfoldable pub each_state : (CopyState → Bool) → Bool
 each_state p =
     p copy_states.I && p copy_states.IS_D && p copy_states.IM_AD && p copy_states.IM_A && p copy_states.S
-        && p copy_states.SM_AD && p copy_states.SM_A
+    && p copy_states.SM_AD && p copy_states.SM_A
     && p copy_states.M && p copy_states.E && p copy_states.MI_A && p copy_states.SI_A && p copy_states.II_A
 
 unfoldable pub each_request : (Request → Bool) → Bool
@@ -242,6 +242,6 @@ unfolding each_fit each_look each_near each_state each_request each_incoming eac
     is_fit request_fits data_fits put_fits inv_fits directory_fits owner_fits debt_fits holder_fits sharer_fits
     reader_fits
     server_fits asker_fits is_put_ack_first is_granted holder comes clean waits_to_read waits_to_write awaits owes
-        is_open
+    is_open
     is_asked
 all_words = true

@@ -224,7 +224,7 @@ taken_by : (part : ℕ → Part) (c r : ℕ) (f : Part → Part) → (r ≡ c �
     → change_if (r == r) part_with_data (change_if (r == c) f (part r)) ≡ part_with_data (part r)
 taken_by part c r f apart =
     by_places (λ y q. y ≡ r → q ≡ part_with_data (part r)) part c r f part_with_data r apart
-        (λ same. absurd (apart (sym same)))
+    (λ same. absurd (apart (sym same)))
     (λ same. refl)
     (λ not_c not_r same. absurd (not_r same)) refl
 

@@ -108,7 +108,7 @@ asker_kept n p fit counted here =
     let old : awaits p.look ≡ false = not-at _ (right _ _ e2) in
     let new : awaits (part_with_data p).look ≡ false = not-at _ (right _ _ e1) in
     kept_from (record n { home = true }) p (part_with_data p) (left _ _ e3)
-        (seen_from p (part_with_data p) (right _ _ e3) refl)
+    (seen_from p (part_with_data p) (right _ _ e3) refl)
     (record { owes = refl; due = refl }) (new ∙ sym old) (rw (new, old)) refl
     (λ h. absurd (true≢false (sym h ∙ not-at _ (right _ _ e)))) counted
 

@@ -164,7 +164,7 @@ turn_room cores line roles c cache_events.Write next sent coherent within here r
     room_at cores line roles c cache_events.Write false (λ l. true) next sent write coherent within refl row nothing
 turn_room cores line roles c cache_events.Eviction next sent coherent within here row =
     room_at cores line roles c cache_events.Eviction false (λ l. true) next sent eviction coherent within refl row
-        nothing
+    nothing
 turn_room cores line roles c cache_events.Inv next sent coherent within here row =
     room_at cores line roles c cache_events.Inv false (λ l. l.inv) next sent inv coherent within here row nothing
 turn_room cores line roles c cache_events.FwdGetS next sent coherent within here row =
@@ -328,11 +328,11 @@ room_on cores roles dir_states.S (Some owner) s home part event most coherent wi
     (true≢false coherent.entry.in_m)
 room_on cores roles dir_states.I owner s home part (dir_events.GetS core) most coherent within wants =
     data_room cores (line_at dir_states.I owner s home part) (dir_events.GetS core) dir_sends.DataE refl refl
-        (λ x. refl)
+    (λ x. refl)
     (no_data_for cores (line_at dir_states.I owner s home part) roles core.0 coherent within (either_s _ _ wants))
 room_on cores roles dir_states.I owner s home part (dir_events.GetM core) most coherent within wants =
     data_room cores (line_at dir_states.I owner s home part) (dir_events.GetM core) (dir_sends.Data 0) refl refl
-        (λ x. refl)
+    (λ x. refl)
     (no_data_for cores (line_at dir_states.I owner s home part) roles core.0 coherent within (either_m _ _ wants))
 room_on cores roles dir_states.I owner s home part (dir_events.PutS core) most coherent within wants =
     ack_room cores (line_at dir_states.I owner s home part) (dir_events.PutS core)
@@ -343,7 +343,7 @@ room_on cores roles dir_states.I owner s home part (dir_events.PutM core) most c
 room_on cores roles dir_states.I owner s home part dir_events.DataHome most coherent within wants = tt
 room_on cores roles dir_states.S None s home part (dir_events.GetS core) most coherent within wants =
     data_room cores (line_at dir_states.S None s home part) (dir_events.GetS core) (dir_sends.Data 0) refl refl
-        (λ x. refl)
+    (λ x. refl)
     (no_data_for cores (line_at dir_states.S None s home part) roles core.0 coherent within (either_s _ _ wants))
 room_on cores roles dir_states.S None s home part (dir_events.GetM core) most coherent within wants = record {
   data_channel = λ h. no_data_for cores (line_at dir_states.S None s home part) roles core.0 coherent within
@@ -362,7 +362,7 @@ room_on cores roles dir_states.S None s home part (dir_events.PutM core) most co
 room_on cores roles dir_states.S None s home part dir_events.DataHome most coherent within wants = tt
 room_on cores roles dir_states.M (Some owner) s home part (dir_events.GetS core) most coherent within wants =
     choose (IsRoomy cores (line_at dir_states.M (Some owner) s home part) (dir_events.GetS core)) (owner.0 == core.0) _
-        _ tt
+    _ tt
     (record {
       data_channel = λ h. nothing h;
       put_ack = λ h. nothing h;
@@ -372,7 +372,7 @@ room_on cores roles dir_states.M (Some owner) s home part (dir_events.GetS core)
     })
 room_on cores roles dir_states.M (Some owner) s home part (dir_events.GetM core) most coherent within wants =
     choose (IsRoomy cores (line_at dir_states.M (Some owner) s home part) (dir_events.GetM core)) (owner.0 == core.0) _
-        _ tt
+    _ tt
     (record {
       data_channel = λ h. nothing h;
       put_ack = λ h. nothing h;
@@ -382,7 +382,7 @@ room_on cores roles dir_states.M (Some owner) s home part (dir_events.GetM core)
     })
 room_on cores roles dir_states.M (Some owner) s home part (dir_events.PutS core) most coherent within wants =
     choose (IsRoomy cores (line_at dir_states.M (Some owner) s home part) (dir_events.PutS core)) (owner.0 == core.0) _
-        _ tt
+    _ tt
     (ack_room cores (line_at dir_states.M (Some owner) s home part) (dir_events.PutS core)
     (room_for_put_ack cores (line_at dir_states.M (Some owner) s home part) roles core.0 coherent within
     (either_s _ _ wants)))
@@ -391,7 +391,7 @@ room_on cores roles dir_states.M (Some owner) s home part (dir_events.PutM core)
     (room_for_put_ack cores (line_at dir_states.M (Some owner) s home part) roles core.0 coherent within
     (either_m _ _ wants)) in
     choose (IsRoomy cores (line_at dir_states.M (Some owner) s home part) (dir_events.PutM core)) (owner.0 == core.0) _
-        _ room room
+    _ room room
 room_on cores roles dir_states.M (Some owner) s home part dir_events.DataHome most coherent within wants = tt
 room_on cores roles dir_states.S_D owner s home part (dir_events.GetS core) most coherent within wants = tt
 room_on cores roles dir_states.S_D owner s home part (dir_events.GetM core) most coherent within wants = tt
@@ -419,7 +419,7 @@ serve_room exclusive cores roles line event most coherent within wants =
     line.part event most coherent within wants)
     (λ owner core coherent within wants.
     data_room cores (line_at dir_states.I owner line.sharers line.home line.part) (dir_events.GetS core)
-        (dir_sends.Data 0) refl refl
+    (dir_sends.Data 0) refl refl
     (λ x. refl)
     (no_data_for cores (line_at dir_states.I owner line.sharers line.home line.part) roles core.0 coherent within
     (either_s _ _ wants)))

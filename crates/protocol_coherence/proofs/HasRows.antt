@@ -89,7 +89,7 @@ counted_most cores line roles c coherent within await =
     (coherent.fit c within)) await in
     let keeper = keeper_holds cores line roles c coherent within holds in
     subst (λ y. debts cores line.part + (line.part y).counted ≡ wanted_acks (line.part y)) (sym keeper)
-        coherent.balanced.sum
+    coherent.balanced.sum
     ∙ ap (λ b. if b then (line.part c).wants else 0) await
 
 enough : (k n debt : ℕ) (all few : Bool) → (k == n) ≡ all → nat_lt k n ≡ few → debt + k ≡ n → (all || few) ≡ true
@@ -166,7 +166,7 @@ turn_has_row cores line roles c cache_events.PutAck coherent within message here
     (coherent.fit c within) here
 turn_has_row cores line roles c (cache_events.DataE loads) coherent within message here =
     row_at (cache_events.DataE loads) (λ l. is_only_data l.incoming) (data_e loads) (near_of line roles c)
-        (line.part c).look
+    (line.part c).look
     (coherent.fit c within) here
 turn_has_row cores line roles c (cache_events.Data n k) coherent within message here =
     data_has_row cores line roles c n k coherent within (at_hand (line.part c) n k here)

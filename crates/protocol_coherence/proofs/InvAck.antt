@@ -112,7 +112,7 @@ taker all few near keeper c d p next sent apart debt await last fewer acked =
     let q = part_after_row (cache_events.InvAck 0 0) 1 next sent p in
     let want : wanted_acks p ≡ p.wants = ap (λ b. if b then p.wants else 0) await in
     let wants : wanted_acks q ≡ (if is_waiting next then p.wants else 0) =
-        ap (λ b. if b then p.wants else 0) acked.await in
+    ap (λ b. if b then p.wants else 0) acked.await in
     record {
       fit = acked.fit;
       counted = record {

@@ -64,7 +64,7 @@ taker n p q owner keeper owns keeps e counted names count =
     let e2 = left _ _ e1 in
     let e3 = left _ _ e2 in
     let fit : is_fit (record n { directory = dir_states.M; owner = owner; keeper = keeper }) q.look ≡ true =
-        rw (owns, keeps)
+    rw (owns, keeps)
     (left _ _ e3) in
     record {
       fit = fit;

@@ -71,7 +71,7 @@ sharer_leaves cores roles line c most coherent within asks state =
     let fit = subst (λ b. is_fit (record n { sharer = b }) (acked p.look) ≡ true) (sym (gone line.sharers c small))
     (left _ _ e) in
     answer_kept cores roles line line.directory line.owner (without line.sharers c) line.home c dir_sends.PutAck
-        coherent
+    coherent
     (record {
       in_m = coherent.entry.in_m;
       owner_within = coherent.entry.owner_within;

@@ -55,7 +55,7 @@ can_be_written exclusive =
     further beginning (turn 0 cache_events.Write copy_states.IM_AD cache_sends.GetM (omega arith) refl refl) in
     let got : Reached exclusive 2 written =
     further (served exclusive asked)
-        (turn 0 (cache_events.Data 0 0) copy_states.M cache_sends.Nothing (omega arith) refl refl) in
+    (turn 0 (cache_events.Data 0 0) copy_states.M cache_sends.Nothing (omega arith) refl refl) in
     (written, got, refl)
 
 -- ---- two cores read it, each served with the home copy
@@ -119,7 +119,7 @@ can_be_read false =
     let c : Reached false 2 got_0 = further b (turn 0 (cache_events.Data 0 0) copy_states.S cache_sends.Nothing
     (omega arith) refl refl) in
     let d : Reached false 2 read_1 =
-        further c (turn 1 cache_events.Load copy_states.IS_D cache_sends.GetS (omega arith) refl refl) in
+    further c (turn 1 cache_events.Load copy_states.IS_D cache_sends.GetS (omega arith) refl refl) in
     let e : Reached false 2 sent_1 =
     further d (serve (dir_events.GetS core_1) zeros shared_by_both (omega arith) refl refl) in
     let f : Reached false 2 got_1 = further e (turn 1 (cache_events.Data 0 0) copy_states.S cache_sends.Nothing
@@ -133,11 +133,11 @@ can_be_read true =
     let c : Reached true 2 only_0 = further b (turn 0 (cache_events.DataE true) copy_states.E cache_sends.Nothing
     (omega arith) refl refl) in
     let d : Reached true 2 asked_1 =
-        further c (turn 1 cache_events.Load copy_states.IS_D cache_sends.GetS (omega arith) refl refl) in
+    further c (turn 1 cache_events.Load copy_states.IS_D cache_sends.GetS (omega arith) refl refl) in
     let e : Reached true 2 passed_1 =
     further d (serve (dir_events.GetS core_1) zeros forwarded_1 (omega arith) refl refl) in
     let f : Reached true 2 shared_1 =
     further e (turn 0 cache_events.FwdGetS copy_states.S cache_sends.DataToRequesterAndHome (omega arith) refl refl) in
     let g : Reached true 2 both =
-        further f (turn 1 (cache_events.Data 0 0) copy_states.S cache_sends.Nothing (omega arith) refl refl) in
+    further f (turn 1 (cache_events.Data 0 0) copy_states.S cache_sends.Nothing (omega arith) refl refl) in
     (both, g, refl, refl)

@@ -49,9 +49,11 @@ turns cores line roles c cache_events.Load next sent coherent within here row =
     (roles, turn_kept cores line roles c cache_events.Load next sent (λ n l. true) load coherent within refl row)
 turns cores line roles c cache_events.Write next sent coherent within here row =
     (roles, turn_kept cores line roles c cache_events.Write next sent (λ n l. true) write coherent within refl row)
-turns cores line roles c cache_events.Eviction next sent coherent within here row =
-    (roles, turn_kept cores line roles c cache_events.Eviction next sent (λ n l. true) eviction coherent within refl
-    row)
+turns cores line roles c cache_events.Eviction next sent coherent within here row = (
+  roles,
+  turn_kept cores line roles c cache_events.Eviction next sent (λ n l. true) eviction coherent within refl
+      row,
+)
 turns cores line roles c cache_events.Inv next sent coherent within here row = (
   roles,
   turn_kept cores line roles c cache_events.Inv next sent (λ n l. l.inv && not (is_open n.directory n.home)) inv

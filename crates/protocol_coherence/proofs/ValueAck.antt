@@ -60,7 +60,7 @@ ack_current cores line roles c d next sent blocks newest coherent within below h
     record { copy = implies-at _ _ (left _ _ e); arriving = refl; put = implies-at _ _ (right _ _ e) } in
     let one : (x : ℕ) → Less (line.part x) ((after_ack line c d next sent).part x) = λ x.
     by_places (λ y q. Less (line.part y) q) line.part c d (part_after_row (cache_events.InvAck 0 0) 1 next sent)
-        part_after_ack x
+    part_after_ack x
     pair.apart taker
     (sender (line.part d)) (λ not_c not_d. record { copy = λ h. h; arriving = refl; put = λ h. h }) in
     record {

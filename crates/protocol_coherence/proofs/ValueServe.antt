@@ -251,7 +251,7 @@ row_on s dir_states.S owner (dir_events.GetS core) =
     (λ h. refl)
 row_on s dir_states.S owner (dir_events.GetM core) =
     new_owner dir_states.S owner (dir_events.GetM core) core
-        (dir_sends.DataAndInv (count_of (without s core.0)) (without s core.0))
+    (dir_sends.DataAndInv (count_of (without s core.0)) (without s core.0))
     refl (λ h. refl)
 row_on s dir_states.S owner (dir_events.PutS core) = same_owner dir_states.S owner (dir_events.PutS core)
     (shared_by (without s core.0)) dir_sends.PutAck (λ h. refl) (λ h. refl)
@@ -265,7 +265,7 @@ row_on s dir_states.M None (dir_events.PutM core) = tt
 row_on s dir_states.M None dir_events.DataHome = tt
 row_on s dir_states.M (Some owner) (dir_events.GetS core) =
     choose (RowMoves dir_states.M (Some owner) (dir_events.GetS core)) (owner.0 == core.0) _ _ (λ own. tt)
-        (λ other. record {
+    (λ other. record {
       gives = λ h. nothing h;
       owner_is = λ x owns away. nothing owns;
       stays = λ home same. nothing home;

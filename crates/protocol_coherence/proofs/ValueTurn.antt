@@ -148,11 +148,11 @@ known_turn cores line roles c cache_events.Inv next sent coherent within here ro
     known cores line roles c cache_events.Inv (λ l. l.inv) next sent inv coherent within here row
 known_turn cores line roles c cache_events.FwdGetS next sent coherent within here row =
     known cores line roles c cache_events.FwdGetS (λ l. not l.inv && is_fwd_get_s l.forward) next sent fwd_get_s
-        coherent
+    coherent
     within here row
 known_turn cores line roles c cache_events.FwdGetM next sent coherent within here row =
     known cores line roles c cache_events.FwdGetM (λ l. not l.inv && is_fwd_get_m l.forward) next sent fwd_get_m
-        coherent
+    coherent
     within here row
 known_turn cores line roles c cache_events.PutAck next sent coherent within here row =
     known cores line roles c cache_events.PutAck (λ l. is_put_ack_first l) next sent put_ack coherent within here row
@@ -218,7 +218,7 @@ copy_at : (cores : ℕ) (line : Line) (c : ℕ) (event : CacheEvent) (next : Cop
 copy_at cores line c event next sent blocks newest x turn below false e h = turn.current.copy x below h
 copy_at cores line c event next sent blocks newest x turn below true e h =
     let here = subst (λ y. has_newest (part_after_row event 0 next sent (line.part y)).look ≡ true) (eqb-true x c e) h
-        in
+    in
     go (brings_data event) refl (turn.moves.copy here)
   where
     go : (b : Bool) → brings_data event ≡ b → (b || has_newest (line.part c).look) ≡ true

@@ -130,7 +130,7 @@ write_current cores line roles c next sent blocks written coherent within row ma
         (line.part x)).look.request ≡ true → blocks.put x ≡ written
     put p alone x below owns true e h =
         absurd (true≢false
-            (sym (subst (λ y. is_put_m (part_after_row cache_events.Write 0 next sent (line.part y)).look.request
+        (sym (subst (λ y. is_put_m (part_after_row cache_events.Write 0 next sent (line.part y)).look.request
         ≡ true) (eqb-true x c e) h) ∙ p.no_put))
     put p alone x below owns false e h =
         absurd (true≢false (sym (and_from _ _ owns h) ∙ (claimless cores line roles c x coherent alone below

@@ -116,7 +116,7 @@ heading_of columns = codes "| Cache |" ++ titles_of columns ++ codes "\n|---|" +
 abbrev pub all_states : List CopyState
 all_states =
     copy_states.I ∷ copy_states.IS_D ∷ copy_states.IM_AD ∷ copy_states.IM_A ∷ copy_states.S ∷ copy_states.SM_AD
-        ∷ copy_states.SM_A ∷ copy_states.M ∷ copy_states.E
+    ∷ copy_states.SM_A ∷ copy_states.M ∷ copy_states.E
     ∷ copy_states.MI_A ∷ copy_states.SI_A ∷ copy_states.II_A ∷ []
 
 -- the setting without which no copy comes to the state

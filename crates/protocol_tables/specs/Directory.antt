@@ -117,7 +117,7 @@ idle_lines false = line_of false (codes "") idle
 abbrev pub samples : List Holders
 samples =
     shared_entry dir_states.S (only x.0) ∷ shared_entry dir_states.S (with (only x.0) r.0)
-        ∷ shared_entry dir_states.S (only r.0)
+    ∷ shared_entry dir_states.S (only r.0)
     ∷ owned_entry o ∷ owned_entry r
     ∷ shared_entry dir_states.S_D (with (only o.0) x.0) ∷ shared_entry dir_states.S_D (with (only o.0) r.0)
     ∷ shared_entry dir_states.S_D (only r.0)

@@ -88,7 +88,11 @@ fn deliver_picked<F: MissFile, W: Write>(
 }
 
 /// Writes the command that makes a delivery, and what there is to say of it.
-fn tell_made<W: Write>(pick: Pick, told: Option<ExplainedDelivery>, out: &mut W) -> Result<(), TextFault>
+fn tell_made<W: Write>(
+    pick: Pick,
+    told: Option<ExplainedDelivery>,
+    out: &mut W,
+) -> Result<(), TextFault>
     ensures told { OnOk result (Appends (W.contents out.old) (W.contents out.new) (text_of_made pick told)) }
     ensures fault { IfErr result IsOfRun }
 {
@@ -96,7 +100,11 @@ fn tell_made<W: Write>(pick: Pick, told: Option<ExplainedDelivery>, out: &mut W)
     written(write_made(pick, told, &mut answers))
 }
 
-fn write_made<W: fmt::Write>(pick: Pick, told: Option<ExplainedDelivery>, out: &mut W) -> fmt::Result
+fn write_made<W: fmt::Write>(
+    pick: Pick,
+    told: Option<ExplainedDelivery>,
+    out: &mut W,
+) -> fmt::Result
     ensures { OnOk result (WritesInCalls W.write_str_gives out.old (text_of_made pick told) out.new) }
 {
     let command = Delivery(pick);
@@ -107,7 +115,13 @@ fn write_made<W: fmt::Write>(pick: Pick, told: Option<ExplainedDelivery>, out: &
 }
 
 /// The delivery of the message that met a case, if one did.
-fn told(slice: usize, pick: Pick, case: Option<Case>, plan: Plan, done: Done) -> Option<ExplainedDelivery>
+fn told(
+    slice: usize,
+    pick: Pick,
+    case: Option<Case>,
+    plan: Plan,
+    done: Done,
+) -> Option<ExplainedDelivery>
     ensures { result ≡ delivery_at slice pick plan done case }
 {
     let case = case?;
@@ -121,7 +135,11 @@ fn told(slice: usize, pick: Pick, case: Option<Case>, plan: Plan, done: Done) ->
 }
 
 /// Writes the answer to a delivery, and what there is to say of it.
-fn write<W: fmt::Write>(delivered: Delivered, told: Option<ExplainedDelivery>, out: &mut W) -> fmt::Result
+fn write<W: fmt::Write>(
+    delivered: Delivered,
+    told: Option<ExplainedDelivery>,
+    out: &mut W,
+) -> fmt::Result
     ensures { OnOk result (WritesLine W.write_str_gives out.old
         (text_of_delivered delivered ++ codes "   " ++ told_of_delivery told) out.new) }
 {

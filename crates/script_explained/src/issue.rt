@@ -11,7 +11,7 @@ ghost use Rattle.step_text.specs.Issue.{text_of_eviction, text_of_issue};
 use super::look;
 use super::named::{Named, named_lines, write_copies};
 use address_map::{CoreId, LineAddr, Request};
-use litmus_script::{TextWriter, Issued, written};
+use litmus_script::{Issued, TextWriter, written};
 use litmus_text::TextFault;
 use mshr_file::MissFile;
 use slice_core::{CoreLines, Evicted, Pick, SliceState};

@@ -7,7 +7,7 @@ ghost use Rattle.script_explained.specs.Named.{AreNamed};
 use super::look;
 use address_map::{CoreId, LineAddr};
 use mshr_file::MissFile;
-use slice_core::{AccessKind, CopyState, CoreLines, Decision, SliceState, Stall, Placement};
+use slice_core::{AccessKind, CopyState, CoreLines, Decision, Placement, SliceState, Stall};
 use std::alloc::{AllocError, Global};
 use std::fmt;
 use std::fmt::Write;

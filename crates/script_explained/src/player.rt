@@ -9,7 +9,7 @@ ghost use Rattle.script_explained.specs.Issue.{ExplainsIssue};
 
 use super::{delivery, hand, issue, unrest};
 use address_map::{Checked, CoreId, LineAddr, Request, SliceId, WordAddr};
-use litmus_script::{TextWriter, Deliverer, Machine, Player, pump_slices, write_pumped, written};
+use litmus_script::{Deliverer, Machine, Player, TextWriter, pump_slices, write_pumped, written};
 use litmus_text::{Command, Statement, TextFault};
 use mshr_file::MissFile;
 use slice_core::{DeliveredNext, Pick};

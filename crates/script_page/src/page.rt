@@ -17,7 +17,7 @@ use super::frame::{HEAD, TAIL};
 use super::json::write_json;
 use super::player::Paged;
 use address_map::Checked;
-use litmus_script::{TextWriter, Commands, Machine, Script, written};
+use litmus_script::{Commands, Machine, Script, TextWriter, written};
 use litmus_text::TextFault;
 use mshr_file::{ExplicitFile, InvertedFile, MissFile, MissKind};
 use protocol_tables::{write_cache_table, write_directory_table};

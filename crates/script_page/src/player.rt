@@ -10,7 +10,7 @@ ghost use Rattle.script_page.specs.Step.{Names, ShowsStates, line_named};
 use super::named::note_line;
 use super::step::{Texts, write_step};
 use address_map::{Checked, LineAddr};
-use litmus_script::{TextWriter, Machine, Player, written};
+use litmus_script::{Machine, Player, TextWriter, written};
 use litmus_text::{Command, Statement, TextFault};
 use mshr_file::MissFile;
 use script_explained::Explained;

@@ -83,7 +83,8 @@ const fn or_next(first: DeliveredNext, other: DeliveredNext) -> DeliveredNext
 {
     match (first, other) {
         (DeliveredNext::Nothing, other) => other,
-        (DeliveredNext::Blocked | DeliveredNext::Broken(_), DeliveredNext::Moved(pick)) => DeliveredNext::Moved(pick),
+        (DeliveredNext::Blocked | DeliveredNext::Broken(_), DeliveredNext::Moved(pick)) =>
+            DeliveredNext::Moved(pick),
         (first, _) => first,
     }
 }

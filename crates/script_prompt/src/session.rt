@@ -11,7 +11,7 @@ use super::asked::{Asked, read_asked};
 use super::machine;
 use super::own::Own;
 use address_map::{Checked, CoreId, Op, Request, SliceId, WordAddr};
-use litmus_script::{TextWriter, Player, written};
+use litmus_script::{Player, TextWriter, written};
 use litmus_text::{Command, Statement, Statements, TextFault, parse_command};
 use mshr_file::MissFile;
 use script_explained::Explained;

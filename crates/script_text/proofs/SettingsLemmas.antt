@@ -22,7 +22,7 @@ settings_text c misses =
     let init = map init_line c.init in
     let counters = map config_lines.Counter c.counters in
     let behind = config_lines.Policy c.policy ∷ config_lines.Misses misses ∷ config_lines.Exclusive c.exclusive
-        ∷ (init ++ counters) in
+    ∷ (init ++ counters) in
     let first : text_of_lines (counts_of c ++ behind) ≡ text_of_lines (counts_of c) ++ text_of_lines behind =
     flat_map-append line_of (counts_of c) behind in
     let last : text_of_lines (init ++ counters) ≡ text_of_lines init ++ text_of_lines counters =

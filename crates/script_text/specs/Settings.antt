@@ -14,7 +14,7 @@ use Rattle.script_text.specs.Line.{line_of_parts}
 abbrev pub counts_of : Config → List ConfigLine
 counts_of c =
     config_lines.Count counts.Cores c.cores ∷ config_lines.Count counts.Slices c.slices
-        ∷ config_lines.Count counts.Lines c.lines
+    ∷ config_lines.Count counts.Lines c.lines
     ∷ config_lines.Count counts.Sets c.sets ∷ config_lines.Count counts.Ways c.ways
     ∷ config_lines.Count counts.Mshrs c.mshrs
     ∷ config_lines.Count counts.Targets c.targets ∷ config_lines.Count counts.Writebacks c.writebacks ∷ []

@@ -10,7 +10,7 @@ ghost use Rattle.script_waves.specs.Waves.{text_of_tick};
 use super::command::{write_command, write_time};
 use super::values::write_lines;
 use address_map::{Checked, LineAddr};
-use litmus_script::{TextWriter, Machine, Player, written};
+use litmus_script::{Machine, Player, TextWriter, written};
 use litmus_text::{Command, Statement, TextFault};
 use mshr_file::MissFile;
 use script_page::note_line;

@@ -15,7 +15,7 @@ use super::command::write_time;
 use super::header::write_header;
 use super::player::Waved;
 use address_map::{Checked, LineAddr};
-use litmus_script::{TextWriter, Commands, Machine, Script, written};
+use litmus_script::{Commands, Machine, Script, TextWriter, written};
 use litmus_text::TextFault;
 use mshr_file::{ExplicitFile, InvertedFile, MissFile, MissKind};
 use stats_report::write_text;

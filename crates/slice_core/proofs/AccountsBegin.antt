@@ -68,7 +68,7 @@ module _ (c : Config) (bound : Bound) (slice : SliceId) (p : PartsView) (new : I
       each k d inside =
           let same = get_or_default p.view.caches k d no_cache inside in
           let none = ap (λ (s : CoreCacheView). target_count s.misses) (same ∙ cache-begins (record { 0 = k }) inside)
-              in
+          in
           omega (arith, none)
 
   counted-begins : slice.0 < c.slices → HasFittingCounts p

@@ -183,7 +183,7 @@ keeps-plan plan old local channel answer new sound = by plan
         let core = core_of channel in
         let there = known (ack_move step.way step.next) is refl in
         settled old local channel new keeps core (copy_after_ack (array_copy (cache_at old.view core) local) step.next)
-            there
+        there
         (sound.links.kept core there).array (held (ack_move step.way step.next) step.way is refl) after.1
 
 -- ---- the calls

@@ -92,7 +92,7 @@ module _ (p : PartsView) (core : CoreId) (request : Request) (local : Local) (ro
       let before = counts-before p core keeps.counted known in
       let small = accepted-within p core keeps.counted keeps.accounts known in
       keeps-hit p core (caches.after_hit (cache_at p.view core) local (offset_of request.word).0 request.op next) _
-          local
+      local
       (hit_counted p.stats core silent) room known refl refl refl judged.line
       (hit-alone (cache_at p.view core) local request.tag request.op way next silent judged.decided) refl refl refl
       fits bound (counts-hit p core before.0 (cache_at p.view core).accepted before.1 silent small) keeps

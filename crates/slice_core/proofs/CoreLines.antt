@@ -41,7 +41,7 @@ entry_held [] place entry at = (cc)
 entry_held (first ∷ rest) zero entry at =
     let same : first ≡ entry = (cc) in
     let is : is_of entry.line.0 first ≡ true =
-        eq-eqb first.line.0 entry.line.0 (ap (λ (e : PendingWriteBack). e.line.0) same) in
+    eq-eqb first.line.0 entry.line.0 (ap (λ (e : PendingWriteBack). e.line.0) same) in
     rw is refl
 entry_held (first ∷ rest) (suc place) entry at =
     ⊎_elim (λ here. rw here refl) (λ elsewhere. rw elsewhere (entry_held rest place entry at))

@@ -200,9 +200,9 @@ module _ (v : View) (core : CoreId) (local : Local) (shaped : IsShaped v) (links
     -- a core in which the line has left, and which has the same misses, has told the directory
     links_leaving : (cache : CoreCacheView) → cache.misses ≡ (cache_at v core).misses →
         ChangesLine (cache_at v core) cache local None (Some (leaving_after_evict (array_copy (cache_at v core) local)))
-            →
+        →
         HasLinks (after_request (with_cache v core cache) core local
-            (caches.put_of (array_copy (cache_at v core) local)))
+        (caches.put_of (array_copy (cache_at v core) local)))
     links_leaving cache misses changes =
         let old = cache_at v core in
         let copy = array_copy old local in
@@ -210,7 +210,7 @@ module _ (v : View) (core : CoreId) (local : Local) (shaped : IsShaped v) (links
         let by = leaves_by copy.block copy.state may.1 in
         let state = held_copy old local copy may.0 in
         links_asking v core local shaped links there within cache None (Some (leaving_after_evict copy))
-            (caches.put_of copy) changes
+        (caches.put_of copy) changes
         by.leaving
         (λ other apart. ap (λ m. targets_of m other) misses)
         (by.waits ∙ sym by.idle ∙ sym (ap is_waiting state) ∙ links.waits core local there
@@ -313,7 +313,7 @@ links_hand v core tag links there =
           (λ same. links.waits core l there) (λ apart. links.waits other l (is_core other.0 h));
       sent = λ other l h inside.
           placed (λ (s : CoreCacheView). has_sent (state_of s l) (asked (channels_at v l) other.0) ≡ true) v.caches
-              core.0
+          core.0
           other.0 now no_cache there
           (λ same. subst (λ n. has_sent (state_of cache l) (asked (channels_at v l) n) ≡ true) (sym same)
           (links.sent core l there inside))

@@ -31,7 +31,7 @@ use Rattle.slice_queues_message.specs.declared.message.RequestMessage.TheVariant
 unfoldable pub each_state : (CopyState → Bool) → Bool
 each_state p =
     p copy_states.I && p copy_states.IS_D && p copy_states.IM_AD && p copy_states.IM_A && p copy_states.S
-        && p copy_states.SM_AD && p copy_states.SM_A
+    && p copy_states.SM_AD && p copy_states.SM_A
     && p copy_states.M && p copy_states.E && p copy_states.MI_A && p copy_states.SI_A && p copy_states.II_A
 
 pub left : (a b : Bool) → (a && b) ≡ true → a ≡ true
@@ -104,7 +104,7 @@ goes_to-counted p come n waits last more = by (come == n) (nat_lt come n)
   where
     by : (a b : Bool) →
         goes_to p (if a then rows.Go copy_states.M cache_sends.Nothing else if b then
-            rows.Go waits cache_sends.Nothing else
+        rows.Go waits cache_sends.Nothing else
         rows.NoEntry) ≡ true
     by true b = last
     by false true = more
@@ -219,7 +219,7 @@ unfolding opens
 opens_to op state next asks.GetS is =
     let all = goes_to-at opens (row_of state (event_of op)) next cache_sends.GetS (opens-row op state) is in
     let first = left (stands_in_array next && is_waiting next) (has_sent next (Some request_messages.GetS)) all in
-        record {
+    record {
       stands = left _ (is_waiting next) first;
       waits = right (stands_in_array next) _ first;
       sent = right (stands_in_array next && is_waiting next) _ all;
@@ -227,7 +227,7 @@ opens_to op state next asks.GetS is =
 opens_to op state next asks.GetM is =
     let all = goes_to-at opens (row_of state (event_of op)) next cache_sends.GetM (opens-row op state) is in
     let first = left (stands_in_array next && is_waiting next) (has_sent next (Some request_messages.GetM)) all in
-        record {
+    record {
       stands = left _ (is_waiting next) first;
       waits = right (stands_in_array next) _ first;
       sent = right (stands_in_array next && is_waiting next) _ all;
@@ -257,7 +257,7 @@ not-false false e = refl
 
 pub leaves_by : (block : Block) (state : CopyState) → may_leave state ≡ true →
     LeavesBy state (next_by state (row_of state cache_events.Eviction))
-        (put_by block (row_of state cache_events.Eviction))
+    (put_by block (row_of state cache_events.Eviction))
 unfolding each_state leaves implies
 leaves_by block state may =
     let next = next_by state (row_of state cache_events.Eviction) in

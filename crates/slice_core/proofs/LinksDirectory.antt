@@ -199,7 +199,7 @@ links_entry v local entry line shaped links within owned sent = record {
       (λ apart. links.sent core l there inside);
   owned = λ l inside.
       placed (λ (e : DirEntry). IfSome e.owner (λ owner. owner.0 < length v.caches)) v.entries local.0 l.0 entry
-          no_entry
+      no_entry
       (subst (λ n. local.0 < n) (sym shaped.entries) within) (λ same. owned) (λ apart. links.owned l inside);
 }
 

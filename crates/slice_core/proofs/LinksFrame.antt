@@ -99,7 +99,7 @@ module _ (v : View) (core : CoreId) (local : Local) (cache : CoreCacheView) (lin
 
   sent_here : (other : CoreId) → other.0 < length v.caches →
       has_sent (state_of (get_or (set v.caches core.0 cache) other.0 no_cache) local) (core_at line other.0).request
-          ≡ true
+      ≡ true
   sent_here other inside =
       placed (λ (s : CoreCacheView). has_sent (state_of s local) (core_at line other.0).request ≡ true)
       v.caches core.0 other.0 cache no_cache there

@@ -197,10 +197,10 @@ ack-row n k copy_states.SM_A =
     (λ b. refl))
 ack-row n k copy_states.IM_AD =
     each_request-at (λ r. comes copy_states.IM_AD r copy_states.IM_AD cache_sends.Nothing) refl refl refl refl
-        (λ b. refl)
+    (λ b. refl)
 ack-row n k copy_states.SM_AD =
     each_request-at (λ r. comes copy_states.SM_AD r copy_states.SM_AD cache_sends.Nothing) refl refl refl refl
-        (λ b. refl)
+    (λ b. refl)
 ack-row n k copy_states.IS_D = λ request. refl
 ack-row n k copy_states.I = λ request. refl
 ack-row n k copy_states.S = λ request. refl

@@ -27,10 +27,10 @@ pub use run::{Call, CallAnswer};
 pub use slice_answer::{
     Cell, Delivered, DeliveredNext, Delivery, Evicted, Issue, Refused, Stall, Stats,
 };
-pub use slice_log::{Entry, Numbered};
+pub use slice_core_cache::{AccessKind, Ask, CacheCopy, Placement, TagState};
 pub use slice_core_plan::{CopyStep, Decision, ForwardedStep, HomeStep, Plan, Transition};
-pub use slice_core_cache::{AccessKind, Ask, CacheCopy, TagState, Placement};
 pub use slice_core_steps::{CoreLines, LineView};
+pub use slice_log::{Entry, Numbered};
 pub use slice_queues::{LineWaiting, Picks};
 pub use slice_queues_message::{
     Class, DataMessage, ForwardedMessage, Message, Pick, RequestMessage,

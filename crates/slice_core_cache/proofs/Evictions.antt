@@ -17,7 +17,7 @@ pub can_leave : (cache : CoreCacheView) (local : Local) → evicted_of cache loc
     CanLeave cache local
 can_leave cache local evicting =
     by (has_miss cache.misses local.0) (buffer_at cache.buffer.write_backs local.0) refl (array_at cache.array local)
-        refl
+    refl
     (has_buffer_room cache) refl evicting
   where
     answered : Bool → Option Leaving → Option CacheCopy → Bool → Evicted

@@ -108,128 +108,128 @@ module _ (cache : CoreCacheView) where
 -- ---- steps on a line that the array holds
 
 module _ (cache : CoreCacheView) (local : Local) (kept : IsKept cache) (held : IsSome (array_at cache.array local))
-    where
-  -- the copy is the one in the array
-  pub copy_of-held : copy_of cache local ≡ array_copy cache local
-  copy_of-held = ap (λ o. found_in o (buffer_at cache.buffer.write_backs local.0))
-      (some_is (array_at cache.array local) no_copy held)
+  where
+    -- the copy is the one in the array
+    pub copy_of-held : copy_of cache local ≡ array_copy cache local
+    copy_of-held = ap (λ o. found_in o (buffer_at cache.buffer.write_backs local.0))
+        (some_is (array_at cache.array local) no_copy held)
 
-  -- the array holds another copy of the line
-  pub changes-change : (copy : CacheCopy) → ChangesLine cache (after_change cache local copy) local (Some copy) None
-  changes-change copy = record {
-    in_array = written_held cache.array local kept.array copy held;
-    in_buffer = kept.apart local held;
-    array_others = λ other apart. written_other cache.array local kept.array copy other apart;
-    buffer_others = λ other apart. refl;
-    array_sound = written_sound cache.array local kept.array copy held;
-    buffer_sound = kept.buffer;
-  }
+    -- the array holds another copy of the line
+    pub changes-change : (copy : CacheCopy) → ChangesLine cache (after_change cache local copy) local (Some copy) None
+    changes-change copy = record {
+      in_array = written_held cache.array local kept.array copy held;
+      in_buffer = kept.apart local held;
+      array_others = λ other apart. written_other cache.array local kept.array copy other apart;
+      buffer_others = λ other apart. refl;
+      array_sound = written_sound cache.array local kept.array copy held;
+      buffer_sound = kept.buffer;
+    }
 
-  -- and another one that was used
-  changes_used : (taken : List Target) (copy : CacheCopy) (new : CoreCacheView) →
-      new.array ≡ used_by taken (with_copy cache.array local copy) local → new.buffer ≡ cache.buffer →
-      ChangesLine cache new local (Some copy) None
-  changes_used taken copy new array_is buffer_is =
-      let change = changes-change copy in
-      let array = with_copy cache.array local copy in record {
-        in_array =
-            ap (λ a. array_at a local) array_is
-            ∙ used_by-held taken array local local change.array_sound ∙ change.in_array;
-        in_buffer = ap (λ b. buffer_at b.write_backs local.0) buffer_is ∙ change.in_buffer;
-        array_others =
-            λ other apart. ap (λ a. array_at a other) array_is
-            ∙ used_by-held taken array local other change.array_sound ∙ change.array_others other apart;
-        buffer_others = λ other apart. ap (λ b. buffer_at b.write_backs other.0) buffer_is;
-        array_sound = subst IsArray (sym array_is) (used_by-sound taken array local change.array_sound);
-        buffer_sound = rw buffer_is kept.buffer;
-      }
+    -- and another one that was used
+    changes_used : (taken : List Target) (copy : CacheCopy) (new : CoreCacheView) →
+        new.array ≡ used_by taken (with_copy cache.array local copy) local → new.buffer ≡ cache.buffer →
+        ChangesLine cache new local (Some copy) None
+    changes_used taken copy new array_is buffer_is =
+        let change = changes-change copy in
+        let array = with_copy cache.array local copy in record {
+          in_array =
+              ap (λ a. array_at a local) array_is
+              ∙ used_by-held taken array local local change.array_sound ∙ change.in_array;
+          in_buffer = ap (λ b. buffer_at b.write_backs local.0) buffer_is ∙ change.in_buffer;
+          array_others =
+              λ other apart. ap (λ a. array_at a other) array_is
+              ∙ used_by-held taken array local other change.array_sound ∙ change.array_others other apart;
+          buffer_others = λ other apart. ap (λ b. buffer_at b.write_backs other.0) buffer_is;
+          array_sound = subst IsArray (sym array_is) (used_by-sound taken array local change.array_sound);
+          buffer_sound = rw buffer_is kept.buffer;
+        }
 
-  -- ---- the copy is another
+    -- ---- the copy is another
 
-  pub copy_of-after_change : (copy : CacheCopy) → copy_of (after_change cache local copy) local ≡ copy
-  copy_of-after_change copy = copy_here cache _ local _ _ (changes-change copy)
+    pub copy_of-after_change : (copy : CacheCopy) → copy_of (after_change cache local copy) local ≡ copy
+    copy_of-after_change copy = copy_here cache _ local _ _ (changes-change copy)
 
-  pub copy_of-after_change_other : (copy : CacheCopy) (other : Local) → other.0 ≢ local.0 →
-      copy_of (after_change cache local copy) other ≡ copy_of cache other
-  copy_of-after_change_other copy other apart = copy_other cache _ local _ _ (changes-change copy) other apart
+    pub copy_of-after_change_other : (copy : CacheCopy) (other : Local) → other.0 ≢ local.0 →
+        copy_of (after_change cache local copy) other ≡ copy_of cache other
+    copy_of-after_change_other copy other apart = copy_other cache _ local _ _ (changes-change copy) other apart
 
-  pub kept-after_change : (copy : CacheCopy) → stands_in_array copy.state ≡ true →
-      IsKept (after_change cache local copy)
-  kept-after_change copy stands = kept_by cache _ local _ _ (changes-change copy) kept stands
+    pub kept-after_change : (copy : CacheCopy) → stands_in_array copy.state ≡ true →
+        IsKept (after_change cache local copy)
+    kept-after_change copy stands = kept_by cache _ local _ _ (changes-change copy) kept stands
 
-  -- ---- an access was performed on it
+    -- ---- an access was performed on it
 
-  pub changes-hit : (offset : ℕ) (op : Op) (next : CopyState) →
-      ChangesLine cache (after_hit cache local offset op next) local
-      (Some (record (array_copy cache local) {
-        block = performed_on (array_copy cache local).block offset op;
-        state =
-            next;
-      })) None
-  changes-hit offset op next =
-      let copy : CacheCopy =
-      record (array_copy cache local) { block = performed_on (array_copy cache local).block offset op; state = next } in
-      changes_used (no_target ∷ []) copy (after_hit cache local offset op next) refl refl
+    pub changes-hit : (offset : ℕ) (op : Op) (next : CopyState) →
+        ChangesLine cache (after_hit cache local offset op next) local
+        (Some (record (array_copy cache local) {
+          block = performed_on (array_copy cache local).block offset op;
+          state =
+              next;
+        })) None
+    changes-hit offset op next =
+        let copy : CacheCopy =
+        record (array_copy cache local) { block = performed_on (array_copy cache local).block offset op; state = next } in
+        changes_used (no_target ∷ []) copy (after_hit cache local offset op next) refl refl
 
-  pub copy_of-after_hit : (offset : ℕ) (op : Op) (next : CopyState) →
-      copy_of (after_hit cache local offset op next) local
-      ≡ record (copy_of cache local) { block = performed_on (copy_of cache local).block offset op; state = next }
-  copy_of-after_hit offset op next =
-      copy_here cache _ local _ _ (changes-hit offset op next)
-      ∙ ap (λ (copy : CacheCopy). record copy {
-        block = performed_on copy.block offset op;
-        state =
-            next;
-      }) (sym copy_of-held)
+    pub copy_of-after_hit : (offset : ℕ) (op : Op) (next : CopyState) →
+        copy_of (after_hit cache local offset op next) local
+        ≡ record (copy_of cache local) { block = performed_on (copy_of cache local).block offset op; state = next }
+    copy_of-after_hit offset op next =
+        copy_here cache _ local _ _ (changes-hit offset op next)
+        ∙ ap (λ (copy : CacheCopy). record copy {
+          block = performed_on copy.block offset op;
+          state =
+              next;
+        }) (sym copy_of-held)
 
-  pub copy_of-after_hit_other : (offset : ℕ) (op : Op) (next : CopyState) (other : Local) → other.0 ≢ local.0 →
-      copy_of (after_hit cache local offset op next) other ≡ copy_of cache other
-  copy_of-after_hit_other offset op next other apart =
-      copy_other cache _ local _ _ (changes-hit offset op next) other apart
+    pub copy_of-after_hit_other : (offset : ℕ) (op : Op) (next : CopyState) (other : Local) → other.0 ≢ local.0 →
+        copy_of (after_hit cache local offset op next) other ≡ copy_of cache other
+    copy_of-after_hit_other offset op next other apart =
+        copy_other cache _ local _ _ (changes-hit offset op next) other apart
 
-  -- ---- it waits, with a miss register
+    -- ---- it waits, with a miss register
 
-  pub changes-open_held : (next : CopyState) (request : Request) (misses : List Register) →
-      ChangesLine cache (after_open cache local true next request misses) local
-      (Some (record (array_copy cache local) { state = next; wants = 0; counted = 0 })) None
-  changes-open_held next request misses =
-      changes_used [] (record (array_copy cache local) { state = next; wants = 0; counted = 0 })
-      (after_open cache local true next request misses) refl refl
+    pub changes-open_held : (next : CopyState) (request : Request) (misses : List Register) →
+        ChangesLine cache (after_open cache local true next request misses) local
+        (Some (record (array_copy cache local) { state = next; wants = 0; counted = 0 })) None
+    changes-open_held next request misses =
+        changes_used [] (record (array_copy cache local) { state = next; wants = 0; counted = 0 })
+        (after_open cache local true next request misses) refl refl
 
-  pub copy_of-after_open_held : (next : CopyState) (request : Request) (misses : List Register) →
-      copy_of (after_open cache local true next request misses) local
-      ≡ record (copy_of cache local) { state = next; wants = 0; counted = 0 }
-  copy_of-after_open_held next request misses =
-      copy_here cache _ local _ _ (changes-open_held next request misses)
-      ∙ ap (λ (copy : CacheCopy). record copy { state = next; wants = 0; counted = 0 }) (sym copy_of-held)
+    pub copy_of-after_open_held : (next : CopyState) (request : Request) (misses : List Register) →
+        copy_of (after_open cache local true next request misses) local
+        ≡ record (copy_of cache local) { state = next; wants = 0; counted = 0 }
+    copy_of-after_open_held next request misses =
+        copy_here cache _ local _ _ (changes-open_held next request misses)
+        ∙ ap (λ (copy : CacheCopy). record copy { state = next; wants = 0; counted = 0 }) (sym copy_of-held)
 
-  pub copy_of-after_open_held_other : (next : CopyState) (request : Request) (misses : List Register) (other : Local) →
-      other.0 ≢ local.0 → copy_of (after_open cache local true next request misses) other ≡ copy_of cache other
-  copy_of-after_open_held_other next request misses other apart =
-      copy_other cache _ local _ _ (changes-open_held next request misses) other apart
+    pub copy_of-after_open_held_other : (next : CopyState) (request : Request) (misses : List Register) (other : Local) →
+        other.0 ≢ local.0 → copy_of (after_open cache local true next request misses) other ≡ copy_of cache other
+    copy_of-after_open_held_other next request misses other apart =
+        copy_other cache _ local _ _ (changes-open_held next request misses) other apart
 
-  -- ---- it has come to its state, and what it allows was performed
+    -- ---- it has come to its state, and what it allows was performed
 
-  pub changes-settle : (number : ℕ) (misses : List Register) →
-      ChangesLine cache (after_settle cache local number misses) local
-          (Some (copy_after_settle (targets_of cache.misses local.0)
-      (array_copy cache local))) None
-  changes-settle number misses =
-      changes_used (performed_in (array_copy cache local).state (targets_of cache.misses local.0))
-      (copy_after_settle (targets_of cache.misses local.0) (array_copy cache local))
-      (after_settle cache local number misses) refl refl
+    pub changes-settle : (number : ℕ) (misses : List Register) →
+        ChangesLine cache (after_settle cache local number misses) local
+        (Some (copy_after_settle (targets_of cache.misses local.0)
+        (array_copy cache local))) None
+    changes-settle number misses =
+        changes_used (performed_in (array_copy cache local).state (targets_of cache.misses local.0))
+        (copy_after_settle (targets_of cache.misses local.0) (array_copy cache local))
+        (after_settle cache local number misses) refl refl
 
-  pub copy_of-after_settle : (number : ℕ) (misses : List Register) →
-      copy_of (after_settle cache local number misses) local
-      ≡ copy_after_settle (targets_of cache.misses local.0) (copy_of cache local)
-  copy_of-after_settle number misses =
-      copy_here cache _ local _ _ (changes-settle number misses)
-      ∙ ap (copy_after_settle (targets_of cache.misses local.0)) (sym copy_of-held)
+    pub copy_of-after_settle : (number : ℕ) (misses : List Register) →
+        copy_of (after_settle cache local number misses) local
+        ≡ copy_after_settle (targets_of cache.misses local.0) (copy_of cache local)
+    copy_of-after_settle number misses =
+        copy_here cache _ local _ _ (changes-settle number misses)
+        ∙ ap (copy_after_settle (targets_of cache.misses local.0)) (sym copy_of-held)
 
-  pub copy_of-after_settle_other : (number : ℕ) (misses : List Register) (other : Local) → other.0 ≢ local.0 →
-      copy_of (after_settle cache local number misses) other ≡ copy_of cache other
-  copy_of-after_settle_other number misses other apart =
-      copy_other cache _ local _ _ (changes-settle number misses) other apart
+    pub copy_of-after_settle_other : (number : ℕ) (misses : List Register) (other : Local) → other.0 ≢ local.0 →
+        copy_of (after_settle cache local number misses) other ≡ copy_of cache other
+    copy_of-after_settle_other number misses other apart =
+        copy_other cache _ local _ _ (changes-settle number misses) other apart
 
 -- ---- a line that comes into a free way
 

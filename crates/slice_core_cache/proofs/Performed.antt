@@ -58,7 +58,7 @@ pub performed-more : (first : ℕ) (core : CoreId) (line count done : ℕ) (old 
     → TakesTargets now new line (target ∷ [])
     → IsPerformed first core line count (done + 1) old new block0 (performed_on block target.offset.0 target.op)
     tags0 (set states target.tag (tag_states.Performed (length log))) log0
-        (log ++ entry_of core first block target ∷ [])
+    (log ++ entry_of core first block target ∷ [])
 unfolding block_after tags_after entries_of
 performed-more first core line count done old now new block0 block tags0 states log0 log target so_far less taken =
     let n = count - (done + 1) in

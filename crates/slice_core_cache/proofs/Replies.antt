@@ -38,7 +38,7 @@ marks-put states old new tag state marked below here others = record {
       elim (cases_eq other tag) [
         | inl same ↦
             rw (same, get_or-set_same states tag state tag_states.Free (let long = marked.long in omega (arith, long)))
-                here
+            here
         | inr apart ↦ rw (get_or-set_other states tag other state tag_states.Free apart) (others other apart
             ∙ marked.marks other)
       ];

@@ -71,8 +71,12 @@ target_of cache request offset since =
 -- the access is a target, and its tag is open
 abbrev pub after_join : CoreCacheView → Request → List Register → CoreCacheView
 after_join cache request misses =
-    record cache { misses = misses; tags = slice_set cache.tags request.tag tag_states.Open; accepted =
-        cache.accepted + 1 }
+    record cache {
+      misses = misses;
+      tags = slice_set cache.tags request.tag tag_states.Open;
+      accepted =
+          cache.accepted + 1;
+    }
 
 -- the array once a line's copy waits: it stood there, or takes a free way
 abbrev pub array_after_open : CoreCacheView → Local → Bool → CopyState → ArrayView CacheCopy PolicyKind

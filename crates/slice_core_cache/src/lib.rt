@@ -19,6 +19,6 @@ pub use tags::TagState;
 
 mod access;
 mod copy;
-mod perform;
 mod core_cache;
+mod perform;
 mod tags;

@@ -122,7 +122,7 @@ module _ (v : View) (core : CoreId) (local : Local) (shaped : IsShaped v) (most 
       let mail = channels_at v local in
       let now = copy_of-after_hit cache local kept held (offset_of request.word).0 request.op next in
       let lawful = own_row (event_of request.op) (state_of cache local) next cache_sends.Nothing (own_access request.op)
-          row in
+      row in
       let same : with_core mail core.0 (core_at mail core.0) ≡ mail =
       ap (λ cores. record mail { cores = cores }) (set-get_or mail.cores core.0 no_messages) in
       subst (λ m. StepStands v.exclusive (length v.caches) (entry_at v local) m

@@ -139,7 +139,7 @@ module _ (c : Config) (bound : Bound) (slice : SliceId) (p : PartsView) (new : I
   no_copies : (local : Local) (core : ℕ) → core < length p.view.caches → copies_at p.view local core ≡ no_copy
   no_copies local core below =
       ap (λ (s : CoreCacheView). copy_of s local)
-          (new.caches.each core (subst (λ n. core < n) new.caches.count_is below))
+      (new.caches.each core (subst (λ n. core < n) new.caches.count_is below))
       ∙ copy_of-new c bound slice.0 core local
 
   -- The lines of a new slice are reached, blocks and all.

@@ -63,7 +63,7 @@ write_writes state next row =
     (if_go-at (row_of state cache_events.Write) (λ n sent. if_so (not (sends_get sent)) (λ _. is_readable state &&
     is_writer n))
     next cache_sends.Nothing
-        (each_state-at (λ s. if_go (row_of s cache_events.Write) (λ n sent. if_so (not (sends_get sent))
+    (each_state-at (λ s. if_go (row_of s cache_events.Write) (λ n sent. if_so (not (sends_get sent))
     (λ _. is_readable s && is_writer n))) each_write_writes state) row) refl
 
 -- A copy on which an access is performed may be read.
@@ -124,7 +124,7 @@ module _ (exclusive : Bool) (cores : ℕ) (init : ℕ → ℕ) (first : ℕ) (en
       let reached = without_blocks exclusive cores line.line line.blocks line.newest line.reached in
       let asked = (core_at channels c).request in
       let step = own_step exclusive cores entry channels copy c (event_of op) next cache_sends.Nothing now asked
-          line.line
+      line.line
       most
       below there (own_access op) row state refl still reached line.stands in
       let newest : (if performs (event_of op) next then now.block else line.newest) ≡ now.block =

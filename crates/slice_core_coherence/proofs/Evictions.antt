@@ -85,7 +85,7 @@ module _ (v : View) (core : CoreId) (local : Local) (shaped : IsShaped v) (most 
       ap (λ (c : CacheCopy). c.state) is ∙ ap (λ (c : CacheCopy). (leaving_after_evict c).state) same in
       own_step v.exclusive (length v.caches) (entry_at v local) (channels_at v local) (copies_at v local) core.0
       cache_events.Eviction (next_by copy.state (row_of copy.state cache_events.Eviction)) by.sent now
-          (Some (put_of copy)) line
+      (Some (put_of copy)) line
       most
       there (subst (λ n. core.0 < n) (sym (shaped.cores local inside)) there) tt
       (ap (λ (c : CacheCopy). row_of c.state cache_events.Eviction) same ∙ by.row) is_next (by.put _)

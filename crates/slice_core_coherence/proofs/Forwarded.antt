@@ -306,7 +306,7 @@ module _ (exclusive : Bool) (cores : ℕ) (entry : DirEntry) (queues : LineChann
       let named = sym (first (forwarded_messages.FwdGetS requester) waits row).2 in
       let sent = queues_sent (forwarded_messages.FwdGetS requester) waits row requester named refl refl in
       given_stands (forwarded_messages.FwdGetS requester) waits row requester named refl refl
-          (record sent { home = Some block })
+      (record sent { home = Some block })
       refl refl
   message_stands (forwarded_messages.FwdGetM requester) waits row =
       let named = sym (first (forwarded_messages.FwdGetM requester) waits row).2 in

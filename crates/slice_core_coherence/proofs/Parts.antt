@@ -106,7 +106,7 @@ pub inv_stands : (copy : CacheCopy) (mail : CoreChannels) (part : Part) (core : 
     → PartStands copy (with_invalidation core mail) (invalidated_by core.0 part)
 inv_stands copy mail part core room stands =
     queue_stands copy mail part (mail.forwarded ++ forwarded_messages.Inv core ∷ []) true core.0 part.look.forward
-        part.names
+    part.names
     part.look.put_ack
     (ap (λ q. q ++ forwarded_messages.Inv core ∷ []) stands.queue
     ∙ inv_behind part.look.inv part.look.forward part.look.put_ack part.owes_to part.names core room)
@@ -161,7 +161,7 @@ pub put_ack_stands : (copy : CacheCopy) (mail : CoreChannels) (part : Part) → 
     (record part { look = record part.look { put_ack = true } })
 put_ack_stands copy mail part room stands =
     queue_stands copy mail part (mail.forwarded ++ forwarded_messages.PutAck ∷ []) part.look.inv part.owes_to
-        part.look.forward
+    part.look.forward
     part.names true
     (ap (λ q. q ++ forwarded_messages.PutAck ∷ []) stands.queue
     ∙ put_ack_behind part.look.inv part.look.forward part.look.put_ack part.owes_to part.names room)

@@ -240,8 +240,7 @@ pub ack-taken : (n k : ℕ) (state next : CopyState) (sent : CacheSends)
     → IsTaken state next sent × (is_counting next ≡ true → is_counting state ≡ true)
 unfolding is_counted
 ack-taken n k state next sent row =
-    let all = if_go-at (row_of state (cache_events.InvAck n k)) (is_counted state) next sent (ack_all n k state) row in
-        (
+    let all = if_go-at (row_of state (cache_events.InvAck n k)) (is_counted state) next sent (ack_all n k state) row in (
       taken-from state next sent (left (is_taken state next sent) (is_counting next implies is_counting state) all),
       implies-at (is_counting next) (is_counting state)
           (right (is_taken state next sent) (is_counting next implies is_counting state) all),

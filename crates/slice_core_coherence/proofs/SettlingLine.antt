@@ -386,9 +386,9 @@ module _ (exclusive : Bool) (cores : ℕ) (entry : DirEntry) (queues : LineChann
       → StepStands exclusive cores entry (asked_by true queues core) (with_copy_at copy core.0 now) line
   ask_step now shared state counted =
       own_step exclusive cores entry queues copy core.0 cache_events.Write copy_states.SM_AD cache_sends.GetM now
-          (Some request_messages.GetM)
+      (Some request_messages.GetM)
       line most within there tt (ap (λ s. row_of s cache_events.Write) shared) state refl (λ waits. counted) reached
-          stands
+      stands
 
 -- A line that is reached, with these channels and these copies.
 abbrev pub IsAt : Bool → ℕ → DirEntry → LineChannels → (ℕ → CacheCopy) → Type 0

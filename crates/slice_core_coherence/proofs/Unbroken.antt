@@ -287,7 +287,7 @@ module _ (v : View) (local : Local) (shaped : IsShaped v) (inside : local.0 < v.
     not_early (forwarded_messages.FwdGetM to) first = refl
     not_early forwarded_messages.PutAck first =
         not_asking ((reached_nothing_early v.exclusive (length v.caches) l some_core most reached core.0
-            below).put_taken
+        below).put_taken
         first.2)
 
     -- What is planned by a row, where the message has one, finds room and isn't early.

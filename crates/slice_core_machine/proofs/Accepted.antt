@@ -115,7 +115,7 @@ module _ (old new : View) (core : CoreId) (local : Local) (target : Target) (ope
     waits_old : (r : Asked) → Waits new r → Waits old r ⊎ (r ≡ request)
     waits_old r waits =
         let same : r ≡ request_of_target (first_word old waits.local) r.core waits.target =
-            rw opens.lines at waits.same in
+        rw opens.lines at waits.same in
         ⊎_elim (λ before. inl (record { local = waits.local; target = waits.target; there = before; same = same }))
         (λ is. inr (same ∙ same_place waits.local r.core waits.target is.0 is.1 is.2))
         (fewer r.core waits.local.0 waits.target waits.there)

@@ -105,7 +105,7 @@ module _ (old : PartsView) (local : Local) (channel : Channel) (new : PartsView)
         log = refl;
         takes =
             subst (λ (s : CoreCacheView). TakesTargets (cache_at old.view core).misses s.misses local.0 taken)
-                (sym here)
+            (sym here)
             done.1;
         tags =
             ap (λ (s : CoreCacheView). s.tags) here
@@ -157,7 +157,7 @@ module _ (old : PartsView) (local : Local) (channel : Channel) (new : PartsView)
       (forwarded (core_of channel) step.requester step.next step.sends (there (forwarded_move step.next step.sends step.requester) is refl))
   planned_performs (deliveries.Moved (transitions.Fill step)) answer is done =
       settled (core_of channel) _ (there (fill_move step.way step.next) is refl)
-          (held step.way (fill_move step.way step.next) is refl)
+      (held step.way (fill_move step.way step.next) is refl)
       done.1
   planned_performs (deliveries.Moved (transitions.Acknowledge step)) answer is done =
       settled (core_of channel) _ (there (ack_move step.way step.next) is refl)

@@ -82,7 +82,7 @@ module _ (old : PartsView) (core : CoreId) (request : Request) (local : Local) (
       let shows = way-shows old.view core local placement known in
       let by =
       opens-by old.view then
-          core (caches.after_open (cache_at then core) local (is_held placement) state request misses) local
+      core (caches.after_open (cache_at then core) local (is_held placement) state request misses) local
       target shows (way-known old.view core local placement known) adds free
       (ap (λ states. slice_set states request.tag tag_states.Open) (shows.tags core)) in record {
         lines = by.lines;

@@ -259,7 +259,7 @@ module _ (old new : View) (core : CoreId) (local : Local) (taken : List Target) 
       init = done.init;
       run =
           performed-run (initially old.init) first core left IsOther far taken block (small_machine_of old)
-              (small_machine_of new) can_all
+          (small_machine_of new) can_all
           (subst (λ ts. IsAscendingBy (λ t. t.seq) ts) done.takes.here
           ((accounted.accounts core known).order.targets local.0)) waits_old waits_new replies done.log legal;
     };

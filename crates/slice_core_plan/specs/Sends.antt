@@ -40,7 +40,7 @@ directory_sent line core block dir_sends.DataE =
     after_send line (channels.Data core) (messages.Data (data_messages.DataE block))
 directory_sent line core block (dir_sends.DataAndInv acks invalidated) =
     after_invalidating (after_send line (channels.Data core) (messages.Data (data_messages.Data block acks)))
-        invalidated core
+    invalidated core
 directory_sent line core block (dir_sends.FwdGetS owner) =
     after_send line (channels.Fwd owner) (messages.Forwarded (forwarded_messages.FwdGetS core))
 directory_sent line core block (dir_sends.FwdGetM owner) =

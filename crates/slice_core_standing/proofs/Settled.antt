@@ -90,7 +90,7 @@ tag-kept states number tag (target ∷ taken) none =
     absurd (omega (arith, all, mine, none)))
     (λ apart.
     tag-kept (slice_set states target.tag (tag_states.Performed number)) (number + 1) tag taken
-        (omega (arith, all, none))
+    (omega (arith, all, none))
     ∙ get_or-set_other states target.tag tag (tag_states.Performed number) tag_states.Free apart)
     (cases_eq tag target.tag)
 

@@ -35,7 +35,7 @@ pub entries-more : (c : Config) (own : Lines) (n : ℕ) (entries : List DirEntry
 entries-more c own n entries block before next = record {
   count_is =
       let longer = length_push entries (unowned_entry block) in let n_is = before.count_is in
-          omega (arith, longer, n_is);
+      omega (arith, longer, n_is);
   each = λ local within. elim (cases_lt local n) [
     | inl less ↦
         let found = before.each local less in

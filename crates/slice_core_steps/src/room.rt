@@ -42,7 +42,12 @@ pub(crate) fn directory_room(line: &LineQueues<'_>, core: CoreId, sends: &DirSen
 
 /// Whether each channel has room that a row of the cache's table sends to, from this core and for the requester.
 #[inline(always)]
-pub(crate) fn cache_room(line: &LineQueues<'_>, core: CoreId, requester: CoreId, sends: CacheSends) -> bool
+pub(crate) fn cache_room(
+    line: &LineQueues<'_>,
+    core: CoreId,
+    requester: CoreId,
+    sends: CacheSends,
+) -> bool
     ensures { result ≡ cache_room line.now core requester sends }
 {
     match sends {

@@ -16,8 +16,8 @@ use arrayvec::ArrayVec;
 use mshr_file::MissFile;
 use receipt_ledger::{Book, LearnError, Lends, Port, Receipt};
 use receipt_shares::SliceNames;
-use slice_core::SliceState;
 use slice_answer::{Delivered, DeliveredNext, Evicted, Issue, Refused};
+use slice_core::SliceState;
 use slice_queues_message::{Class, Pick};
 use std::marker::Model;
 

@@ -47,7 +47,7 @@ pub value-push : (initial : ℕ) (log : List Entry) (e : Entry) (w : ℕ)
 unfolding value
 value-push initial log e w =
     rw (reverse-append log (e ∷ []))
-        (settled-cons (stored_to w) (added_to w) initial e (reverse log) (stored_to w e) refl)
+    (settled-cons (stored_to w) (added_to w) initial e (reverse log) (stored_to w e) refl)
 
 -- one more entry of a log that is read from its front
 pub value-more : (initial : ℕ) (log : List Entry) (i w v r : ℕ) (d : Entry) → i < length log

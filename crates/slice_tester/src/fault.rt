@@ -1,8 +1,8 @@
 use super::draw::Call;
 use address_map::{ConfigError, LineAddr, WordAddr};
 use cache_table::CopyState;
-use slice_core::CallAnswer;
 use slice_answer::{Cell, Evicted, Issue, Refused};
+use slice_core::CallAnswer;
 use slice_queues_message::Pick;
 use std::alloc::{AllocError, AllocFailed};
 use std::fmt;

@@ -9,10 +9,10 @@ use super::shape::Shape;
 use super::tally::{Event, Tally};
 use address_map::{Checked, CoreId, LineAddr, Op, Request, SliceId};
 use mshr_file::MissFile;
-use slice_core::SliceState;
 use slice_answer::{Delivered, DeliveredNext, Evicted, Issue, Refused};
-use slice_log::Entry;
+use slice_core::SliceState;
 use slice_core_steps::LineView;
+use slice_log::Entry;
 use slice_queues_message::{Channel, Class, Pick};
 use std::alloc::Global;
 

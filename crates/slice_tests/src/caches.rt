@@ -7,8 +7,8 @@ use address_map::{Block, Config, CoreId, Local, Offset, Op, Request, SliceId, Wo
 use cache_table::CopyState;
 use mshr_file::{ExplicitFile, InvertedFile, MissFile};
 use slice_answer::Evicted;
+use slice_core_cache::{AccessKind, CoreCache, Placement, TagState};
 use slice_log::Entry;
-use slice_core_cache::{AccessKind, CoreCache, TagState, Placement};
 use std::alloc::Global;
 use std::test::Fail;
 

@@ -6,6 +6,8 @@
 #[cfg(test)]
 mod answers;
 #[cfg(test)]
+mod caches;
+#[cfg(test)]
 mod logs;
 #[cfg(test)]
 mod places_and_configurations;
@@ -15,7 +17,5 @@ mod reports;
 mod settings;
 #[cfg(test)]
 mod shares;
-#[cfg(test)]
-mod caches;
 #[cfg(test)]
 mod theorems;

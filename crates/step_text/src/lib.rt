@@ -9,16 +9,16 @@
 
 pub use case::{Case, Event, Who};
 pub use cores::Cores;
-pub use effects::Done;
 pub use delivery::ExplainedDelivery;
+pub use effects::Done;
 pub use issue::{Eviction, Issue};
 pub use message::MessageName;
 pub use performed::{Asked, Performed};
 
 mod case;
 mod cores;
-mod effects;
 mod delivery;
+mod effects;
 mod issue;
 mod message;
 mod performed;

@@ -189,6 +189,6 @@ entry_too_short version ws few (trace_lines.Entry e) is =
     let op : List Part = parts_of_op e.op e.word.0 in
     let parts : List Part = num e.core.0 ∷ num e.seq ∷ num e.tag ∷ (op ++ num e.reply ∷ num e.since ∷ []) in
     let whole : length (with_since version ws) ≡ length parts =
-        word_for_each (with_since version ws) parts is.written.1 in
+    word_for_each (with_since version ws) parts is.written.1 in
     let two : 2 ≤ length op = access_count e.op e.word.0 in
     omega (arith, simp length-append at whole)

@@ -165,7 +165,7 @@ number_fault version all core seq tag access reply since op word fault parts for
     (subst (SaysLine version (codes "entry" ∷ all)) e.1 s)) in
     let formed = entry_form version all core seq tag access reply since op word parts form of in
     subst (IsFaultOfLine version (codes "entry" ∷ all)) (sym is)
-        ((trace_lines.Entry (entry_of op word), formed), unsaid)
+    ((trace_lines.Entry (entry_of op word), formed), unsaid)
 
 -- what is wrong with the access is wrong with the entry, where the version has a word for it
 pub access_fault : (version : Version) (all : List (List ℕ)) (core seq tag : List ℕ) (access : List (List ℕ))

@@ -173,8 +173,11 @@ IsBuffer-without_line old new line sound removed =
     (record {
       once = AllPairs-filter (λ earlier later. earlier.line.0 ≢ later.line.0)
           (λ write_back. not (is_of line write_back)) old.write_backs sound.once;
-      fits = omega (arith, length-filter_both (is_of line) (λ write_back. not (is_of line write_back)) (λ _. refl)
-          old.write_backs);
+      fits = omega (
+        arith,
+        length-filter_both (is_of line) (λ write_back. not (is_of line write_back)) (λ _. refl)
+            old.write_backs,
+      );
       small = sound.small;
     })
 

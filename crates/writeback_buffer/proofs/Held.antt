@@ -32,7 +32,7 @@ module _ (buffer : Buffer) (line : ℕ) where
   -- a line that was moved to a state is held in it with its block, and of the others what was
   pub advanced_held : (state : CopyState) →
       held_at (with_state buffer line state).write_backs line
-          ≡ option_map (in_state state) (held_at buffer.write_backs line)
+      ≡ option_map (in_state state) (held_at buffer.write_backs line)
   advanced_held state = (ChangesOnly-with_state buffer (with_state buffer line state) line state refl).here
 
   pub advanced_other : (state : CopyState) (other : ℕ) → other ≢ line →

@@ -119,7 +119,7 @@ pub held_at-append_other : (write_backs : List PendingWriteBack) (write_back : P
 held_at-append_other [] write_back other apart = rw apart refl
 held_at-append_other (first ∷ rest) write_back other apart =
     ap (λ later. if is_of other first then Some first.leaving else later)
-        (held_at-append_other rest write_back other apart)
+    (held_at-append_other rest write_back other apart)
 
 -- ---- a line is advanced
 

@@ -2,7 +2,7 @@ ghost use Rattle.std.specs.Prelude.{◌≡◌, ℕ, ◌+◌, ◌<◌, ◌↔◌,
 ghost use Rattle.std.specs.Option.{option_copied, option_map};
 ghost use Rattle.writeback_buffer.specs.Buffer.{is_of};
 
-use super::pending::{PendingWriteBack, Leaving};
+use super::pending::{Leaving, PendingWriteBack};
 use address_map::{Checked, Local};
 use arrayvec::ArrayVec;
 use cache_table::CopyState;
@@ -122,6 +122,8 @@ impl WritebackBuffer {
         ensures place { result ≡ position (is_of line.0) self.now.write_backs }
         ensures sound { IsBuffer self.now }
     {
-        self.write_backs.iter().position(|write_back| write_back.line == line)
+        self.write_backs
+            .iter()
+            .position(|write_back| write_back.line == line)
     }
 }

@@ -17,7 +17,7 @@
 #![tactic(auto)]
 
 pub use buffer::{MOST_WRITE_BACKS, WritebackBuffer};
-pub use pending::{PendingWriteBack, Leaving};
+pub use pending::{Leaving, PendingWriteBack};
 
 mod buffer;
 mod pending;

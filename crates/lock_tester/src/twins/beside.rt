@@ -4,8 +4,8 @@ use super::call::{SliceCall, Told};
 use address_map::{Checked, CoreId, LineAddr, Request, SliceId};
 use mshr_file::MissFile;
 use receipt_ledger::{Answer, Receipt};
-use slice_core::SliceState;
 use slice_answer::{DeliveredNext, Issue};
+use slice_core::SliceState;
 use slice_queues_message::Class;
 use std::alloc::{AllocError, Global};
 

@@ -63,11 +63,7 @@ impl<F: MissFile> CoreCache<F> {
             Row::Go(next, CacheSends::Nothing) => {
                 // a write to an exclusive copy changes it, and nobody is told
                 let silent = matches!((state, next), (CopyState::E, CopyState::M));
-                return AccessKind::Hit {
-                    way,
-                    next,
-                    silent,
-                };
+                return AccessKind::Hit { way, next, silent };
             }
             Row::Go(next, CacheSends::GetS) => (next, Ask::GetS),
             Row::Go(next, CacheSends::GetM) => (next, Ask::GetM),
@@ -75,7 +71,11 @@ impl<F: MissFile> CoreCache<F> {
         };
         if room {
             let placement = Placement::Held;
-            AccessKind::PrimaryMiss { next, ask, placement }
+            AccessKind::PrimaryMiss {
+                next,
+                ask,
+                placement,
+            }
         } else {
             AccessKind::Stall(Stall::NoRegister)
         }
@@ -105,18 +105,15 @@ impl<F: MissFile> CoreCache<F> {
         } else {
             Placement::Victim
         };
-        AccessKind::PrimaryMiss { next, ask, placement }
+        AccessKind::PrimaryMiss {
+            next,
+            ask,
+            placement,
+        }
     }
 
     /// Performs an access on the copy in this way of the line's set, which allows it, and answers the reply.
-    pub fn hit(
-        &mut self,
-        local: Local,
-        way: usize,
-        offset: Offset,
-        op: Op,
-        next: CopyState,
-    ) -> u64
+    pub fn hit(&mut self, local: Local, way: usize, offset: Offset, op: Op, next: CopyState) -> u64
         requires held { position (holds local) (slots_at self.old.array local) ≡ Some way }
         requires within { offset.0 < 8 }
         requires fits { self.old.accepted + 1 < 2 ^ 64 }

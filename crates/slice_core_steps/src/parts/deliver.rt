@@ -24,9 +24,9 @@ use cache_table::CopyState;
 use directory_table::DirStep;
 use mshr_file::MissFile;
 use slice_answer::{Delivered, Delivery};
-use slice_log::Entry;
-use slice_core_plan::{CopyStep, ForwardedStep, HomeStep};
 use slice_core_cache::CoreCache;
+use slice_core_plan::{CopyStep, ForwardedStep, HomeStep};
+use slice_log::Entry;
 use slice_queues::{Channel, DataMessage, Message, Pick, Queues, RequestMessage};
 
 impl<F: MissFile> Parts<F> {
@@ -206,7 +206,14 @@ impl<F: MissFile> Parts<F> {
         let cache = &mut self.caches[core.0 as usize];
         let queues = &mut self.queues;
         queues.drop_at(local, Channel::Fwd(core));
-        send_from_core(queues, local, core, step.requester, cache.block(local), step.sends);
+        send_from_core(
+            queues,
+            local,
+            core,
+            step.requester,
+            cache.block(local),
+            step.sends,
+        );
         cache.advance(local, step.next);
     }
 

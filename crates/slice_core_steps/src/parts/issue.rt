@@ -18,9 +18,9 @@ use address_map::{CoreId, Local, Request};
 use cache_table::CopyState;
 use mshr_file::MissFile;
 use slice_answer::{Issue, Refused};
-use slice_log::Entry;
+use slice_core_cache::{AccessKind, Ask, Placement, TagState};
 use slice_core_plan::{Decision, overwrites};
-use slice_core_cache::{AccessKind, Ask, TagState, Placement};
+use slice_log::Entry;
 use slice_queues_message::{Channel, Message, RequestMessage};
 
 impl<F: MissFile> Parts<F> {
@@ -97,15 +97,15 @@ impl<F: MissFile> Parts<F> {
         ensures room { self.new.room ≡ self.old.room }
     {
         match access {
-            AccessKind::Hit {
-                way,
-                next,
-                silent,
-            } => Issue::Done(self.hit(core, request, local, way, next, silent)),
+            AccessKind::Hit { way, next, silent } => Issue::Done(self.hit(
+                core, request, local, way, next, silent,
+            )),
             AccessKind::SecondaryMiss => Issue::Pending(self.join(core, request, local)),
-            AccessKind::PrimaryMiss { next, ask, placement } => {
-                Issue::Pending(self.open(core, request, local, placement, next, ask))
-            }
+            AccessKind::PrimaryMiss {
+                next,
+                ask,
+                placement,
+            } => { Issue::Pending(self.open(core, request, local, placement, next, ask)) }
             AccessKind::Stall(stall) => Issue::Stall(stall),
         }
     }

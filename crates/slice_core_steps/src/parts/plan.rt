@@ -45,7 +45,9 @@ impl<F: MissFile> Parts<F> {
             Channel::Req(core) => self.plan_request(local, core).map(Transition::Directory),
             Channel::Fwd(core) => self.plan_forwarded(local, core).map(Transition::Forwarded),
             Channel::Data(core) => self.plan_data(local, core).map(Transition::Fill),
-            Channel::Ack { to, from } => self.plan_ack(local, to, from).map(Transition::Acknowledge),
+            Channel::Ack { to, from } => self
+                .plan_ack(local, to, from)
+                .map(Transition::Acknowledge),
             Channel::Home => self.plan_home(local).map(Transition::Home),
         }
     }

@@ -7,5 +7,5 @@ use Rattle.litmus_outcomes.proofs.named_request.NamedRequest.all.Goals as goal
 pub loop-name-preserved : goal.loop-name-preserved
 loop-name-preserved c =
     let more = map-range_with_len_more (named_request_of c.args.test.now) 0 c.loop-name.name c.loop-name.name
-        (omega arith) in
+    (omega arith) in
     grind (arith, common_steps, more)

@@ -10,6 +10,6 @@ touch_at-requires g c =
     let array = c.self.inside.array in
     let found : position (holds c.args.local) (slots_at array c.args.local) ≡ Some c.args.way =
     subst (λ (cache : CoreCacheView). position (holds c.args.local) (slots_at cache.array c.args.local)
-        ≡ Some c.args.way)
+    ≡ Some c.args.way)
     (sym c.self.view_is) c.requires.held in
     written_there array c.args.local c.args.way _ found

@@ -27,4 +27,4 @@ returns g c =
     (entry-read v _ c.in-Some.number _ (ap (λ (p : PartsView). p.view.log) c.self.view_is) logged c.index-entry.ensures)
     (ap (λ (p : PartsView).
     record p { view = record p.view { caches = slice_set p.view.caches c.args.core.0 c.hand.new.self } })
-        c.self.view_is)
+    c.self.view_is)

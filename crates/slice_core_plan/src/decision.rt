@@ -3,7 +3,7 @@ ghost use Rattle.slice_core_plan.specs.Decision.{overwrites};
 
 use address_map::{Local, Op};
 use slice_answer::Refused;
-use slice_core_cache::Access;
+use slice_core_cache::AccessKind;
 
 /// What is to be done with a request, before memory is asked for.
 #[derive(Clone, Copy, Debug, PartialEq, Eq)]

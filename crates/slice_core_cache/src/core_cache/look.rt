@@ -14,7 +14,7 @@ use cache_array::Slot;
 use cache_table::CopyState;
 use mshr_file::{MissFile, Target};
 use std::alloc::{AllocError, Global};
-use writeback_buffer::Entry;
+use writeback_buffer::PendingWriteBack;
 
 /// What a message looks at of a core's copy: all but its block.
 #[derive(Clone, Copy, Debug, PartialEq, Eq)]
@@ -118,7 +118,7 @@ impl<F: MissFile> CoreCache<F> {
     }
 }
 
-fn lines_of_entries(alloc: Global, entries: &[Entry]) -> Result<Vec<Local>, AllocError>
+fn lines_of_entries(alloc: Global, entries: &[PendingWriteBack]) -> Result<Vec<Local>, AllocError>
     ensures { IfOk result (λ lines. lines.items ≡ map (λ entry. entry.line) entries.now) }
 {
     let mut lines = Vec::new(alloc);

@@ -99,16 +99,16 @@ last-streak streak (y ∷ ys) x seq low begun =
 -- ---- one more receipt
 
 module _ (receipts : List Receipt) (r : Receipt) where
-  telling-still : (way : ℕ) → IsTelling receipts way
-      → IsTelling (receipts ++ r ∷ []) way × (told_at (receipts ++ r ∷ []) way ≡ told_at receipts way)
-  telling-still way telling =
+  telling-still : (place : ℕ) → IsTelling receipts place
+      → IsTelling (receipts ++ r ∷ []) place × (told_at (receipts ++ r ∷ []) place ≡ told_at receipts place)
+  telling-still place telling =
       let long = length-append receipts (r ∷ []) in
       let some = telling.behind in
       let within = telling.within in
-      let here : receipt_at (receipts ++ r ∷ []) way ≡ receipt_at receipts way =
-      get_or_append_left receipts (r ∷ []) no_receipt way within in
-      let before : receipt_at (receipts ++ r ∷ []) (way - 1) ≡ receipt_at receipts (way - 1) =
-      get_or_append_left receipts (r ∷ []) no_receipt (way - 1) (omega (arith, some, within)) in (
+      let here : receipt_at (receipts ++ r ∷ []) place ≡ receipt_at receipts place =
+      get_or_append_left receipts (r ∷ []) no_receipt place within in
+      let before : receipt_at (receipts ++ r ∷ []) (place - 1) ≡ receipt_at receipts (place - 1) =
+      get_or_append_left receipts (r ∷ []) no_receipt (place - 1) (omega (arith, some, within)) in (
         record {
           behind = some;
           within = omega (arith, long, within);

@@ -174,10 +174,10 @@ module _ (old new : PartsView) (accounted : IsAccounted old.view) (whole : IsWho
 
   -- what a delivery answers and leaves, by the line's place
   abbrev by_line : Pick → Delivered → Option Local → Type 0
-  by_line pick answer way =
-      AfterPlan (planned_in old.view way (channel_of pick)) old (local_in way) (channel_of pick) answer new
+  by_line pick answer place =
+      AfterPlan (planned_in old.view place (channel_of pick)) old (local_in place) (channel_of pick) answer new
 
-  at_place : (pick : Pick) (answer : Delivered) (way : Option Local) → by_line pick answer way
+  at_place : (pick : Pick) (answer : Delivered) (place : Option Local) → by_line pick answer place
       → Performs old.view new.view
   at_place pick answer None done = unchanged done.1
   at_place pick answer (Some local) done =

@@ -22,7 +22,7 @@ use Rattle.slice_core.specs.declared.run.CallAnswer.TheVariants as call_answers
 use Rattle.slice_core_plan.specs.Decision.{decision_of}
 use Rattle.slice_core_plan.specs.Calls.{PartsView}
 use Rattle.slice_core_plan.specs.View.{View}
-use Rattle.slice_core_steps.specs.declared.core_lines.CoreLines.TheVariants as core_lineses
+use Rattle.slice_core_steps.specs.declared.core_lines.CoreLines.TheVariants as core_lines
 use Rattle.slice_queues_message.specs.declared.channel.Pick.TheVariants as picks
 use Rattle.step_text.specs.Issue.{event_of, text_of_eviction, text_of_issue}
 use Rattle.step_text.specs.declared.case.Event.TheVariants as events
@@ -71,7 +71,7 @@ eviction_of slice core line answer old new = record {
 
 -- where the write-back buffer is full, the copies in it are named
 abbrev pub named_by_answer : Evicted → Named
-named_by_answer evictions.WriteBackFull = named_kinds.Lines core_lineses.Leaving
+named_by_answer evictions.WriteBackFull = named_kinds.Lines core_lines.Leaving
 named_by_answer answer = named_kinds.Nothing
 
 abbrev pub told_of_eviction : ℕ → CoreId → LineAddr → Evicted → List ℕ → View → View → List ℕ

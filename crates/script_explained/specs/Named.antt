@@ -17,14 +17,14 @@ use Rattle.slice_core_plan.specs.View.{View}
 use Rattle.slice_core_plan.specs.declared.decision.Decision.{Decision}
 use Rattle.slice_core_plan.specs.declared.decision.Decision.TheVariants as decisions
 use Rattle.slice_core_steps.specs.CoreLines.{core_lines, last_written_back}
-use Rattle.slice_core_steps.specs.declared.core_lines.CoreLines.TheVariants as core_lineses
+use Rattle.slice_core_steps.specs.declared.core_lines.CoreLines.TheVariants as core_lines
 
 -- Which copies stand in the way of an access, by what is decided of it: for want of a register those that wait, for
 -- want of a way those of its set, for want of room in the write-back buffer those that leave; and the victim of a miss.
 abbrev pub named_by_stall : LineAddr → Stall → Named
-named_by_stall line stalls.NoRegister = named_kinds.Lines core_lineses.Waiting
-named_by_stall line stalls.NoWay = named_kinds.Lines (core_lineses.InSetOf line)
-named_by_stall line stalls.WriteBackFull = named_kinds.Lines core_lineses.Leaving
+named_by_stall line stalls.NoRegister = named_kinds.Lines core_lines.Waiting
+named_by_stall line stalls.NoWay = named_kinds.Lines (core_lines.InSetOf line)
+named_by_stall line stalls.WriteBackFull = named_kinds.Lines core_lines.Leaving
 named_by_stall line stall = named_kinds.Nothing
 
 abbrev pub named_by : LineAddr → Decision → Named

@@ -205,10 +205,10 @@ module _ (old : PartsView) (core : CoreId) (request : Request) (answer : Result 
         };
         accounts = keeps.accounts;
       }
-  accepted local (access_kinds.Hit place next silent) judged room issue fits after =
+  accepted local (access_kinds.Hit way next silent) judged room issue fits after =
       let small = ap (λ (p : PartsView). p.room) after.1 in
       subst Keeps (sym after.1)
-      (hit old core request local room keeps known fits (omega (arith, bound, small)) place next silent judged)
+      (hit old core request local room keeps known fits (omega (arith, bound, small)) way next silent judged)
   accepted local access_kinds.SecondaryMiss judged room issue fits after =
       let small = ap (λ (p : PartsView). p.room) after.3.1 in
       subst Keeps (sym after.3.1)
@@ -235,8 +235,8 @@ module _ (old : PartsView) (core : CoreId) (request : Request) (answer : Result 
       subst Keeps (sym after.1)
       (keeps-posted old old.view _ refl refl refl
       (same-stall old core before.0 (cache_at old.view core).accepted before.1 stall) keeps.counted.shaped keeps)
-  accessed local (access_kinds.Hit place next silent) judged after =
-      with_memory local (access_kinds.Hit place next silent) judged after
+  accessed local (access_kinds.Hit way next silent) judged after =
+      with_memory local (access_kinds.Hit way next silent) judged after
   accessed local access_kinds.SecondaryMiss judged after = with_memory local access_kinds.SecondaryMiss judged after
   accessed local (access_kinds.PrimaryMiss next ask placement) judged after =
       with_memory local (access_kinds.PrimaryMiss next ask placement) judged after

@@ -21,7 +21,7 @@ use Rattle.slice_core_plan.specs.Parts.{PartsView}
 use Rattle.slice_core_plan.specs.View.{cache_at}
 use Rattle.slice_core_steps.specs.CoreLines.{places_of, set_of}
 use Rattle.slice_core_steps.specs.declared.core_lines.CoreLines.{CoreLines}
-use Rattle.slice_core_steps.specs.declared.core_lines.CoreLines.TheVariants as core_lineses
+use Rattle.slice_core_steps.specs.declared.core_lines.CoreLines.TheVariants as core_lines
 use Rattle.writeback_buffer.specs.Buffer.{held_at as buffer_at, is_of}
 use Rattle.writeback_buffer.specs.declared.pending.PendingWriteBack.{PendingWriteBack}
 
@@ -56,11 +56,11 @@ module _ (p : PartsView) (sound : IsSound p) (core : CoreId) (known : core.0 < l
       sound.links.own core slot.line known (ap is_some held))
 
   pub own_places : (lines : CoreLines) → All (λ local. local.0 < p.view.lines.lines) (places_of p.view core lines)
-  own_places core_lineses.Waiting = each _ (λ (register : Register). register.line) (cache_at p.view core).misses
+  own_places core_lines.Waiting = each _ (λ (register : Register). register.line) (cache_at p.view core).misses
       (λ place register at. (registers p sound).own core register.line known
       (register_waits (cache_at p.view core).misses place register ((registers p sound).single core known) at))
-  own_places core_lineses.Leaving =
+  own_places core_lines.Leaving =
       each _ (λ (entry : PendingWriteBack). entry.line) (cache_at p.view core).buffer.write_backs
       (λ place entry at. sound.links.leaves core entry.line known
       (entry_held (cache_at p.view core).buffer.write_backs place entry at))
-  own_places (core_lineses.InSetOf line) = in_set (local_at p.view.lines line.0)
+  own_places (core_lines.InSetOf line) = in_set (local_at p.view.lines line.0)

@@ -252,12 +252,12 @@ state-filled_by copy (Some (data_messages.DataE block)) next = refl
 module _ (v : View) (local : Local) (core : CoreId) (shaped : IsShaped v) (links : HasLinks v)
     (there : core.0 < length v.caches) (within : local.0 < v.lines.lines) where
   -- Data that a core takes keep the links.
-  pub links_fill : (place : ℕ) (next : CopyState) (copy : CacheCopy) (misses : List Register) →
-      plan_of v local (channels.Data core) ≡ fill_move place next → copy.state ≡ next →
+  pub links_fill : (way : ℕ) (next : CopyState) (copy : CacheCopy) (misses : List Register) →
+      plan_of v local (channels.Data core) ≡ fill_move way next → copy.state ≡ next →
       TakesTargets (cache_at v core).misses misses local.0
       (performed_in copy.state (targets_of (cache_at v core).misses local.0)) →
       HasLinks (after_settling v local core (channels.Data core) copy misses)
-  links_fill place next copy misses is state takes =
+  links_fill way next copy misses is state takes =
       let line = channels_at v local in
       let fills = subst (IsFilling v local core) is (data-planned v local core) in
       links_settling v local core shaped links there within (channels.Data core) copy misses fills.0.waited
@@ -268,12 +268,12 @@ module _ (v : View) (local : Local) (core : CoreId) (shaped : IsShaped v) (links
       takes
 
   -- An acknowledgement that a core takes keeps the links.
-  pub links_acknowledge : (from : CoreId) (place : ℕ) (next : CopyState) (copy : CacheCopy) (misses : List Register) →
-      plan_of v local (channels.Ack core from) ≡ ack_move place next → copy.state ≡ next →
+  pub links_acknowledge : (from : CoreId) (way : ℕ) (next : CopyState) (copy : CacheCopy) (misses : List Register) →
+      plan_of v local (channels.Ack core from) ≡ ack_move way next → copy.state ≡ next →
       TakesTargets (cache_at v core).misses misses local.0
       (performed_in copy.state (targets_of (cache_at v core).misses local.0)) →
       HasLinks (after_settling v local core (channels.Ack core from) copy misses)
-  links_acknowledge from place next copy misses is state takes =
+  links_acknowledge from way next copy misses is state takes =
       let line = channels_at v local in
       let counts = subst (IsCounting v local core) is (ack-planned v local core from) in
       links_settling v local core shaped links there within (channels.Ack core from) copy misses counts.waited

@@ -184,7 +184,7 @@ module _ (old : PartsView) (core : CoreId) (request : Request) (answer : Result 
   accessed local (access_kinds.Stall stall) after =
       subst (IsSameSlice old) (sym after.1)
       (lines-changed old _ _ _ _ _ refl)
-  accessed local (access_kinds.Hit place next silent) after = let_in local (access_kinds.Hit place next silent) after
+  accessed local (access_kinds.Hit way next silent) after = let_in local (access_kinds.Hit way next silent) after
   accessed local access_kinds.SecondaryMiss after = let_in local access_kinds.SecondaryMiss after
   accessed local (access_kinds.PrimaryMiss next ask placement) after =
       let_in local (access_kinds.PrimaryMiss next ask placement) after

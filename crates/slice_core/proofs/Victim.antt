@@ -68,13 +68,13 @@ module _ (old : View) (core : CoreId) (request : Request) (local : Local) (next 
       ≡ leaving_lines (cache_at old core) ++ victim ∷ []
   leaving_now =
       let cache = cache_at old core in
-      let placement = with_way old core local placements.Victim in
+      let way = with_way old core local placements.Victim in
       let left = caches.after_replace cache local in
-      let opened = caches.after_open (cache_at placement core) local false next request misses in
-      let there : cache_at placement core ≡ left = get_or-set_same old.caches core.0 left no_cache known in
+      let opened = caches.after_open (cache_at way core) local false next request misses in
+      let there : cache_at way core ≡ left = get_or-set_same old.caches core.0 left no_cache known in
       let long = length-set old.caches core.0 left in
       let then : cache_at (after_open old core request local placements.Victim next ask misses) core ≡ opened =
-      get_or-set_same placement.caches core.0 opened no_cache (omega (arith, known, long)) in
+      get_or-set_same way.caches core.0 opened no_cache (omega (arith, known, long)) in
       ap leaving_lines then ∙ ap leaving_lines there ∙ leaves_last cache local
 
   victim_last : (new : View) → new ≡ after_open old core request local placements.Victim next ask misses

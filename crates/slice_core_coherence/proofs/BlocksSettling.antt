@@ -325,9 +325,9 @@ module _ (v : View) (local : Local) (core : CoreId) (some : 0 < length v.caches)
 
   -- ---- data
 
-  module _ (place : ℕ) (next : CopyState) (is : plan_of v local (channels.Data core) ≡ fill_move place next) where
+  module _ (way : ℕ) (next : CopyState) (is : plan_of v local (channels.Data core) ≡ fill_move way next) where
     abbrev filled_here : CacheCopy
-    filled_here = filled_copy v local core some most shaped kept there inside place next is
+    filled_here = filled_copy v local core some most shaped kept there inside way next is
 
     data_there : core.0 < length (after_take (channels_at v local) (channels.Data core)).cores
     data_there =
@@ -338,8 +338,8 @@ module _ (v : View) (local : Local) (core : CoreId) (some : 0 < length v.caches)
 
     data_loads : is_exclusive filled_here.state ≡ true → list_all is_load waiting_targets ≡ true
     data_loads exclusive =
-        let found = data_found v local core some most shaped kept there inside place next is in
-        let row = data_has_row v local core some most shaped kept there inside place next is in
+        let found = data_found v local core some most shaped kept there inside way next is in
+        let row = data_has_row v local core some most shaped kept there inside way next is in
         exclusive_loads (copy_of (cache_at v core) local).counted (list_all is_load waiting_targets) found.0
         (state_of (cache_at v core) local) next row.0 row.1
         (ap is_exclusive (sym (filled-state (array_copy (cache_at v core) local)
@@ -349,9 +349,9 @@ module _ (v : View) (local : Local) (core : CoreId) (some : 0 < length v.caches)
     data_came =
         let held = array_copy (cache_at v core) local in
         let front = (core_at (channels_at v local) core.0).data in
-        let found = data_found v local core some most shaped kept there inside place next is in
-        let row = data_has_row v local core some most shaped kept there inside place next is in
-        let same = in_array v local core some most shaped kept there inside place next is in
+        let found = data_found v local core some most shaped kept there inside way next is in
+        let row = data_has_row v local core some most shaped kept there inside way next is in
+        let same = in_array v local core some most shaped kept there inside way next is in
         filled_line v.exclusive (length v.caches) (initially v.init) v.log (first_word v local) (entry_at v local)
         (channels_at v local) (copies_at v local) core some most (shaped.cores local inside) there (all local inside)
         (list_all is_load waiting_targets) found.0 found.1 next row.0 row.1 filled_here (filled-state held front next)
@@ -364,7 +364,7 @@ module _ (v : View) (local : Local) (core : CoreId) (some : 0 < length v.caches)
     pub fill_keeps : (misses : List Register)
         → AreReachedWith (after_settling v local core (channels.Data core) filled_here misses)
     fill_keeps misses =
-        let comes = data_comes v local core some most shaped kept there inside place next is in
+        let comes = data_comes v local core some most shaped kept there inside way next is in
         let same = filled-state (array_copy (cache_at v core) local) (core_at (channels_at v local) core.0).data next in
         settling_keeps (channels.Data core) filled_here misses comes.waited (ap stands_in_array same ∙ comes.stands)
         data_there data_loads data_came
@@ -376,10 +376,10 @@ module _ (v : View) (local : Local) (core : CoreId) (some : 0 < length v.caches)
 
   -- ---- acknowledgements
 
-  module _ (from : CoreId) (place : ℕ) (next : CopyState)
-      (is : plan_of v local (channels.Ack core from) ≡ ack_move place next) where
+  module _ (from : CoreId) (way : ℕ) (next : CopyState)
+      (is : plan_of v local (channels.Ack core from) ≡ ack_move way next) where
     abbrev acknowledged_here : CacheCopy
-    acknowledged_here = acknowledged_copy v local core some most shaped kept there inside from place next is
+    acknowledged_here = acknowledged_copy v local core some most shaped kept there inside from way next is
 
     ack_there : core.0 < length (after_take (channels_at v local) (channels.Ack core from)).cores
     ack_there =
@@ -390,7 +390,7 @@ module _ (v : View) (local : Local) (core : CoreId) (some : 0 < length v.caches)
 
     ack_loads : is_exclusive acknowledged_here.state ≡ true → list_all is_load waiting_targets ≡ true
     ack_loads exclusive =
-        let row = ack_has_row v local core some most shaped kept there inside from place next is in
+        let row = ack_has_row v local core some most shaped kept there inside from way next is in
         let copy = copy_of (cache_at v core) local in
         absurd (true≢false (sym exclusive
         ∙ not_exclusive (cache_events.InvAck copy.wants copy.counted) copy.state next row.0
@@ -398,9 +398,9 @@ module _ (v : View) (local : Local) (core : CoreId) (some : 0 < length v.caches)
 
     ack_came : CameTo (channels.Ack core from) acknowledged_here
     ack_came =
-        let row = ack_has_row v local core some most shaped kept there inside from place next is in
-        let comes = ack_comes v local core some most shaped kept there inside from place next is in
-        let waits = (ack_found v local core some most shaped kept there inside from place next is).0 in
+        let row = ack_has_row v local core some most shaped kept there inside from way next is in
+        let comes = ack_comes v local core some most shaped kept there inside from way next is in
+        let waits = (ack_found v local core some most shaped kept there inside from way next is).0 in
         let line = all local inside in
         subst (λ c. CameTo (channels.Ack core from) (copy_after_ack c next))
         (copy_of-held (cache_at v core) local kept (waits-held (cache_at v core) local kept comes.waited))
@@ -412,7 +412,7 @@ module _ (v : View) (local : Local) (core : CoreId) (some : 0 < length v.caches)
     pub count_keeps : (misses : List Register)
         → AreReachedWith (after_settling v local core (channels.Ack core from) acknowledged_here misses)
     count_keeps misses =
-        let comes = ack_comes v local core some most shaped kept there inside from place next is in
+        let comes = ack_comes v local core some most shaped kept there inside from way next is in
         settling_keeps (channels.Ack core from) acknowledged_here misses comes.waited comes.stands ack_there ack_loads
         ack_came
 

@@ -106,9 +106,9 @@ module _ (Whole Fact : View → Type 0) (steps : KeepsAccesses Whole Fact) (old 
       → Fact new.view
   accepted local (access_kinds.Stall stall) is room issue after =
       subst (λ (p : PartsView). Fact p.view) (sym after.1) all
-  accepted local (access_kinds.Hit place next silent) is room issue after =
+  accepted local (access_kinds.Hit way next silent) is room issue after =
       let cache = cache_at old.view core in
-      let row = is_judged cache local request.tag request.op (access_kinds.Hit place next silent) is.1 in
+      let row = is_judged cache local request.tag request.op (access_kinds.Hit way next silent) is.1 in
       subst (λ (p : PartsView). Fact p.view) (sym after.1)
       (steps.hit old.view core local request next more known is.0 is.2 row.0 row.1 all)
   accepted local access_kinds.SecondaryMiss is room issue after =
@@ -135,8 +135,8 @@ module _ (Whole Fact : View → Type 0) (steps : KeepsAccesses Whole Fact) (old 
   accessed : (local : Local) (access : AccessKind) → IsDecided old.view core request local access
       → AfterAccess access old core request local answer new → Fact new.view
   accessed local (access_kinds.Stall stall) is after = subst (λ (p : PartsView). Fact p.view) (sym after.1) all
-  accessed local (access_kinds.Hit place next silent) is after =
-      with_memory local (access_kinds.Hit place next silent) is after
+  accessed local (access_kinds.Hit way next silent) is after =
+      with_memory local (access_kinds.Hit way next silent) is after
   accessed local access_kinds.SecondaryMiss is after = with_memory local access_kinds.SecondaryMiss is after
   accessed local (access_kinds.PrimaryMiss next ask placement) is after =
       with_memory local (access_kinds.PrimaryMiss next ask placement) is after

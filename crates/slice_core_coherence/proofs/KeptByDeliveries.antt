@@ -70,29 +70,29 @@ module _ (Whole Fact : View → Type 0) (steps : KeepsMessages Whole Fact) (old 
   taken_forwarded next sent requester (channels.Ack to from) is after = absurd (planned (channels.Ack to from) _ is)
   taken_forwarded next sent requester channels.Home is after = absurd (planned channels.Home _ is)
 
-  taken_data : (place : ℕ) (next : CopyState) (channel : Channel)
-      → plan_of old.view local channel ≡ fill_move place next
-      → AfterPlan (fill_move place next) old local channel answer new → Fact new.view
-  taken_data place next (channels.Data core) is after =
+  taken_data : (way : ℕ) (next : CopyState) (channel : Channel)
+      → plan_of old.view local channel ≡ fill_move way next
+      → AfterPlan (fill_move way next) old local channel answer new → Fact new.view
+  taken_data way next (channels.Data core) is after =
       let there = planned (channels.Data core) _ is in
       seen _ _ after.1.3 refl
-      (steps.filling old.view local core place next after.1.0 more inside there is after.1.1 all)
-  taken_data place next (channels.Req core) is after = absurd (planned (channels.Req core) _ is)
-  taken_data place next (channels.Fwd core) is after = absurd (planned (channels.Fwd core) _ is)
-  taken_data place next (channels.Ack to from) is after = absurd (planned (channels.Ack to from) _ is)
-  taken_data place next channels.Home is after = absurd (planned channels.Home _ is)
+      (steps.filling old.view local core way next after.1.0 more inside there is after.1.1 all)
+  taken_data way next (channels.Req core) is after = absurd (planned (channels.Req core) _ is)
+  taken_data way next (channels.Fwd core) is after = absurd (planned (channels.Fwd core) _ is)
+  taken_data way next (channels.Ack to from) is after = absurd (planned (channels.Ack to from) _ is)
+  taken_data way next channels.Home is after = absurd (planned channels.Home _ is)
 
-  taken_ack : (place : ℕ) (next : CopyState) (channel : Channel)
-      → plan_of old.view local channel ≡ ack_move place next
-      → AfterPlan (ack_move place next) old local channel answer new → Fact new.view
-  taken_ack place next (channels.Ack to from) is after =
+  taken_ack : (way : ℕ) (next : CopyState) (channel : Channel)
+      → plan_of old.view local channel ≡ ack_move way next
+      → AfterPlan (ack_move way next) old local channel answer new → Fact new.view
+  taken_ack way next (channels.Ack to from) is after =
       let there = planned (channels.Ack to from) _ is in
       seen _ _ after.1.3 refl
-      (steps.counting old.view local to from place next after.1.0 more inside there is after.1.1 all)
-  taken_ack place next (channels.Req core) is after = absurd (planned (channels.Req core) _ is)
-  taken_ack place next (channels.Fwd core) is after = absurd (planned (channels.Fwd core) _ is)
-  taken_ack place next (channels.Data core) is after = absurd (planned (channels.Data core) _ is)
-  taken_ack place next channels.Home is after = absurd (planned channels.Home _ is)
+      (steps.counting old.view local to from way next after.1.0 more inside there is after.1.1 all)
+  taken_ack way next (channels.Req core) is after = absurd (planned (channels.Req core) _ is)
+  taken_ack way next (channels.Fwd core) is after = absurd (planned (channels.Fwd core) _ is)
+  taken_ack way next (channels.Data core) is after = absurd (planned (channels.Data core) _ is)
+  taken_ack way next channels.Home is after = absurd (planned channels.Home _ is)
 
   -- What is planned at a channel keeps the fact.
   pub planned_keeps : (plan : Delivery Transition) (channel : Channel) → plan_of old.view local channel ≡ plan
@@ -104,8 +104,10 @@ module _ (Whole Fact : View → Type 0) (steps : KeepsMessages Whole Fact) (old 
   planned_keeps (deliveries.Moved (transitions.Home step)) channel is after = taken_home step.state step.owner step.sharers channel is after
   planned_keeps (deliveries.Moved (transitions.Forwarded step)) channel is after =
       taken_forwarded step.next step.sends step.requester channel is after
-  planned_keeps (deliveries.Moved (transitions.Fill step)) channel is after = taken_data step.place step.next channel is after
-  planned_keeps (deliveries.Moved (transitions.Acknowledge step)) channel is after = taken_ack step.place step.next channel is after
+  planned_keeps (deliveries.Moved (transitions.Fill step)) channel is after =
+      taken_data step.way step.next channel is after
+  planned_keeps (deliveries.Moved (transitions.Acknowledge step)) channel is after =
+      taken_ack step.way step.next channel is after
 
 -- ---- the calls
 

@@ -205,14 +205,14 @@ module _ (v : View) (local : Local) (core : CoreId) (some : 0 < length v.caches)
 
   -- ---- data
 
-  module _ (place : ℕ) (next : CopyState) (is : plan_of v local (channels.Data core) ≡ fill_move place next) where
+  module _ (way : ℕ) (next : CopyState) (is : plan_of v local (channels.Data core) ≡ fill_move way next) where
     abbrev pub filled_copy : CacheCopy
     filled_copy =
         filled_by (array_copy (cache_at v core) local) (core_at (channels_at v local) core.0).data next
 
     pub data_found : (message : DataMessage) × ((core_at (channels_at v local) core.0).data ≡ Some message)
-        × HasRow v local core place next (event_of_data v local core message)
-    data_found = data_planned v local core place next (core_at (channels_at v local) core.0).data refl is
+        × HasRow v local core way next (event_of_data v local core message)
+    data_found = data_planned v local core way next (core_at (channels_at v local) core.0).data refl is
 
     abbrev pub loads_alone : Bool
     loads_alone = list_all is_load (targets_of (cache_at v core).misses local.0)
@@ -225,7 +225,7 @@ module _ (v : View) (local : Local) (core : CoreId) (some : 0 < length v.caches)
     pub data_has_row : (sent : CacheSends) × IsRow data_found.0 sent
     data_has_row = by data_found.0 data_found.2
       where
-        by : (message : DataMessage) → HasRow v local core place next (event_of_data v local core message)
+        by : (message : DataMessage) → HasRow v local core way next (event_of_data v local core message)
             → (sent : CacheSends) × IsRow message sent
         by (data_messages.Data block acks) row = row
         by (data_messages.DataE block) row = row
@@ -267,18 +267,18 @@ module _ (v : View) (local : Local) (core : CoreId) (some : 0 < length v.caches)
 
   -- ---- acknowledgements
 
-  module _ (from : CoreId) (place : ℕ) (next : CopyState)
-      (is : plan_of v local (channels.Ack core from) ≡ ack_move place next) where
+  module _ (from : CoreId) (way : ℕ) (next : CopyState)
+      (is : plan_of v local (channels.Ack core from) ≡ ack_move way next) where
     abbrev pub acknowledged_copy : CacheCopy
     acknowledged_copy = copy_after_ack (array_copy (cache_at v core) local) next
 
     pub ack_found : (has (core_at (channels_at v local) core.0).acks from.0 ≡ true)
-        × HasRow v local core place next (ack_event v local core place next)
+        × HasRow v local core way next (ack_event v local core way next)
     ack_found =
-        ack_planned v local core place next from (has (core_at (channels_at v local) core.0).acks from.0) refl is
+        ack_planned v local core way next from (has (core_at (channels_at v local) core.0).acks from.0) refl is
 
     pub ack_has_row : (sent : CacheSends)
-        × (row_of (state_of (cache_at v core) local) (ack_event v local core place next) ≡ rows.Go next sent)
+        × (row_of (state_of (cache_at v core) local) (ack_event v local core way next) ≡ rows.Go next sent)
     ack_has_row = ack_found.1
 
     pub ack_comes : IsTaken (state_of (cache_at v core) local) next ack_has_row.0

@@ -73,16 +73,16 @@ pub record KeepsMessages (Whole Fact : View → Type 0) : Type 0 where
       (requester : CoreId) → Whole v → local.0 < v.lines.lines → core.0 < length v.caches
       → HasCopy (cache_at v core) local → plan_of v local (channels.Fwd core) ≡ forwarded_move next sent requester
       → Fact v → Fact (after_forwarded v local core next sent requester)
-  pub filling : (v : View) (local : Local) (core : CoreId) (place : ℕ) (next : CopyState) (misses : List Register)
+  pub filling : (v : View) (local : Local) (core : CoreId) (way : ℕ) (next : CopyState) (misses : List Register)
       → Whole v → local.0 < v.lines.lines → core.0 < length v.caches
-      → plan_of v local (channels.Data core) ≡ fill_move place next
+      → plan_of v local (channels.Data core) ≡ fill_move way next
       → TakesAllowed v local core
       (filled_by (array_copy (cache_at v core) local) (core_at (channels_at v local) core.0).data next) misses → Fact v
       → Fact (after_settling v local core (channels.Data core)
       (filled_by (array_copy (cache_at v core) local) (core_at (channels_at v local) core.0).data next) misses)
-  pub counting : (v : View) (local : Local) (core from : CoreId) (place : ℕ) (next : CopyState)
+  pub counting : (v : View) (local : Local) (core from : CoreId) (way : ℕ) (next : CopyState)
       (misses : List Register) → Whole v → local.0 < v.lines.lines → core.0 < length v.caches
-      → plan_of v local (channels.Ack core from) ≡ ack_move place next
+      → plan_of v local (channels.Ack core from) ≡ ack_move way next
       → TakesAllowed v local core (copy_after_ack (array_copy (cache_at v core) local) next) misses → Fact v
       → Fact (after_settling v local core (channels.Ack core from)
       (copy_after_ack (array_copy (cache_at v core) local) next) misses)

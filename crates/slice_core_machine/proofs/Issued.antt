@@ -170,11 +170,11 @@ module _ (old : PartsView) (core : CoreId) (request : Request) (answer : Result 
       (pending old core request local accounted known (after_join old.view core request done.0) is.line
       (opens-by old.view old.view core cache local (target_for old core request) (same-view old.view) known done.1
       is.free refl))
-  accepted local (access_kinds.PrimaryMiss state ask placement) is room issue answered done =
+  accepted local (access_kinds.PrimaryMiss state ask way) is room issue answered done =
       leads_to (Ok (issues.Pending (cache_at old.view core).accepted)) _ (answered ∙ ap (λ i. Ok i) done.3.0) done.3.1
       (pending old core request local accounted known
-      (after_open old.view core request local placement state ask done.0) is.line
-      (opens_open old core request local accounted known placement state ask done.0 done.1 is.free))
+      (after_open old.view core request local way state ask done.0) is.line
+      (opens_open old core request local accounted known way state ask done.0 done.1 is.free))
 
   with_memory : (local : Local) (access : AccessKind) → IsJudged old.view core request local access
       → LacksMemory old answer new ⊎ IsAccepted access old core request local answer new → LeadsBy answer new
@@ -189,8 +189,8 @@ module _ (old : PartsView) (core : CoreId) (request : Request) (answer : Result 
   accessed local (access_kinds.Hit way state silent) is done =
       with_memory local (access_kinds.Hit way state silent) is done
   accessed local access_kinds.SecondaryMiss is done = with_memory local access_kinds.SecondaryMiss is done
-  accessed local (access_kinds.PrimaryMiss state ask placement) is done =
-      with_memory local (access_kinds.PrimaryMiss state ask placement) is done
+  accessed local (access_kinds.PrimaryMiss state ask way) is done =
+      with_memory local (access_kinds.PrimaryMiss state ask way) is done
 
   -- what an issue answers and leaves, by what was decided
   abbrev by_decision : Decision → Type 0

@@ -63,10 +63,10 @@ forwarded_move next sends requester =
 
 -- a core takes its data, or counts an acknowledgement, for the copy in this way of its set
 abbrev pub fill_move : ℕ → CopyState → Delivery Transition
-fill_move place next = deliveries.Moved (transitions.Fill (record { place = place; next = next }))
+fill_move way next = deliveries.Moved (transitions.Fill (record { way = way; next = next }))
 
 abbrev pub ack_move : ℕ → CopyState → Delivery Transition
-ack_move place next = deliveries.Moved (transitions.Acknowledge (record { place = place; next = next }))
+ack_move way next = deliveries.Moved (transitions.Acknowledge (record { way = way; next = next }))
 
 -- ---- the directory
 
@@ -159,7 +159,7 @@ stands_at v local core = position (holds local) (slots_at (cache_at v core).arra
 -- what data do to a copy that stands there
 abbrev pub fill_at : Option ℕ → CopyState → Delivery Transition
 fill_at None next = deliveries.Broken cells.Entry
-fill_at (Some place) next = fill_move place next
+fill_at (Some way) next = fill_move way next
 
 -- what follows from the cache's row for data: they may not come before the request was taken
 abbrev pub by_data_row : View → Local → CoreId → Row → Delivery Transition
@@ -179,7 +179,7 @@ data_plan v local core = data_by v local core (core_at (channels_at v local) cor
 -- what an acknowledgement does to a copy that stands there
 abbrev pub acknowledge_at : Option ℕ → CopyState → Delivery Transition
 acknowledge_at None next = deliveries.Broken cells.Entry
-acknowledge_at (Some place) next = ack_move place next
+acknowledge_at (Some way) next = ack_move way next
 
 -- what follows from the cache's row for an acknowledgement
 abbrev pub by_ack_row : View → Local → CoreId → Row → Delivery Transition

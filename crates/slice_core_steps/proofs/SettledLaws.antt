@@ -71,10 +71,10 @@ asks-unshared copy_states.SI_A targets e = refl
 asks-unshared copy_states.II_A targets e = refl
 
 -- a core whose copy was changed and then settled is as a message leaves it
-pub settles : (old new : PartsView) (local : Local) (core : CoreId) (channel : Channel) (place : ℕ) (copy : CacheCopy)
+pub settles : (old new : PartsView) (local : Local) (core : CoreId) (channel : Channel) (way : ℕ) (copy : CacheCopy)
     (changed cache : CoreCacheView) (asks : Bool) (line : LineChannels) (log : List Entry) (stats : StatsView)
     (pending : ℕ) →
-    StandsAt (cache_at old.view core) local place →
+    StandsAt (cache_at old.view core) local way →
     changed ≡ after_change (cache_at old.view core) local copy →
     asks ≡ asks_to_write (array_copy changed local).state (targets_of changed.misses local.0) →
     TakesTargets changed.misses cache.misses local.0
@@ -93,12 +93,11 @@ pub settles : (old new : PartsView) (local : Local) (core : CoreId) (channel : C
       ring = with_listed old.ring local.0;
     } →
     Settles old local core channel copy new
-settles old new local core channel place copy changed cache asks line log stats pending stands is asked taken sound
-    after
+settles old new local core channel way copy changed cache asks line log stats pending stands is asked taken sound after
     logged left
     sent counted made =
     let here : array_copy changed local ≡ copy =
-    ap (λ (s : CoreCacheView). array_copy s local) is ∙ changed_copy (cache_at old.view core) local place copy stands in
+    ap (λ (s : CoreCacheView). array_copy s local) is ∙ changed_copy (cache_at old.view core) local way copy stands in
     let kept : changed.misses ≡ (cache_at old.view core).misses = ap (λ (s : CoreCacheView). s.misses) is in
     let settled : cache
     ≡ after_settle (after_change (cache_at old.view core) local copy) local (length old.view.log) cache.misses =

@@ -9,7 +9,7 @@ use Rattle.mshr_file.specs.Miss.{waited_lines}
 use Rattle.slice_core_cache.specs.CoreCache.{leaving_lines}
 use Rattle.slice_core_plan.specs.View.{View, cache_at}
 use Rattle.slice_core_steps.specs.declared.core_lines.CoreLines.{CoreLines}
-use Rattle.slice_core_steps.specs.declared.core_lines.CoreLines.TheVariants as core_lineses
+use Rattle.slice_core_steps.specs.declared.core_lines.CoreLines.TheVariants as core_lines
 
 -- the lines in the set of a line; a line that isn't the slice's has no set
 abbrev pub set_of : View → CoreId → Option Local → List Local
@@ -18,9 +18,9 @@ set_of v core (Some local) = lines_at (cache_at v core).array local
 
 -- the lines by their places in the slice
 abbrev pub places_of : View → CoreId → CoreLines → List Local
-places_of v core core_lineses.Waiting = waited_lines (cache_at v core).misses
-places_of v core core_lineses.Leaving = leaving_lines (cache_at v core)
-places_of v core (core_lineses.InSetOf line) = set_of v core (local_at v.lines line.0)
+places_of v core core_lines.Waiting = waited_lines (cache_at v core).misses
+places_of v core core_lines.Leaving = leaving_lines (cache_at v core)
+places_of v core (core_lines.InSetOf line) = set_of v core (local_at v.lines line.0)
 
 -- .. and by their numbers in the memory
 abbrev pub core_lines : View → CoreId → CoreLines → List LineAddr
@@ -29,4 +29,4 @@ core_lines v core lines = map (line_at v.lines) (places_of v core lines)
 -- the line that the core's write-back buffer took in last: after a miss for which one had to leave, the victim
 abbrev pub last_written_back : View → CoreId → Option LineAddr
 last_written_back v core =
-    let lines : List LineAddr = core_lines v core core_lineses.Leaving in slice_get lines (length lines - 1)
+    let lines : List LineAddr = core_lines v core core_lines.Leaving in slice_get lines (length lines - 1)

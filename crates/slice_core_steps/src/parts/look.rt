@@ -171,12 +171,12 @@ fn are_quiet<F: MissFile>(caches: &[CoreCache<F>]) -> bool
 
 // The lines at these places of the slice.
 fn lines_at(alloc: Global, own: Locator, places: &[Local]) -> Result<Vec<LineAddr>, AllocError>
-    requires { All (λ way. way.0 < own.lines) places.now }
+    requires { All (λ place. place.0 < own.lines) places.now }
     ensures { IfOk result (λ lines. lines.items ≡ map (line_at own) places.now) }
 {
     let mut lines = Vec::new(alloc);
-    for way in places {
-        lines.push(own.line_at(*way))?;
+    for place in places {
+        lines.push(own.line_at(*place))?;
     }
     Ok(lines)
 }

@@ -34,7 +34,7 @@ returns g c =
     ≡ after_change s local (copy_after_ack (array_copy s local) c.args.next))
     cache c.acknowledge.ensures in
     let here : array_copy c.acknowledge.new.self local ≡ copy =
-    ap (λ (s : CoreCacheView). array_copy s local) is ∙ changed_copy old local c.args.place copy c.requires.stands in
+    ap (λ (s : CoreCacheView). array_copy s local) is ∙ changed_copy old local c.args.way copy c.requires.stands in
     let none : asks_to_write (array_copy c.acknowledge.new.self local).state
     (targets_of c.acknowledge.new.self.misses local.0) ≡ false =
     ap (λ k. asks_to_write k.state (targets_of c.acknowledge.new.self.misses local.0)) here
@@ -49,7 +49,7 @@ returns g c =
     let ring : c.drop_at.new.self.ring ≡ with_listed c.args.self.now.ring local.0 =
     ap (λ k. k.ring) c.drop_at.ensures ∙ ap (λ p. with_listed p.ring local.0) c.self.view_is in
     settles c.args.self.now _ local core
-    (channels.Ack core c.args.from) c.args.place _ c.acknowledge.new.self c.settle_copy.new.cache
+    (channels.Ack core c.args.from) c.args.way _ c.acknowledge.new.self c.settle_copy.new.cache
     false (after_take (channels_at v local) (channels.Ack core c.args.from)) c.settle_copy.new.log.items
     c.count_message.new.self
     c.settle_copy.new.pending c.requires.stands is (sym none)

@@ -55,7 +55,7 @@ returns g c =
     search rules in
     let logged = c.settle_copy-asks.ensures.log in
     settles c.args.self.now _ local core
-    (channels.Data core) c.args.place _ c.fill_copy.new.cache c.settle_copy-asks.new.cache
+    (channels.Data core) c.args.way _ c.fill_copy.new.cache c.settle_copy-asks.new.cache
     c.settle_copy-asks.result (asked (channels_at v local)) c.settle_copy-asks.new.log.items c.count_message.new.self
     c.settle_copy-asks.new.pending c.requires.stands (is ∙ ap copy message) c.settle_copy-asks.ensures.asks
     c.settle_copy-asks.ensures.taken c.settle_copy-asks.ensures.sound after

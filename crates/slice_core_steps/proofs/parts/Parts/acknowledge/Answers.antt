@@ -18,7 +18,7 @@ settle_copy-requires-clause-held g c =
     let cache : c.index_mut-cache.result.now ≡ cache_at c.args.self.now.view c.args.to =
     read_cache _ _ _ _ c.index_mut-cache.ensures.value (ap (λ p. p.view.caches) c.self.view_is) c.requires.to in
     rw (c.acknowledge.ensures, cache)
-    (changed_stands (cache_at c.args.self.now.view c.args.to) c.args.local c.args.way _ c.requires.stands)
+    (changed_stands (cache_at c.args.self.now.view c.args.to) c.args.local c.args.step.way _ c.requires.stands)
 
 pub returns : goal.returns
 returns g c =
@@ -28,17 +28,17 @@ returns g c =
     let old = cache_at v core in
     let cache : c.index_mut-cache.result.now ≡ cache_at v core =
     read_cache _ _ _ _ c.index_mut-cache.ensures.value (ap (λ p. p.view.caches) c.self.view_is) c.requires.to in
-    let copy = copy_after_ack (array_copy old local) c.args.next in
+    let copy = copy_after_ack (array_copy old local) c.args.step.next in
     let is : c.acknowledge.new.self ≡ after_change old local copy = subst
     (λ (s : CoreCacheView). c.acknowledge.new.self
-    ≡ after_change s local (copy_after_ack (array_copy s local) c.args.next))
+    ≡ after_change s local (copy_after_ack (array_copy s local) c.args.step.next))
     cache c.acknowledge.ensures in
     let here : array_copy c.acknowledge.new.self local ≡ copy =
-    ap (λ (s : CoreCacheView). array_copy s local) is ∙ changed_copy old local c.args.way copy c.requires.stands in
+    ap (λ (s : CoreCacheView). array_copy s local) is ∙ changed_copy old local c.args.step.way copy c.requires.stands in
     let none : asks_to_write (array_copy c.acknowledge.new.self local).state
     (targets_of c.acknowledge.new.self.misses local.0) ≡ false =
     ap (λ k. asks_to_write k.state (targets_of c.acknowledge.new.self.misses local.0)) here
-    ∙ asks-unshared c.args.next (targets_of c.acknowledge.new.self.misses local.0) c.requires.waits in
+    ∙ asks-unshared c.args.step.next (targets_of c.acknowledge.new.self.misses local.0) c.requires.waits in
     let after : c.settle_copy.new.cache
     ≡ after_settle c.acknowledge.new.self local (length v.log) c.settle_copy.new.cache.misses =
     search rules in
@@ -49,7 +49,7 @@ returns g c =
     let ring : c.drop_at.new.self.ring ≡ with_listed c.args.self.now.ring local.0 =
     ap (λ k. k.ring) c.drop_at.ensures ∙ ap (λ p. with_listed p.ring local.0) c.self.view_is in
     settles c.args.self.now _ local core
-    (channels.Ack core c.args.from) c.args.way _ c.acknowledge.new.self c.settle_copy.new.cache
+    (channels.Ack core c.args.from) c.args.step.way _ c.acknowledge.new.self c.settle_copy.new.cache
     false (after_take (channels_at v local) (channels.Ack core c.args.from)) c.settle_copy.new.log.items
     c.count_message.new.self
     c.settle_copy.new.pending c.requires.stands is (sym none)

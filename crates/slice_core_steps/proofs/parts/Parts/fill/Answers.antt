@@ -20,7 +20,7 @@ settle_copy-asks-requires-clause-held g c =
     let cache : c.index_mut-cache.result.now ≡ cache_at c.args.self.now.view c.args.core =
     read_cache _ _ _ _ c.index_mut-cache.ensures.value (ap (λ p. p.view.caches) c.self.view_is) c.requires.core in
     rw (c.fill_copy.ensures, cache)
-    (changed_stands (cache_at c.args.self.now.view c.args.core) c.args.local c.args.way _ c.requires.stands)
+    (changed_stands (cache_at c.args.self.now.view c.args.core) c.args.local c.args.step.way _ c.requires.stands)
 
 pub returns : goal.returns
 returns g c =
@@ -44,18 +44,18 @@ returns g c =
     let message : Some c.in-Some.message.now ≡ (core_at (channels_at v local) core.0).data = search rules in
     let is = subst
     (λ (s : CoreCacheView). c.fill_copy.new.cache
-    ≡ after_change s local (filled_by (array_copy s local) (Some c.in-Some.message.now) c.args.next))
+    ≡ after_change s local (filled_by (array_copy s local) (Some c.in-Some.message.now) c.args.step.next))
     cache c.fill_copy.ensures in
     let copy : Option DataMessage →
     CoreCacheView = λ d. after_change (cache_at v core) local
-    (filled_by (array_copy (cache_at v core) local) d c.args.next) in
+    (filled_by (array_copy (cache_at v core) local) d c.args.step.next) in
     let number = ap (λ p. length p.view.log) c.self.view_is in
     let after : c.settle_copy-asks.new.cache
     ≡ after_settle c.fill_copy.new.cache local (length v.log) c.settle_copy-asks.new.cache.misses =
     search rules in
     let logged = c.settle_copy-asks.ensures.log in
     settles c.args.self.now _ local core
-    (channels.Data core) c.args.way _ c.fill_copy.new.cache c.settle_copy-asks.new.cache
+    (channels.Data core) c.args.step.way _ c.fill_copy.new.cache c.settle_copy-asks.new.cache
     c.settle_copy-asks.result (asked (channels_at v local)) c.settle_copy-asks.new.log.items c.count_message.new.self
     c.settle_copy-asks.new.pending c.requires.stands (is ∙ ap copy message) c.settle_copy-asks.ensures.asks
     c.settle_copy-asks.ensures.taken c.settle_copy-asks.ensures.sound after

@@ -19,7 +19,7 @@ send_from_core-requires-clause-room g c =
     ap (λ p. channels_at p.view local) c.self.view_is in
     rw (read-lent c.self.inside.queues c.drop_at.new.self local _ there c.drop_at.ensures, line)
     (cache_room-after_forwarded
-    (channels_at c.args.self.now.view c.args.local) c.args.core c.args.requester c.args.sends c.requires.room)
+    (channels_at c.args.self.now.view c.args.local) c.args.core c.args.step.requester c.args.step.sends c.requires.room)
 
 pub returns : goal.returns
 returns g c =
@@ -28,10 +28,10 @@ returns g c =
     let core = c.args.core in
     let there : local.0 < length c.self.inside.queues.channels.lines = search rules in
     let sent : LineChannels → LineChannels = λ line.
-    cache_sent (after_take line (channels.Fwd core)) core c.args.requester c.block.result.now c.args.sends in
+    cache_sent (after_take line (channels.Fwd core)) core c.args.step.requester c.block.result.now c.args.step.sends in
     let queues = c.send_from_core.ensures
     ∙ lent_again c.self.inside.queues c.drop_at.new.self local _
-    (λ line. cache_sent line core c.args.requester c.block.result.now c.args.sends) there c.drop_at.ensures in
+    (λ line. cache_sent line core c.args.step.requester c.block.result.now c.args.step.sends) there c.drop_at.ensures in
     let lines : c.send_from_core.new.queues.channels.lines ≡ set v.channels local.0 (sent (channels_at v local)) =
     ap (λ k. k.channels.lines) queues
     ∙ ap (λ p. set p.view.channels local.0 (sent (channels_at p.view local))) c.self.view_is in

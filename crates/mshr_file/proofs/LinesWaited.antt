@@ -1,6 +1,6 @@
 -- The lines that are waited for, as rows and as slots have them.
 use Rattle.std.proofs.Common.{◌≡◌, ◌+◌, ◌-◌, ◌<◌, ◌≤◌, arith, drop, get_or, length}
-use Rattle.std.proofs.Common.{◌==◌, ℕ, zero, suc, Bool, true, false, not, if◌then◌else◌, List, [], ◌∷◌, ◌++◌}
+use Rattle.std.proofs.Common.{◌==◌, ℕ, zero, suc, true, false, not, List, [], ◌∷◌, ◌++◌}
 use Rattle.std.proofs.Common.{filter, map, slice_get, Some, refl, ap, sym, subst, ⊎_elim, ◌∙◌}
 use Rattle.std.specs.Prelude.{All, IsTrue}
 use Rattle.std.specs.List.{list_any}

@@ -1,9 +1,10 @@
 ghost use Rattle.std.specs.Prelude.{◌≡◌, ◌+◌, ◌<◌, ◌≤◌, true, if◌then◌else◌, [], ◌∷◌, filter, find, length, map, take};
-ghost use Rattle.std.specs.Prelude.{IfOk, OnOk};
+ghost use Rattle.std.specs.Prelude.{◌==◌, IfOk, OnOk};
 ghost use Rattle.std.specs.List.{list_any, prefix_len, position};
 ghost use Rattle.std.specs.Option.{option_copied};
 ghost use Rattle.target_list.specs.Target.{front_loads};
-ghost use Rattle.mshr_file.specs.Miss.{waited_lines, targets_of, has_miss, has_tag, is_free, AddsTarget, TakesTargets, IsMissFile};
+ghost use Rattle.mshr_file.specs.Miss.{has_miss, has_tag, is_free, targets_of, waited_lines, AddsTarget, IsMissFile};
+ghost use Rattle.mshr_file.specs.Miss.{TakesTargets};
 ghost use Rattle.mshr_file.specs.Waiting.{at_line, by_line, entry_at, waiting_in, waits_for, slot_for, IsEntryTable};
 ghost use Rattle.mshr_file.specs.Waiting.{lines_from, with_line, TakesEntries};
 
@@ -241,10 +242,16 @@ fn lines_from(alloc: Global, slots: &[Slot]) -> Result<Vec<Local>, AllocError>
 fn note_line(lines: &mut Vec<Local>, line: Local) -> Result<(), AllocError>
     ensures { OnOk result (lines.new.items ≡ with_line line lines.old.items) }
 {
-    if lines.iter().any(|other| *other == line) {
+    if has_line(lines, line) {
         return Ok(());
     }
     Ok(lines.push(line)?)
+}
+
+fn has_line(lines: &[Local], line: Local) -> bool
+    ensures { result ≡ list_any (λ other. other.0 == line.0) lines.now }
+{
+    lines.iter().any(|other| *other == line)
 }
 
 fn any_for(slots: &[Slot], line: Local) -> bool

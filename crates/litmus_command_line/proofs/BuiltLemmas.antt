@@ -9,7 +9,7 @@ use Rattle.clap.specs.declared.builder.arg.Arg.{Arg}
 use Rattle.clap.specs.declared.builder.command.Command.{Command}
 use Rattle.clap.specs.declared.builder.command.Command.TheViews.{out-Command as fields_of}
 use Rattle.clap.specs.Words.{App, Text, app_of, rule_of, with_subcommand}
-use Rattle.litmus_command_line.specs.CommandLine.{IsExport, IsLockup, IsTable, IsTablesProgram, IsWith, export_app}
+use Rattle.litmus_command_line.specs.CommandLine.{IsExport, IsLockup, IsTable, IsTablesProgram, IsWith}
 use Rattle.litmus_command_line.specs.CommandLine.{table_app, table_program}
 
 -- the program with a subcommand that is known

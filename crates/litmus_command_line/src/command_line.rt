@@ -595,7 +595,7 @@ fn lone_flag<'a>(
     alloc: Global,
     name: &'a str,
     help: &'a str,
-    others: &[&'a str],
+    others: &'a [&'a str],
 ) -> Result<Arg<'a>, AllocError>
     requires { 0 < length others.now }
     ensures rule { IfOk result (λ arg. rule_of arg ≡ lone_rule name.entry.now) }

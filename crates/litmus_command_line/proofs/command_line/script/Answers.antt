@@ -13,7 +13,8 @@ returns-clause-reads c =
 
 pub returns-clause-plain : goal.returns-clause-plain
 returns-clause-plain c =
-    let vcd = c.in_ok-arg.ensures.globals ∙ ap₂ (λ a b. a || b) c.in_ok-answering.ensures.plain c.in_ok-lone_flag.ensures.plain in
+    let vcd = c.in_ok-arg.ensures.globals
+    ∙ ap₂ (λ a b. a || b) c.in_ok-answering.ensures.plain c.in_ok-lone_flag.ensures.plain in
     IfOk-weaker c.arg-2.result _ _
     (λ made adds. adds.globals ∙ ap₂ (λ a b. a || b) vcd c.in_ok-lone_flag-2.ensures.plain)
     c.arg-2.ensures

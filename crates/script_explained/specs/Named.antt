@@ -16,7 +16,7 @@ use Rattle.slice_core_cache.specs.declared.access.Placement.TheVariants as place
 use Rattle.slice_core_plan.specs.View.{View}
 use Rattle.slice_core_plan.specs.declared.decision.Decision.{Decision}
 use Rattle.slice_core_plan.specs.declared.decision.Decision.TheVariants as decisions
-use Rattle.slice_core_steps.specs.CoreLines.{core_lines, last_written_back}
+use Rattle.slice_core_steps.specs.CoreLines.{last_written_back, lines_of_core}
 use Rattle.slice_core_steps.specs.declared.core_lines.CoreLines.TheVariants as core_lines
 
 -- Which copies stand in the way of an access, by what is decided of it: for want of a register those that wait, for
@@ -36,7 +36,7 @@ named_by line decision = named_kinds.Nothing
 abbrev pub named_lines : Named → View → CoreId → List LineAddr
 named_lines named_kinds.Nothing v core = []
 named_lines named_kinds.Victim v core = option_to_list (last_written_back v core)
-named_lines (named_kinds.Lines which) v core = core_lines v core which
+named_lines (named_kinds.Lines which) v core = lines_of_core v core which
 
 -- these are their numbers, in ascending order
 pub record AreNamed (which : Named) (v : View) (core : CoreId) (numbers : List ℕ) : Type 0 where

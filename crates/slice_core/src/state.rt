@@ -16,7 +16,7 @@ ghost use Rattle.slice_core_plan.specs.Plan.{planned_at};
 ghost use Rattle.slice_core_plan.specs.Turn.{ServesInTurn};
 ghost use Rattle.slice_core_plan.specs.Parts.{ring_lines};
 ghost use Rattle.slice_core_plan.specs.View.{View, IsQuiet, cache_at};
-ghost use Rattle.slice_core_steps.specs.CoreLines.{core_lines, last_written_back};
+ghost use Rattle.slice_core_steps.specs.CoreLines.{last_written_back, lines_of_core};
 ghost use Rattle.slice_queues.specs.Waiting.{lines_waiting};
 ghost use Rattle.slice_queues_message.specs.Pick.{channel_of, line_of as line_of_pick};
 
@@ -252,7 +252,7 @@ impl<F: MissFile> SliceState<F> {
         which: CoreLines,
     ) -> Result<Vec<LineAddr>, AllocError>
         requires { core.0 < length self.now.view.caches }
-        ensures { IfOk result (λ lines. lines.items ≡ core_lines self.now.view core which) }
+        ensures { IfOk result (λ lines. lines.items ≡ lines_of_core self.now.view core which) }
     {
         self.parts.core_lines(alloc, core, which)
     }

@@ -9,4 +9,3 @@ pub mod NextLaws
 pub mod NextAnswers
 pub mod TurnLaws
 pub mod MadeLaws
-pub mod MappedLaws

@@ -24,6 +24,19 @@ use Rattle.slice_answer.specs.declared.answer.Delivery.TheVariants as deliveries
 use Rattle.slice_answer.specs.declared.answer.Delivery.{Delivery}
 use Rattle.slice_core_plan.specs.declared.transition.Transition.{Transition}
 
+-- what may be next, by the line and its channel
+abbrev found_nothing : Delivery (Local × Channel)
+found_nothing = deliveries.Nothing
+
+abbrev found_blocked : Delivery (Local × Channel)
+found_blocked = deliveries.Blocked
+
+abbrev found_broken : Cell → Delivery (Local × Channel)
+found_broken cell = deliveries.Broken cell
+
+abbrev found_at : Local → Channel → Delivery (Local × Channel)
+found_at local channel = deliveries.Moved (local, channel)
+
 -- where nothing is best, nothing is planned
 none-planned : (local : Local) (channel : Channel) (plan : Delivery Transition) → IsNoBetter deliveries.Nothing (next_by local channel plan)
     → plan ≡ deliveries.Nothing
@@ -67,12 +80,16 @@ broken-met local channel cell (deliveries.Moved step) h = cc
 
 -- what can be moved is planned there
 moved-there : (local at : Local) (channel other : Channel) (plan : Delivery Transition)
-    → deliveries.Moved (local, channel) ≡ next_by at other plan
+    → found_at local channel ≡ next_by at other plan
     → (local ≡ at) × (channel ≡ other)
 moved-there local at channel other deliveries.Nothing h = cc
 moved-there local at channel other deliveries.Blocked h = cc
 moved-there local at channel other (deliveries.Broken cell) h = cc
-moved-there local at channel other (deliveries.Moved step) h = (cc, cc)
+moved-there local at channel other (deliveries.Moved step) h =
+    let one : Local × Channel = (local, channel) in
+    let two : Local × Channel = (at, other) in
+    let same : one ≡ two = cc in
+    (ap (λ (spot : Local × Channel). spot.0) same, ap (λ (spot : Local × Channel). spot.1) same)
 
 -- where nothing, or a blocked or a broken message is best, so it is of all channels of the class
 pick-nothing : (v : View) (class : Class) → IsNextIn v class deliveries.Nothing → IsNextPick v class deliveries.Nothing
@@ -85,9 +102,9 @@ pick-blocked v class next = (
   met next.1,
 )
   where
-    met : (deliveries.Blocked ≡ deliveries.Nothing)
+    met : (found_blocked ≡ found_nothing)
         ⊎ ((local : Local) × (channel : Channel) × (local.0 < v.lines.lines) × IsTrue (is_of_class class channel)
-        × (deliveries.Blocked ≡ next_by local channel (plan_of v local channel)))
+        × (found_blocked ≡ next_by local channel (plan_of v local channel)))
         → SomePlan v class deliveries.Blocked
     met (inl none) = cc
     met (inr some) = (some.0, some.1, some.2, some.3, blocked-met some.0 some.1 _ some.4)
@@ -99,9 +116,9 @@ pick-broken v class cell next = (
   met next.1,
 )
   where
-    met : (deliveries.Broken cell ≡ deliveries.Nothing)
+    met : (found_broken cell ≡ found_nothing)
         ⊎ ((local : Local) × (channel : Channel) × (local.0 < v.lines.lines) × IsTrue (is_of_class class channel)
-        × (deliveries.Broken cell ≡ next_by local channel (plan_of v local channel)))
+        × (found_broken cell ≡ next_by local channel (plan_of v local channel)))
         → SomePlan v class (deliveries.Broken cell)
     met (inl none) = cc
     met (inr some) = (some.0, some.1, some.2, some.3, broken-met some.0 some.1 cell _ some.4)
@@ -110,7 +127,7 @@ pick-broken v class cell next = (
 pub record CanMove (v : View) (class : Class) (local : Local) (channel : Channel) : Type 0 where
   pub there : local.0 < v.lines.lines
   pub of_class : IsTrue (is_of_class class channel)
-  pub planned : deliveries.Moved (local, channel) ≡ next_by local channel (plan_of v local channel)
+  pub planned : found_at local channel ≡ next_by local channel (plan_of v local channel)
 
 pub can-move : (v : View) (class : Class) (local : Local) (channel : Channel)
     → IsNextIn v class (deliveries.Moved (local, channel))
@@ -119,20 +136,20 @@ can-move v class local channel next = met next.1
   where
     at_same : (at : Local) (other : Channel) → local ≡ at → channel ≡ other → at.0 < v.lines.lines
         → IsTrue (is_of_class class other)
-        → deliveries.Moved (local, channel) ≡ next_by at other (plan_of v at other) → CanMove v class local channel
+        → found_at local channel ≡ next_by at other (plan_of v at other) → CanMove v class local channel
     at_same at other here same there of_class planned =
         let P : Local → Type 0 = λ l. l.0 < v.lines.lines in
         let Q : Channel → Type 0 = λ c. IsTrue (is_of_class class c) in
-        let R : Local → Channel → Type 0 = λ l c. deliveries.Moved (local, channel) ≡ next_by l c (plan_of v l c) in
+        let R : Local → Channel → Type 0 = λ l c. found_at local channel ≡ next_by l c (plan_of v l c) in
         record {
           there = subst P (sym here) there;
           of_class = subst Q (sym same) of_class;
           planned = subst (λ (l : Local). R l channel) (sym here) (subst (λ (c : Channel). R at c) (sym same) planned);
         }
 
-    met : (deliveries.Moved (local, channel) ≡ deliveries.Nothing)
+    met : (found_at local channel ≡ found_nothing)
         ⊎ ((at : Local) × (other : Channel) × (at.0 < v.lines.lines) × IsTrue (is_of_class class other)
-        × (deliveries.Moved (local, channel) ≡ next_by at other (plan_of v at other)))
+        × (found_at local channel ≡ next_by at other (plan_of v at other)))
         → CanMove v class local channel
     met (inl none) = cc
     met (inr some) =
@@ -151,7 +168,7 @@ delivered-at old new local (channels.Ack to from) line answer found after = rw f
 delivered-at old new local channels.Home line answer found after = rw found after
 
 -- what can be moved is a move
-is-move : (local at : Local) (channel other : Channel) (plan : Delivery Transition) → deliveries.Moved (local, channel) ≡ next_by at other plan
+is-move : (local at : Local) (channel other : Channel) (plan : Delivery Transition) → found_at local channel ≡ next_by at other plan
     → IsMove plan
 is-move local at channel other deliveries.Nothing h = cc
 is-move local at channel other deliveries.Blocked h = cc

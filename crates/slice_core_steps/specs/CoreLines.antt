@@ -23,10 +23,10 @@ places_of v core core_lines.Leaving = leaving_lines (cache_at v core)
 places_of v core (core_lines.InSetOf line) = set_of v core (local_at v.lines line.0)
 
 -- .. and by their numbers in the memory
-abbrev pub core_lines : View → CoreId → CoreLines → List LineAddr
-core_lines v core lines = map (line_at v.lines) (places_of v core lines)
+abbrev pub lines_of_core : View → CoreId → CoreLines → List LineAddr
+lines_of_core v core lines = map (line_at v.lines) (places_of v core lines)
 
 -- the line that the core's write-back buffer took in last: after a miss for which one had to leave, the victim
 abbrev pub last_written_back : View → CoreId → Option LineAddr
 last_written_back v core =
-    let lines : List LineAddr = core_lines v core core_lines.Leaving in slice_get lines (length lines - 1)
+    let lines : List LineAddr = lines_of_core v core core_lines.Leaving in slice_get lines (length lines - 1)

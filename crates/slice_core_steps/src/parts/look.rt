@@ -3,7 +3,7 @@ ghost use Rattle.address_map.specs.Locator.{line_at};
 ghost use Rattle.slice_core_cache.specs.CoreCache.{CoreCacheView, state_of, IsCoreCacheQuiet};
 ghost use Rattle.slice_core_plan.specs.Parts.{ring_lines};
 ghost use Rattle.slice_core_plan.specs.View.{View, channels_at, entry_at, word_now, IsOwned, IsQuiet, IsShaped};
-ghost use Rattle.slice_core_steps.specs.CoreLines.{core_lines, last_written_back, places_of};
+ghost use Rattle.slice_core_steps.specs.CoreLines.{last_written_back, lines_of_core, places_of};
 ghost use Rattle.slice_queues.specs.Line.{messages_at};
 ghost use Rattle.slice_queues.specs.Waiting.{line_waiting, lines_waiting, placed_by, HasEachOnce, HasEachPickOnce};
 
@@ -51,7 +51,7 @@ impl<F: MissFile> Parts<F> {
     ) -> Result<Vec<LineAddr>, AllocError>
         requires core { core.0 < length self.now.view.caches }
         requires own { All (λ local. local.0 < self.now.view.lines.lines) (places_of self.now.view core which) }
-        ensures { IfOk result (λ lines. lines.items ≡ core_lines self.now.view core which) }
+        ensures { IfOk result (λ lines. lines.items ≡ lines_of_core self.now.view core which) }
     {
         let places = self.places_of(alloc, core, which)?;
         lines_at(alloc, self.lines, places.as_slice())

@@ -32,5 +32,5 @@ pub mod SameSlice
 pub mod Runs
 pub mod Machine
 pub mod Fronts
-pub mod CoreLines
+pub mod OwnLines
 pub mod Victim

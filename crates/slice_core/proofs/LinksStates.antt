@@ -1,6 +1,6 @@
 -- What the rows of the cache's table do to a copy's state where a message comes, as far as registers and requests go:
 -- tests over all states that hold by computing.
-use Rattle.std.proofs.Common.{◌≡◌, ℕ, ◌+◌, Bool, true, false, not, if◌then◌else◌, ◌&&◌, ◌||◌, Option, Some, None, List}
+use Rattle.std.proofs.Common.{◌≡◌, ℕ, ◌+◌, Bool, true, false, not, ◌&&◌, ◌||◌, Option, Some, None, List}
 use Rattle.std.proofs.Common.{[], ◌∷◌, refl, sym, is_some}
 use Rattle.cache_table.specs.CopyState.{is_leaving, is_waiting}
 use Rattle.cache_table.specs.Row.{row_of, row_by_count}

@@ -1,5 +1,5 @@
 -- A miss for which a line has to leave: the core's write-back buffer takes the victim in last.
-use Rattle.std.proofs.Common.{◌≡◌, ◌<◌, ◌-◌, ℕ, List, [], ◌∷◌, ◌++◌, length, map, slice_get, set, Option, Some, Result, Ok}
+use Rattle.std.proofs.Common.{◌≡◌, ◌<◌, ◌-◌, List, [], ◌∷◌, ◌++◌, length, map, slice_get, Some, Result, Ok}
 use Rattle.std.proofs.Common.{Err, refl, sym, ap, subst, ◌∙◌, arith, ⊎_elim, length-append, length-set}
 use Rattle.std.specs.Prelude.{◌⊎◌, false}
 use Rattle.std.proofs.lemmas.List.{get_or-set_same, map-append}
@@ -16,7 +16,6 @@ use Rattle.slice_core.specs.Facts.{LeavesVictim}
 use Rattle.slice_core_cache.specs.CoreCache.{CoreCacheView, array_copy, leaving_lines}
 use Rattle.slice_core_cache.specs.Steps as caches
 use Rattle.slice_core_cache.specs.Steps.{victim_for}
-use Rattle.slice_core_cache.specs.declared.access.AccessKind.{AccessKind}
 use Rattle.slice_core_cache.specs.declared.access.AccessKind.TheVariants as access_kinds
 use Rattle.slice_core_cache.specs.declared.access.Ask.{Ask}
 use Rattle.slice_core_cache.specs.declared.access.Placement.{Placement}

@@ -45,14 +45,14 @@ fn is_served<F: MissFile>(cache: &mut CoreCache<F>, log: &mut Vec<Entry>) -> boo
     requires performable { All IsPerformable (targets_of cache.old.misses 3) }
     requires room { length log.old.items + length (targets_of cache.old.misses 3) ≤ vec_capacity log.old }
 {
-    let Some(place) = cache.look(LINE).place else {
+    let Some(way) = cache.look(LINE).way else {
         return false;
     };
-    cache.fill(LINE, place, &Block::zero(), 0, CopyState::M);
-    let Some(place) = cache.look(LINE).place else {
+    cache.fill(LINE, way, &Block::zero(), 0, CopyState::M);
+    let Some(way) = cache.look(LINE).way else {
         return false;
     };
-    cache.copy(LINE).block.words[0] == 0 && !cache.settle(CoreId(0), LINE, place, 24, log)
+    cache.copy(LINE).block.words[0] == 0 && !cache.settle(CoreId(0), LINE, way, 24, log)
 }
 
 // A load of the line hits, and answers the word.
@@ -62,10 +62,10 @@ fn loads<F: MissFile>(cache: &mut CoreCache<F>, word: u64) -> bool {
     }
     match cache.decide(LINE, 6, Op::Load) {
         AccessKind::Hit {
-            place,
+            way,
             next,
             silent: false,
-        } => cache.hit(LINE, place, Offset(0), Op::Load, next) == word,
+        } => cache.hit(LINE, way, Offset(0), Op::Load, next) == word,
         _ => false,
     }
 }

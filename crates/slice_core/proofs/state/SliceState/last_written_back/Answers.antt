@@ -1,12 +1,11 @@
 use Rattle.std.proofs.Common.{◌<◌, arith, ap, length}
-use Rattle.slice_core.proofs.CoreLines.{own_places}
-use Rattle.slice_core.proofs.state.SliceState.last_written_back.Given.{Over}
+use Rattle.slice_core.proofs.OwnLines.{own_places}
 use Rattle.slice_core.proofs.state.SliceState.last_written_back.Goals as goal
 use Rattle.slice_core_plan.specs.Parts.{PartsView}
 use Rattle.slice_core_steps.specs.declared.core_lines.CoreLines.TheVariants as core_lines
 
-pub last_written_back-requires-own : goal.last_written_back-requires-own
-last_written_back-requires-own g c =
+pub last_written_back-requires-clause-own : goal.last_written_back-requires-clause-own
+last_written_back-requires-clause-own g c =
     let cores = ap (λ (p : PartsView). length p.view.caches) c.self.view_is in
     let called = c.requires in
     let known : c.args.core.0 < length c.self.inside.parts.view.caches = omega (arith, cores, called) in

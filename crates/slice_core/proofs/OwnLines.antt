@@ -1,17 +1,15 @@
 -- The lines of a core's copies are lines of the slice, wherever the copies stand.
-use Rattle.std.proofs.Common.{◌≡◌, ◌<◌, ◌==◌, ℕ, zero, suc, true, List, [], ◌∷◌, length, map, slice_get, Option, Some, None}
-use Rattle.std.proofs.Common.{IsSome, refl, ap, subst, sym, ⊎_elim}
+use Rattle.std.proofs.Common.{◌≡◌, ◌<◌, ℕ, zero, suc, true, List, [], ◌∷◌, length, map, slice_get, Option, Some, None}
+use Rattle.std.proofs.Common.{IsSome, refl, ap, ⊎_elim}
 use Rattle.std.specs.Prelude.{All, is_some}
 use Rattle.std.proofs.lemmas.Bool.{cases_Bool, eq-eqb}
 use Rattle.std.proofs.lemmas.List.Elements.{All-cons, All-nil}
 use Rattle.address_map.specs.Locator.{local_at}
 use Rattle.address_map.specs.declared.address.CoreId.{CoreId}
-use Rattle.address_map.specs.declared.address.LineAddr.{LineAddr}
 use Rattle.address_map.specs.declared.address.Local.{Local}
-use Rattle.cache_array.specs.Array.{held_at as array_at, lines_at, slots_at}
+use Rattle.cache_array.specs.Array.{slots_at}
 use Rattle.cache_array.specs.declared.set.Slot.{Slot}
 use Rattle.cache_array.proofs.Victims.{slot_held}
-use Rattle.mshr_file.specs.Miss.{has_miss}
 use Rattle.mshr_file.specs.declared.registers.Register.{Register}
 use Rattle.mshr_file.proofs.LinesWaited.{register_waits}
 use Rattle.slice_core.proofs.AccountsFacts.{registers}

@@ -39,7 +39,7 @@ pub fn walk<F: MissFile>(
     ensures over { IfOk result (λ walked. IsTrue walked.over
         → All (λ state. IsQuiet state.view) walked.recorded.slices) }
     ensures done { IfOk result (λ walked. IsTrue walked.over → AreDone test.now.threads.items walked.recorded.calls) }
-    ensures drawn_move { IfOk result (λ walked. IsDrawn test.now (F.bound_by test.now.config) lines.now seed
+    ensures drawn { IfOk result (λ walked. IsDrawn test.now (F.bound_by test.now.config) lines.now seed
         walked.over walked.recorded) }
 {
     let config = test.config.try_clone(alloc)?;

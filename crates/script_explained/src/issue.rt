@@ -130,9 +130,7 @@ pub(crate) fn evict<F: MissFile, W: Write>(
         sent: state.front(Pick::Req(line, core)),
     };
     let which = named(answer);
-    let Ok(lines) = named_lines(alloc, which, state, core) else {
-        return Err(TextFault::NoMemory);
-    };
+    let lines = named_lines(alloc, which, state, core)?;
     let mut answers = TextWriter { out };
     written(write_eviction(state, core, evicted, which, lines.as_slice(), &mut answers))
 }

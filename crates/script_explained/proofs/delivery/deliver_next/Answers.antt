@@ -12,7 +12,7 @@ returns-in_default-clause-told g c =
     let new = c.deliver_next.new.self in
     let step = c.deliver_next.ensures.step in
     let nothing = nothing_next c.args.slice c.deliver_next.result _ old.view new.view
-    (step.next ∙ sym c.next.ensures.next) (λ pick is. c.in_default.not-Move pick is) in
+    (step.next ∙ sym c.next.ensures.next) (λ pick is. c.in_default.not-Moved pick is) in
     record {
       answered = delivered_next old new _ c.deliver_next.result step;
       written = subst (λ (text : List ℕ). Appends (contents c.args.out.now) (contents c.args.out.now) text)

@@ -1,4 +1,4 @@
-use Rattle.std.proofs.Common.{◌≡◌, ◌∙◌, ℕ, List, length, rules, subst, sym}
+use Rattle.std.proofs.Common.{ℕ, List, rules, subst, sym}
 use Rattle.std.specs.Io.KnownBytes.{Appends}
 use Rattle.litmus_script.proofs.CallLemmas.{delivered_next}
 use Rattle.script_explained.proofs.NextLemmas.{made_next}

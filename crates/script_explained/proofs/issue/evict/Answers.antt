@@ -14,7 +14,7 @@ returns-clause-told g c =
       answer = _;
       answered = evicted c.args.state.now c.evict-answer.new.self c.args.core c.args.line
           c.evict-answer.result c.evict-answer.ensures.step;
-      numbers = _;
+      numbers = c.in_ok-lines.lines.items;
       are_named = search rules;
       written = search rules;
     })

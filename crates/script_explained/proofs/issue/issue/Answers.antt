@@ -12,7 +12,7 @@ returns-clause-told g c =
     record {
       issued = _;
       answered = c.in_ok-issued.ensures.issued;
-      numbers = _;
+      numbers = c.in_ok-lines.lines.items;
       are_named = search rules;
       written = search rules;
     })

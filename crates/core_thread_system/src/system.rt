@@ -97,7 +97,7 @@ impl<F: MissFile, M: SystemNames> System<F, M> {
         }
     }
 
-    /// The same with a configuration that was checked: only memory can be wanting.
+    /// The same for a configuration that was checked: only an allocation can fail.
     pub fn build_checked(
         alloc: Global,
         config: Checked,

@@ -31,7 +31,7 @@ static CLASSES: [(&[u8], Class); 5] = [
 ];
 
 impl Class {
-    /// What stands behind its name.
+    /// The slots that follow its name.
     pub(super) const fn slots(self) -> &'static [Slot] {
         match self {
             Class::Req | Class::Fwd | Class::Data => &[Slot::Line, Slot::Core],

@@ -65,7 +65,7 @@ pub(super) static FIELDS: [(&[u8], Field); 13] = [
 ];
 
 impl Field {
-    /// What stands behind its name.
+    /// The slots that follow its name.
     pub(super) const fn slots(self) -> &'static [Slot] {
         match self {
             Field::Count(_) | Field::Counter => &[Slot::Number],

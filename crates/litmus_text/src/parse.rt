@@ -58,7 +58,7 @@ impl Verb {
         value_named(&VERBS, name)
     }
 
-    /// What stands behind its name.
+    /// The slots that follow its name.
     pub(super) const fn slots(self) -> &'static [Slot] {
         match self {
             Verb::Issue => &[Slot::Core, Slot::Tag, Slot::Access],
@@ -210,7 +210,7 @@ pub(super) static ACCESSES: [(&[u8], Access); 4] = [
 ];
 
 impl Access {
-    /// What stands behind its name: the word, and what else it takes.
+    /// The slots that follow its name: the word, and what else it takes.
     pub(super) const fn slots(self) -> &'static [Slot] {
         match self {
             Access::Load => &[Slot::Number],

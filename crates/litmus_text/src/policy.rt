@@ -26,7 +26,7 @@ static POLICIES: [(&[u8], PolicyName); 3] = [
 ];
 
 impl PolicyName {
-    /// What stands behind it.
+    /// The slots that follow it.
     pub(super) const fn slots(self) -> &'static [Slot] {
         match self {
             PolicyName::Lru | PolicyName::Fifo => &[],

@@ -148,7 +148,7 @@ pub enum Delivered {
 }
 
 impl Delivered {
-    /// The delivery that was made, told by this value where a message was moved.
+    /// The same as a [`Delivery`], with this value where a message was moved.
     pub const fn with<T: Copy>(self, value: T) -> Delivery<T>
         ensures { result ≡ delivered_with value self }
     {
@@ -176,10 +176,10 @@ impl fmt::Display for Delivered {
     }
 }
 
-/// What comes of a delivery that is planned, or that the slice was to choose. All but `Moved` change nothing.
+/// What a delivery comes to: one that is planned, the next one, or one that was made. All but `Moved` change nothing.
 #[derive(Clone, Copy, Debug, PartialEq, Eq)]
 pub enum Delivery<T> {
-    /// A front message is taken, and its row is done: of this pick, or by this step.
+    /// A front message is taken, and its row is done. The value says which message, or what is done.
     Moved(T),
     /// Messages wait, and the row of each one that is in front is blocked.
     Blocked,
@@ -193,7 +193,7 @@ pub enum Delivery<T> {
 pub type DeliveredNext = Delivery<Pick>;
 
 impl<T: Copy> Delivery<T> {
-    /// The same delivery, told by another value where a message is moved.
+    /// The same with another value where a message is moved.
     pub const fn with<U: Copy>(self, value: U) -> Delivery<U>
         ensures { result ≡ delivery_with value self }
     {
@@ -205,7 +205,7 @@ impl<T: Copy> Delivery<T> {
         }
     }
 
-    /// The same delivery, told by what this makes of the value where a message is moved.
+    /// The same with what `f` makes of the value where a message is moved.
     pub fn map<U, F: FnOnce(T) -> U>(self, f: F) -> Delivery<U>
         requires { IfMoved self (F.pre f) }
         ensures { IsMappedBy (F.post f) self result }

@@ -204,7 +204,7 @@ impl<F: MissFile> SliceState<F> {
     pub fn word_now(&self, word: WordAddr) -> u64
         requires quiet { IsQuiet self.now.view }
         requires here { IsSome (local_at self.now.view.lines (line_of word).0) }
-        ensures small_machine_of { ShowsWord self.now.view word (local_at self.now.view.lines (line_of word).0) result }
+        ensures shown { ShowsWord self.now.view word (local_at self.now.view.lines (line_of word).0) result }
         ensures newest { ShowsLast self.now.view word (local_at self.now.view.lines (line_of word).0) result }
     {
         match self.parts.lines().local_of(word.line()) {

@@ -1,5 +1,5 @@
--- The next delivery of a class: one that can be made before one that is broken, that before one that is blocked. It is
--- told by a line of the slice and one of its channels.
+-- The next delivery of a class: one that can be made before one that is broken, that before one that is blocked. It
+-- names a line of the slice and one of its channels.
 use Rattle.std.specs.Prelude.{◌≡◌, ◌<◌, ◌⊎◌, IsTrue}
 use Rattle.address_map.specs.declared.address.Local.{Local}
 use Rattle.slice_answer.specs.Delivery.{delivered_with, delivery_with}

@@ -14,8 +14,8 @@ pub record PartsView : Type 0 where
   pub pending : ℕ
   -- how many entries the log can hold before it has to grow
   pub room : ℕ
-  -- the ring of the lines with mail, by their places in the slice, the front first: a next delivery looks at them in
-  -- this order
+  -- the ring of the lines with pending messages, by their places in the slice, the front first: a next delivery looks
+  -- at them in this order
   pub ring : List ℕ
 
 -- the lines of the ring by their numbers in the memory, in its order

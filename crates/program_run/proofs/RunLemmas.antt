@@ -1,34 +1,36 @@
 -- How a run goes on, move by move.
-use Rattle.std.proofs.Common.{◌≡◌, ℕ, ◌+◌, ◌-◌, ◌^◌, List, [], ◌∷◌, ◌++◌, length, Option, refl, sym, subst, ◌∙◌}
+use Rattle.std.proofs.Common.{◌≡◌, ℕ, ◌+◌, ◌-◌, ◌^◌, List, [], ◌∷◌, ◌++◌, length, None, Option, refl, sym, subst, ◌∙◌}
 use Rattle.std.proofs.Common.{Some, arith, inl, inr}
 use Rattle.std.specs.Io.KnownBytes.{Appends}
 use Rattle.address_map.specs.declared.config.Config.{Config}
 use Rattle.mshr_file.specs.Miss.{Bound}
-use Rattle.program_text.specs.declared.programs.CoreProgram.{CoreProgram}
+use Rattle.program_text.specs.declared.programs.Programs.{Programs}
+use Rattle.program_text.specs.Judged.{is_limited}
 use Rattle.rand_xoshiro.specs.SplitMix64.{splitmix_seed}
 use Rattle.rand_xoshiro.specs.Xoshiro256.{of_seed, plus_plus}
 use Rattle.program_run.specs.History.{History, HasSeen, no_history}
 use Rattle.program_run.specs.Run.{IsNewRunner, IsOver, IsProgramsRun, Leads, Makes, MakesAll, PrintsEnd, RunnerView}
-use Rattle.program_run.specs.Run.{RunState, Runs, asks_of, deliveries_of, drawn_move, moves_of, run_of, text_of}
-use Rattle.program_run.specs.Run.{text_of_stuck}
+use Rattle.program_run.specs.Run.{RunState, Runs, asks_of, deliveries_of, drawn_move, limited_to, moves_of, run_of}
+use Rattle.program_run.specs.Run.{text_of, text_of_stuck}
+use Rattle.litmus_script.specs.Machine.{bound_of}
 use Rattle.program_run.specs.Tally.{TallyView}
 use Rattle.program_run.specs.declared.moves.Move.{Move}
 use Rattle.program_run.specs.declared.run.Form.{Form}
 
 -- so many moves were made, which took the generator from there to here: whatever is made behind them goes on from there
-abbrev pub HasMade : Config → List CoreProgram → List ℕ → List ℕ → ℕ → RunState → RunState → Type 0
+abbrev pub HasMade : Config → Programs → List ℕ → List ℕ → ℕ → RunState → RunState → Type 0
 HasMade config programs first last count old new =
     (end : RunState) (more : List Move) → MakesAll config programs last more new end
     → (all : List Move) × MakesAll config programs first all old end × (length all ≡ count + length more)
 
 -- no move was made
-pub made_none : (config : Config) (programs : List CoreProgram) (generator : List ℕ) (runner : RunnerView)
+pub made_none : (config : Config) (programs : Programs) (generator : List ℕ) (runner : RunnerView)
     → Leads (HasMade config programs generator generator 0) runner runner
 made_none config programs generator runner =
     record { config = refl; goes = λ before seen. (before, seen, λ end more makes. (more, makes, omega arith)) }
 
 -- one more behind the others
-pub made_more : (programs : List CoreProgram) (first last after : List ℕ) (count : ℕ) (start now next : RunnerView)
+pub made_more : (programs : Programs) (first last after : List ℕ) (count : ℕ) (start now next : RunnerView)
     (to : Move)
     → Leads (HasMade start.config programs first last count) start now
     → drawn_move (plus_plus last).0 (asks_of now.config programs now.slices now.places ++ deliveries_of now.slices)
@@ -56,7 +58,7 @@ made_more programs first last after count start now next to made draws on makes 
 }
 
 -- the run has ended, since no move may come next
-pub run_ended : (programs : List CoreProgram) (seed count : ℕ) (last : List ℕ) (start end : RunnerView)
+pub run_ended : (programs : Programs) (seed count : ℕ) (last : List ℕ) (start end : RunnerView)
     → Leads (HasMade start.config programs (of_seed (splitmix_seed 32 seed)) last count) start end
     → asks_of end.config programs end.slices end.places ++ deliveries_of end.slices ≡ []
     → Leads (Runs start.config programs seed) start end
@@ -72,7 +74,7 @@ run_ended programs seed count last start end made none = record {
 }
 
 -- .. or since so many were made
-pub run_cut : (programs : List CoreProgram) (seed count : ℕ) (last : List ℕ) (start end : RunnerView)
+pub run_cut : (programs : Programs) (seed count : ℕ) (last : List ℕ) (start end : RunnerView)
     → Leads (HasMade start.config programs (of_seed (splitmix_seed 32 seed)) last count) start end
     → count ≡ 2 ^ 64 - 1
     → Leads (Runs start.config programs seed) start end
@@ -85,13 +87,13 @@ run_cut programs seed count last start end made most = record {
 }
 
 -- what the run of a new machine prints
-pub programs_run : (config : Config) (bound : Bound) (programs : List CoreProgram) (form : Form) (seed status : ℕ)
+pub programs_run : (bound : Bound) (programs : Programs) (form : Form) (seed status : ℕ)
     (start end : RunnerView) (before after : Option (List ℕ))
-    → IsNewRunner config bound programs start → Leads (Runs start.config programs seed) start end
-    → ((history : History) → HasSeen config history end.observer
-    → PrintsEnd config programs form seed status (run_of end history) before after)
-    → IsProgramsRun config bound programs form seed status before after
-programs_run config bound programs form seed status start end before after new runs prints =
+    → IsNewRunner programs.config bound programs start → Leads (Runs start.config programs seed) start end
+    → ((history : History) → HasSeen programs.config history end.observer
+    → PrintsEnd programs.config programs form seed status (run_of end history) before after)
+    → IsProgramsRun bound programs form seed status before after
+programs_run bound programs form seed status start end before after new runs prints =
     let gone = runs.goes no_history (subst (λ c. HasSeen c no_history start.observer) (sym new.config) new.unseen) in
     record {
       start = run_of start no_history;
@@ -102,21 +104,22 @@ programs_run config bound programs form seed status start end before after new r
     }
 
 -- at a run that is over the report is printed
-pub prints_over : (config : Config) (programs : List CoreProgram) (form : Form) (seed : ℕ) (end : RunnerView)
+pub prints_over : (config : Config) (programs : Programs) (form : Form) (seed : ℕ) (end : RunnerView)
     (before after : Option (List ℕ)) (history : History) → IsOver programs (run_of end history)
-    → Appends before after (text_of form end.observer.tally seed) → HasSeen config history end.observer
+    → Appends before after (text_of form end.observer.tally (is_limited programs.outstanding) seed)
+    → HasSeen config history end.observer
     → PrintsEnd config programs form seed 0 (run_of end history) before after
 prints_over config programs form seed end before after history over printed seen = record {
   over = λ is. (
     refl,
-    subst (λ (tally : TallyView). Appends before after (text_of form tally seed)) seen.counts
-        printed,
+    subst (λ (tally : TallyView). Appends before after (text_of form tally (is_limited programs.outstanding) seed))
+        seen.counts printed,
   );
   stuck = λ unless. absurd (unless over);
 }
 
 -- .. and at one that isn't, that it is stuck
-pub prints_stuck : (config : Config) (programs : List CoreProgram) (form : Form) (seed : ℕ) (end : RunnerView)
+pub prints_stuck : (config : Config) (programs : Programs) (form : Form) (seed : ℕ) (end : RunnerView)
     (before after : Option (List ℕ)) (history : History) → (IsOver programs (run_of end history) → ⊥)
     → Appends before after (text_of_stuck seed)
     → PrintsEnd config programs form seed 1 (run_of end history) before after
@@ -124,3 +127,12 @@ prints_stuck config programs form seed end before after history unless printed =
   over = λ is. absurd (unless is);
   stuck = λ is. (refl, printed);
 }
+
+-- how many accesses of a core may be under way bounds no miss file
+pub limited_bound : (most : Option ℕ) (programs : Programs) (form : Form) (seed status : ℕ)
+    (before after : Option (List ℕ))
+    → let limited : Programs = limited_to most programs in
+    IsProgramsRun (bound_of limited.misses limited.config) limited form seed status before after
+    → IsProgramsRun (bound_of programs.misses programs.config) limited form seed status before after
+limited_bound None programs form seed status before after run = run
+limited_bound (Some most) programs form seed status before after run = run

@@ -1,9 +1,9 @@
 -- The columns of the report.
-use Rattle.std.specs.Prelude.{ℕ, List, [], ◌∷◌, ◌++◌, codes}
+use Rattle.std.specs.Prelude.{ℕ, Bool, true, false, List, [], ◌∷◌, ◌++◌, codes}
 use Rattle.program_run.specs.declared.column.Column.{Column}
 use Rattle.program_run.specs.declared.column.Column.TheVariants as columns
 use Rattle.program_run.specs.declared.tally.Counts.{Counts}
-use Rattle.program_run.specs.Tally.{misses_of, requests_of}
+use Rattle.program_run.specs.Tally.{misses_of, requests_of, stalls_of}
 
 -- the columns of a core, in their order
 abbrev pub core_columns : List Column
@@ -12,9 +12,25 @@ core_columns =
     ∷ columns.Cold ∷ columns.Replaced ∷ columns.Upgrade ∷ columns.TrueSharing ∷ columns.FalseSharing
     ∷ columns.Evictions ∷ columns.Req ∷ columns.Fwd ∷ columns.Data ∷ columns.Ack ∷ []
 
--- those of a line, and of all lines: blocks on their way home too
+-- what is counted of a core only where several of its accesses may be under way
+abbrev pub parallel_columns : List Column
+parallel_columns =
+    columns.Primary ∷ columns.Secondary ∷ columns.Stalls
+    ∷ columns.NoRegister ∷ columns.NoTarget ∷ columns.NoWay ∷ columns.WriteBackFull ∷ columns.WriteBackBusy ∷ []
+
+-- all that is reported of a core, by whether several of its accesses may be under way
+abbrev pub columns_of_core : Bool → List Column
+columns_of_core false = core_columns
+columns_of_core true = core_columns ++ parallel_columns
+
+-- those of a line: blocks on their way home too
 abbrev pub line_columns : List Column
 line_columns = core_columns ++ columns.Home ∷ []
+
+-- those of all lines, by whether several accesses of a core may be under way
+abbrev pub columns_of_all : Bool → List Column
+columns_of_all false = line_columns
+columns_of_all true = line_columns ++ parallel_columns
 
 -- what the heading says of a column
 abbrev pub name_of : Column → List ℕ
@@ -32,6 +48,14 @@ name_of columns.Fwd = codes "fwd"
 name_of columns.Data = codes "data"
 name_of columns.Ack = codes "ack"
 name_of columns.Home = codes "home"
+name_of columns.Primary = codes "primary"
+name_of columns.Secondary = codes "secondary"
+name_of columns.Stalls = codes "stalls"
+name_of columns.NoRegister = codes "register"
+name_of columns.NoTarget = codes "target"
+name_of columns.NoWay = codes "way"
+name_of columns.WriteBackFull = codes "wb-full"
+name_of columns.WriteBackBusy = codes "wb-busy"
 
 -- what a column shows
 abbrev pub count_in : Column → Counts → ℕ
@@ -49,3 +73,11 @@ count_in columns.Fwd counts = counts.messages.forwarded
 count_in columns.Data counts = counts.messages.data_replies
 count_in columns.Ack counts = counts.messages.acknowledgements
 count_in columns.Home counts = counts.messages.home
+count_in columns.Primary counts = misses_of counts
+count_in columns.Secondary counts = counts.secondary
+count_in columns.Stalls counts = stalls_of counts
+count_in columns.NoRegister counts = counts.no_register
+count_in columns.NoTarget counts = counts.no_target
+count_in columns.NoWay counts = counts.no_way
+count_in columns.WriteBackFull counts = counts.write_back_full
+count_in columns.WriteBackBusy counts = counts.write_back_busy

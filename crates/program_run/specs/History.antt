@@ -14,6 +14,7 @@ use Rattle.miss_cause.specs.declared.cause.Event.{Event}
 use Rattle.miss_cause.specs.declared.cause.Event.TheVariants as events
 use Rattle.miss_cause.specs.declared.cause.Fate.{Fate}
 use Rattle.miss_cause.specs.declared.cause.Fate.TheVariants as fates
+use Rattle.slice_answer.specs.declared.answer.Stall.{Stall}
 use Rattle.slice_log.specs.declared.entry.Entry.{Entry}
 use Rattle.slice_queues_message.specs.declared.channel.Pick.{Pick}
 use Rattle.slice_queues_message.specs.declared.channel.Pick.TheVariants as picks
@@ -81,11 +82,22 @@ after_miss lines core word history =
     then after_count (counted_kinds.Miss core (line_of word) (cause_of core.0 word.0 history.happened)) history else
     history
 
+-- What was waited for: the first access that a delivery lets be performed is a miss, and those behind it are secondary
+-- ones.
+abbrev pub after_waiting : ℕ → Bool → CoreId → WordAddr → History → History
+after_waiting lines true core word history = after_miss lines core word history
+after_waiting lines false core word history = after_count (counted_kinds.Secondary core (line_of word)) history
+
 -- an access that had to wait is performed: its miss is counted, and its core has the line from now on
-abbrev pub after_performing : ℕ → Entry → History → History
-after_performing lines entry history =
+abbrev pub after_performing : ℕ → Bool → Entry → History → History
+after_performing lines is_first entry history =
     after_write lines entry.core entry.word entry.op entry.reply
-    (after_event lines (events.Took entry.core (line_of entry.word)) (after_miss lines entry.core entry.word history))
+    (after_event lines (events.Took entry.core (line_of entry.word))
+    (after_waiting lines is_first entry.core entry.word history))
+
+-- an access stalled
+abbrev pub after_stalling : CoreId → WordAddr → Stall → History → History
+after_stalling core word stall history = after_count (counted_kinds.Stall core (line_of word) stall) history
 
 -- ---- copies that go
 

@@ -1,10 +1,11 @@
--- The report: the seed, a table of the cores, and one of the lines that were asked for, which ends with the sums.
-use Rattle.std.specs.Prelude.{ℕ, ◌==◌, List, [], ◌++◌, codes, decimal, if◌then◌else◌, length}
+-- The report: the seed, a table of the cores, and one of the lines that were asked for, which ends with the sums. Where
+-- several accesses of a core may be under way, a further table of the cores stands behind it.
+use Rattle.std.specs.Prelude.{ℕ, ◌==◌, Bool, true, false, List, [], ◌++◌, codes, decimal, if◌then◌else◌, length}
 use Rattle.std.specs.List.{flat_map, range_with_len}
 use Rattle.stats_report.specs.Report.{right_in_10}
 use Rattle.program_run.specs.declared.column.Column.{Column}
 use Rattle.program_run.specs.declared.tally.Counts.{Counts}
-use Rattle.program_run.specs.Column.{core_columns, count_in, line_columns, name_of}
+use Rattle.program_run.specs.Column.{core_columns, count_in, line_columns, name_of, parallel_columns}
 use Rattle.program_run.specs.Tally.{TallyView, counts_at, requests_of, totals_of}
 
 -- the names of columns
@@ -23,9 +24,15 @@ counts_of columns counts = flat_map (λ column. right_in_10 (decimal (count_in c
 abbrev pub row_of : ℕ → List Column → Counts → List ℕ
 row_of number columns counts = right_in_10 (decimal number) ++ counts_of columns counts ++ codes "\n"
 
--- the rows of the cores
-abbrev pub core_rows : List Counts → List ℕ
-core_rows cores = flat_map (λ core. row_of core core_columns (counts_at cores core)) (range_with_len 0 (length cores))
+-- what columns show of the cores
+abbrev pub core_rows : List Column → List Counts → List ℕ
+core_rows columns cores =
+    flat_map (λ core. row_of core columns (counts_at cores core)) (range_with_len 0 (length cores))
+
+-- the further table, where several accesses of a core may be under way
+abbrev pub parallel_table : Bool → List Counts → List ℕ
+parallel_table false cores = []
+parallel_table true cores = heading_of (codes "      core") parallel_columns ++ core_rows parallel_columns cores
 
 -- the row of a line, where it was asked for
 abbrev pub line_row : ℕ → Counts → List ℕ
@@ -36,9 +43,10 @@ abbrev pub line_rows : List Counts → List ℕ
 line_rows lines = flat_map (λ line. line_row line (counts_at lines line)) (range_with_len 0 (length lines))
 
 -- the whole report
-abbrev pub report_of : TallyView → ℕ → List ℕ
-report_of tally seed =
+abbrev pub report_of : TallyView → Bool → ℕ → List ℕ
+report_of tally is_limited seed =
     codes "seed " ++ decimal seed ++ codes "\n"
-    ++ heading_of (codes "      core") core_columns ++ core_rows tally.cores
+    ++ heading_of (codes "      core") core_columns ++ core_rows core_columns tally.cores
     ++ heading_of (codes "      line") line_columns ++ line_rows tally.lines
     ++ codes "       all" ++ counts_of line_columns (totals_of tally.lines) ++ codes "\n"
+    ++ parallel_table is_limited tally.cores

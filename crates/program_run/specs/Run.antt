@@ -1,7 +1,7 @@
 -- A run of programs: what may come next, and what each move does to the machine, to where programs stand, and to what
 -- is seen.
-use Rattle.std.specs.Prelude.{◌≡◌, ◌⊎◌, ℕ, ◌*◌, ◌-◌, ◌^◌, ◌+◌, ◌%◌, ◌==◌, ◌||◌, nat_lt, not, Bool, true, false}
-use Rattle.std.specs.Prelude.{if◌then◌else◌, List, [], ◌∷◌, ◌++◌, length, map, filter, min, position, replicate}
+use Rattle.std.specs.Prelude.{◌≡◌, ◌⊎◌, ℕ, ◌*◌, ◌-◌, ◌^◌, ◌+◌, ◌%◌, ◌==◌, nat_lt, not, Bool, true, false}
+use Rattle.std.specs.Prelude.{if◌then◌else◌, List, [], ◌∷◌, ◌++◌, drop, length, map, filter, min, position, replicate}
 use Rattle.std.specs.Prelude.{slice_get, slice_set, codes, decimal, All, Option, None, Some}
 use Rattle.std.specs.Io.KnownBytes.{Appends}
 use Rattle.std.specs.List.{flat_map, range_with_len}
@@ -21,8 +21,12 @@ use Rattle.litmus_text.specs.Statement.{statements_from}
 use Rattle.litmus_text.specs.declared.fault.TextFault.{TextFault}
 use Rattle.mshr_file.specs.Miss.{Bound}
 use Rattle.program_text.specs.Fault.{IsFault}
+use Rattle.program_text.specs.Judged.{is_limited}
 use Rattle.program_text.specs.declared.programs.Access.{Access}
 use Rattle.program_text.specs.declared.programs.CoreProgram.{CoreProgram}
+use Rattle.program_text.specs.declared.programs.Programs.{Programs}
+use Rattle.program_text.specs.declared.programs.Step.{Step}
+use Rattle.program_text.specs.declared.programs.Step.TheVariants as step_kinds
 use Rattle.rand_xoshiro.specs.SplitMix64.{splitmix_seed}
 use Rattle.rand_xoshiro.specs.Xoshiro256.{of_seed, plus_plus}
 use Rattle.slice_core.specs.Facts.{front_at}
@@ -44,7 +48,7 @@ use Rattle.slice_queues_message.specs.declared.channel.Class.TheVariants as clas
 use Rattle.slice_queues_message.specs.declared.channel.Pick.{Pick}
 use Rattle.slice_queues_message.specs.declared.message.Message.{Message}
 use Rattle.program_run.specs.History.{History, HasSeen, after_eviction, after_hit, after_message, after_performing}
-use Rattle.program_run.specs.History.{no_history}
+use Rattle.program_run.specs.History.{after_stalling, no_history}
 use Rattle.program_run.specs.Json.{json_of}
 use Rattle.program_run.specs.Report.{report_of}
 use Rattle.program_run.specs.Tally.{TallyView, new_tally, tally_after}
@@ -53,6 +57,8 @@ use Rattle.program_run.specs.declared.run.Form.TheVariants as forms
 use Rattle.program_run.specs.declared.moves.Move.{Move}
 use Rattle.program_run.specs.declared.moves.Move.TheVariants as moves
 use Rattle.program_run.specs.declared.moves.Place.{Place}
+use Rattle.program_run.specs.declared.moves.Turn.{Turn}
+use Rattle.program_run.specs.declared.moves.Turn.TheVariants as turns
 use Rattle.program_run.specs.declared.observer.Observer.{Observer}
 use Rattle.slice_answer.specs.declared.answer.Delivery.TheVariants as deliveries
 use Rattle.slice_answer.specs.declared.answer.Delivery.{Delivery}
@@ -65,60 +71,88 @@ pub record RunState : Type 0 where
 
 -- ---- what may come next
 
--- the request for an access. Each core has one access at a time, so one tag serves.
-abbrev pub request_of : Access → Request
-request_of access = record { op = access.op; word = access.word; tag = 0 }
+-- so many accesses of a core may be under way: one, where no number is said
+abbrev pub most_of : Option ℕ → ℕ
+most_of None = 1
+most_of (Some most) = most
 
--- the slice of an access, by its number
-abbrev pub slice_of : Config → Access → ℕ
-slice_of config access = (line_of access.word).0 % config.slices
+-- a program that stands there may take the step: an access while fewer wait, and a step that waits once none does
+abbrev pub may_step : Option ℕ → Place → Step → Bool
+may_step most place (step_kinds.Access access) = nat_lt place.waiting (most_of most)
+may_step most place step_kinds.Settle = place.waiting == 0
 
--- an access of this core, if there is one
-abbrev pub asked_by : CoreId → Option Access → Option (CoreId × Access)
-asked_by core None = None
-asked_by core (Some access) = Some (core, access)
+-- the request for an access, under a tag by its place in the program
+abbrev pub request_of : Place → Access → Request
+request_of place access = record { op = access.op; word = access.word; tag = place.asked % 64 }
 
--- the next access of a program that stands there: there is none where its core waits, or isn't one of so many
-abbrev pub next_by : ℕ → Option CoreProgram → Option Place → Option (CoreId × Access)
-next_by cores None place = None
-next_by cores (Some program) None = None
-next_by cores (Some program) (Some place) =
-    if place.waits || not (nat_lt program.core.0 cores) then None
-    else asked_by program.core (slice_get program.accesses.items place.asked)
+-- how a program goes on that stands there
+abbrev pub turn_of : Place → Step → Turn
+turn_of place (step_kinds.Access access) = turns.Ask (request_of place access)
+turn_of place step_kinds.Settle = turns.Settled
 
--- the next access of the program of this number, and its core
-abbrev pub next_of : ℕ → List CoreProgram → List Place → ℕ → Option (CoreId × Access)
-next_of cores programs places number = next_by cores (slice_get programs number) (slice_get places number)
+-- .. by its next step, if there is one, and its core
+abbrev pub turn_by : Option ℕ → CoreId → Place → Option Step → Option (CoreId × Turn)
+turn_by most core place None = None
+turn_by most core place (Some step) = if may_step most place step then Some (core, turn_of place step) else None
 
--- what a slice decides of an access
-abbrev pub decided_in : Option PartsView → CoreId → Access → Option Decision
-decided_in None core access = None
-decided_in (Some state) core access = Some (decision_of state.view core (request_of access))
+-- how a program goes on that stands there: not where its core isn't one of so many
+abbrev pub next_by : ℕ → Option ℕ → Option CoreProgram → Option Place → Option (CoreId × Turn)
+next_by cores most None place = None
+next_by cores most (Some program) None = None
+next_by cores most (Some program) (Some place) =
+    if not (nat_lt program.core.0 cores) then None
+    else turn_by most program.core place (slice_get program.steps.items place.asked)
+
+-- how the program of this number goes on, and its core
+abbrev pub next_of : ℕ → Programs → List Place → ℕ → Option (CoreId × Turn)
+next_of cores programs places number =
+    next_by cores programs.outstanding (slice_get programs.cores.items number) (slice_get places number)
+
+-- the slice of a request, by its number
+abbrev pub slice_of : Config → Request → ℕ
+slice_of config request = (line_of request.word).0 % config.slices
+
+-- what a slice decides of a request
+abbrev pub decided_in : Option PartsView → CoreId → Request → Option Decision
+decided_in None core request = None
+decided_in (Some state) core request = Some (decision_of state.view core request)
 
 -- what the machine decides of it
-abbrev pub decision_on : Config → List PartsView → CoreId → Access → Option Decision
-decision_on config slices core access = decided_in (slice_get slices (slice_of config access)) core access
+abbrev pub decision_on : Config → List PartsView → CoreId → Request → Option Decision
+decision_on config slices core request = decided_in (slice_get slices (slice_of config request)) core request
 
--- it is neither refused nor put off
-abbrev pub is_taken : Option Decision → Bool
-is_taken None = false
-is_taken (Some (decisions.Refuse refused)) = false
-is_taken (Some (decisions.Access local (access_kinds.Stall stall))) = false
-is_taken decision = true
+-- it is not refused, and put off only where stalls are to be counted
+abbrev pub is_tried : Bool → Option Decision → Bool
+is_tried stalls None = false
+is_tried stalls (Some (decisions.Refuse refused)) = false
+is_tried stalls (Some (decisions.Access local (access_kinds.Stall stall))) = stalls
+is_tried stalls decision = true
 
--- an access may be asked for
-abbrev pub may_be_asked : Config → List PartsView → Option (CoreId × Access) → Bool
-may_be_asked config slices None = false
-may_be_asked config slices (Some asked) = is_taken (decision_on config slices asked.0 asked.1)
+-- a core may go on in this way
+abbrev pub may_turn : Config → List PartsView → Bool → CoreId → Turn → Bool
+may_turn config slices stalls core (turns.Ask request) = is_tried stalls (decision_on config slices core request)
+may_turn config slices stalls core turns.Settled = true
 
--- the program of this number may ask for its next access
-abbrev pub may_ask : Config → List CoreProgram → List PartsView → List Place → ℕ → Bool
-may_ask config programs slices places number = may_be_asked config slices (next_of config.cores programs places number)
+abbrev pub may_go_on : Config → List PartsView → Bool → Option (CoreId × Turn) → Bool
+may_go_on config slices stalls None = false
+may_go_on config slices stalls (Some next) = may_turn config slices stalls next.0 next.1
 
--- the accesses that may be asked for, in the order of the programs
-abbrev pub asks_of : Config → List CoreProgram → List PartsView → List Place → List Move
+-- A stall is to be counted, once of each access, where it is said how many accesses may be under way.
+abbrev pub may_stall : Option ℕ → Option Place → Bool
+may_stall None place = false
+may_stall (Some most) None = false
+may_stall (Some most) (Some place) = not place.stalled
+
+-- the program of this number may take its next step
+abbrev pub may_ask : Config → Programs → List PartsView → List Place → ℕ → Bool
+may_ask config programs slices places number =
+    may_go_on config slices (may_stall programs.outstanding (slice_get places number))
+    (next_of config.cores programs places number)
+
+-- the steps that may be taken, in the order of the programs
+abbrev pub asks_of : Config → Programs → List PartsView → List Place → List Move
 asks_of config programs slices places =
-    map moves.Ask (filter (may_ask config programs slices places) (range_with_len 0 (length programs)))
+    map moves.Ask (filter (may_ask config programs slices places) (range_with_len 0 (length programs.cores.items)))
 
 -- the delivery that is next, where one can be made
 abbrev pub delivery_of : Delivery Pick → List Move
@@ -130,16 +164,31 @@ abbrev pub deliveries_of : List PartsView → List Move
 deliveries_of slices = flat_map (λ state. delivery_of (next_pick state classes.Any)) slices
 
 -- What may come next.
-abbrev pub moves_of : Config → List CoreProgram → RunState → List Move
+abbrev pub moves_of : Config → Programs → RunState → List Move
 moves_of config programs run = asks_of config programs run.slices run.places ++ deliveries_of run.slices
 
 -- ---- an access
 
--- a program has asked for one more, and its core waits for it or doesn't
+-- one access more is waited for, or as many
+abbrev pub more_waiting : Bool → ℕ → ℕ
+more_waiting false waiting = waiting
+more_waiting true waiting = min (waiting + 1) (2 ^ 64 - 1)
+
+-- a program has taken one more step, and may wait for one more access
 abbrev pub gone_on : ℕ → Bool → Option Place → List Place → List Place
 gone_on number waits None places = places
 gone_on number waits (Some place) places =
-    slice_set places number (record { asked = min (place.asked + 1) (2 ^ 64 - 1); waits = waits })
+    slice_set places number (record {
+      asked = min (place.asked + 1) (2 ^ 64 - 1);
+      waiting = more_waiting waits place.waiting;
+      stalled = false;
+    })
+
+-- its next access stalled
+abbrev pub after_stall : ℕ → Option Place → List Place → List Place
+after_stall number None places = places
+after_stall number (Some place) places =
+    slice_set places number (record { asked = place.asked; waiting = place.waiting; stalled = true })
 
 -- another line has to leave for the access
 abbrev pub makes_room : Decision → Bool
@@ -161,62 +210,81 @@ abbrev pub after_room : ℕ → Bool → Option PartsView → CoreId → History
 after_room lines false state core history = history
 after_room lines true state core history = after_leaving lines core (left_in state core) history
 
--- What the answer to an access comes to: one that is done at once is a hit, and the core goes on; one that is pending
--- makes it wait, and may have made room; and all others are nothing.
-abbrev pub AfterAnswer : Config → ℕ → CoreId → Access → Bool → Issued → RunState → RunState → Type 0
-AfterAnswer config number core access room (issued_kinds.Done place reply) old new =
+-- What the answer to an access comes to: one that is done at once is a hit, and the core goes on; so it does behind one
+-- that is pending, which may have made room; a stall is counted; and what is refused is nothing.
+abbrev pub AfterAnswer : Config → ℕ → CoreId → Request → Bool → Issued → RunState → RunState → Type 0
+AfterAnswer config number core request room (issued_kinds.Done place reply) old new =
     (new.places ≡ gone_on number false (slice_get old.places number) old.places)
-    × (new.history ≡ after_hit config.lines core access.word access.op reply old.history)
-AfterAnswer config number core access room (issued_kinds.Pending seq) old new =
+    × (new.history ≡ after_hit config.lines core request.word request.op reply old.history)
+AfterAnswer config number core request room (issued_kinds.Pending seq) old new =
     (new.places ≡ gone_on number true (slice_get old.places number) old.places)
     × (new.history
-    ≡ after_room config.lines room (slice_get new.slices (slice_of config access)) core old.history)
-AfterAnswer config number core access room issued old new = (new.places ≡ old.places) × (new.history ≡ old.history)
+    ≡ after_room config.lines room (slice_get new.slices (slice_of config request)) core old.history)
+AfterAnswer config number core request room (issued_kinds.Stall stall) old new =
+    (new.places ≡ after_stall number (slice_get old.places number) old.places)
+    × (new.history ≡ after_stalling core request.word stall old.history)
+AfterAnswer config number core request room (issued_kinds.Refused refused) old new =
+    (new.places ≡ old.places) × (new.history ≡ old.history)
 
 -- the access was asked of the machine, which answered it
-pub record Accesses (config : Config) (number : ℕ) (core : CoreId) (access : Access) (old new : RunState) : Type 0 where
+pub record Accesses (config : Config) (number : ℕ) (core : CoreId) (request : Request) (old new : RunState) :
+    Type 0 where
   pub decision : Decision
-  pub judged : decision_on config old.slices core access ≡ Some decision
+  pub judged : decision_on config old.slices core request ≡ Some decision
   pub issued : Issued
-  pub asked : IsIssued (slice_of config access) core (request_of access) issued old.slices new.slices
-  pub after : AfterAnswer config number core access (makes_room decision) issued old new
+  pub asked : IsIssued (slice_of config request) core request issued old.slices new.slices
+  pub after : AfterAnswer config number core request (makes_room decision) issued old new
 
--- the program's next access is asked for, if there is one
-abbrev pub Asks : Config → ℕ → Option (CoreId × Access) → RunState → RunState → Type 0
+-- a program goes on in this way: it asks for an access, or has waited
+abbrev pub Turns : Config → ℕ → CoreId → Turn → RunState → RunState → Type 0
+Turns config number core (turns.Ask request) old new = Accesses config number core request old new
+Turns config number core turns.Settled old new =
+    new ≡ record old { places = gone_on number false (slice_get old.places number) old.places }
+
+-- the program takes its next step, if there is one
+abbrev pub Asks : Config → ℕ → Option (CoreId × Turn) → RunState → RunState → Type 0
 Asks config number None old new = new ≡ old
-Asks config number (Some asked) old new = Accesses config number asked.0 asked.1 old new
+Asks config number (Some next) old new = Turns config number next.0 next.1 old new
 
 -- ---- a delivery
 
--- a core waits no more
+-- a core waits for one access less
 abbrev pub after_wake : Option ℕ → List Place → List Place
 after_wake None places = places
 after_wake (Some number) places = woken_at (slice_get places number)
   where
     woken_at : Option Place → List Place
     woken_at None = places
-    woken_at (Some place) = slice_set places number (record { asked = place.asked; waits = false })
+    woken_at (Some place) =
+        slice_set places number (record { asked = place.asked; waiting = place.waiting - 1; stalled = place.stalled })
 
 -- the program of a core, by its number
 abbrev pub program_of : List CoreProgram → CoreId → Option ℕ
 program_of programs core = position (λ program. program.core.0 == core.0) programs
 
--- An access of a core of the machine that waited was performed: its reply is handed out, and the core goes on.
-abbrev pub HandsOut : Bool → Config → List CoreProgram → ℕ → Entry → RunState → RunState → Type 0
-HandsOut false config programs slice entry old new = new ≡ old
-HandsOut true config programs slice entry old new =
+-- An access of a core of the machine that waited was performed, as the first of its delivery or behind others: its reply
+-- is handed out, and the core waits for one less.
+abbrev pub HandsOut : Bool → Config → Programs → ℕ → Bool → Entry → RunState → RunState → Type 0
+HandsOut false config programs slice is_first entry old new = new ≡ old
+HandsOut true config programs slice is_first entry old new =
     IsMade slice (slice_calls.Hand entry.core) old.slices new.slices
-    × (new.places ≡ after_wake (program_of programs entry.core) old.places)
-    × (new.history ≡ after_performing config.lines entry old.history)
+    × (new.places ≡ after_wake (program_of programs.cores.items entry.core) old.places)
+    × (new.history ≡ after_performing config.lines is_first entry old.history)
 
-abbrev pub Performs : Config → List CoreProgram → ℕ → Option Entry → RunState → RunState → Type 0
-Performs config programs slice None old new = new ≡ old
-Performs config programs slice (Some entry) old new =
-    HandsOut (nat_lt entry.core.0 config.cores) config programs slice entry old new
+abbrev pub Performs : Config → Programs → ℕ → Bool → Entry → RunState → RunState → Type 0
+Performs config programs slice is_first entry old new =
+    HandsOut (nat_lt entry.core.0 config.cores) config programs slice is_first entry old new
 
--- What a delivery comes to: where the message was moved it is counted, and the access that it let be performed, the
--- first that is new in the slice's log, is seen.
-abbrev pub AfterDelivery : Config → List CoreProgram → Pick → Option Message → Delivered → List PartsView
+-- these were performed by one delivery, one after another
+abbrev pub PerformsAll : Config → Programs → ℕ → Bool → List Entry → RunState → RunState → Type 0
+PerformsAll config programs slice is_first [] old new = new ≡ old
+PerformsAll config programs slice is_first (entry ∷ more) old new =
+    (next : RunState) × Performs config programs slice is_first entry old next
+    × PerformsAll config programs slice false more next new
+
+-- What a delivery comes to: where the message was moved it is counted, and the accesses that it let be performed, which
+-- are new in the slice's log, are seen.
+abbrev pub AfterDelivery : Config → Programs → Pick → Option Message → Delivered → List PartsView
     → RunState → RunState → Type 0
 AfterDelivery config programs pick front delivered.Moved slices old new =
     let slice : ℕ = (line_of_pick pick).0 % config.slices in
@@ -225,11 +293,11 @@ AfterDelivery config programs pick front delivered.Moved slices old new =
       places = old.places;
       history = after_message config.lines pick front old.history;
     } in
-    Performs config programs slice (slice_get (log_at slices slice) (length (log_at old.slices slice))) moved new
+    PerformsAll config programs slice true (drop (length (log_at old.slices slice)) (log_at slices slice)) moved new
 AfterDelivery config programs pick front answer slices old new = new ≡ record old { slices = slices }
 
 -- a delivery at the pick was asked of the machine, which answered it
-pub record Delivers (config : Config) (programs : List CoreProgram) (pick : Pick) (old new : RunState) : Type 0 where
+pub record Delivers (config : Config) (programs : Programs) (pick : Pick) (old new : RunState) : Type 0 where
   pub front : Option Message
   pub in_front : HasAt old.slices ((line_of_pick pick).0 % config.slices)
       (λ state. front ≡ front_at state.view (local_at state.view.lines (line_of_pick pick).0) (channel_of pick))
@@ -243,7 +311,7 @@ pub record Delivers (config : Config) (programs : List CoreProgram) (pick : Pick
 -- ---- a run
 
 -- the move is made
-abbrev pub Makes : Config → List CoreProgram → Move → RunState → RunState → Type 0
+abbrev pub Makes : Config → Programs → Move → RunState → RunState → Type 0
 Makes config programs (moves.Ask number) old new =
     Asks config number (next_of config.cores programs old.places number) old new
 Makes config programs (moves.Deliver pick) old new = Delivers config programs pick old new
@@ -254,32 +322,32 @@ drawn_move word moves = slice_get moves (word % length moves)
 
 -- These moves are made, one after another. Each is drawn from those that may come next, by the next word of the
 -- generator that stands there.
-abbrev pub MakesAll : Config → List CoreProgram → List ℕ → List Move → RunState → RunState → Type 0
+abbrev pub MakesAll : Config → Programs → List ℕ → List Move → RunState → RunState → Type 0
 MakesAll config programs generator [] old new = new ≡ old
 MakesAll config programs generator (to ∷ more) old new =
     (next : RunState) × (drawn_move (plus_plus generator).0 (moves_of config programs old) ≡ Some to)
     × Makes config programs to old next × MakesAll config programs (plus_plus generator).1 more next new
 
 -- The moves that the seed draws are made, up to where none may come next, or 2^64 - 1 of them.
-pub record Runs (config : Config) (programs : List CoreProgram) (seed : ℕ) (old new : RunState) : Type 0 where
+pub record Runs (config : Config) (programs : Programs) (seed : ℕ) (old new : RunState) : Type 0 where
   pub steps : List Move
   pub made : MakesAll config programs (of_seed (splitmix_seed 32 seed)) steps old new
   pub ended : (moves_of config programs new ≡ []) ⊎ (length steps ≡ 2 ^ 64 - 1)
 
--- a program before its first access
+-- a program before its first step
 abbrev pub first_place : Place
-first_place = record { asked = 0; waits = false }
+first_place = record { asked = 0; waiting = 0; stalled = false }
 
--- a new machine, each program before its first access, and nothing seen
-pub record IsNewRun (config : Config) (bound : Bound) (programs : List CoreProgram) (run : RunState) : Type 0 where
+-- a new machine, each program before its first step, and nothing seen
+pub record IsNewRun (config : Config) (bound : Bound) (programs : Programs) (run : RunState) : Type 0 where
   pub fresh : IsNewMachine config bound run.slices
-  pub first : run.places ≡ replicate (length programs) first_place
+  pub first : run.places ≡ replicate (length programs.cores.items) first_place
   pub unseen : run.history ≡ no_history
 
 -- a program that stands there has ended
 abbrev pub HasEnded : CoreProgram → Option Place → Type 0
 HasEnded program None = ⊥
-HasEnded program (Some place) = place.asked ≡ length program.accesses.items
+HasEnded program (Some place) = place.asked ≡ length program.steps.items
 
 -- each program has ended
 abbrev pub HaveEnded : List CoreProgram → List Place → Type 0
@@ -288,8 +356,8 @@ HaveEnded programs places =
     → HasEnded program (slice_get places number)
 
 -- all programs have ended, nothing is in flight and each reply is handed out
-abbrev pub IsOver : List CoreProgram → RunState → Type 0
-IsOver programs run = HaveEnded programs run.places × All (λ state. IsQuiet state.view) run.slices
+abbrev pub IsOver : Programs → RunState → Type 0
+IsOver programs run = HaveEnded programs.cores.items run.places × All (λ state. IsQuiet state.view) run.slices
 
 -- ---- a runner
 
@@ -300,12 +368,11 @@ pub record RunnerView : Type 0 where
   pub places : List Place
   pub observer : Observer
 
--- a runner of a new machine, each program before its first access, and nothing seen
-pub record IsNewRunner (machine : Config) (bound : Bound) (programs : List CoreProgram)
-    (runner : RunnerView) : Type 0 where
+-- a runner of a new machine, each program before its first step, and nothing seen
+pub record IsNewRunner (machine : Config) (bound : Bound) (programs : Programs) (runner : RunnerView) : Type 0 where
   pub config : runner.config ≡ machine
   pub fresh : IsNewMachine machine bound runner.slices
-  pub first : runner.places ≡ replicate (length programs) first_place
+  pub first : runner.places ≡ replicate (length programs.cores.items) first_place
   pub unseen : HasSeen machine no_history runner.observer
 
 -- where the run is, if this was seen so far
@@ -320,30 +387,36 @@ pub record Leads (Goes : RunState → RunState → Type 0) (old new : RunnerView
 
 -- ---- what is printed
 
--- the report in this form
-abbrev pub text_of : Form → TallyView → ℕ → List ℕ
-text_of forms.Table tally seed = report_of tally seed
-text_of forms.Json tally seed = json_of tally seed
+-- the report in this form, by whether several accesses of a core may be under way
+abbrev pub text_of : Form → TallyView → Bool → ℕ → List ℕ
+text_of forms.Table tally limited seed = report_of tally limited seed
+text_of forms.Json tally limited seed = json_of tally limited seed
 
 -- where nothing may come next before the end
 abbrev pub text_of_stuck : ℕ → List ℕ
 text_of_stuck seed = codes "stuck seed " ++ decimal seed ++ codes "\n"
 
 -- what a run prints, and its status: the report on what was counted where it is over, and else that it is stuck
-pub record PrintsEnd (config : Config) (programs : List CoreProgram) (form : Form) (seed status : ℕ) (run : RunState)
+pub record PrintsEnd (config : Config) (programs : Programs) (form : Form) (seed status : ℕ) (run : RunState)
     (before after : Option (List ℕ)) : Type 0 where
   pub over : IsOver programs run → (status ≡ 0)
-      × Appends before after (text_of form (tally_after (new_tally config.cores config.lines) run.history.counted) seed)
+      × Appends before after (text_of form (tally_after (new_tally config.cores config.lines) run.history.counted)
+      (is_limited programs.outstanding) seed)
   pub stuck : ¬ IsOver programs run → (status ≡ 1) × Appends before after (text_of_stuck seed)
 
 -- The programs are run on a new machine by the moves that the seed draws, and what the run's end prints is written.
-pub record IsProgramsRun (config : Config) (bound : Bound) (programs : List CoreProgram) (form : Form) (seed status : ℕ)
+pub record IsProgramsRun (bound : Bound) (programs : Programs) (form : Form) (seed status : ℕ)
     (before after : Option (List ℕ)) : Type 0 where
   pub start : RunState
-  pub new : IsNewRun config bound programs start
+  pub new : IsNewRun programs.config bound programs start
   pub end : RunState
-  pub runs : Runs config programs seed start end
-  pub prints : PrintsEnd config programs form seed status end before after
+  pub runs : Runs programs.config programs seed start end
+  pub prints : PrintsEnd programs.config programs form seed status end before after
+
+-- so many accesses of a core may be under way, where a number is given
+abbrev pub limited_to : Option ℕ → Programs → Programs
+limited_to None programs = programs
+limited_to (Some most) programs = record programs { outstanding = Some most }
 
 -- Why no programs were run: the text is at fault, there was no memory, or the report couldn't be written.
 abbrev pub IsProgramNotRun : List ℕ → TextFault → Type 0

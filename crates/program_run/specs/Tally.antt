@@ -5,6 +5,8 @@ use Rattle.address_map.specs.declared.address.LineAddr.{LineAddr}
 use Rattle.miss_cause.specs.declared.cause.Cause.{Cause}
 use Rattle.miss_cause.specs.declared.cause.Cause.TheVariants as causes
 use Rattle.slice_answer.specs.Stats.{next_count, no_messages, one_more_message}
+use Rattle.slice_answer.specs.declared.answer.Stall.{Stall}
+use Rattle.slice_answer.specs.declared.answer.Stall.TheVariants as stalls
 use Rattle.slice_queues_message.specs.Pick.{channel_of, line_of as line_of_pick}
 use Rattle.slice_queues_message.specs.declared.channel.Pick.{Pick}
 use Rattle.slice_queues_message.specs.declared.channel.Pick.TheVariants as picks
@@ -27,6 +29,12 @@ no_counts = record {
   upgrade = 0;
   true_sharing = 0;
   false_sharing = 0;
+  secondary = 0;
+  no_register = 0;
+  no_target = 0;
+  no_way = 0;
+  write_back_full = 0;
+  write_back_busy = 0;
   evictions = 0;
   messages = no_messages;
 }
@@ -45,10 +53,20 @@ one_more_miss causes.Upgrade counts = record counts { upgrade = next_count count
 one_more_miss causes.TrueSharing counts = record counts { true_sharing = next_count counts.true_sharing }
 one_more_miss causes.FalseSharing counts = record counts { false_sharing = next_count counts.false_sharing }
 
+-- one more stall for this reason
+abbrev pub one_more_stall : Stall → Counts → Counts
+one_more_stall stalls.NoRegister counts = record counts { no_register = next_count counts.no_register }
+one_more_stall stalls.NoTarget counts = record counts { no_target = next_count counts.no_target }
+one_more_stall stalls.NoWay counts = record counts { no_way = next_count counts.no_way }
+one_more_stall stalls.WriteBackFull counts = record counts { write_back_full = next_count counts.write_back_full }
+one_more_stall stalls.WriteBackBusy counts = record counts { write_back_busy = next_count counts.write_back_busy }
+
 -- one more of what is counted
 abbrev pub one_more : Counted → Counts → Counts
 one_more (counted_kinds.Hit core line) counts = record counts { hits = next_count counts.hits }
 one_more (counted_kinds.Miss core line cause) counts = one_more_miss cause counts
+one_more (counted_kinds.Secondary core line) counts = record counts { secondary = next_count counts.secondary }
+one_more (counted_kinds.Stall core line stall) counts = one_more_stall stall counts
 one_more (counted_kinds.Eviction core line) counts = record counts { evictions = next_count counts.evictions }
 one_more (counted_kinds.Message pick) counts =
     record counts { messages = one_more_message (channel_of pick) counts.messages }
@@ -65,6 +83,8 @@ core_of_message (picks.Home line) = None
 abbrev pub core_of : Counted → Option CoreId
 core_of (counted_kinds.Hit core line) = Some core
 core_of (counted_kinds.Miss core line cause) = Some core
+core_of (counted_kinds.Secondary core line) = Some core
+core_of (counted_kinds.Stall core line stall) = Some core
 core_of (counted_kinds.Eviction core line) = Some core
 core_of (counted_kinds.Message pick) = core_of_message pick
 
@@ -72,6 +92,8 @@ core_of (counted_kinds.Message pick) = core_of_message pick
 abbrev pub line_of : Counted → LineAddr
 line_of (counted_kinds.Hit core line) = line
 line_of (counted_kinds.Miss core line cause) = line
+line_of (counted_kinds.Secondary core line) = line
+line_of (counted_kinds.Stall core line stall) = line
 line_of (counted_kinds.Eviction core line) = line
 line_of (counted_kinds.Message pick) = line_of_pick pick
 
@@ -107,9 +129,15 @@ abbrev pub misses_of : Counts → ℕ
 misses_of counts =
     capped_sum (counts.cold + counts.replaced + counts.upgrade + counts.true_sharing + counts.false_sharing)
 
--- the accesses: hits and misses
+-- the accesses: hits, misses, and those that waited with another
 abbrev pub requests_of : Counts → ℕ
-requests_of counts = capped_sum (counts.hits + misses_of counts)
+requests_of counts = capped_sum (counts.hits + misses_of counts + counts.secondary)
+
+-- the stalls for all reasons
+abbrev pub stalls_of : Counts → ℕ
+stalls_of counts =
+    capped_sum
+    (counts.no_register + counts.no_target + counts.no_way + counts.write_back_full + counts.write_back_busy)
 
 -- two counts together
 abbrev pub counts_together : Counts → Counts → Counts
@@ -120,6 +148,12 @@ counts_together one other = record {
   upgrade = capped_sum (one.upgrade + other.upgrade);
   true_sharing = capped_sum (one.true_sharing + other.true_sharing);
   false_sharing = capped_sum (one.false_sharing + other.false_sharing);
+  secondary = capped_sum (one.secondary + other.secondary);
+  no_register = capped_sum (one.no_register + other.no_register);
+  no_target = capped_sum (one.no_target + other.no_target);
+  no_way = capped_sum (one.no_way + other.no_way);
+  write_back_full = capped_sum (one.write_back_full + other.write_back_full);
+  write_back_busy = capped_sum (one.write_back_busy + other.write_back_busy);
   evictions = capped_sum (one.evictions + other.evictions);
   messages = sum_of one.messages other.messages;
 }
@@ -137,6 +171,12 @@ totals_of lines = record {
   upgrade = total_by (λ line. line.upgrade) lines;
   true_sharing = total_by (λ line. line.true_sharing) lines;
   false_sharing = total_by (λ line. line.false_sharing) lines;
+  secondary = total_by (λ line. line.secondary) lines;
+  no_register = total_by (λ line. line.no_register) lines;
+  no_target = total_by (λ line. line.no_target) lines;
+  no_way = total_by (λ line. line.no_way) lines;
+  write_back_full = total_by (λ line. line.write_back_full) lines;
+  write_back_busy = total_by (λ line. line.write_back_busy) lines;
   evictions = total_by (λ line. line.evictions) lines;
   messages = record {
     requests = total_by (λ line. line.messages.requests) lines;

@@ -1,5 +1,6 @@
 ghost use Rattle.std.specs.Prelude.{◌≡◌};
-ghost use Rattle.program_run.specs.Column.{core_columns, count_in, line_columns, name_of};
+ghost use Rattle.program_run.specs.Column.{columns_of_all, columns_of_core, core_columns, count_in, line_columns, name_of};
+ghost use Rattle.program_run.specs.Column.{parallel_columns};
 
 use super::tally::Counts;
 
@@ -20,10 +21,19 @@ pub(crate) enum Column {
     Data,
     Ack,
     Home,
+    Primary,
+    Secondary,
+    Stalls,
+    NoRegister,
+    NoTarget,
+    NoWay,
+    WriteBackFull,
+    WriteBackBusy,
 }
 
-/// All columns in their order. The last one is that of lines alone.
-static COLUMNS: [Column; 14] = [
+/// The columns of a line in their order, and behind them what is counted of all lines only where several accesses of a
+/// core may be under way.
+static LINE_COLUMNS: [Column; 22] = [
     Column::Requests,
     Column::Hits,
     Column::Misses,
@@ -38,20 +48,82 @@ static COLUMNS: [Column; 14] = [
     Column::Data,
     Column::Ack,
     Column::Home,
+    Column::Primary,
+    Column::Secondary,
+    Column::Stalls,
+    Column::NoRegister,
+    Column::NoTarget,
+    Column::NoWay,
+    Column::WriteBackFull,
+    Column::WriteBackBusy,
+];
+
+/// Those of a core, and behind them what is counted only where several of its accesses may be under way.
+static CORE_COLUMNS: [Column; 21] = [
+    Column::Requests,
+    Column::Hits,
+    Column::Misses,
+    Column::Cold,
+    Column::Replaced,
+    Column::Upgrade,
+    Column::TrueSharing,
+    Column::FalseSharing,
+    Column::Evictions,
+    Column::Req,
+    Column::Fwd,
+    Column::Data,
+    Column::Ack,
+    Column::Primary,
+    Column::Secondary,
+    Column::Stalls,
+    Column::NoRegister,
+    Column::NoTarget,
+    Column::NoWay,
+    Column::WriteBackFull,
+    Column::WriteBackBusy,
 ];
 
 /// The columns of a core.
 pub(crate) fn core_columns() -> &'static [Column]
     ensures { result.now ≡ core_columns }
 {
-    &COLUMNS[..13]
+    &CORE_COLUMNS[..13]
 }
 
-/// The columns of a line, and of all lines.
+/// What is counted of a core only where several of its accesses may be under way.
+pub(crate) fn parallel_columns() -> &'static [Column]
+    ensures { result.now ≡ parallel_columns }
+{
+    &CORE_COLUMNS[13..]
+}
+
+/// All that is reported of a core, by whether several of its accesses may be under way.
+pub(crate) fn columns_of_core(is_limited: bool) -> &'static [Column]
+    ensures { result.now ≡ columns_of_core is_limited }
+{
+    if is_limited {
+        &CORE_COLUMNS
+    } else {
+        core_columns()
+    }
+}
+
+/// The columns of a line.
 pub(crate) fn line_columns() -> &'static [Column]
     ensures { result.now ≡ line_columns }
 {
-    &COLUMNS
+    &LINE_COLUMNS[..14]
+}
+
+/// Those of all lines, by whether several accesses of a core may be under way.
+pub(crate) fn columns_of_all(is_limited: bool) -> &'static [Column]
+    ensures { result.now ≡ columns_of_all is_limited }
+{
+    if is_limited {
+        &LINE_COLUMNS
+    } else {
+        line_columns()
+    }
 }
 
 impl Column {
@@ -74,6 +146,14 @@ impl Column {
             Column::Data => "data",
             Column::Ack => "ack",
             Column::Home => "home",
+            Column::Primary => "primary",
+            Column::Secondary => "secondary",
+            Column::Stalls => "stalls",
+            Column::NoRegister => "register",
+            Column::NoTarget => "target",
+            Column::NoWay => "way",
+            Column::WriteBackFull => "wb-full",
+            Column::WriteBackBusy => "wb-busy",
         }
     }
 
@@ -84,7 +164,7 @@ impl Column {
         match self {
             Column::Requests => counts.requests(),
             Column::Hits => counts.hits,
-            Column::Misses => counts.misses(),
+            Column::Misses | Column::Primary => counts.misses(),
             Column::Cold => counts.cold,
             Column::Replaced => counts.replaced,
             Column::Upgrade => counts.upgrade,
@@ -96,6 +176,13 @@ impl Column {
             Column::Data => counts.messages.data_replies,
             Column::Ack => counts.messages.acknowledgements,
             Column::Home => counts.messages.home,
+            Column::Secondary => counts.secondary,
+            Column::Stalls => counts.stalls(),
+            Column::NoRegister => counts.no_register,
+            Column::NoTarget => counts.no_target,
+            Column::NoWay => counts.no_way,
+            Column::WriteBackFull => counts.write_back_full,
+            Column::WriteBackBusy => counts.write_back_busy,
         }
     }
 }

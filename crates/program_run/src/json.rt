@@ -13,41 +13,47 @@ ghost use Rattle.program_run.specs.Json.{
   members_of,
 };
 
-use super::column::{Column, core_columns, line_columns};
+use super::column::{Column, columns_of_all, columns_of_core, line_columns};
 use super::tally::{Counts, Tally};
 use std::fmt;
 use std::fmt::Write;
 
 /// Writes what the report shows, under the names of its columns.
-pub(crate) fn write_json<W: Write>(tally: &Tally, seed: u64, out: &mut W) -> fmt::Result
-    ensures { OnOk result (WritesInCalls W.write_str_gives out.old (json_of tally.now seed) out.new) }
+pub(crate) fn write_json<W: Write>(
+    tally: &Tally,
+    is_limited: bool,
+    seed: u64,
+    out: &mut W,
+) -> fmt::Result
+    ensures { OnOk result (WritesInCalls W.write_str_gives out.old (json_of tally.now is_limited seed) out.new) }
 {
     write!(out, "{{\"seed\":{seed},\"cores\":[")?;
-    write_cores(tally.cores(), out)?;
+    write_cores(columns_of_core(is_limited), tally.cores(), out)?;
     write!(out, "],\"lines\":[")?;
     write_lines(tally.lines(), out)?;
     write!(out, "],\"all\":{{")?;
-    write_members(line_columns(), &tally.all(), out)?;
+    write_members(columns_of_all(is_limited), &tally.all(), out)?;
     writeln!(out, "}}}}")
 }
 
-fn write_cores<W: Write>(cores: &[Counts], out: &mut W) -> fmt::Result
-    ensures { OnOk result (WritesInCalls W.write_str_gives out.old (core_objects_of cores.now) out.new) }
+fn write_cores<W: Write>(columns: &[Column], cores: &[Counts], out: &mut W) -> fmt::Result
+    ensures { OnOk result (WritesInCalls W.write_str_gives out.old (core_objects_of columns.now cores.now) out.new) }
 {
     let mut is_first = true;
     for (core, counts) in cores.iter().enumerate() {
         write_comma(is_first, out)?;
         is_first = false;
-        write_core(core as u64, counts, out)?;
+        write_core(core as u64, columns, counts, out)?;
     }
     Ok(())
 }
 
-fn write_core<W: Write>(core: u64, counts: &Counts, out: &mut W) -> fmt::Result
-    ensures { OnOk result (WritesInCalls W.write_str_gives out.old (core_object core counts.now) out.new) }
+fn write_core<W: Write>(core: u64, columns: &[Column], counts: &Counts, out: &mut W) -> fmt::Result
+    ensures { OnOk result
+        (WritesInCalls W.write_str_gives out.old (core_object columns.now core counts.now) out.new) }
 {
     write!(out, "{{\"core\":{core},")?;
-    write_members(core_columns(), counts, out)?;
+    write_members(columns, counts, out)?;
     write!(out, "}}")
 }
 

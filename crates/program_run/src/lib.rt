@@ -1,10 +1,13 @@
 //! Runs programs without threads, in an order that a seed draws, and reports what was counted.
 //!
-//! A core asks for its next access once the one before was performed. At each step one of the possible moves is drawn,
-//! each as likely as the others ([`Xoshiro256++`] of the seed): the next access of a core, where it doesn't stall, or
-//! the next delivery of a slice, where one can be made. So the same seed runs the same way on every machine.
+//! A core asks for its next access once the one before was performed, or while fewer accesses than the text says are
+//! under way. At each step one of the possible moves is drawn, each as likely as the others ([`Xoshiro256++`] of the
+//! seed): the next access of a core, where it doesn't stall, or the next delivery of a slice, where one can be made. So
+//! the same seed runs the same way on every machine. Where a text says how many accesses may be under way, an access
+//! that would stall is asked for too, once, and so its stall is counted; then it waits until it stalls no more.
 //!
-//! - src/runner.rt: the machine, where each program stands, and what a move does (`Makes` of specs/Run.antt).
+//! - src/runner.rt: the machine, where each program stands, and what a move does (`Makes` of specs/Run.antt);
+//!   src/performed.rt: the accesses that a delivery performs.
 //! - src/moves.rt: what may come next (`moves_of`).
 //! - src/observer.rt: what is seen of each call: what becomes of the cores' copies, and what is counted
 //!   (specs/History.antt). A miss is counted under its cause (`miss_cause`).
@@ -22,6 +25,7 @@ mod column;
 mod json;
 mod moves;
 mod observer;
+mod performed;
 mod report;
 mod run;
 mod runner;

@@ -1,22 +1,32 @@
-ghost use Rattle.std.specs.Prelude.{◌≡◌, ◌++◌, ◌<◌, ◌+◌, map, filter, length, slice_get, IfSome, OnOk, Some};
-ghost use Rattle.std.specs.List.{flat_map, range_with_len};
+ghost use Rattle.std.specs.Prelude.{◌≡◌, ◌++◌, ◌<◌, IfSome, OnOk, Some, slice_get};
 ghost use Rattle.litmus_text.specs.Command.{HasCore};
-ghost use Rattle.slice_core_plan.specs.Calls.{next_pick};
-ghost use Rattle.slice_queues_message.specs.declared.channel.Class.TheVariants as classes;
-ghost use Rattle.program_run.specs.Run.{asks_of, decision_on, deliveries_of, is_taken, may_be_asked, next_by, next_of};
-ghost use Rattle.program_run.specs.Run.{request_of};
+ghost use Rattle.program_run.specs.Run.{
+  asks_of,
+  decision_on,
+  deliveries_of,
+  is_tried,
+  may_ask,
+  may_stall,
+  may_step,
+  may_turn,
+  most_of,
+  next_by,
+  next_of,
+  request_of,
+  turn_of,
+};
 
 use address_map::{CoreId, Request};
 use litmus_script::Machine;
 use mshr_file::MissFile;
-use program_text::{Access, CoreProgram};
+use program_text::{Access, CoreProgram, Programs, Step};
 use slice_core::{AccessKind, Class, Decision, DeliveredNext, Pick, SliceState};
 use std::alloc::AllocError;
 
 /// What may come next.
 #[derive(Clone, Copy, Debug, PartialEq, Eq)]
 pub(crate) enum Move {
-    /// The next access of the program of this number.
+    /// The next step of the program of this number.
     Ask(usize),
     Deliver(Pick),
 }
@@ -24,17 +34,27 @@ pub(crate) enum Move {
 /// Where a core's program stands.
 #[derive(Clone, Copy, Debug, PartialEq, Eq)]
 pub(crate) struct Place {
-    /// How many accesses were asked for.
+    /// How many steps were taken.
     pub asked: usize,
-    /// Whether the last of them isn't performed yet.
-    pub waits: bool,
+    /// How many accesses were asked for and aren't performed yet.
+    pub waiting: u64,
+    /// Whether the next access was asked for, and stalled.
+    pub stalled: bool,
 }
 
-/// Lists what may come next behind what is listed: accesses in the order of the programs, and then a delivery of each
+/// How a program goes on.
+#[derive(Clone, Copy, Debug, PartialEq, Eq)]
+pub(crate) enum Turn {
+    Ask(Request),
+    /// Its core has waited for its accesses.
+    Settled,
+}
+
+/// Lists what may come next behind what is listed: steps in the order of the programs, and then a delivery of each
 /// slice.
 pub(crate) fn list_moves<F: MissFile>(
     machine: &Machine<F>,
-    programs: &[CoreProgram],
+    programs: &Programs,
     places: &[Place],
     moves: &mut Vec<Move>,
 ) -> Result<(), AllocError>
@@ -48,14 +68,14 @@ pub(crate) fn list_moves<F: MissFile>(
 
 fn list_asks<F: MissFile>(
     machine: &Machine<F>,
-    programs: &[CoreProgram],
+    programs: &Programs,
     places: &[Place],
     moves: &mut Vec<Move>,
 ) -> Result<(), AllocError>
     ensures { OnOk result (moves.new.items
         ≡ moves.old.items ++ asks_of machine.now.config programs.now machine.now.slices.items places.now) }
 {
-    for number in 0..programs.len() {
+    for number in 0..programs.cores.len() {
         if !may_ask(machine, programs, places, number) {
             continue;
         }
@@ -79,76 +99,136 @@ fn list_deliveries<F: MissFile>(
     Ok(())
 }
 
-// Whether the program's next access may be asked for, and would neither stall nor be refused.
+// Whether the program's next step may be taken: an access neither stalls nor is refused, or its stall is to be counted.
 fn may_ask<F: MissFile>(
     machine: &Machine<F>,
-    programs: &[CoreProgram],
+    programs: &Programs,
     places: &[Place],
     number: usize,
 ) -> bool
-    ensures { result ≡ may_be_asked machine.now.config machine.now.slices.items
-        (next_of machine.now.config.cores programs.now places.now number) }
+    ensures { result ≡ may_ask machine.now.config programs.now machine.now.slices.items places.now number }
 {
-    match next_access(machine.config.cores(), programs, places, number) {
-        Some((core, access)) => is_taken(decide(machine, core, access)),
+    let stalls = may_stall(programs.outstanding, places, number);
+    match next_turn(machine.config.cores(), programs, places, number) {
+        Some((core, turn)) => may_turn(machine, stalls, core, turn),
         None => false,
     }
 }
 
-fn is_taken(decision: Decision) -> bool
-    ensures { result ≡ is_taken (Some decision) }
+// Whether a stall would be counted: once of each access, and only where several may be under way.
+fn may_stall(most: Option<u64>, places: &[Place], number: usize) -> bool
+    ensures { result ≡ may_stall most (slice_get places.now number) }
 {
-    !matches!(
-        decision,
-        Decision::Refuse(_) | Decision::Access(_, AccessKind::Stall(_))
-    )
+    match (most, places.get(number)) {
+        (Some(_), Some(place)) => !place.stalled,
+        _ => false,
+    }
 }
 
-/// The next access of the program of this number, and its core, where that waits for nothing and is one of so many.
-pub(crate) fn next_access(
+fn may_turn<F: MissFile>(machine: &Machine<F>, stalls: bool, core: CoreId, turn: Turn) -> bool
+    requires { HasCore machine.now.config core }
+    ensures { result ≡ may_turn machine.now.config machine.now.slices.items stalls core turn }
+{
+    match turn {
+        Turn::Ask(request) => is_tried(stalls, decide(machine, core, request)),
+        Turn::Settled => true,
+    }
+}
+
+fn is_tried(stalls: bool, decision: Decision) -> bool
+    ensures { result ≡ is_tried stalls (Some decision) }
+{
+    match decision {
+        Decision::Refuse(_) => false,
+        Decision::Access(_, AccessKind::Stall(_)) => stalls,
+        Decision::Access(_, _) => true,
+    }
+}
+
+/// How the program of this number goes on, and its core, where that may go on and is one of so many.
+pub(crate) fn next_turn(
     cores: usize,
-    programs: &[CoreProgram],
+    programs: &Programs,
     places: &[Place],
     number: usize,
-) -> Option<(CoreId, Access)>
+) -> Option<(CoreId, Turn)>
     ensures next { result ≡ next_of cores programs.now places.now number }
-    ensures known { IfSome result (λ asked. asked.0.0 < cores) }
+    ensures known { IfSome result (λ next. next.0.0 < cores) }
 {
-    match (programs.get(number), places.get(number)) {
-        (Some(program), Some(place)) => next_of_program(cores, program, *place),
+    match (programs.cores.get(number), places.get(number)) {
+        (Some(program), Some(place)) => {
+            next_of_program(cores, programs.outstanding, program, *place)
+        }
         _ => None,
     }
 }
 
-fn next_of_program(cores: usize, program: &CoreProgram, place: Place) -> Option<(CoreId, Access)>
-    ensures next { result ≡ next_by cores (Some program.now) (Some place) }
-    ensures known { IfSome result (λ asked. asked.0.0 < cores) }
+fn next_of_program(
+    cores: usize,
+    most: Option<u64>,
+    program: &CoreProgram,
+    place: Place,
+) -> Option<(CoreId, Turn)>
+    ensures next { result ≡ next_by cores most (Some program.now) (Some place) }
+    ensures known { IfSome result (λ next. next.0.0 < cores) }
 {
-    if place.waits || program.core.0 as usize >= cores {
+    if program.core.0 as usize >= cores {
         return None;
     }
-    match program.accesses.get(place.asked) {
-        Some(access) => Some((program.core, *access)),
-        None => None,
+    let Some(step) = program.steps.get(place.asked) else {
+        return None;
+    };
+    if !may_step(most, place, *step) {
+        return None;
+    }
+    Some((program.core, turn_of(place, *step)))
+}
+
+// Whether a program that stands there may take the step.
+fn may_step(most: Option<u64>, place: Place, step: Step) -> bool
+    ensures { result ≡ may_step most place step }
+{
+    match step {
+        Step::Access(_) => place.waiting < most_of(most),
+        Step::Settle => place.waiting == 0,
     }
 }
 
-/// What the machine would decide of an access.
-pub(crate) fn decide<F: MissFile>(machine: &Machine<F>, core: CoreId, access: Access) -> Decision
-    requires { HasCore machine.now.config core }
-    ensures { decision_on machine.now.config machine.now.slices.items core access ≡ Some result }
+// How many accesses of a core may be under way.
+fn most_of(most: Option<u64>) -> u64
+    ensures { result ≡ most_of most }
 {
-    let slice = machine.slice_of(access.word.line());
-    machine.slices[slice].decide(core, request_of(access))
+    match most {
+        Some(most) => most,
+        None => 1,
+    }
 }
 
-/// Each core has one access at a time, so one tag serves.
-pub(crate) fn request_of(access: Access) -> Request
-    ensures { result ≡ request_of access }
+fn turn_of(place: Place, step: Step) -> Turn
+    ensures { result ≡ turn_of place step }
+{
+    match step {
+        Step::Access(access) => Turn::Ask(request_of(place, access)),
+        Step::Settle => Turn::Settled,
+    }
+}
+
+/// What the machine would decide of a request.
+pub(crate) fn decide<F: MissFile>(machine: &Machine<F>, core: CoreId, request: Request) -> Decision
+    requires { HasCore machine.now.config core }
+    ensures { decision_on machine.now.config machine.now.slices.items core request ≡ Some result }
+{
+    let slice = machine.slice_of(request.word.line());
+    machine.slices[slice].decide(core, request)
+}
+
+// An access has a tag by its place in the program, so that those under way have different ones.
+fn request_of(place: Place, access: Access) -> Request
+    ensures { result ≡ request_of place access }
 {
     Request {
         op: access.op,
         word: access.word,
-        tag: 0,
+        tag: (place.asked % 64) as u8,
     }
 }

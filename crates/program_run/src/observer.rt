@@ -9,7 +9,9 @@ ghost use Rattle.program_run.specs.History.{
   after_message,
   after_miss,
   after_performing,
+  after_stalling,
   after_taking,
+  after_waiting,
   after_write,
   after_count,
   has_line,
@@ -22,6 +24,7 @@ ghost use Rattle.program_run.specs.History.{
 use super::tally::{Counted, Tally};
 use address_map::{Checked, CoreId, LineAddr, Op, WordAddr};
 use miss_cause::{Event, Memory};
+use slice_answer::Stall;
 use slice_core::{Entry, ForwardedMessage, Message, Pick};
 use std::alloc::{AllocError, Global};
 
@@ -50,6 +53,14 @@ impl Observer {
     {
         self.count(Counted::Hit(core, word.line()));
         self.write(core, word, op, reply);
+    }
+
+    /// An access has to be asked again.
+    pub fn stall(&mut self, core: CoreId, word: WordAddr, stall: Stall)
+        ensures { (config : Config) (history : History) → HasSeen config history self.old
+            → HasSeen config (after_stalling core word stall history) self.new }
+    {
+        self.count(Counted::Stall(core, word.line(), stall));
     }
 
     /// A line left to make room.
@@ -95,10 +106,10 @@ impl Observer {
         self.note(Event::Lost(core, line));
     }
 
-    /// An access that waited is performed.
-    pub fn perform(&mut self, entry: Entry)
+    /// An access that waited is performed, as the first of its delivery or behind others.
+    pub fn perform(&mut self, entry: Entry, is_first: bool)
         ensures { (config : Config) (history : History) → HasSeen config history self.old
-            → HasSeen config (after_performing config.lines entry history) self.new }
+            → HasSeen config (after_performing config.lines is_first entry history) self.new }
     {
         let Entry {
             core,
@@ -107,9 +118,21 @@ impl Observer {
             reply,
             ..
         } = entry;
-        self.miss(core, word);
+        self.wait(core, word, is_first);
         self.note(Event::Took(core, word.line()));
         self.write(core, word, op, reply);
+    }
+
+    // What was waited for is counted as a miss, or as a secondary one behind the first of its delivery.
+    fn wait(&mut self, core: CoreId, word: WordAddr, is_first: bool)
+        ensures { (config : Config) (history : History) → HasSeen config history self.old
+            → HasSeen config (after_waiting config.lines is_first core word history) self.new }
+    {
+        if is_first {
+            self.miss(core, word);
+        } else {
+            self.count(Counted::Secondary(core, word.line()));
+        }
     }
 
     fn miss(&mut self, core: CoreId, word: WordAddr)

@@ -2,26 +2,43 @@ ghost use Rattle.std.specs.Prelude.{◌≡◌, OnOk, decimal};
 ghost use Rattle.std.specs.Fmt.{WritesInCalls};
 ghost use Rattle.stats_report.specs.Report.{right_in_10};
 ghost use Rattle.program_run.specs.Column.{name_of};
-ghost use Rattle.program_run.specs.Report.{core_rows, counts_of, heading_of, line_row, line_rows, names_of, report_of};
-ghost use Rattle.program_run.specs.Report.{row_of};
+ghost use Rattle.program_run.specs.Report.{core_rows, counts_of, heading_of, line_row, line_rows, names_of};
+ghost use Rattle.program_run.specs.Report.{parallel_table, report_of, row_of};
 
-use super::column::{Column, core_columns, line_columns};
+use super::column::{Column, core_columns, line_columns, parallel_columns};
 use super::tally::{Counts, Tally};
 use std::fmt;
 use std::fmt::Write;
 
-/// Writes a table of the cores, and one of the lines that were asked for, which ends with the sums.
-pub(crate) fn write_report<W: Write>(tally: &Tally, seed: u64, out: &mut W) -> fmt::Result
-    ensures { OnOk result (WritesInCalls W.write_str_gives out.old (report_of tally.now seed) out.new) }
+/// Writes a table of the cores, and one of the lines that were asked for, which ends with the sums. A further table of
+/// the cores stands behind it where several accesses of each may be under way.
+pub(crate) fn write_report<W: Write>(
+    tally: &Tally,
+    is_limited: bool,
+    seed: u64,
+    out: &mut W,
+) -> fmt::Result
+    ensures { OnOk result (WritesInCalls W.write_str_gives out.old (report_of tally.now is_limited seed) out.new) }
 {
     writeln!(out, "seed {seed}")?;
     write_heading("      core", core_columns(), out)?;
-    write_cores(tally.cores(), out)?;
+    write_cores(core_columns(), tally.cores(), out)?;
     write_heading("      line", line_columns(), out)?;
     write_lines(tally.lines(), out)?;
     write!(out, "       all")?;
     write_counts(line_columns(), &tally.all(), out)?;
-    writeln!(out)
+    writeln!(out)?;
+    write_parallel(is_limited, tally.cores(), out)
+}
+
+fn write_parallel<W: Write>(is_limited: bool, cores: &[Counts], out: &mut W) -> fmt::Result
+    ensures { OnOk result (WritesInCalls W.write_str_gives out.old (parallel_table is_limited cores.now) out.new) }
+{
+    if !is_limited {
+        return Ok(());
+    }
+    write_heading("      core", parallel_columns(), out)?;
+    write_cores(parallel_columns(), cores, out)
 }
 
 fn write_heading<W: Write>(title: &str, columns: &[Column], out: &mut W) -> fmt::Result
@@ -48,11 +65,11 @@ fn write_name<W: Write>(column: Column, out: &mut W) -> fmt::Result
     write!(out, "{name:>10}")
 }
 
-fn write_cores<W: Write>(cores: &[Counts], out: &mut W) -> fmt::Result
-    ensures { OnOk result (WritesInCalls W.write_str_gives out.old (core_rows cores.now) out.new) }
+fn write_cores<W: Write>(columns: &[Column], cores: &[Counts], out: &mut W) -> fmt::Result
+    ensures { OnOk result (WritesInCalls W.write_str_gives out.old (core_rows columns.now cores.now) out.new) }
 {
     for (core, counts) in cores.iter().enumerate() {
-        write_row(core as u64, core_columns(), counts, out)?;
+        write_row(core as u64, columns, counts, out)?;
     }
     Ok(())
 }

@@ -1,4 +1,4 @@
-ghost use Rattle.std.specs.Prelude.{◌≡◌, ◌++◌, [], IfErr, IfNone, IfOk, IfSome, OnOk, Some, codes, decimal};
+ghost use Rattle.std.specs.Prelude.{◌≡◌, [], IfErr, IfNone, IfOk, IfSome, OnOk, Some};
 ghost use Rattle.std.specs.Fmt.{WritesInCalls};
 ghost use Rattle.std.specs.Io.KnownBytes.{Appends};
 ghost use Rattle.litmus_script.specs.Machine.{bound_of};
@@ -6,7 +6,9 @@ ghost use Rattle.program_text.specs.Fault.{IsProgramText, programs_of, settings_
 ghost use Rattle.program_text.specs.declared.programs.Programs.{Programs};
 ghost use Rattle.litmus_script.specs.Play.{IsOfRun};
 ghost use Rattle.rand_xoshiro.specs.Xoshiro256.{plus_plus};
-ghost use Rattle.program_run.specs.Run.{IsProgramNotRun, IsProgramsRun, Leads, Runs, drawn_move, text_of, text_of_stuck};
+ghost use Rattle.program_text.specs.Judged.{is_limited};
+ghost use Rattle.program_run.specs.Run.{IsProgramNotRun, IsProgramsRun, Leads, Runs, drawn_move, limited_to, text_of};
+ghost use Rattle.program_run.specs.Run.{text_of_stuck};
 
 use super::json::write_json;
 use super::moves::Move;
@@ -31,23 +33,36 @@ pub enum Form {
     Json,
 }
 
-/// Runs the programs that a text says in the order that the seed draws, and prints the report. Returns the exit status,
-/// which is 1 where nothing can move before the end; then nothing else is printed.
+/// Runs the programs that a text says in the order that the seed draws, and prints the report. So many accesses of a
+/// core may be under way as the text says, where no other number is given, and one where neither says a number. Returns
+/// the exit status, which is 1 where nothing can move before the end; then nothing else is printed.
 pub fn run_programs<W: Write>(
     alloc: Global,
     input: &[u8],
+    outstanding: Option<u64>,
     seed: u64,
     form: Form,
     out: &mut W,
 ) -> Result<u8, TextFault>
     ensures done { IfOk result (λ status. (programs : Programs)
-        × IsProgramText input.now (settings_of programs) (programs_of programs)
-        × IsProgramsRun programs.config (bound_of programs.misses programs.config) programs.cores.items form seed status
+        × IsProgramText input.now (settings_of programs) programs.outstanding (programs_of programs)
+        × IsProgramsRun (bound_of programs.misses programs.config) (limited_to outstanding programs) form seed status
         (W.contents out.old) (W.contents out.new)) }
     ensures fault { IfErr result (IsProgramNotRun input.now) }
 {
-    let programs = Programs::read(alloc, input)?;
+    let mut programs = Programs::read(alloc, input)?;
+    limit(&mut programs, outstanding);
     run_read(alloc, &programs, seed, form, out)
+}
+
+// So many accesses of a core may be under way, where a number is given.
+fn limit(programs: &mut Programs, outstanding: Option<u64>)
+    ensures { programs.new ≡ limited_to outstanding programs.old }
+{
+    match outstanding {
+        Some(most) => programs.outstanding = Some(most),
+        None => {}
+    }
 }
 
 /// The same with programs that are read.
@@ -58,9 +73,9 @@ fn run_read<W: Write>(
     form: Form,
     out: &mut W,
 ) -> Result<u8, TextFault>
-    ensures done { IfOk result (λ status. IsProgramsRun programs.now.config
+    ensures done { IfOk result (λ status. IsProgramsRun
         (bound_of programs.now.misses programs.now.config)
-        programs.now.cores.items form seed status (W.contents out.old) (W.contents out.new)) }
+        programs.now form seed status (W.contents out.old) (W.contents out.new)) }
     ensures fault { IfErr result IsOfRun }
 {
     match programs.misses {
@@ -76,18 +91,29 @@ fn run_on<F: MissFile, W: Write>(
     form: Form,
     out: &mut W,
 ) -> Result<u8, TextFault>
-    ensures done { IfOk result (λ status. IsProgramsRun programs.now.config (F.bound_by programs.now.config)
-        programs.now.cores.items form seed status (W.contents out.old) (W.contents out.new)) }
+    ensures done { IfOk result (λ status. IsProgramsRun (F.bound_by programs.now.config)
+        programs.now form seed status (W.contents out.old) (W.contents out.new)) }
     ensures fault { IfErr result IsOfRun }
 {
     let mut runner = Runner::<F>::new(alloc, programs)?;
     run(alloc, programs, seed, &mut runner)?;
     if runner.is_over(programs) {
-        print_report(runner.tally(), seed, form, out)?;
+        let limited = is_limited(programs.outstanding);
+        print_report(runner.tally(), limited, seed, form, out)?;
         Ok(0)
     } else {
         print_stuck(seed, out)?;
         Ok(1)
+    }
+}
+
+// Whether several accesses of a core may be under way.
+fn is_limited(outstanding: Option<u64>) -> bool
+    ensures { result ≡ is_limited outstanding }
+{
+    match outstanding {
+        Some(_) => true,
+        None => false,
     }
 }
 
@@ -98,16 +124,17 @@ fn run<F: MissFile>(
     seed: u64,
     runner: &mut Runner<F>,
 ) -> Result<(), AllocError>
-    ensures { OnOk result (Leads (Runs runner.old.config programs.now.cores.items seed) runner.old runner.new) }
+    ensures { OnOk result (Leads (Runs runner.old.config programs.now seed) runner.old runner.new) }
 {
     let mut generator = Xoshiro256PlusPlus::seed_from_u64(seed);
     let mut moves = Vec::new(alloc);
+    let mut performed = Vec::new(alloc);
     for made in 0..u64::MAX {
         runner.list_moves(programs, &mut moves)?;
         let Some(to) = draw(&mut generator, moves.as_slice()) else {
             return Ok(());
         };
-        runner.go(programs, to)?;
+        runner.go(programs, to, &mut performed)?;
     }
     Ok(())
 }
@@ -127,26 +154,34 @@ fn draw(generator: &mut Xoshiro256PlusPlus, moves: &[Move]) -> Option<Move>
 
 fn print_report<W: Write>(
     tally: &Tally,
+    limited: bool,
     seed: u64,
     form: Form,
     out: &mut W,
 ) -> Result<(), TextFault>
-    ensures printed { OnOk result (Appends (W.contents out.old) (W.contents out.new) (text_of form tally.now seed)) }
+    ensures printed { OnOk result
+        (Appends (W.contents out.old) (W.contents out.new) (text_of form tally.now limited seed)) }
     ensures fault { IfErr result IsOfRun }
 {
     let mut answers = TextWriter { out };
-    match write_form(tally, seed, form, &mut answers) {
+    match write_form(tally, limited, seed, form, &mut answers) {
         Ok(()) => Ok(()),
         Err(_) => Err(TextFault::CannotWrite),
     }
 }
 
-fn write_form<W: fmt::Write>(tally: &Tally, seed: u64, form: Form, out: &mut W) -> fmt::Result
-    ensures { OnOk result (WritesInCalls W.write_str_gives out.old (text_of form tally.now seed) out.new) }
+fn write_form<W: fmt::Write>(
+    tally: &Tally,
+    limited: bool,
+    seed: u64,
+    form: Form,
+    out: &mut W,
+) -> fmt::Result
+    ensures { OnOk result (WritesInCalls W.write_str_gives out.old (text_of form tally.now limited seed) out.new) }
 {
     match form {
-        Form::Table => write_report(tally, seed, out),
-        Form::Json => write_json(tally, seed, out),
+        Form::Table => write_report(tally, limited, seed, out),
+        Form::Json => write_json(tally, limited, seed, out),
     }
 }
 

@@ -1,4 +1,4 @@
-ghost use Rattle.std.specs.Prelude.{◌≡◌, ◌++◌, ◌↔◌, ◌%◌, ◌<◌, ℕ, All, IfOk, IsTrue, OnOk, Some, slice_get};
+ghost use Rattle.std.specs.Prelude.{◌≡◌, ◌++◌, ◌↔◌, ◌%◌, ◌<◌, All, IfOk, IsTrue, OnOk, Some, drop, slice_get, true};
 ghost use Rattle.address_map.specs.Locator.{local_at};
 ghost use Rattle.litmus_script.specs.Machine.{HasAt, log_at};
 ghost use Rattle.litmus_text.specs.Command.{HasCore};
@@ -14,23 +14,28 @@ ghost use Rattle.program_run.specs.Run.{
   Leads,
   Makes,
   Performs,
+  PerformsAll,
+  Turns,
   after_room,
+  after_stall,
+  after_wake,
   asks_of,
   deliveries_of,
   gone_on,
   left_in,
   makes_room,
+  more_waiting,
   program_of,
-  after_wake,
 };
 
-use super::moves::{Move, Place, decide, list_moves, next_access, request_of};
+use super::moves::{Move, Place, Turn, decide, list_moves, next_turn};
 use super::observer::Observer;
+use super::performed::{hand_out_all, list_performed};
 use super::tally::Tally;
-use address_map::{CoreId, LineAddr, SliceId};
+use address_map::{CoreId, LineAddr, Request, SliceId};
 use litmus_script::{Issued, Machine};
 use mshr_file::MissFile;
-use program_text::{Access, CoreProgram, Programs};
+use program_text::{CoreProgram, Programs};
 use slice_core::{AccessKind, Decision, Delivered, Entry, Message, Pick, Placement};
 use std::alloc::{AllocError, Global};
 use std::marker::Model;
@@ -59,16 +64,17 @@ impl<F: MissFile> Model for Runner<F> {
 impl<F: MissFile> Runner<F> {
     ghost use Rattle.program_run.specs.Run.{IsNewRunner};
 
-    /// Each program stands before its first access, on a new machine.
+    /// Each program stands before its first step, on a new machine.
     pub fn new(alloc: Global, programs: &Programs) -> Result<Self, AllocError>
         ensures { IfOk result
-            (IsNewRunner programs.now.config (F.bound_by programs.now.config) programs.now.cores.items) }
+            (IsNewRunner programs.now.config (F.bound_by programs.now.config) programs.now) }
     {
         let config = programs.config.try_clone(alloc)?;
         let observer = Observer::new(alloc, &config)?;
         let first = Place {
             asked: 0,
-            waits: false,
+            waiting: 0,
+            stalled: false,
         };
         let places = vec![in alloc; first; programs.cores.len()]?;
         let Ok(machine) = Machine::build(alloc, config) else {
@@ -91,67 +97,87 @@ impl<F: MissFile> Runner<F> {
     /// Lists what may come next.
     pub fn list_moves(&self, programs: &Programs, moves: &mut Vec<Move>) -> Result<(), AllocError>
         ensures { OnOk result (moves.new.items
-            ≡ asks_of self.now.config programs.now.cores.items self.now.slices self.now.places
+            ≡ asks_of self.now.config programs.now self.now.slices self.now.places
             ++ deliveries_of self.now.slices) }
     {
         moves.clear();
-        list_moves(
-            &self.machine,
-            programs.cores.as_slice(),
-            self.places.as_slice(),
-            moves,
-        )
+        list_moves(&self.machine, programs, self.places.as_slice(), moves)
     }
 
-    /// Makes the move.
-    pub fn go(&mut self, programs: &Programs, to: Move) -> Result<(), AllocError>
-        ensures { OnOk result (Leads (Makes self.old.config programs.now.cores.items to) self.old self.new) }
+    /// Makes the move. What a delivery performs is listed for that.
+    pub fn go(
+        &mut self,
+        programs: &Programs,
+        to: Move,
+        performed: &mut Vec<Entry>,
+    ) -> Result<(), AllocError>
+        ensures { OnOk result (Leads (Makes self.old.config programs.now to) self.old self.new) }
     {
         match to {
-            Move::Ask(number) => self.ask(programs.cores.as_slice(), number),
-            Move::Deliver(pick) => {
-                self.deliver(programs.cores.as_slice(), pick);
-                Ok(())
-            }
+            Move::Ask(number) => self.ask(programs, number),
+            Move::Deliver(pick) => self.deliver(programs, pick, performed),
         }
     }
 
-    fn ask(&mut self, programs: &[CoreProgram], number: usize) -> Result<(), AllocError>
+    fn ask(&mut self, programs: &Programs, number: usize) -> Result<(), AllocError>
         ensures { OnOk result (Leads (Makes self.old.config programs.now (Move.Ask number)) self.old self.new) }
     {
         let cores = self.machine.config.cores();
-        match next_access(cores, programs, self.places.as_slice(), number) {
-            Some((core, access)) => self.access(number, core, access),
+        match next_turn(cores, programs, self.places.as_slice(), number) {
+            Some((core, turn)) => self.take_turn(number, core, turn),
             None => Ok(()),
         }
     }
 
-    fn access(&mut self, number: usize, core: CoreId, access: Access) -> Result<(), AllocError>
+    fn take_turn(&mut self, number: usize, core: CoreId, turn: Turn) -> Result<(), AllocError>
         requires { HasCore self.old.config core }
-        ensures { OnOk result (Leads (Accesses self.old.config number core access) self.old self.new) }
+        ensures { OnOk result (Leads (Turns self.old.config number core turn) self.old self.new) }
     {
-        let room = makes_room(decide(&self.machine, core, access));
-        let Ok(issued) = self.machine.issue(core, request_of(access)) else {
+        match turn {
+            Turn::Ask(request) => self.access(number, core, request),
+            Turn::Settled => {
+                go_on(&mut self.places, number, false);
+                Ok(())
+            }
+        }
+    }
+
+    fn access(&mut self, number: usize, core: CoreId, request: Request) -> Result<(), AllocError>
+        requires { HasCore self.old.config core }
+        ensures { OnOk result (Leads (Accesses self.old.config number core request) self.old self.new) }
+    {
+        let room = makes_room(decide(&self.machine, core, request));
+        let Ok(issued) = self.machine.issue(core, request) else {
             return Err(AllocError);
         };
         match issued {
             Issued::Done { reply, .. } => {
-                self.observer.hit(core, access.word, access.op, reply);
+                self.observer.hit(core, request.word, request.op, reply);
                 go_on(&mut self.places, number, false);
                 Ok(())
             }
             Issued::Pending(_) => {
-                let line = access.word.line();
+                let line = request.word.line();
                 make_room(room, &self.machine, &mut self.observer, core, line);
                 go_on(&mut self.places, number, true);
                 Ok(())
             }
-            Issued::Stall(_) | Issued::Refused(_) => Ok(()),
+            Issued::Stall(stall) => {
+                self.observer.stall(core, request.word, stall);
+                stop(&mut self.places, number);
+                Ok(())
+            }
+            Issued::Refused(_) => Ok(()),
         }
     }
 
-    fn deliver(&mut self, programs: &[CoreProgram], pick: Pick)
-        ensures { Leads (Makes self.old.config programs.now (Move.Deliver pick)) self.old self.new }
+    fn deliver(
+        &mut self,
+        programs: &Programs,
+        pick: Pick,
+        performed: &mut Vec<Entry>,
+    ) -> Result<(), AllocError>
+        ensures { OnOk result (Leads (Makes self.old.config programs.now (Move.Deliver pick)) self.old self.new) }
     {
         let slice = SliceId(self.machine.slice_of(pick.line()) as u8);
         let front = front_of(&self.machine, pick);
@@ -159,36 +185,46 @@ impl<F: MissFile> Runner<F> {
         match self.machine.deliver(pick) {
             Delivered::Moved => {
                 self.observer.deliver(pick, front);
-                self.perform(programs, slice, before);
+                self.perform(programs, slice, before, performed)?;
+                Ok(())
             }
-            Delivered::Blocked | Delivered::Nothing | Delivered::Broken(_) => {}
+            Delivered::Blocked | Delivered::Nothing | Delivered::Broken(_) => Ok(()),
         }
     }
 
     // What the slice performed behind so many entries is handed out.
-    fn perform(&mut self, programs: &[CoreProgram], slice: SliceId, before: usize)
+    fn perform(
+        &mut self,
+        programs: &Programs,
+        slice: SliceId,
+        before: usize,
+        performed: &mut Vec<Entry>,
+    ) -> Result<(), AllocError>
         requires { slice.0 < self.old.config.slices }
-        ensures { Leads
-            (Performs self.old.config programs.now slice.0 (slice_get (log_at self.old.slices slice.0) before))
-            self.old self.new }
+        ensures { OnOk result (Leads
+            (PerformsAll self.old.config programs.now slice.0 true (drop before (log_at self.old.slices slice.0)))
+            self.old self.new) }
     {
-        match entry_at(&self.machine, slice, before) {
-            Some(entry) => self.hand_out(programs, slice, entry),
-            None => {}
-        }
+        list_performed(&self.machine, slice, before, performed)?;
+        hand_out_all(self, programs, slice, performed.as_slice());
+        Ok(())
     }
 
-    // An access that waited is performed: its reply is handed out, and its core goes on.
-    fn hand_out(&mut self, programs: &[CoreProgram], slice: SliceId, entry: Entry)
+    /// An access that waited is performed, as the first of its delivery or behind others: its reply is handed out, and
+    /// its core waits for one less.
+    pub fn hand_out(&mut self, programs: &Programs, slice: SliceId, entry: Entry, is_first: bool)
         requires { slice.0 < self.old.config.slices }
-        ensures { Leads (Performs self.old.config programs.now slice.0 (Some entry)) self.old self.new }
+        ensures { Leads (Performs self.old.config programs.now slice.0 is_first entry) self.old self.new }
     {
         if entry.core.0 as usize >= self.machine.config.cores() {
             return;
         }
         let _ = self.machine.hand(entry.core, slice);
-        self.observer.perform(entry);
-        wake(&mut self.places, program_of(programs, entry.core));
+        self.observer.perform(entry, is_first);
+        wake(
+            &mut self.places,
+            program_of(programs.cores.as_slice(), entry.core),
+        );
     }
 
     /// Whether all programs ended, nothing is in flight and each reply is handed out.
@@ -246,7 +282,7 @@ fn left_in<F: MissFile>(machine: &Machine<F>, core: CoreId, line: LineAddr) -> O
     machine.slices[slice].last_written_back(core)
 }
 
-// The program of this number has asked for one more access.
+// The program of this number has taken one more step, and may wait for one more access.
 fn go_on(places: &mut Vec<Place>, number: usize, waits: bool)
     ensures { places.new.items ≡ gone_on number waits (slice_get places.old.items number) places.old.items }
 {
@@ -255,10 +291,32 @@ fn go_on(places: &mut Vec<Place>, number: usize, waits: bool)
     }
     let place = &mut places[number];
     place.asked = place.asked.saturating_add(1);
-    place.waits = waits;
+    place.waiting = more_waiting(waits, place.waiting);
+    place.stalled = false;
 }
 
-// The program of this number waits no more.
+fn more_waiting(waits: bool, waiting: u64) -> u64
+    ensures { result ≡ more_waiting waits waiting }
+{
+    if waits {
+        waiting.saturating_add(1)
+    } else {
+        waiting
+    }
+}
+
+// The next access of the program of this number stalled.
+fn stop(places: &mut Vec<Place>, number: usize)
+    ensures { places.new.items ≡ after_stall number (slice_get places.old.items number) places.old.items }
+{
+    if number >= places.len() {
+        return;
+    }
+    let place = &mut places[number];
+    place.stalled = true;
+}
+
+// The program of this number waits for one access less.
 fn wake(places: &mut Vec<Place>, number: Option<usize>)
     ensures { places.new.items ≡ after_wake number places.old.items }
 {
@@ -269,7 +327,7 @@ fn wake(places: &mut Vec<Place>, number: Option<usize>)
         return;
     }
     let place = &mut places[number];
-    place.waits = false;
+    place.waiting = place.waiting.saturating_sub(1);
 }
 
 fn program_of(programs: &[CoreProgram], core: CoreId) -> Option<usize>
@@ -284,15 +342,6 @@ fn front_of<F: MissFile>(machine: &Machine<F>, pick: Pick) -> Option<Message>
 {
     let slice = machine.slice_of(pick.line());
     machine.slices[slice].front(pick)
-}
-
-fn entry_at<F: MissFile>(machine: &Machine<F>, slice: SliceId, place: usize) -> Option<Entry>
-    ensures { result ≡ slice_get (log_at machine.now.slices.items slice.0) place }
-{
-    match machine.log_of(slice).get(place) {
-        Some(entry) => Some(*entry),
-        None => None,
-    }
 }
 
 fn have_ended(programs: &[CoreProgram], places: &[Place]) -> bool
@@ -310,7 +359,7 @@ fn has_ended(program: &CoreProgram, places: &[Place], number: usize) -> bool
     ensures { IsTrue result ↔ HasEnded program.now (slice_get places.now number) }
 {
     match places.get(number) {
-        Some(place) => place.asked == program.accesses.len(),
+        Some(place) => place.asked == program.steps.len(),
         None => false,
     }
 }

@@ -9,7 +9,9 @@ ghost use Rattle.program_run.specs.Tally.{
   no_counts,
   one_more,
   one_more_miss,
+  one_more_stall,
   requests_of,
+  stalls_of,
   totals_of,
 };
 ghost use Rattle.slice_answer.specs.Stats.{one_more_message};
@@ -18,7 +20,7 @@ ghost use Rattle.stats_report.specs.Report.{sum_of};
 
 use address_map::{Checked, CoreId, LineAddr};
 use miss_cause::Cause;
-use slice_answer::MessageCounts;
+use slice_answer::{MessageCounts, Stall};
 use slice_queues_message::Pick;
 use std::alloc::{AllocError, Global};
 use std::marker::Model;
@@ -30,6 +32,10 @@ pub(crate) enum Counted {
     Hit(CoreId, LineAddr),
     /// An access that had to wait.
     Miss(CoreId, LineAddr, Cause),
+    /// An access that waited with another, and was performed by the same delivery.
+    Secondary(CoreId, LineAddr),
+    /// An access that had to be asked again.
+    Stall(CoreId, LineAddr, Stall),
     /// A line that left to make room.
     Eviction(CoreId, LineAddr),
     /// A message that was delivered.
@@ -43,9 +49,11 @@ impl Counted {
         ensures { result ≡ core_of self }
     {
         match self {
-            Counted::Hit(core, _) | Counted::Miss(core, _, _) | Counted::Eviction(core, _) => {
-                Some(core)
-            }
+            Counted::Hit(core, _)
+            | Counted::Miss(core, _, _)
+            | Counted::Secondary(core, _)
+            | Counted::Stall(core, _, _)
+            | Counted::Eviction(core, _) => Some(core),
             Counted::Message(Pick::Req(_, core) | Pick::Fwd(_, core) | Pick::Data(_, core)) => Some(
                 core,
             ),
@@ -59,7 +67,11 @@ impl Counted {
         ensures { result ≡ line_of self }
     {
         match self {
-            Counted::Hit(_, line) | Counted::Miss(_, line, _) | Counted::Eviction(_, line) => line,
+            Counted::Hit(_, line)
+            | Counted::Miss(_, line, _)
+            | Counted::Secondary(_, line)
+            | Counted::Stall(_, line, _)
+            | Counted::Eviction(_, line) => line,
             Counted::Message(pick) => pick.line(),
         }
     }
@@ -74,6 +86,12 @@ pub(crate) struct Counts {
     pub upgrade: u64,
     pub true_sharing: u64,
     pub false_sharing: u64,
+    pub secondary: u64,
+    pub no_register: u64,
+    pub no_target: u64,
+    pub no_way: u64,
+    pub write_back_full: u64,
+    pub write_back_busy: u64,
     pub evictions: u64,
     pub messages: MessageCounts,
 }
@@ -90,6 +108,12 @@ impl Counts {
             upgrade: 0,
             true_sharing: 0,
             false_sharing: 0,
+            secondary: 0,
+            no_register: 0,
+            no_target: 0,
+            no_way: 0,
+            write_back_full: 0,
+            write_back_busy: 0,
             evictions: 0,
             messages: MessageCounts::default(),
         }
@@ -110,7 +134,20 @@ impl Counts {
     pub fn requests(&self) -> u64
         ensures { result ≡ requests_of self.now }
     {
-        self.hits.saturating_add(self.misses())
+        self.hits
+            .saturating_add(self.misses())
+            .saturating_add(self.secondary)
+    }
+
+    /// The stalls for all reasons.
+    pub fn stalls(&self) -> u64
+        ensures { result ≡ stalls_of self.now }
+    {
+        self.no_register
+            .saturating_add(self.no_target)
+            .saturating_add(self.no_way)
+            .saturating_add(self.write_back_full)
+            .saturating_add(self.write_back_busy)
     }
 
     /// Counts one more.
@@ -120,6 +157,8 @@ impl Counts {
         match what {
             Counted::Hit(_, _) => self.hits = self.hits.saturating_add(1),
             Counted::Miss(_, _, cause) => self.count_miss(cause),
+            Counted::Secondary(_, _) => self.secondary = self.secondary.saturating_add(1),
+            Counted::Stall(_, _, stall) => self.count_stall(stall),
             Counted::Eviction(_, _) => self.evictions = self.evictions.saturating_add(1),
             Counted::Message(pick) => count_message(&mut self.messages, pick),
         }
@@ -137,6 +176,18 @@ impl Counts {
         }
     }
 
+    fn count_stall(&mut self, stall: Stall)
+        ensures { self.new ≡ one_more_stall stall self.old }
+    {
+        match stall {
+            Stall::NoRegister => self.no_register = self.no_register.saturating_add(1),
+            Stall::NoTarget => self.no_target = self.no_target.saturating_add(1),
+            Stall::NoWay => self.no_way = self.no_way.saturating_add(1),
+            Stall::WriteBackFull => self.write_back_full = self.write_back_full.saturating_add(1),
+            Stall::WriteBackBusy => self.write_back_busy = self.write_back_busy.saturating_add(1),
+        }
+    }
+
     /// Adds other counts.
     fn add(&mut self, other: &Counts)
         ensures { self.new ≡ counts_together self.old other.now }
@@ -147,6 +198,12 @@ impl Counts {
         self.upgrade = self.upgrade.saturating_add(other.upgrade);
         self.true_sharing = self.true_sharing.saturating_add(other.true_sharing);
         self.false_sharing = self.false_sharing.saturating_add(other.false_sharing);
+        self.secondary = self.secondary.saturating_add(other.secondary);
+        self.no_register = self.no_register.saturating_add(other.no_register);
+        self.no_target = self.no_target.saturating_add(other.no_target);
+        self.no_way = self.no_way.saturating_add(other.no_way);
+        self.write_back_full = self.write_back_full.saturating_add(other.write_back_full);
+        self.write_back_busy = self.write_back_busy.saturating_add(other.write_back_busy);
         self.evictions = self.evictions.saturating_add(other.evictions);
         add_messages(&mut self.messages, &other.messages);
     }

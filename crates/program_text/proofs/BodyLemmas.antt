@@ -10,15 +10,16 @@ use Rattle.std.proofs.lemmas.List.{drop-append-le, drop_all, get_or-drop, get_or
 use Rattle.std.proofs.lemmas.List.{map-append, reverse-append, take_all, take_more, take-append-drop}
 use Rattle.std.proofs.lemmas.List.FromFn.{length-map-range_with_len, map-range_with_len_more}
 use Rattle.address_map.specs.declared.request.Op.{Op}
-use Rattle.program_text.specs.declared.programs.Access.{Access}
+use Rattle.program_text.specs.declared.programs.Step.{Step}
+use Rattle.program_text.specs.declared.programs.Step.TheVariants as step_kinds
 use Rattle.program_text.specs.declared.programs.CoreProgram.{CoreProgram}
 use Rattle.program_text.specs.declared.reader.Block.{Block}
 use Rattle.program_text.specs.Fault.{program_of}
 use Rattle.program_text.specs.Judged.{count_of}
-use Rattle.program_text.specs.Text.{Program, access_to, last_accesses, spread, times, with_accesses, written_out}
+use Rattle.program_text.specs.Text.{Program, access_to, last_steps, spread, times, with_steps, written_out}
 
 -- an access more of a range
-pub spread_more : (op : Op) (first word : ℕ) (old now : List Access) → first ≤ word
+pub spread_more : (op : Op) (first word : ℕ) (old now : List Step) → first ≤ word
     → now ≡ old ++ map (access_to op) (range_with_len first (word - first))
     → now ++ access_to op word ∷ [] ≡ old ++ map (access_to op) (range_with_len first (word + 1 - first))
 spread_more op first word old now order is =
@@ -27,47 +28,47 @@ spread_more op first word old now order is =
     rw (is, count, more)
     (append_assoc old (map (access_to op) (range_with_len first (word - first))) (access_to op word ∷ []))
 
--- an access more of those that stand there already
-pub again_more : (old now : List Access) (start place : ℕ) (access : Access) → start ≤ place → place < length old
-    → now ≡ old ++ slice_range old start place → access ≡ get_or now place access
-    → now ++ access ∷ [] ≡ old ++ slice_range old start (place + 1)
-again_more old now start place access order within is here =
-    let text : List Access = slice_range old start place in
+-- a step more of those that stand there already
+pub again_more : (old now : List Step) (start place : ℕ) (step : Step) → start ≤ place → place < length old
+    → now ≡ old ++ slice_range old start place → step ≡ get_or now place step
+    → now ++ step ∷ [] ≡ old ++ slice_range old start (place + 1)
+again_more old now start place step order within is here =
+    let text : List Step = slice_range old start place in
     let back : start + (place - start) ≡ place = omega arith in
-    let at : access ≡ get_or (drop start old) (place - start) access =
-    here ∙ ap (λ (xs : List Access). get_or xs place access) is ∙ get_or_append_left old text access place within
-    ∙ sym (get_or-drop start old (place - start) access ∙ ap (λ i. get_or old i access) back) in
+    let at : step ≡ get_or (drop start old) (place - start) step =
+    here ∙ ap (λ (xs : List Step). get_or xs place step) is ∙ get_or_append_left old text step place within
+    ∙ sym (get_or-drop start old (place - start) step ∙ ap (λ i. get_or old i step) back) in
     let short : place - start < length (drop start old) = omega (arith, length-drop start old) in
     let count : place + 1 - start ≡ place - start + 1 = omega arith in
-    let more : slice_range old start (place + 1) ≡ text ++ access ∷ [] =
-    ap (λ n. take n (drop start old)) count ∙ take_more (drop start old) (place - start) access short
-    ∙ ap (λ (x : Access). text ++ x ∷ []) (sym at) in
-    ap (λ (xs : List Access). xs ++ access ∷ []) is ∙ append_assoc old text (access ∷ [])
-    ∙ ap (λ (xs : List Access). old ++ xs) (sym more)
+    let more : slice_range old start (place + 1) ≡ text ++ step ∷ [] =
+    ap (λ n. take n (drop start old)) count ∙ take_more (drop start old) (place - start) step short
+    ∙ ap (λ (x : Step). text ++ x ∷ []) (sym at) in
+    ap (λ (xs : List Step). xs ++ step ∷ []) is ∙ append_assoc old text (step ∷ [])
+    ∙ ap (λ (xs : List Step). old ++ xs) (sym more)
 
-pub again_within : (old now : List Access) (start place : ℕ) → now ≡ old ++ slice_range old start place
+pub again_within : (old now : List Step) (start place : ℕ) → now ≡ old ++ slice_range old start place
     → place < length old → place < length now
 again_within old now start place is within =
     omega (arith, ap length is, length-append old (slice_range old start place))
 
-pub again_none : (old : List Access) (start : ℕ) → old ≡ old ++ slice_range old start start
+pub again_none : (old : List Step) (start : ℕ) → old ≡ old ++ slice_range old start start
 again_none old start =
     let none : start - start ≡ 0 = omega arith in
     rw none (sym (append-nil old))
 
-pub spread_none : (op : Op) (first : ℕ) (old : List Access)
+pub spread_none : (op : Op) (first : ℕ) (old : List Step)
     → old ≡ old ++ map (access_to op) (range_with_len first (first - first))
 spread_none op first old =
     let none : first - first ≡ 0 = omega arith in
     rw none (sym (append-nil old))
 
-pub spread_all : (op : Op) (first last word : ℕ) (old now : List Access) → word ≡ last + 1
+pub spread_all : (op : Op) (first last word : ℕ) (old now : List Step) → word ≡ last + 1
     → now ≡ old ++ map (access_to op) (range_with_len first (word - first)) → now ≡ old ++ spread first last op
 spread_all op first last word old now at is =
     is ∙ ap (λ k. old ++ map (access_to op) (range_with_len first (k - first))) at
 
 -- all of them stand there once more
-pub times_next : (n : ℕ) (body : List Access) → times n body ++ body ≡ times (suc n) body
+pub times_next : (n : ℕ) (body : List Step) → times n body ++ body ≡ times (suc n) body
 times_next zero body = sym (append-nil body)
 times_next (suc n) body =
     append_assoc body (times n body) body ∙ ap (λ rest. body ++ rest) (times_next n body)
@@ -76,7 +77,7 @@ pub times_nothing : (n : ℕ) → times n [] ≡ []
 times_nothing zero = refl
 times_nothing (suc n) = times_nothing n
 
-pub round_more : (old now new : List Access) (start end n more : ℕ) → start ≤ length old → end ≡ length old
+pub round_more : (old now new : List Step) (start end n more : ℕ) → start ≤ length old → end ≡ length old
     → more ≡ n + 1
     → now ≡ old ++ times n (drop start old) → new ≡ now ++ slice_range now start end
     → new ≡ old ++ times more (drop start old)
@@ -84,33 +85,33 @@ round_more old now new start end n more within end_is count_is is made_to =
     let as_suc : more ≡ suc n = omega arith in
     let made : new ≡ now ++ slice_range now start (length old) =
     made_to ∙ ap (λ e. now ++ slice_range now start e) end_is in
-    let body : List Access = drop start old in
-    let rest : List Access = times n body in
+    let body : List Step = drop start old in
+    let rest : List Step = times n body in
     let count : length old - start ≡ length body = omega (arith, length-drop start old) in
     let same : slice_range now start (length old) ≡ body =
-    ap (λ (xs : List Access). slice_range xs start (length old)) is
+    ap (λ (xs : List Step). slice_range xs start (length old)) is
     ∙ ap (take (length old - start)) (drop-append-le start old rest within)
     ∙ ap (λ k. take k (body ++ rest)) count ∙ take-append_seam body rest in
-    made ∙ ap₂ (λ (xs ys : List Access). xs ++ ys) is same ∙ append_assoc old rest body
-    ∙ ap (λ (xs : List Access). old ++ xs) (times_next n body ∙ ap (λ k. times k body) (sym as_suc))
+    made ∙ ap₂ (λ (xs ys : List Step). xs ++ ys) is same ∙ append_assoc old rest body
+    ∙ ap (λ (xs : List Step). old ++ xs) (times_next n body ∙ ap (λ k. times k body) (sym as_suc))
 
-pub round_within : (old now : List Access) (start n : ℕ) → now ≡ old ++ times n (drop start old)
+pub round_within : (old now : List Step) (start n : ℕ) → now ≡ old ++ times n (drop start old)
     → length old ≤ length now
 round_within old now start n is = omega (arith, ap length is, length-append old (times n (drop start old)))
 
-pub rounds_all : (old now : List Access) (start n all : ℕ) → all ≡ n + 1
+pub rounds_all : (old now : List Step) (start n all : ℕ) → all ≡ n + 1
     → now ≡ old ++ times n (drop start old) → now ≡ written_out start all old
 rounds_all old now start n all count is =
-    let body : List Access = drop start old in
+    let body : List Step = drop start old in
     let as_suc : all ≡ suc n = omega arith in
-    is ∙ ap (λ (xs : List Access). xs ++ times n body) (sym (take-append-drop start old))
+    is ∙ ap (λ (xs : List Step). xs ++ times n body) (sym (take-append-drop start old))
     ∙ append_assoc (take start old) body (times n body)
     ∙ ap (λ k. written_out start k old) (sym as_suc)
 
 -- nothing stands behind the start
-pub written_nothing : (start n : ℕ) (old : List Access) → length old ≤ start → old ≡ written_out start n old
+pub written_nothing : (start n : ℕ) (old : List Step) → length old ≤ start → old ≡ written_out start n old
 written_nothing start n old past =
-    sym (ap₂ (λ (xs ys : List Access). xs ++ ys) (take_all start old past)
+    sym (ap₂ (λ (xs ys : List Step). xs ++ ys) (take_all start old past)
     (ap (times n) (drop_all start old past) ∙ times_nothing n) ∙ append-nil old)
 
 -- ---- the last program
@@ -139,12 +140,12 @@ pub programs_push : (front : List CoreProgram) (last : CoreProgram)
     → reverse (map program_of (front ++ last ∷ [])) ≡ program_of last ∷ reverse (map program_of front)
 programs_push front last = simp (map-append, reverse-append)
 
--- the last program's accesses change
-pub programs_last : (change : List Access → List Access) (cores : List CoreProgram) (last : ℕ) (now d : CoreProgram)
+-- the last program's steps change
+pub programs_last : (change : List Step → List Step) (cores : List CoreProgram) (last : ℕ) (now d : CoreProgram)
     → length cores ≡ last + 1 → now.core ≡ (get_or cores last d).core
-    → now.accesses.items ≡ change (get_or cores last d).accesses.items
-    → reverse (map program_of (set cores last now)) ≡ with_accesses change (reverse (map program_of cores))
-programs_last change cores last now d count core accesses =
+    → now.steps.items ≡ change (get_or cores last d).steps.items
+    → reverse (map program_of (set cores last now)) ≡ with_steps change (reverse (map program_of cores))
+programs_last change cores last now d count core steps =
     let at = set_last cores last now d count in
     let before : List Program = reverse (map program_of at.front) in
     let was : CoreProgram = get_or cores last d in
@@ -152,26 +153,36 @@ programs_last change cores last now d count core accesses =
     ap (λ (xs : List CoreProgram). reverse (map program_of xs)) at.is ∙ programs_push at.front now in
     let old : reverse (map program_of cores) ≡ program_of was ∷ before =
     ap (λ (xs : List CoreProgram). reverse (map program_of xs)) at.was ∙ programs_push at.front was in
-    let same : program_of now ≡ (was.core, change was.accesses.items) = cc in
-    new ∙ ap (λ (p : Program). p ∷ before) same ∙ sym (ap (with_accesses change) old)
+    let same : program_of now ≡ (was.core, change was.steps.items) = cc in
+    new ∙ ap (λ (p : Program). p ∷ before) same ∙ sym (ap (with_steps change) old)
 
--- ---- how many accesses there are
+-- ---- how many steps there are
 
 pub length-spread : (first last : ℕ) (op : Op) → length (spread first last op) ≡ last + 1 - first
 length-spread first last op = length-map-range_with_len (access_to op) first (last + 1 - first)
 
 pub count_spread : (programs : List Program) (first last : ℕ) (op : Op) → 1 ≤ length programs → first ≤ last
-    → count_of (with_accesses (λ accesses. accesses ++ spread first last op) programs)
+    → count_of (with_steps (λ steps. steps ++ spread first last op) programs)
     ≡ count_of programs + (last - first + 1)
 count_spread [] first last op some order = absurd (omega arith)
 count_spread (program ∷ earlier) first last op some order =
     let long = length-append program.1 (spread first last op) in
-    let after : count_of (with_accesses (λ accesses. accesses ++ spread first last op) (program ∷ earlier))
+    let after : count_of (with_steps (λ steps. steps ++ spread first last op) (program ∷ earlier))
     ≡ length (program.1 ++ spread first last op) + count_of earlier = refl in
     let before : count_of (program ∷ earlier) ≡ length program.1 + count_of earlier = refl in
     omega (arith, long, after, before, length-spread first last op)
 
-pub length-times : (n : ℕ) (body : List Access) → length (times n body) ≡ n * length body
+pub count_settled : (programs : List Program) → 1 ≤ length programs
+    → count_of (with_steps (λ steps. steps ++ step_kinds.Settle ∷ []) programs) ≡ count_of programs + 1
+count_settled [] some = absurd (omega arith)
+count_settled (program ∷ earlier) some =
+    let long = length-append program.1 (step_kinds.Settle ∷ []) in
+    let after : count_of (with_steps (λ steps. steps ++ step_kinds.Settle ∷ []) (program ∷ earlier))
+    ≡ length (program.1 ++ step_kinds.Settle ∷ []) + count_of earlier = refl in
+    let before : count_of (program ∷ earlier) ≡ length program.1 + count_of earlier = refl in
+    omega (arith, long, after, before)
+
+pub length-times : (n : ℕ) (body : List Step) → length (times n body) ≡ n * length body
 length-times zero body = omega arith
 length-times (suc n) body =
     let long = length-append body (times n body) in
@@ -179,32 +190,32 @@ length-times (suc n) body =
     omega (arith, long, before, suc-mul n (length body))
 
 pub count_ended : (programs : List Program) (start n : ℕ) → 1 ≤ length programs
-    → count_of (with_accesses (written_out start n) programs) + (last_accesses programs - start)
-    ≡ count_of programs + n * (last_accesses programs - start)
+    → count_of (with_steps (written_out start n) programs) + (last_steps programs - start)
+    ≡ count_of programs + n * (last_steps programs - start)
 count_ended [] start n some = absurd (omega arith)
 count_ended (program ∷ earlier) start n some =
-    let body : List Access = drop start program.1 in
+    let body : List Step = drop start program.1 in
     let whole = length-append (take start program.1) (times n body) in
     let front = ap length (take-append-drop start program.1) in
     let parts = length-append (take start program.1) body in
     let rounds = length-times n body in
     let short = length-drop start program.1 in
     let product : n * length body ≡ n * (length program.1 - start) = ap (λ k. n * k) short in
-    let after : count_of (with_accesses (written_out start n) (program ∷ earlier))
+    let after : count_of (with_steps (written_out start n) (program ∷ earlier))
     ≡ length (take start program.1 ++ times n body) + count_of earlier = refl in
     let before : count_of (program ∷ earlier) ≡ length program.1 + count_of earlier = refl in
     omega (arith, whole, front, parts, rounds, short, product, after, before)
 
-pub count_changed : (change : List Access → List Access) (programs : List Program) → 1 ≤ length programs
-    → count_of (with_accesses change programs) + last_accesses programs
-    ≡ count_of programs + last_accesses (with_accesses change programs)
+pub count_changed : (change : List Step → List Step) (programs : List Program) → 1 ≤ length programs
+    → count_of (with_steps change programs) + last_steps programs
+    ≡ count_of programs + last_steps (with_steps change programs)
 count_changed change [] some = absurd (omega arith)
 count_changed change (program ∷ earlier) some =
-    let after : count_of (with_accesses change (program ∷ earlier)) ≡ length (change program.1) + count_of earlier =
+    let after : count_of (with_steps change (program ∷ earlier)) ≡ length (change program.1) + count_of earlier =
     refl in
     let before : count_of (program ∷ earlier) ≡ length program.1 + count_of earlier = refl in
-    let last : last_accesses (with_accesses change (program ∷ earlier)) ≡ length (change program.1) = refl in
-    let first : last_accesses (program ∷ earlier) ≡ length program.1 = refl in
+    let last : last_steps (with_steps change (program ∷ earlier)) ≡ length (change program.1) = refl in
+    let first : last_steps (program ∷ earlier) ≡ length program.1 = refl in
     omega (arith, after, before, last, first)
 
 -- a block more, the innermost first

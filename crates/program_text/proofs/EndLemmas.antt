@@ -44,6 +44,7 @@ all_read all reader reading checked at = (
   (
     reading,
     refl,
+    refl,
     checked,
     ap reverse (none_open reader.blocks.items at),
     sym (reverse-reverse (programs_of reader.programs)),
@@ -58,6 +59,7 @@ fresh_read all reader settings same checked reading = (
   said_by reader,
   (
     subst (λ (s : Said). IsReading all s []) (sym same) reading,
+    refl,
     refl,
     checked,
     ap (λ (s : Said). s.blocks) same,

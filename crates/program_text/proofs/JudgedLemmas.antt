@@ -2,7 +2,7 @@
 use Rattle.std.proofs.Common.{◌≡◌, ℕ, zero, suc, Bool, true, false, ◌+◌, ◌-◌, ◌*◌, ◌/◌, ◌<◌, ◌≤◌, not, List, [], ◌∷◌}
 use Rattle.std.proofs.Common.{◌++◌, map, length, None, Option, Some, refl, sym, ap, subst, ◌∙◌, inl, inr, arith, le-ltb}
 use Rattle.std.proofs.Common.{lt-ltb, ltb-true, ltb-false, leb-false, ne_eqb, mul-zero, zero-mul, suc-mul, mul_comm}
-use Rattle.std.specs.Prelude.{◌^◌, ◌==◌, ◌||◌, min, nat_lt, reverse, slice_get}
+use Rattle.std.specs.Prelude.{◌^◌, ◌==◌, ◌&&◌, ◌||◌, min, nat_lt, reverse, slice_get}
 use Rattle.std.specs.List.{list_any}
 use Rattle.std.proofs.lemmas.List.Folds.{list_any-append}
 use Rattle.std.proofs.lemmas.List.{reverse-append}
@@ -14,18 +14,19 @@ use Rattle.address_map.specs.declared.request.Op.TheVariants as ops
 use Rattle.litmus_text.specs.declared.fault.LineFault.{LineFault}
 use Rattle.program_text.specs.declared.line.Line.{Line as ReadLine}
 use Rattle.program_text.specs.declared.line.Line.TheVariants as read_lines
-use Rattle.program_text.specs.declared.programs.Access.{Access}
+use Rattle.program_text.specs.declared.programs.Step.{Step}
 use Rattle.program_text.specs.declared.range.Range.{Range}
 use Rattle.program_text.specs.declared.reader.Block.{Block}
 use Rattle.program_text.specs.declared.programs.CoreProgram.{CoreProgram}
 use Rattle.program_text.specs.Fault.{program_of}
 use Rattle.program_text.specs.Judged.{access_faults, count_of, fault_of, first_so, has_program, has_too_many, is_early}
-use Rattle.program_text.specs.Judged.{lacks_core, lacks_range, lacks_word}
-use Rattle.program_text.specs.Line.{begin, end, line_of, repeat}
-use Rattle.program_text.specs.Text.{Program, Said, after_end, last_accesses, said_access, said_line, spread}
-use Rattle.program_text.specs.Text.{with_accesses}
-use Rattle.program_text.specs.Text.{written_out}
-use Rattle.program_text.proofs.BodyLemmas.{count_ended, count_spread}
+use Rattle.program_text.specs.Judged.{is_first, lacks_core, lacks_range, lacks_word}
+use Rattle.program_text.specs.Line.{begin, end, line_of, repeat, settle}
+use Rattle.program_text.specs.Text.{Program, Said, after_end, last_steps, said_access, said_line, spread}
+use Rattle.program_text.specs.Text.{with_steps}
+use Rattle.program_text.specs.Text.{said_settle, written_out}
+use Rattle.program_text.specs.declared.programs.Step.TheVariants as step_kinds
+use Rattle.program_text.proofs.BodyLemmas.{count_ended, count_settled, count_spread}
 
 -- the first test that is so
 pub so_here : (test : Bool) (fault : LineFault) (more : List (Bool × LineFault)) → test ≡ true
@@ -65,6 +66,11 @@ pub too_many_spread : (said : Said) (first last : ℕ) (op : Op) → 1 ≤ lengt
     → nat_lt 1000000 (count_of said.programs + (last - first + 1)) ≡ has_too_many (said_access said first last op)
 too_many_spread said first last op some order =
     ap (nat_lt 1000000) (sym (count_spread said.programs first last op some order))
+
+-- whether a step that waits makes too many
+pub too_many_settled : (said : Said) → 1 ≤ length said.programs
+    → nat_lt 1000000 (count_of said.programs + 1) ≡ has_too_many (said_settle said)
+too_many_settled said some = ap (nat_lt 1000000) (sym (count_settled said.programs some))
 
 -- where nothing is wrong, no test is so
 pub none_so : (test : Bool) (fault : LineFault) (more : List (Bool × LineFault))
@@ -142,6 +148,15 @@ accessible said first last op none =
       few = ltb-false 1000000 (count_of (said_access said first last op).programs) many.0;
     }
 
+-- .. and so does a step that waits
+pub settles : (said : Said) → fault_of said settle ≡ None
+    → (1 ≤ length said.programs) × (count_of (said_settle said).programs ≤ 1000000)
+unfolding fault_of
+settles said none =
+    let early = none_so _ _ _ none in
+    let many = none_so _ _ _ early.1 in
+    (some_program said early.0, ltb-false 1000000 (count_of (said_settle said).programs) many.0)
+
 -- .. and so does the end of a block
 pub closes : (said : Said) → fault_of said end ≡ None
     → (1 ≤ length said.blocks) × (count_of (after_end said.blocks said).programs ≤ 1000000)
@@ -198,11 +213,11 @@ counts count after body (suc n) more sum few is =
 pub too_many_ended : (said : Said) (block : Block) (outer : List Block) (more : ℕ)
     → said.blocks ≡ block ∷ outer
     → 1 ≤ length said.programs → count_of said.programs ≤ 1000000
-    → more ≡ min ((last_accesses said.programs - block.start) * (block.times - 1)) (2 ^ 64 - 1)
+    → more ≡ min ((last_steps said.programs - block.start) * (block.times - 1)) (2 ^ 64 - 1)
     → nat_lt 1000000 (count_of said.programs + more) ≡ has_too_many (after_end said.blocks said)
 too_many_ended said block outer more stands some few is =
     rw stands
-    (counts (count_of said.programs) _ (last_accesses said.programs - block.start) block.times more
+    (counts (count_of said.programs) _ (last_steps said.programs - block.start) block.times more
     (count_ended said.programs block.start block.times some) few is)
 
 or_swap : (a b : Bool) → (a || (b || false)) ≡ (b || a)
@@ -241,33 +256,55 @@ pub judged_access : (said : Said) (line : ReadLine) (range : Range) (op : Op) �
     → fault_of said (line_of line) ≡ first_so (access_faults said range.first range.last op)
 judged_access said line range op is = ap (λ (l : ReadLine). fault_of said (line_of l)) is ∙ access_fault said range op
 
-pub length-with_accesses : (change : List Access → List Access) (programs : List Program)
-    → length (with_accesses change programs) ≡ length programs
-length-with_accesses change [] = refl
-length-with_accesses change (program ∷ earlier) = refl
+pub length-with_steps : (change : List Step → List Step) (programs : List Program)
+    → length (with_steps change programs) ≡ length programs
+length-with_steps change [] = refl
+length-with_steps change (program ∷ earlier) = refl
 
 begun_access : (said : Said) (first last : ℕ) (op : Op) → first_so (access_faults said first last op) ≡ None
     → is_early (said_access said first last op) ≡ false
 begun_access said first last op none =
     let may = accessible said first last op none in
-    let same = length-with_accesses (λ accesses. accesses ++ spread first last op) said.programs in
+    let same = length-with_steps (λ steps. steps ++ spread first last op) said.programs in
     ne_eqb (length (said_access said first last op).programs) 0 (λ zero. omega (arith, may.some, same))
 
 begun_end : (blocks : List Block) (said : Said) → 1 ≤ length said.programs → is_early (after_end blocks said) ≡ false
 begun_end [] said some = ne_eqb (length said.programs) 0 (λ zero. omega arith)
 begun_end (block ∷ outer) said some =
-    let same = length-with_accesses (written_out block.start block.times) said.programs in
+    let same = length-with_steps (written_out block.start block.times) said.programs in
     ne_eqb (length (after_end (block ∷ outer) said).programs) 0 (λ zero. omega (arith, some, same))
 
--- a program was begun once a line was read that doesn't configure
+begun_settle : (said : Said) → 1 ≤ length said.programs → is_early (said_settle said) ≡ false
+begun_settle said some =
+    let same = length-with_steps (λ steps. steps ++ step_kinds.Settle ∷ []) said.programs in
+    ne_eqb (length (said_settle said).programs) 0 (λ zero. omega (arith, some, same))
+
+and_first : (a b : Bool) → a ≡ false → (a && b) ≡ false
+and_first false b e = refl
+and_first true b e = absurd (cc)
+
+and_last : (a : Bool) → (a && false) ≡ false
+and_last false = refl
+and_last true = refl
+
+begun_first : (said : Said) → is_early said ≡ false → is_first said ≡ false
+begun_first said begun = and_first (is_early said) _ begun
+
+-- something was said that doesn't configure once such a line was read
 pub begun_line : (said : Said) (number : ℕ) (line : ReadLine) → (1 ≤ length said.blocks → 1 ≤ length said.programs)
-    → fault_of said (line_of line) ≡ None → is_early (said_line said number (line_of line)) ≡ false
+    → fault_of said (line_of line) ≡ None → is_first (said_line said number (line_of line)) ≡ false
+begun_line said number (read_lines.Outstanding most) open_in none = and_last (is_early said)
 begun_line said number (read_lines.Core c) open_in none =
-    ne_eqb (length (said_line said number (begin c)).programs) 0 (λ zero. omega arith)
+    begun_first (said_line said number (begin c))
+    (ne_eqb (length (said_line said number (begin c)).programs) 0 (λ zero. omega arith))
 begun_line said number (read_lines.Access range op) open_in none =
-    ap is_early (access_said said number range op)
-    ∙ begun_access said range.first range.last op (sym (access_fault said range op) ∙ none)
+    begun_first (said_line said number (line_of (read_lines.Access range op)))
+    (ap is_early (access_said said number range op)
+    ∙ begun_access said range.first range.last op (sym (access_fault said range op) ∙ none))
+begun_line said number read_lines.Settle open_in none =
+    begun_first (said_settle said) (begun_settle said (settles said none).0)
 begun_line said number (read_lines.Repeat n) open_in none =
-    ne_eqb (length said.programs) 0 (λ zero. omega (arith, (opens_block said n none).0))
+    begun_first (said_line said number (repeat n))
+    (ne_eqb (length said.programs) 0 (λ zero. omega (arith, (opens_block said n none).0)))
 begun_line said number read_lines.End open_in none =
-    begun_end said.blocks said (open_in (closes said none).0)
+    begun_first (after_end said.blocks said) (begun_end said.blocks said (open_in (closes said none).0))

@@ -11,8 +11,8 @@ use Rattle.program_text.specs.declared.keyword.Keyword.{Keyword}
 use Rattle.program_text.specs.declared.keyword.Keyword.TheVariants as keywords
 use Rattle.program_text.specs.Keyword.{name_of_keyword}
 use Rattle.program_text.specs.Range.{IsRange}
-use Rattle.program_text.specs.Line.{Line, setting, begin, load, store, add, cas, repeat, end, WritesLine, WritesRange}
-use Rattle.program_text.specs.Line.{WritesSetting}
+use Rattle.program_text.specs.Line.{Line, setting, limit, begin, load, store, add, cas, settle, repeat, end}
+use Rattle.program_text.specs.Line.{WritesLine, WritesRange, WritesSetting}
 
 -- words of another number than a range and the parts don't write them
 pub wrong_range : {X : Type 0} (text : X → List ℕ) (words : List X) (first last : ℕ) (parts : List Part)
@@ -40,11 +40,13 @@ no_setting : (word : List ℕ) (words : List (List ℕ)) (s : ConfigLine) → Is
 no_setting word words s other written = no_field_name word other (setting_name word words s written)
 
 keyword_is_other : (keyword : Keyword) → IsTrue (is_no_field (name_of_keyword keyword))
+keyword_is_other keywords.Outstanding = refl
 keyword_is_other keywords.Core = refl
 keyword_is_other keywords.Load = refl
 keyword_is_other keywords.Store = refl
 keyword_is_other keywords.Add = refl
 keyword_is_other keywords.Cas = refl
+keyword_is_other keywords.Settle = refl
 keyword_is_other keywords.Repeat = refl
 keyword_is_other keywords.End = refl
 
@@ -53,6 +55,11 @@ other_named keyword word named is =
     no_field_name (name_of_keyword keyword) (keyword_is_other keyword) (subst IsFieldName is named)
 
 -- those of other lines write none
+pub outstanding_sets_nothing : (words : List (List ℕ)) (s : ConfigLine)
+    → WritesSetting (codes "outstanding" ∷ words) s → ⊥
+outstanding_sets_nothing words s =
+    no_setting (codes "outstanding") words s (keyword_is_other keywords.Outstanding)
+
 pub core_sets_nothing : (words : List (List ℕ)) (s : ConfigLine) → WritesSetting (codes "core" ∷ words) s → ⊥
 core_sets_nothing words s = no_setting (codes "core") words s (keyword_is_other keywords.Core)
 
@@ -68,6 +75,9 @@ add_sets_nothing words s = no_setting (codes "add") words s (keyword_is_other ke
 pub cas_sets_nothing : (words : List (List ℕ)) (s : ConfigLine) → WritesSetting (codes "cas" ∷ words) s → ⊥
 cas_sets_nothing words s = no_setting (codes "cas") words s (keyword_is_other keywords.Cas)
 
+pub settle_sets_nothing : (words : List (List ℕ)) (s : ConfigLine) → WritesSetting (codes "settle" ∷ words) s → ⊥
+settle_sets_nothing words s = no_setting (codes "settle") words s (keyword_is_other keywords.Settle)
+
 pub repeat_sets_nothing : (words : List (List ℕ)) (s : ConfigLine) → WritesSetting (codes "repeat" ∷ words) s → ⊥
 repeat_sets_nothing words s = no_setting (codes "repeat") words s (keyword_is_other keywords.Repeat)
 
@@ -78,11 +88,13 @@ end_sets_nothing words s = no_setting (codes "end") words s (keyword_is_other ke
 pub no_line : (word : List ℕ) (words : List (List ℕ)) → ¬ IsFieldName word
     → ((keyword : Keyword) → word ≢ name_of_keyword keyword) → (line : Line) → WritesLine (word ∷ words) line → ⊥
 no_line word words set other (setting s) h = set (setting_name word words s h)
+no_line word words set other (limit most) h = other keywords.Outstanding h.0
 no_line word words set other (begin c) h = other keywords.Core h.0
 no_line word words set other (load first last) h = other keywords.Load h.0
 no_line word words set other (store first last value) h = other keywords.Store h.0
 no_line word words set other (add first last delta) h = other keywords.Add h.0
 no_line word words set other (cas first last expect new) h = other keywords.Cas h.0
+no_line word words set other settle h = other keywords.Settle h.0
 no_line word words set other (repeat n) h = other keywords.Repeat h.0
 no_line word words set other end h = other keywords.End h.0
 
@@ -95,11 +107,13 @@ no_empty_line (setting (config_lines.Misses kind)) h = h
 no_empty_line (setting (config_lines.Exclusive is_on)) h = h
 no_empty_line (setting (config_lines.Init w value)) h = h
 no_empty_line (setting (config_lines.Counter w)) h = h
+no_empty_line (limit most) h = h
 no_empty_line (begin c) h = h
 no_empty_line (load first last) h = h
 no_empty_line (store first last value) h = h
 no_empty_line (add first last delta) h = h
 no_empty_line (cas first last expect new) h = h
+no_empty_line settle h = h
 no_empty_line (repeat n) h = h
 no_empty_line end h = h
 
@@ -107,10 +121,12 @@ no_empty_line end h = h
 pub only_setting : (word : List ℕ) (words : List (List ℕ)) (line : Line) → IsFieldName word
     → WritesLine (word ∷ words) line → (s : ConfigLine) × (line ≡ setting s)
 only_setting word words (setting s) named h = (s, refl)
+only_setting word words (limit most) named h = absurd (other_named keywords.Outstanding word named h.0)
 only_setting word words (begin c) named h = absurd (other_named keywords.Core word named h.0)
 only_setting word words (load first last) named h = absurd (other_named keywords.Load word named h.0)
 only_setting word words (store first last value) named h = absurd (other_named keywords.Store word named h.0)
 only_setting word words (add first last delta) named h = absurd (other_named keywords.Add word named h.0)
 only_setting word words (cas first last expect new) named h = absurd (other_named keywords.Cas word named h.0)
+only_setting word words settle named h = absurd (other_named keywords.Settle word named h.0)
 only_setting word words (repeat n) named h = absurd (other_named keywords.Repeat word named h.0)
 only_setting word words end named h = absurd (other_named keywords.End word named h.0)

@@ -19,7 +19,7 @@ use Rattle.program_text.specs.declared.programs.Programs.{Programs}
 use Rattle.litmus_text.proofs.FaultLemmas.{form_refuses}
 use Rattle.program_text.specs.Fault.{BeginOtherwise, HasFault, IsConfigFault, IsFault, IsFaultyLine, IsProgramText}
 use Rattle.program_text.specs.Fault.{Says, Statement, programs_of, settings_of}
-use Rattle.program_text.specs.Judged.{fault_of, first_so, is_early}
+use Rattle.program_text.specs.Judged.{fault_of, first_so, is_first}
 use Rattle.program_text.specs.Keyword.{IsFormFault}
 use Rattle.program_text.specs.Line.{Line, setting, BeginsAsSetting, WritesLine, WritesSetting}
 use Rattle.program_text.specs.Reading.{IsPlaceFault, IsRead, IsReading, said_first}
@@ -140,7 +140,7 @@ line_fault all left said number words fault reading checked begins none form =
 
 -- what is wrong with a setting behind the first program
 pub late_fault : (said : Said) (words : List (List ℕ)) (fault : LineFault) → BeginsAsSetting words
-    → is_early said ≡ false → IsLateFault words fault → HasFault said words fault
+    → is_first said ≡ false → IsLateFault words fault → HasFault said words fault
 unfolding WritesSetting fault_of first_so
 late_fault said words fault begins begun late =
     elim late [
@@ -204,28 +204,30 @@ config_fault all left settings error reading others is = record {
 
 -- what was read is what the text says
 pub is_text : (text : List ℕ) (programs : Programs) → IsRead (statements_from 0 (lines text)) programs
-    → IsProgramText text (settings_of programs) (programs_of programs)
+    → IsProgramText text (settings_of programs) programs.outstanding (programs_of programs)
 is_text text programs read =
     let reading = read.1.0 in
     record {
       said = read.0;
       says = subst (λ ss. Says said_nothing ss read.0) (sym (append-nil reading.done) ∙ reading.split) reading.says;
       configured = read.1.1;
-      checked = read.1.2;
-      closed = read.1.3;
-      in_order = read.1.4;
+      limited = read.1.2;
+      checked = read.1.3;
+      closed = read.1.4;
+      in_order = read.1.5;
     }
 
 -- .. and nothing else
-pub only_text : (text : List ℕ) (programs : Programs) (settings : Settings) (others : List Program)
-    → IsRead (statements_from 0 (lines text)) programs → IsProgramText text settings others
-    → (settings ≡ settings_of programs) × (others ≡ programs_of programs)
-only_text text programs settings others read is =
+pub only_text : (text : List ℕ) (programs : Programs) (settings : Settings) (most : Option ℕ) (others : List Program)
+    → IsRead (statements_from 0 (lines text)) programs → IsProgramText text settings most others
+    → (settings ≡ settings_of programs) × (most ≡ programs.outstanding) × (others ≡ programs_of programs)
+only_text text programs settings most others read is =
     let reading = read.1.0 in
     let same : is.said ≡ read.0 = reading.only is.said
     (subst (λ ss. Says said_nothing ss is.said) (sym (sym (append-nil reading.done) ∙ reading.split)) is.says) in (
       sym is.configured ∙ ap (λ (s : Said). s.settings) same ∙ read.1.1,
-      is.in_order ∙ ap (λ (s : Said). reverse s.programs) same ∙ sym read.1.4,
+      sym is.limited ∙ ap (λ (s : Said). s.outstanding) same ∙ read.1.2,
+      is.in_order ∙ ap (λ (s : Said). reverse s.programs) same ∙ sym read.1.5,
     )
 
 -- what holds where two facts do

@@ -30,11 +30,14 @@ Says said (statement ∷ more) whole =
     (line : Line) × (WritesLine statement.1 line × (fault_of said line ≡ None)
     × Says (said_line said statement.0 line) more whole)
 
--- the text says these programs, in its order: its configuration can be built, and each block has its end
-pub record IsProgramText (text : List ℕ) (settings : Settings) (programs : List Program) : Type 0 where
+-- the text says these programs, in its order, and so many accesses of a core that may be under way, or none: its
+-- configuration can be built, and each block has its end
+pub record IsProgramText (text : List ℕ) (settings : Settings) (most : Option ℕ) (programs : List Program) :
+    Type 0 where
   pub said : Said
   pub says : Says said_nothing (statements_from 0 (lines text)) said
   pub configured : said.settings ≡ settings
+  pub limited : said.outstanding ≡ most
   pub checked : first_fault settings.config ≡ None
   pub closed : said.blocks ≡ []
   pub in_order : programs ≡ reverse said.programs
@@ -44,7 +47,7 @@ abbrev pub settings_of : Programs → Settings
 settings_of programs = record { config = programs.config; misses = programs.misses }
 
 abbrev pub program_of : CoreProgram → Program
-program_of program = (program.core, program.accesses.items)
+program_of program = (program.core, program.steps.items)
 
 abbrev pub programs_of : Programs → List Program
 programs_of programs = map program_of programs.cores.items

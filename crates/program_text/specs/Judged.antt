@@ -8,13 +8,22 @@ use Rattle.address_map.specs.declared.request.Op.TheVariants as ops
 use Rattle.address_map.specs.declared.address.WordAddr.{WordAddr}
 use Rattle.litmus_text.specs.declared.fault.LineFault.{LineFault}
 use Rattle.litmus_text.specs.declared.fault.LineFault.TheVariants as line_faults
-use Rattle.program_text.specs.declared.programs.TheConstants.{MOST_ACCESSES, MOST_DEPTH}
-use Rattle.program_text.specs.Line.{Line, setting, begin, load, store, add, cas, repeat, end}
-use Rattle.program_text.specs.Text.{Program, Said, after_end, said_access}
+use Rattle.program_text.specs.declared.programs.TheConstants.{MOST_ACCESSES, MOST_DEPTH, MOST_OUTSTANDING}
+use Rattle.program_text.specs.Line.{Line, setting, limit, begin, load, store, add, cas, settle, repeat, end}
+use Rattle.program_text.specs.Text.{Program, Said, after_end, said_access, said_settle}
 
 -- no program was begun, and no block is open
 abbrev pub is_early : Said → Bool
 is_early said = length said.programs == 0
+
+-- how many accesses of a core may be under way was said
+abbrev pub is_limited : Option ℕ → Bool
+is_limited None = false
+is_limited (Some most) = true
+
+-- nothing was said but what configures
+abbrev pub is_first : Said → Bool
+is_first said = is_early said && not (is_limited said.outstanding)
 
 abbrev pub is_closed : Said → Bool
 is_closed said = length said.blocks == 0
@@ -34,7 +43,7 @@ lacks_range config first last = lacks_word config first || lacks_word config las
 abbrev pub has_program : ℕ → List Program → Bool
 has_program c programs = list_any (λ (program : Program). program.0.0 == c) programs
 
--- how many accesses there are, and whether they are too many
+-- how many steps there are, and whether they are too many
 abbrev pub count_of : List Program → ℕ
 count_of [] = 0
 count_of (program ∷ earlier) = length program.1 + count_of earlier
@@ -63,7 +72,10 @@ access_faults said first last op =
 
 -- what a line can have wrong, in order
 abbrev pub faults_of : Said → Line → List (Bool × LineFault)
-faults_of said (setting line) = (not (is_early said), line_faults.LateConfiguration) ∷ []
+faults_of said (setting line) = (not (is_first said), line_faults.LateConfiguration) ∷ []
+faults_of said (limit most) =
+    (not (is_first said), line_faults.LateConfiguration)
+    ∷ (most == 0 || nat_lt MOST_OUTSTANDING most, line_faults.OutOfRange) ∷ []
 faults_of said (begin c) =
     (not (is_closed said), line_faults.NotACommand)
     ∷ (lacks_core said.settings.config c || has_program c said.programs, line_faults.OutOfRange) ∷ []
@@ -71,6 +83,8 @@ faults_of said (load first last) = access_faults said first last ops.Load
 faults_of said (store first last value) = access_faults said first last (ops.Store value)
 faults_of said (add first last delta) = access_faults said first last (ops.Add delta)
 faults_of said (cas first last expect new) = access_faults said first last (ops.Cas expect new)
+faults_of said settle =
+    (is_early said, line_faults.NotACommand) ∷ (has_too_many (said_settle said), line_faults.OutOfRange) ∷ []
 faults_of said (repeat n) =
     (is_early said, line_faults.NotACommand) ∷ (nat_le MOST_DEPTH (length said.blocks), line_faults.OutOfRange) ∷ []
 faults_of said end =

@@ -7,27 +7,31 @@ use Rattle.program_text.specs.declared.keyword.Keyword.{Keyword}
 use Rattle.program_text.specs.declared.keyword.Keyword.TheVariants as keywords
 
 abbrev pub name_of_keyword : Keyword → List ℕ
+name_of_keyword keywords.Outstanding = codes "outstanding"
 name_of_keyword keywords.Core = codes "core"
 name_of_keyword keywords.Load = codes "load"
 name_of_keyword keywords.Store = codes "store"
 name_of_keyword keywords.Add = codes "add"
 name_of_keyword keywords.Cas = codes "cas"
+name_of_keyword keywords.Settle = codes "settle"
 name_of_keyword keywords.Repeat = codes "repeat"
 name_of_keyword keywords.End = codes "end"
 
 abbrev pub keywords_by_name : List (List ℕ × Keyword)
 keywords_by_name =
-    (codes "core", keywords.Core) ∷ (codes "load", keywords.Load) ∷ (codes "store", keywords.Store)
-    ∷ (codes "add", keywords.Add) ∷ (codes "cas", keywords.Cas) ∷ (codes "repeat", keywords.Repeat)
-    ∷ (codes "end", keywords.End) ∷ []
+    (codes "outstanding", keywords.Outstanding) ∷ (codes "core", keywords.Core) ∷ (codes "load", keywords.Load)
+    ∷ (codes "store", keywords.Store) ∷ (codes "add", keywords.Add) ∷ (codes "cas", keywords.Cas)
+    ∷ (codes "settle", keywords.Settle) ∷ (codes "repeat", keywords.Repeat) ∷ (codes "end", keywords.End) ∷ []
 
 -- how many words stand behind it
 abbrev pub words_behind : Keyword → ℕ
+words_behind keywords.Outstanding = 1
 words_behind keywords.Core = 1
 words_behind keywords.Load = 1
 words_behind keywords.Store = 2
 words_behind keywords.Add = 2
 words_behind keywords.Cas = 3
+words_behind keywords.Settle = 0
 words_behind keywords.Repeat = 1
 words_behind keywords.End = 0
 

@@ -12,11 +12,13 @@ use Rattle.program_text.specs.declared.line.Line.TheVariants as read_lines
 -- what a line says
 pub data Line : Type 0 where
   setting : ConfigLine → Line
+  limit : ℕ → Line
   begin : ℕ → Line
   load : ℕ → ℕ → Line
   store : ℕ → ℕ → ℕ → Line
   add : ℕ → ℕ → ℕ → Line
   cas : ℕ → ℕ → ℕ → ℕ → Line
+  settle : Line
   repeat : ℕ → Line
   end : Line
 
@@ -36,12 +38,14 @@ WritesSetting words line = Writes words (parts_of_config_line line)
 -- the words write the line
 abbrev pub WritesLine : List (List ℕ) → Line → Type 0
 WritesLine words (setting line) = WritesSetting words line
+WritesLine words (limit most) = Writes words (key (codes "outstanding") ∷ num most ∷ [])
 WritesLine words (begin number) = Writes words (key (codes "core") ∷ num number ∷ [])
 WritesLine words (load first last) = WritesAccess (codes "load") words first last []
 WritesLine words (store first last value) = WritesAccess (codes "store") words first last (num value ∷ [])
 WritesLine words (add first last delta) = WritesAccess (codes "add") words first last (num delta ∷ [])
 WritesLine words (cas first last expect new) =
     WritesAccess (codes "cas") words first last (num expect ∷ num new ∷ [])
+WritesLine words settle = Writes words (key (codes "settle") ∷ [])
 WritesLine words (repeat times) = Writes words (key (codes "repeat") ∷ num times ∷ [])
 WritesLine words end = Writes words (key (codes "end") ∷ [])
 
@@ -52,10 +56,12 @@ BeginsAsSetting (word ∷ words) = IsFieldName word
 
 -- a line that was read, which configures nothing
 abbrev pub line_of : ReadLine → Line
+line_of (read_lines.Outstanding most) = limit most
 line_of (read_lines.Core number) = begin number
 line_of (read_lines.Access range ops.Load) = load range.first range.last
 line_of (read_lines.Access range (ops.Store value)) = store range.first range.last value
 line_of (read_lines.Access range (ops.Add delta)) = add range.first range.last delta
 line_of (read_lines.Access range (ops.Cas expect new)) = cas range.first range.last expect new
+line_of read_lines.Settle = settle
 line_of (read_lines.Repeat times) = repeat times
 line_of read_lines.End = end

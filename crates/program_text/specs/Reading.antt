@@ -25,17 +25,18 @@ pub record ReadsAs (words : List (List ℕ)) (result : Result ReadLine LineFault
 unfoldable pub said_by : Reader → Said
 said_by reader = record {
   settings = settings_of reader.programs;
+  outstanding = reader.programs.outstanding;
   programs = reverse (programs_of reader.programs);
   blocks = reverse reader.blocks.items;
 }
 
 abbrev pub said_first : Settings → Said
-said_first settings = record { settings = settings; programs = []; blocks = [] }
+said_first settings = record { settings = settings; outstanding = None; programs = []; blocks = [] }
 
 -- its count is right, and not too great, a block is open only in a program, and its configuration is allowed
 pub record IsSoundReader (reader : Reader) : Type 0 where
-  pub count : reader.accesses ≡ count_of (reverse (programs_of reader.programs))
-  pub few : reader.accesses ≤ MOST_ACCESSES
+  pub count : reader.steps ≡ count_of (reverse (programs_of reader.programs))
+  pub few : reader.steps ≤ MOST_ACCESSES
   pub begun : 1 ≤ length reader.blocks.items → 1 ≤ length reader.programs.cores.items
   pub checked : first_fault reader.programs.config ≡ None
   pub allowed : IsAllowed reader.programs.config
@@ -55,7 +56,8 @@ pub record IsReading (all : List Statement) (said : Said) (left : List Statement
 abbrev pub IsRead : List Statement → Programs → Type 0
 IsRead all programs =
     (said : Said) × (IsReading all said [] × (said.settings ≡ settings_of programs)
-    × (first_fault programs.config ≡ None) × (said.blocks ≡ []) × (programs_of programs ≡ reverse said.programs))
+    × (said.outstanding ≡ programs.outstanding) × (first_fault programs.config ≡ None) × (said.blocks ≡ [])
+    × (programs_of programs ≡ reverse said.programs))
 
 -- why a line isn't taken: there was no memory, or it is at fault in its place
 abbrev pub IsPlaceFault : Said → ℕ → Line → TextFault → Type 0

@@ -1,14 +1,14 @@
 ghost use Rattle.std.specs.Prelude.{◌≡◌, ◌≢◌, ℕ, OnOk, None, length};
 ghost use Rattle.program_text.specs.Judged.{access_faults, fault_of, first_so};
-ghost use Rattle.program_text.specs.Line.{begin, end, line_of, repeat as repeat_line};
+ghost use Rattle.program_text.specs.Line.{begin, end, limit, line_of, repeat as repeat_line, settle};
 ghost use Rattle.program_text.specs.Reading.{IsSoundReader, said_by};
-ghost use Rattle.program_text.specs.Text.{last_accesses, said_access, said_line};
+ghost use Rattle.program_text.specs.Text.{last_steps, said_access, said_line};
 
 use super::line::Line;
 use super::programs::CoreProgram;
 use super::range::Range;
 use super::reader::{Block, Reader};
-use super::repeat::{push_accesses, repeat};
+use super::repeat::{push_accesses, push_settle, repeat};
 use address_map::{CoreId, Op};
 use std::alloc::{AllocError, Global};
 
@@ -21,14 +21,28 @@ impl Reader {
         ensures counted { OnOk result (IsSoundReader self.new) }
     {
         match line {
+            Line::Outstanding(most) => {
+                self.limit(most);
+                Ok(())
+            }
             Line::Core(core) => self.begin(alloc, core),
             Line::Access(range, op) => self.access(range, op),
+            Line::Settle => self.settle(),
             Line::Repeat(times) => {
                 self.open_block(number, times);
                 Ok(())
             }
             Line::End => self.close_block(),
         }
+    }
+
+    #[tactic(auto, unfolding(crate::specs::Reading::said_by))]
+    fn limit(&mut self, most: u64)
+        requires counted { IsSoundReader self.old }
+        ensures said { (number : ℕ) → said_by self.new ≡ said_line (said_by self.old) number (limit most) }
+        ensures counted { IsSoundReader self.new }
+    {
+        self.programs.outstanding = Some(most);
     }
 
     #[tactic(auto, unfolding(crate::specs::Reading::said_by))]
@@ -41,7 +55,7 @@ impl Reader {
     {
         self.programs.cores.push(CoreProgram {
             core: CoreId(core as u8),
-            accesses: Vec::new(alloc),
+            steps: Vec::new(alloc),
         })?;
         Ok(())
     }
@@ -53,8 +67,21 @@ impl Reader {
         ensures counted { OnOk result (IsSoundReader self.new) }
     {
         let last = self.programs.cores.len() - 1;
-        push_accesses(&mut self.programs.cores[last].accesses, range, op)?;
-        self.accesses += (range.last - range.first) as usize + 1;
+        push_accesses(&mut self.programs.cores[last].steps, range, op)?;
+        self.steps += (range.last - range.first) as usize + 1;
+        Ok(())
+    }
+
+    fn settle(&mut self) -> Result<(), AllocError>
+        requires counted { IsSoundReader self.old }
+        requires may { fault_of (said_by self.old) settle ≡ None }
+        ensures said { OnOk result
+            ((number : ℕ) → said_by self.new ≡ said_line (said_by self.old) number settle) }
+        ensures counted { OnOk result (IsSoundReader self.new) }
+    {
+        let last = self.programs.cores.len() - 1;
+        push_settle(&mut self.programs.cores[last].steps)?;
+        self.steps += 1;
         Ok(())
     }
 
@@ -65,7 +92,7 @@ impl Reader {
         ensures said { said_by self.new ≡ said_line (said_by self.old) number (repeat_line times) }
         ensures counted { IsSoundReader self.new }
     {
-        let start = self.last_accesses();
+        let start = self.last_steps();
         self.blocks.push(Block {
             number,
             times,
@@ -82,25 +109,25 @@ impl Reader {
         let Some(block) = self.blocks.pop() else {
             return Ok(());
         };
-        let before = self.last_accesses();
+        let before = self.last_steps();
         let last = self.programs.cores.len() - 1;
         repeat(
-            &mut self.programs.cores[last].accesses,
+            &mut self.programs.cores[last].steps,
             block.start,
             block.times,
         )?;
-        let after = self.last_accesses();
-        self.accesses = self.accesses - before + after;
+        let after = self.last_steps();
+        self.steps = self.steps - before + after;
         Ok(())
     }
 
-    /// How many accesses the last program has.
+    /// How many steps the last program has.
     #[tactic(auto, unfolding(crate::specs::Reading::said_by))]
-    pub(super) fn last_accesses(&self) -> usize
-        ensures { result ≡ last_accesses (said_by self.now).programs }
+    pub(super) fn last_steps(&self) -> usize
+        ensures { result ≡ last_steps (said_by self.now).programs }
     {
         match self.programs.cores.last() {
-            Some(program) => program.accesses.len(),
+            Some(program) => program.steps.len(),
             None => 0,
         }
     }

@@ -1,19 +1,20 @@
 ghost use Rattle.std.specs.Prelude.{◌≡◌, ◌==◌, ◌+◌, ◌&&◌, ◌||◌, false, IfErr, None, OnOk, Some, length, nat_le, nat_lt};
-ghost use Rattle.std.specs.Prelude.{reverse};
+ghost use Rattle.std.specs.Prelude.{not, reverse};
 ghost use Rattle.std.specs.List.{list_any};
 ghost use Rattle.program_text.specs.declared.programs.CoreProgram.{CoreProgram};
 ghost use Rattle.program_text.specs.Fault.{programs_of};
 ghost use Rattle.program_text.specs.Judged.{access_faults, count_of, fault_of, first_so, has_counter, has_program};
-ghost use Rattle.program_text.specs.Judged.{has_too_many, is_closed, is_early, lacks_core, lacks_range, lacks_word};
+ghost use Rattle.program_text.specs.Judged.{has_too_many, is_closed, is_early, is_first, is_limited, lacks_core};
+ghost use Rattle.program_text.specs.Judged.{lacks_range, lacks_word};
 ghost use Rattle.program_text.specs.Judged.{overwrites as overwrites_word};
-ghost use Rattle.program_text.specs.Line.{begin, end, line_of, repeat};
+ghost use Rattle.program_text.specs.Line.{begin, end, limit, line_of, repeat, settle};
 ghost use Rattle.program_text.specs.Reading.{IsSoundReader, said_by};
 ghost use Rattle.address_map.specs.declared.request.Op.{Op};
-ghost use Rattle.program_text.specs.Text.{after_end, said_access};
-ghost use Rattle.program_text.specs.declared.programs.TheConstants.{MOST_ACCESSES, MOST_DEPTH};
+ghost use Rattle.program_text.specs.Text.{after_end, said_access, said_settle};
+ghost use Rattle.program_text.specs.declared.programs.TheConstants.{MOST_ACCESSES, MOST_DEPTH, MOST_OUTSTANDING};
 
 use super::line::Line;
-use super::programs::{MOST_ACCESSES, MOST_DEPTH};
+use super::programs::{MOST_ACCESSES, MOST_DEPTH, MOST_OUTSTANDING};
 use super::range::Range;
 use super::reader::Reader;
 use address_map::Op;
@@ -27,11 +28,27 @@ impl Reader {
         ensures fault { IfErr result (λ fault. fault_of (said_by self.now) (line_of line) ≡ Some fault) }
     {
         match line {
+            Line::Outstanding(most) => self.may_limit(most),
             Line::Core(core) => self.may_begin(core),
             Line::Access(range, op) => self.may_access(range, op),
+            Line::Settle => self.may_settle(),
             Line::Repeat(times) => self.may_repeat(times),
             Line::End => self.may_end(),
         }
+    }
+
+    #[tactic(auto, using(crate::proofs::JudgedLemmas::in_order), unfolding(crate::specs::Judged::fault_of))]
+    fn may_limit(&self, most: u64) -> Result<(), LineFault>
+        ensures may { OnOk result (fault_of (said_by self.now) (limit most) ≡ None) }
+        ensures fault { IfErr result (λ fault. fault_of (said_by self.now) (limit most) ≡ Some fault) }
+    {
+        if self.is_begun() {
+            return Err(LineFault::LateConfiguration);
+        }
+        if is_no_limit(most) {
+            return Err(LineFault::OutOfRange);
+        }
+        Ok(())
     }
 
     #[tactic(auto, using(crate::proofs::JudgedLemmas::in_order), unfolding(crate::specs::Judged::fault_of))]
@@ -71,6 +88,21 @@ impl Reader {
     }
 
     #[tactic(auto, using(crate::proofs::JudgedLemmas::in_order), unfolding(crate::specs::Judged::fault_of))]
+    fn may_settle(&self) -> Result<(), LineFault>
+        requires { IsSoundReader self.now }
+        ensures may { OnOk result (fault_of (said_by self.now) settle ≡ None) }
+        ensures fault { IfErr result (λ fault. fault_of (said_by self.now) settle ≡ Some fault) }
+    {
+        if self.is_early() {
+            return Err(LineFault::NotACommand);
+        }
+        if self.is_full() {
+            return Err(LineFault::OutOfRange);
+        }
+        Ok(())
+    }
+
+    #[tactic(auto, using(crate::proofs::JudgedLemmas::in_order), unfolding(crate::specs::Judged::fault_of))]
     fn may_repeat(&self, times: u64) -> Result<(), LineFault>
         ensures may { OnOk result (fault_of (said_by self.now) (repeat times) ≡ None) }
         ensures fault { IfErr result (λ fault. fault_of (said_by self.now) (repeat times) ≡ Some fault) }
@@ -97,6 +129,24 @@ impl Reader {
             return Err(LineFault::OutOfRange);
         }
         Ok(())
+    }
+
+    // Whether something was said that doesn't configure.
+    #[tactic(auto, unfolding(crate::specs::Reading::said_by))]
+    fn is_begun(&self) -> bool
+        ensures { result ≡ not (is_first (said_by self.now)) }
+    {
+        !(self.is_early() && self.has_no_limit())
+    }
+
+    // Whether nothing was said of how many accesses of a core may be under way.
+    fn has_no_limit(&self) -> bool
+        ensures { result ≡ not (is_limited self.now.programs.outstanding) }
+    {
+        match self.programs.outstanding {
+            Some(_) => false,
+            None => true,
+        }
     }
 
     // Whether no program was begun.
@@ -180,7 +230,7 @@ impl Reader {
             .any(|counter| first <= counter.0 && counter.0 <= last)
     }
 
-    // Whether accesses to the range are too many.
+    // Whether steps to the range are too many.
     fn spreads_too_far(&self, range: Range) -> bool
         requires counted { IsSoundReader self.now }
         requires begun { is_early (said_by self.now) ≡ false }
@@ -190,7 +240,16 @@ impl Reader {
         self.has_too_many(range.last - range.first + 1)
     }
 
-    // Whether the innermost block makes too many accesses where it ends.
+    // Whether a step that waits is one too many.
+    fn is_full(&self) -> bool
+        requires counted { IsSoundReader self.now }
+        requires begun { is_early (said_by self.now) ≡ false }
+        ensures { result ≡ has_too_many (said_settle (said_by self.now)) }
+    {
+        self.has_too_many(1)
+    }
+
+    // Whether the innermost block makes too many steps where it ends.
     fn repeats_too_often(&self) -> bool
         requires { IsSoundReader self.now }
         ensures { result ≡ has_too_many (after_end (said_by self.now).blocks (said_by self.now)) }
@@ -199,19 +258,26 @@ impl Reader {
         let Some(block) = blocks.last() else {
             return false;
         };
-        let body = self.last_accesses().saturating_sub(block.start);
+        let body = self.last_steps().saturating_sub(block.start);
         let rounds = block.times.saturating_sub(1);
         let more = (body as u64).saturating_mul(rounds);
         self.has_too_many(more)
     }
 
-    // Whether so many accesses more are too many.
+    // Whether so many steps more are too many.
     fn has_too_many(&self, more: u64) -> bool
         requires { IsSoundReader self.now }
         ensures { result ≡ nat_lt MOST_ACCESSES (count_of (reverse (programs_of self.now.programs)) + more) }
     {
-        (self.accesses as u64).saturating_add(more) > MOST_ACCESSES as u64
+        (self.steps as u64).saturating_add(more) > MOST_ACCESSES as u64
     }
+}
+
+// Whether so many accesses can't be under way.
+fn is_no_limit(most: u64) -> bool
+    ensures { result ≡ (most == 0 || nat_lt MOST_OUTSTANDING most) }
+{
+    most == 0 || most > MOST_OUTSTANDING
 }
 
 // Whether an access overwrites a word.

@@ -8,22 +8,26 @@ use litmus_text::value_named;
 /// The word with which a line begins that doesn't configure.
 #[derive(Clone, Copy)]
 pub(super) enum Keyword {
+    Outstanding,
     Core,
     Load,
     Store,
     Add,
     Cas,
+    Settle,
     Repeat,
     End,
 }
 
 /// Each keyword, by its name.
-static KEYWORDS: [(&[u8], Keyword); 7] = [
+static KEYWORDS: [(&[u8], Keyword); 9] = [
+    (b"outstanding", Keyword::Outstanding),
     (b"core", Keyword::Core),
     (b"load", Keyword::Load),
     (b"store", Keyword::Store),
     (b"add", Keyword::Add),
     (b"cas", Keyword::Cas),
+    (b"settle", Keyword::Settle),
     (b"repeat", Keyword::Repeat),
     (b"end", Keyword::End),
 ];

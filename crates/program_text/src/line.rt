@@ -12,9 +12,13 @@ use litmus_text::LineFault;
 /// What a line says behind those that configure. Cores and words are numbers that the machine may lack.
 #[derive(Clone, Copy, Debug, PartialEq, Eq)]
 pub(super) enum Line {
+    /// How many accesses of a core may be under way.
+    Outstanding(u64),
     Core(u64),
     /// An access to each word of the range, ascending.
     Access(Range, Op),
+    /// The core waits for its accesses.
+    Settle,
     Repeat(u64),
     End,
 }
@@ -42,14 +46,24 @@ fn parse_called(keyword: Keyword, words: &[&[u8]]) -> Result<Line, LineFault>
     ensures form { IfErr result (λ fault. IsCountFault (words_behind keyword) (map (λ w. w.now) words.now) fault) }
 {
     match keyword {
+        Keyword::Outstanding => parse_outstanding(words),
         Keyword::Core => parse_core(words),
         Keyword::Load => parse_load(words),
         Keyword::Store => parse_store(words),
         Keyword::Add => parse_add(words),
         Keyword::Cas => parse_cas(words),
+        Keyword::Settle => parse_settle(words),
         Keyword::Repeat => parse_repeat(words),
         Keyword::End => parse_end(words),
     }
+}
+
+#[tactic(auto, using(crate::proofs::LineLemmas::outstanding_sets_nothing))]
+fn parse_outstanding(words: &[&[u8]]) -> Result<Line, LineFault>
+    ensures reads { ReadsAs (codes "outstanding" ∷ map (λ w. w.now) words.now) result }
+    ensures form { IfErr result (λ fault. IsCountFault 1 (map (λ w. w.now) words.now) fault) }
+{
+    Ok(Line::Outstanding(number_alone(words)?))
 }
 
 #[tactic(auto, using(crate::proofs::LineLemmas::core_sets_nothing))]
@@ -93,6 +107,15 @@ fn parse_cas(words: &[&[u8]]) -> Result<Line, LineFault>
 {
     let (range, expect, new) = range_and_two_numbers(words)?;
     Ok(Line::Access(range, Op::Cas { expect, new }))
+}
+
+#[tactic(auto, using(crate::proofs::LineLemmas::settle_sets_nothing))]
+fn parse_settle(words: &[&[u8]]) -> Result<Line, LineFault>
+    ensures reads { ReadsAs (codes "settle" ∷ map (λ w. w.now) words.now) result }
+    ensures form { IfErr result (λ fault. IsCountFault 0 (map (λ w. w.now) words.now) fault) }
+{
+    no_words(words)?;
+    Ok(Line::Settle)
 }
 
 #[tactic(auto, using(crate::proofs::LineLemmas::repeat_sets_nothing))]

@@ -1,11 +1,11 @@
-ghost use Rattle.std.specs.Prelude.{◌≡◌, ◌↔◌, [], ◌∷◌, false, IfErr, IfOk, IsTrue, List, OnOk, map, None};
+ghost use Rattle.std.specs.Prelude.{◌≡◌, ◌↔◌, ℕ, [], ◌∷◌, false, IfErr, IfOk, IsTrue, List, OnOk, Option, map, None};
 ghost use Rattle.std.specs.Str.Lines.{lines};
 ghost use Rattle.litmus_text.specs.ConfigLine.{after_config_line};
 ghost use Rattle.litmus_text.specs.Statement.{statements_from};
 ghost use Rattle.litmus_text.specs.declared.settings.Settings.{Settings};
 ghost use Rattle.program_text.specs.Fault.{BeginOtherwise, IsFault, IsProgramText, Statement as ReadStatement};
 ghost use Rattle.program_text.specs.Fault.{programs_of, settings_of};
-ghost use Rattle.program_text.specs.Judged.{fault_of, is_early};
+ghost use Rattle.program_text.specs.Judged.{fault_of, is_first};
 ghost use Rattle.program_text.specs.Line.{BeginsAsSetting, line_of};
 ghost use Rattle.program_text.specs.Reading.{IsSoundReader, IsPlaceFault, IsRead, IsReading, said_by, said_first};
 ghost use Rattle.program_text.specs.Reading.{said_in};
@@ -23,7 +23,7 @@ pub(super) struct Block {
     /// The number of its line.
     pub number: usize,
     pub times: u64,
-    /// How many accesses of the program stand before it.
+    /// How many steps of the program stand before it.
     pub start: usize,
 }
 
@@ -32,18 +32,18 @@ pub(super) struct Block {
 pub(super) struct Reader {
     pub programs: Programs,
     pub blocks: ArrayVec<Block, MOST_DEPTH>,
-    /// How many accesses all programs have.
-    pub accesses: usize,
+    /// How many steps all programs have.
+    pub steps: usize,
 }
 
 impl Programs {
     /// Reads programs. The only faults are want of memory, a faulty line, and a configuration that is refused.
     pub fn read(alloc: Global, input: &[u8]) -> Result<Programs, TextFault>
         ensures written { IfOk result
-            (λ programs. IsProgramText input.now (settings_of programs) (programs_of programs)) }
-        ensures only { IfOk result (λ programs. (settings : Settings) (others : List Program)
-            → IsProgramText input.now settings others
-            → (settings ≡ settings_of programs) × (others ≡ programs_of programs)) }
+            (λ programs. IsProgramText input.now (settings_of programs) programs.outstanding (programs_of programs)) }
+        ensures only { IfOk result (λ programs. (settings : Settings) (most : Option ℕ) (others : List Program)
+            → IsProgramText input.now settings most others
+            → (settings ≡ settings_of programs) × (most ≡ programs.outstanding) × (others ≡ programs_of programs)) }
         ensures fault { IfErr result (IsFault (statements_from 0 (lines input.now))) }
     {
         let mut statements = Statements::of(input);
@@ -111,10 +111,11 @@ impl Reader {
             programs: Programs {
                 config,
                 misses,
+                outstanding: None,
                 cores: Vec::new(alloc),
             },
             blocks: ArrayVec::new(),
-            accesses: 0,
+            steps: 0,
         })
     }
 
@@ -160,12 +161,12 @@ impl Reader {
     /// Reads a line behind the first that doesn't configure.
     fn read_next(&mut self, alloc: Global, statement: &Statement<'_>) -> Result<(), TextFault>
         requires counted { IsSoundReader self.old }
-        requires begun { is_early (said_by self.old) ≡ false }
+        requires begun { is_first (said_by self.old) ≡ false }
         ensures reading { OnOk result ((all left : List ReadStatement)
             → IsReading all (said_by self.old) (said_in statement.now ∷ left)
             → IsReading all (said_by self.new) left) }
         ensures counted { OnOk result (IsSoundReader self.new) }
-        ensures begun { OnOk result (is_early (said_by self.new) ≡ false) }
+        ensures begun { OnOk result (is_first (said_by self.new) ≡ false) }
         ensures fault { IfErr result (λ fault. (all left : List ReadStatement)
             → IsReading all (said_by self.old) (said_in statement.now ∷ left)
             → IsFault all fault) }
@@ -185,7 +186,7 @@ impl Reader {
             → IsReading all (said_by self.old) (said_in statement.now ∷ left)
             → IsReading all (said_by self.new) left) }
         ensures counted { OnOk result (IsSoundReader self.new) }
-        ensures begun { OnOk result (is_early (said_by self.new) ≡ false) }
+        ensures begun { OnOk result (is_first (said_by self.new) ≡ false) }
         ensures fault { IfErr result (λ fault. (all left : List ReadStatement)
             → IsReading all (said_by self.old) (said_in statement.now ∷ left)
             → IsFault all fault) }

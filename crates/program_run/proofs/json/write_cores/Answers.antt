@@ -10,23 +10,25 @@ use Rattle.program_run.proofs.json.write_cores.Goals as goal
 pub loop-core-preserved : goal.loop-core-preserved
 loop-core-preserved g c = λ new rest.
     let counts = c.args.cores.now in
-    let all = λ (first : Bool) (cores : List ℕ). with_commas_from first (objects_of_cores counts cores) in
+    let columns = c.args.columns.now in
+    let all = λ (first : Bool) (cores : List ℕ). with_commas_from first (objects_of_cores columns counts cores) in
     let cores = range_with_len 0 (length counts) in
     let core = c.loop-core.core in
     let first = c.loop-core.is_first in
     let long = length-range_with_len 0 (length counts) in
     let below = c.loop-core-test.true in
     c.loop-core.invariant new
-    (next_text g.W.Write.write_str_gives all first cores core 0 (core_object core (counts_at counts core))
+    (next_text g.W.Write.write_str_gives all first cores core 0 (core_object columns core (counts_at counts core))
     (omega (arith, long, below))
-    (ap (λ (k : ℕ). (before_text first ++ core_object k (counts_at counts k)) ++ all false (drop (core + 1) cores))
+    (ap (λ (k : ℕ). (before_text first ++ core_object columns k (counts_at counts k)) ++ all false (drop (core + 1) cores))
     (at_range (length counts) core below))
     _ _ _ new c.in_ok-write_comma.ensures c.in_ok-write_core.ensures rest)
 
 pub returns : goal.returns
 returns g c =
     let counts = c.args.cores.now in
-    let all = λ (cores : List ℕ). with_commas_from c.loop-core.is_first (objects_of_cores counts cores) in
+    let columns = c.args.columns.now in
+    let all = λ (cores : List ℕ). with_commas_from c.loop-core.is_first (objects_of_cores columns counts cores) in
     let long = length-range_with_len 0 (length counts) in
     let end = c.loop-core-test.false in
     c.loop-core.invariant _

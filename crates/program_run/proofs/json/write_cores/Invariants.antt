@@ -9,6 +9,6 @@ abbrev pub invariant-loop-core : goal.invariant-loop-core
 invariant-loop-core g l =
     let took = g.W.Write.write_str_gives in
     (new : g.row.W.Denot)
-    → WritesInCalls took l.out (with_commas_from l.is_first (objects_of_cores l.cores
+    → WritesInCalls took l.out (with_commas_from l.is_first (objects_of_cores l.columns l.cores
     (drop l.core (range_with_len 0 (length l.cores))))) new
-    → WritesInCalls took l.fn.out (core_objects_of l.cores) new
+    → WritesInCalls took l.fn.out (core_objects_of l.columns l.cores) new

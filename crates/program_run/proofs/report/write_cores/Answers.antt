@@ -1,20 +1,18 @@
 use Rattle.std.proofs.Common.{length, ℕ}
 use Rattle.script_text.proofs.Numbers.{last_number, next_number}
-use Rattle.program_run.specs.Column.{core_columns}
 use Rattle.program_run.specs.Report.{row_of}
 use Rattle.program_run.specs.Tally.{counts_at}
 use Rattle.program_run.proofs.report.write_cores.Goals as goal
 
 pub loop-core-preserved : goal.loop-core-preserved
 loop-core-preserved g c = λ new rest.
-    let row = λ (core : ℕ). row_of core core_columns (counts_at c.args.cores.now core) in
-    let next = rw c.core_columns.ensures at c.in_ok-write_row.ensures in
+    let row = λ (core : ℕ). row_of core c.args.columns.now (counts_at c.args.cores.now core) in
     c.loop-core.invariant new
     (next_number g.W.Write.write_str_gives row (length c.args.cores.now) c.loop-core.core c.loop-core-test.true _ _
-    new next rest)
+    new c.in_ok-write_row.ensures rest)
 
 pub returns : goal.returns
 returns g c =
-    let row = λ (core : ℕ). row_of core core_columns (counts_at c.args.cores.now core) in
+    let row = λ (core : ℕ). row_of core c.args.columns.now (counts_at c.args.cores.now core) in
     c.loop-core.invariant _
     (last_number g.W.Write.write_str_gives row (length c.args.cores.now) c.loop-core.core c.loop-core-test.false _)

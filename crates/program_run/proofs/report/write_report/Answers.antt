@@ -6,16 +6,17 @@ pub returns : goal.returns
 returns g c =
     let then = writes_in_calls_append g.W.Write.write_str_gives in
     let cores_heading = rw c.core_columns.ensures at c.in_ok-write_heading.ensures in
-    let cores = rw c.cores.ensures at c.in_ok-write_cores.ensures in
+    let cores = rw (c.core_columns-2.ensures, c.cores.ensures) at c.in_ok-write_cores.ensures in
     let lines_heading = rw c.line_columns.ensures at c.in_ok-write_heading-2.ensures in
     let lines = rw c.lines.ensures at c.in_ok-write_lines.ensures in
     let all = rw (c.line_columns-2.ensures, c.all.ensures) at c.in_ok-write_counts.ensures in
-    on_ok_weaker c.writeln-2.result
+    on_ok_weaker c.write_parallel.result
     (λ last. then _ _ _ _ _
     (then _ _ _ _ _
     (then _ _ _ _ _
     (then _ _ _ _ _
     (then _ _ _ _ _
+    (then _ _ _ _ _
     (then _ _ _ _ _ (then _ _ _ _ _ c.in_ok-writeln.ensures.writes cores_heading) cores)
-    lines_heading) lines) c.in_ok-write.ensures.writes) all) last)
-    c.writeln-2.ensures.writes
+    lines_heading) lines) c.in_ok-write.ensures.writes) all) c.in_ok-writeln-2.ensures.writes) last)
+    (rw c.cores-2.ensures at c.write_parallel.ensures)

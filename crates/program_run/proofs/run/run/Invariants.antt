@@ -7,5 +7,5 @@ use Rattle.program_run.proofs.run.run.Given as goal
 -- so many moves were made, a word of the generator for each
 abbrev pub invariant-loop-made : goal.invariant-loop-made
 invariant-loop-made g l =
-    Leads (HasMade l.fn.runner.config l.programs.cores.items (of_seed (splitmix_seed 32 l.seed)) l.generator l.made)
+    Leads (HasMade l.fn.runner.config l.programs (of_seed (splitmix_seed 32 l.seed)) l.generator l.made)
     l.fn.runner l.runner

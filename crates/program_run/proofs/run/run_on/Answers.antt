@@ -5,9 +5,9 @@ use Rattle.program_run.proofs.run.run_on.Goals as goal
 pub returns-then-is_over-clause-done : goal.returns-then-is_over-clause-done
 returns-then-is_over-clause-done g c =
     let config = c.args.programs.now.config in
-    let programs = c.args.programs.now.cores.items in
-    let printed = rw c.tally.ensures at c.in_ok-print_report.ensures.printed in
-    programs_run config (g.F.MissFile.bound_by config) programs c.args.form c.args.seed 0 c.in_ok-runner.runner
+    let programs = c.args.programs.now in
+    let printed = rw (c.tally.ensures, c.is_limited-limited.ensures) at c.in_ok-print_report.ensures.printed in
+    programs_run (g.F.MissFile.bound_by config) programs c.args.form c.args.seed 0 c.in_ok-runner.runner
     c.run.new.runner _ _ c.in_ok-runner.ensures c.in_ok-run.ensures
     (λ history seen.
     prints_over config programs c.args.form c.args.seed c.run.new.runner _ _ history
@@ -16,8 +16,8 @@ returns-then-is_over-clause-done g c =
 pub returns-clause-done : goal.returns-clause-done
 returns-clause-done g c =
     let config = c.args.programs.now.config in
-    let programs = c.args.programs.now.cores.items in
-    programs_run config (g.F.MissFile.bound_by config) programs c.args.form c.args.seed 1 c.in_ok-runner.runner
+    let programs = c.args.programs.now in
+    programs_run (g.F.MissFile.bound_by config) programs c.args.form c.args.seed 1 c.in_ok-runner.runner
     c.run.new.runner _ _ c.in_ok-runner.ensures c.in_ok-run.ensures
     (λ history seen.
     prints_stuck config programs c.args.form c.args.seed c.run.new.runner _ _ history

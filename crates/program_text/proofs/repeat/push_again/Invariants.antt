@@ -5,4 +5,4 @@ use Rattle.program_text.proofs.repeat.push_again.Given as goal
 -- those up to this place stand there once more
 abbrev pub invariant-loop-place : goal.invariant-loop-place
 invariant-loop-place l =
-    l.accesses.items ≡ l.fn.accesses.items ++ slice_range l.fn.accesses.items l.start l.place
+    l.steps.items ≡ l.fn.steps.items ++ slice_range l.fn.steps.items l.start l.place

@@ -5,4 +5,4 @@ use Rattle.program_text.proofs.repeat.repeat.Given as goal
 -- they stand there once, and once more for each round
 abbrev pub invariant-loop-round : goal.invariant-loop-round
 invariant-loop-round l =
-    l.accesses.items ≡ l.fn.accesses.items ++ times (l._round - 1) (drop l.start l.fn.accesses.items)
+    l.steps.items ≡ l.fn.steps.items ++ times (l._round - 1) (drop l.start l.fn.steps.items)

@@ -42,13 +42,13 @@ pub returns-clause-said : goal.returns-clause-said
 unfolding said_by
 returns-clause-said c =
     let may = accessible (said_by c.args.self.now) c.args.range.first c.args.range.last c.args.op c.requires.may in
-    let changed = programs_last (λ accesses. accesses ++ spread c.args.range.first c.args.range.last c.args.op)
+    let changed = programs_last (λ steps. steps ++ spread c.args.range.first c.args.range.last c.args.op)
     c.args.self.now.programs.cores.items (c.len-last.result - 1)
-    (record { core = c.index_mut.result.now.core; accesses = c.push_accesses.new.accesses }) c.index_mut.result.now
+    (record { core = c.index_mut.result.now.core; steps = c.push_accesses.new.steps }) c.index_mut.result.now
     (omega (arith, some_core c.args.self.now may.some, c.len-last.ensures, c.args.self.now.programs.cores.ok.0))
     (ap (λ (p : CoreProgram). p.core) c.index_mut.ensures.value)
     (c.in_ok-push_accesses.ensures may.order
-    ∙ ap (λ (p : CoreProgram). p.accesses.items ++ spread c.args.range.first c.args.range.last c.args.op)
+    ∙ ap (λ (p : CoreProgram). p.steps.items ++ spread c.args.range.first c.args.range.last c.args.op)
     c.index_mut.ensures.value) in
     with_programs (said_by c.args.self.now) _ _ changed
 
@@ -56,15 +56,15 @@ pub returns-clause-counted : goal.returns-clause-counted
 unfolding said_by
 returns-clause-counted c =
     let may = accessible (said_by c.args.self.now) c.args.range.first c.args.range.last c.args.op c.requires.may in
-    let changed = programs_last (λ accesses. accesses ++ spread c.args.range.first c.args.range.last c.args.op)
+    let changed = programs_last (λ steps. steps ++ spread c.args.range.first c.args.range.last c.args.op)
     c.args.self.now.programs.cores.items (c.len-last.result - 1)
-    (record { core = c.index_mut.result.now.core; accesses = c.push_accesses.new.accesses }) c.index_mut.result.now
+    (record { core = c.index_mut.result.now.core; steps = c.push_accesses.new.steps }) c.index_mut.result.now
     (omega (arith, some_core c.args.self.now may.some, c.len-last.ensures, c.args.self.now.programs.cores.ok.0))
     (ap (λ (p : CoreProgram). p.core) c.index_mut.ensures.value)
     (c.in_ok-push_accesses.ensures may.order
-    ∙ ap (λ (p : CoreProgram). p.accesses.items ++ spread c.args.range.first c.args.range.last c.args.op)
+    ∙ ap (λ (p : CoreProgram). p.steps.items ++ spread c.args.range.first c.args.range.last c.args.op)
     c.index_mut.ensures.value) in
-    let counted = spread_counted (said_by c.args.self.now) _ c.args.self.now.accesses
+    let counted = spread_counted (said_by c.args.self.now) _ c.args.self.now.steps
     c.args.range.first c.args.range.last
     c.args.op c.requires.counted.count may changed in
     record {

@@ -12,6 +12,18 @@ access-requires-clause-may c =
     sym (judged_access (said_by c.args.self.now) c.args.line c.in-Access.range c.in-Access.op c.in-Access.is)
     ∙ c.requires.may
 
+pub returns-in-Outstanding-clause-said : goal.returns-in-Outstanding-clause-said
+returns-in-Outstanding-clause-said c =
+    c.limit.ensures.said c.args.number
+    ∙ ap (λ (l : Line). said_line (said_by c.args.self.now) c.args.number (line_of l)) (sym c.in-Outstanding.is)
+
+pub returns-in-Settle-clause-said : goal.returns-in-Settle-clause-said
+returns-in-Settle-clause-said c =
+    on_ok_weaker c.settle.result
+    (λ said. said c.args.number
+    ∙ ap (λ (l : Line). said_line (said_by c.args.self.now) c.args.number (line_of l)) (sym c.in-Settle.is))
+    c.settle.ensures.said
+
 pub returns-in-Core-clause-said : goal.returns-in-Core-clause-said
 returns-in-Core-clause-said c =
     on_ok_weaker c.begin.result

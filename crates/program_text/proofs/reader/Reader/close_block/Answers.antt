@@ -23,7 +23,7 @@ overflow_sub-self c =
     omega (
       arith,
       last_few (reverse (programs_of c.args.self.now.programs)),
-      c.last_accesses-before.ensures,
+      c.last_steps-before.ensures,
       c.requires.counted.count,
     )
 
@@ -35,21 +35,21 @@ overflow_add-self c =
     let stands = ap reverse c.in-Some.ensures.items ∙ blocks_push c.pop.new.self.items c.in-Some.block in
     let changed = programs_last (written_out c.in-Some.block.start c.in-Some.block.times)
     c.args.self.now.programs.cores.items (c.len-last.result - 1)
-    (record { core = c.index_mut.result.now.core; accesses = c.repeat.new.accesses }) c.index_mut.result.now
+    (record { core = c.index_mut.result.now.core; steps = c.repeat.new.steps }) c.index_mut.result.now
     (omega (arith, some, c.len-last.ensures, c.args.self.now.programs.cores.ok.0))
     (ap (λ (p : CoreProgram). p.core) c.index_mut.ensures.value)
     (c.in_ok-repeat.ensures
-    ∙ ap (λ (p : CoreProgram). written_out c.in-Some.block.start c.in-Some.block.times p.accesses.items)
+    ∙ ap (λ (p : CoreProgram). written_out c.in-Some.block.start c.in-Some.block.times p.steps.items)
     c.index_mut.ensures.value) in
     let counted = ended_counted (said_by c.args.self.now) c.in-Some.block (reverse c.pop.new.self.items) _
-    c.args.self.now.accesses c.last_accesses-before.result c.last_accesses-after.result stands
+    c.args.self.now.steps c.last_steps-before.result c.last_steps-after.result stands
     (omega (
       arith,
       some,
       length-reverse (programs_of c.args.self.now.programs),
       length-map c.args.self.now.programs.cores.items program_of,
     ))
-    c.requires.counted.count may.1 changed c.last_accesses-before.ensures c.last_accesses-after.ensures in
+    c.requires.counted.count may.1 changed c.last_steps-before.ensures c.last_steps-after.ensures in
     omega (arith, counted.2)
 
 pub returns-clause-said : goal.returns-clause-said
@@ -60,11 +60,11 @@ returns-clause-said c = λ number.
     let stands = ap reverse c.in-Some.ensures.items ∙ blocks_push c.pop.new.self.items c.in-Some.block in
     let changed = programs_last (written_out c.in-Some.block.start c.in-Some.block.times)
     c.args.self.now.programs.cores.items (c.len-last.result - 1)
-    (record { core = c.index_mut.result.now.core; accesses = c.repeat.new.accesses }) c.index_mut.result.now
+    (record { core = c.index_mut.result.now.core; steps = c.repeat.new.steps }) c.index_mut.result.now
     (omega (arith, some, c.len-last.ensures, c.args.self.now.programs.cores.ok.0))
     (ap (λ (p : CoreProgram). p.core) c.index_mut.ensures.value)
     (c.in_ok-repeat.ensures
-    ∙ ap (λ (p : CoreProgram). written_out c.in-Some.block.start c.in-Some.block.times p.accesses.items)
+    ∙ ap (λ (p : CoreProgram). written_out c.in-Some.block.start c.in-Some.block.times p.steps.items)
     c.index_mut.ensures.value) in
     ended_said (said_by c.args.self.now) c.in-Some.block (reverse c.pop.new.self.items) _ stands changed
 
@@ -76,21 +76,21 @@ returns-clause-counted c =
     let stands = ap reverse c.in-Some.ensures.items ∙ blocks_push c.pop.new.self.items c.in-Some.block in
     let changed = programs_last (written_out c.in-Some.block.start c.in-Some.block.times)
     c.args.self.now.programs.cores.items (c.len-last.result - 1)
-    (record { core = c.index_mut.result.now.core; accesses = c.repeat.new.accesses }) c.index_mut.result.now
+    (record { core = c.index_mut.result.now.core; steps = c.repeat.new.steps }) c.index_mut.result.now
     (omega (arith, some, c.len-last.ensures, c.args.self.now.programs.cores.ok.0))
     (ap (λ (p : CoreProgram). p.core) c.index_mut.ensures.value)
     (c.in_ok-repeat.ensures
-    ∙ ap (λ (p : CoreProgram). written_out c.in-Some.block.start c.in-Some.block.times p.accesses.items)
+    ∙ ap (λ (p : CoreProgram). written_out c.in-Some.block.start c.in-Some.block.times p.steps.items)
     c.index_mut.ensures.value) in
     let counted = ended_counted (said_by c.args.self.now) c.in-Some.block (reverse c.pop.new.self.items) _
-    c.args.self.now.accesses c.last_accesses-before.result c.last_accesses-after.result stands
+    c.args.self.now.steps c.last_steps-before.result c.last_steps-after.result stands
     (omega (
       arith,
       some,
       length-reverse (programs_of c.args.self.now.programs),
       length-map c.args.self.now.programs.cores.items program_of,
     ))
-    c.requires.counted.count may.1 changed c.last_accesses-before.ensures c.last_accesses-after.ensures in
+    c.requires.counted.count may.1 changed c.last_steps-before.ensures c.last_steps-after.ensures in
     record {
       count = counted.1;
       few = counted.2;

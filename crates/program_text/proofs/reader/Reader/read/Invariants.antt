@@ -1,6 +1,6 @@
 use Rattle.std.proofs.Common.{◌≡◌, ◌∷◌, false, List, map}
 use Rattle.program_text.specs.Fault.{Statement}
-use Rattle.program_text.specs.Judged.{is_early}
+use Rattle.program_text.specs.Judged.{is_first}
 use Rattle.program_text.specs.Reading.{IsSoundReader, IsReading, said_by, said_in}
 use Rattle.program_text.proofs.reader.Reader.read.Given as goal
 
@@ -10,5 +10,5 @@ invariant-loop-statement l = record {
       → IsReading all (said_by l.fn.self) (said_in l.fn.first ∷ l.fn.statements)
       → IsReading all (said_by l.reader) l.statement-iterator;
   counted : IsSoundReader l.reader;
-  begun : is_early (said_by l.reader) ≡ false;
+  begun : is_first (said_by l.reader) ≡ false;
 }

@@ -2,7 +2,7 @@ use Rattle.std.proofs.Common.{arith, subst, sym, ap, ◌∙◌}
 use Rattle.std.proofs.lemmas.List.{length-map, length-reverse}
 use Rattle.std.proofs.lemmas.Result.{IfErr-weaker}
 use Rattle.program_text.specs.Fault.{program_of, programs_of}
-use Rattle.program_text.specs.Judged.{is_early}
+use Rattle.program_text.specs.Judged.{is_first}
 use Rattle.program_text.specs.Line.{line_of}
 use Rattle.program_text.specs.Reading.{IsReading, said_by}
 use Rattle.program_text.proofs.JudgedLemmas.{begun_line}
@@ -22,7 +22,7 @@ pub returns-in-Ok-clause-begun : goal.returns-in-Ok-clause-begun
 unfolding said_by
 returns-in-Ok-clause-begun c =
     on_ok_two c.take.result _ _ _
-    (λ may said. ap is_early said
+    (λ may said. ap is_first said
     ∙ begun_line (said_by c.args.self.now) c.args.statement.now.number c.in-Ok.line
     (λ some. omega (
       arith,

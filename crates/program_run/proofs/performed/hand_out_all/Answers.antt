@@ -1,0 +1,22 @@
+use Rattle.std.proofs.Common.{arith, ◌<◌, subst, sym}
+use Rattle.address_map.specs.declared.config.Config.{Config}
+use Rattle.program_run.proofs.PerformedLemmas.{performed_all, performed_more, performed_none}
+use Rattle.program_run.proofs.performed.hand_out_all.Goals as goal
+
+pub loop-entry-init : goal.loop-entry-init
+loop-entry-init g c = performed_none _ _ _ _ _
+
+pub hand_out-requires : goal.hand_out-requires
+hand_out-requires g c =
+    subst (λ (config : Config). c.args.slice.0 < config.slices) (sym c.loop-entry.invariant.config) c.requires
+
+pub loop-entry-preserved : goal.loop-entry-preserved
+loop-entry-preserved g c =
+    performed_more c.args.programs.now c.args.slice.0 c.loop-entry.is_first c.args.entries.now c.loop-entry.entry-index
+    _ c.args.runner.now c.loop-entry.runner c.hand_out.new.self c.loop-entry-test.true c.loop-entry.invariant
+    c.hand_out.ensures
+
+pub returns : goal.returns
+returns g c =
+    performed_all c.args.programs.now c.args.slice.0 c.loop-entry.is_first c.args.entries.now c.loop-entry.entry-index
+    c.args.runner.now c.loop-entry.runner (omega (arith, c.loop-entry-test.false)) c.loop-entry.invariant

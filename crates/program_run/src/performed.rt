@@ -1,0 +1,52 @@
+ghost use Rattle.std.specs.Prelude.{◌≡◌, ◌<◌, OnOk, drop, true};
+ghost use Rattle.litmus_script.specs.Machine.{log_at};
+ghost use Rattle.program_run.specs.Run.{Leads, PerformsAll};
+
+use super::runner::Runner;
+use address_map::SliceId;
+use litmus_script::Machine;
+use mshr_file::MissFile;
+use program_text::Programs;
+use slice_core::Entry;
+use std::alloc::AllocError;
+
+/// Lists what the slice performed behind so many entries.
+pub(crate) fn list_performed<F: MissFile>(
+    machine: &Machine<F>,
+    slice: SliceId,
+    before: usize,
+    performed: &mut Vec<Entry>,
+) -> Result<(), AllocError>
+    ensures { OnOk result (performed.new.items ≡ drop before (log_at machine.now.slices.items slice.0)) }
+{
+    performed.clear();
+    performed.extend_from_slice(behind(machine.log_of(slice), before))?;
+    Ok(())
+}
+
+// The entries behind so many.
+fn behind(log: &[Entry], before: usize) -> &[Entry]
+    ensures { result.now ≡ drop before log.now }
+{
+    match log.get(before..) {
+        Some(entries) => entries,
+        None => &[],
+    }
+}
+
+/// Accesses that waited are performed by one delivery: each reply is handed out.
+pub(crate) fn hand_out_all<F: MissFile>(
+    runner: &mut Runner<F>,
+    programs: &Programs,
+    slice: SliceId,
+    entries: &[Entry],
+)
+    requires { slice.0 < runner.old.config.slices }
+    ensures { Leads (PerformsAll runner.old.config programs.now slice.0 true entries.now) runner.old runner.new }
+{
+    let mut is_first = true;
+    for entry in entries {
+        runner.hand_out(programs, slice, *entry, is_first);
+        is_first = false;
+    }
+}

@@ -1,0 +1,3 @@
+pub mod RowLemmas
+pub mod SweepLemmas
+pub mod TextLemmas

@@ -1,0 +1,24 @@
+-- A text with other settings, line by line.
+use Rattle.std.proofs.Common.{◌≡◌, ℕ, Bool, List, [], ◌∷◌, ◌++◌, ap, ap₂, sym, ◌∙◌, append_assoc, ◌&&◌, not}
+use Rattle.program_sweep.specs.Text.{added_if, ended, ends_settings, left_with}
+
+-- the next line
+pub next_line : (added line : List ℕ) (more left : List (List ℕ)) (is_before ends after : Bool) (old mid new : List ℕ)
+    → left ≡ line ∷ more → ends ≡ ends_settings is_before line → mid ≡ old ++ added_if added ends
+    → new ≡ mid ++ ended line → after ≡ (is_before && not ends)
+    → new ++ left_with added after more ≡ old ++ left_with added is_before left
+next_line added line more left is_before ends after old mid new first is one two later =
+    ap (λ (t : List ℕ). t ++ left_with added after more) two
+    ∙ append_assoc mid (ended line) (left_with added after more)
+    ∙ ap (λ (t : List ℕ). t ++ (ended line ++ left_with added after more)) one
+    ∙ append_assoc old (added_if added ends) (ended line ++ left_with added after more)
+    ∙ ap (λ (t : List ℕ). old ++ t)
+    (ap₂ (λ (e a : Bool). added_if added e ++ (ended line ++ left_with added a more)) is
+    (later ∙ ap (λ (e : Bool). is_before && not e) is)
+    ∙ sym (ap (left_with added is_before) first))
+
+-- no line is left
+pub end_lines : (added : List ℕ) (is_before : Bool) (left : List (List ℕ)) (old new : List ℕ) → left ≡ []
+    → new ≡ old ++ added_if added is_before → new ≡ old ++ left_with added is_before left
+end_lines added is_before left old new none one =
+    one ∙ ap (λ (t : List ℕ). old ++ t) (sym (ap (left_with added is_before) none))

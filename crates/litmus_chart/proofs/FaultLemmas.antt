@@ -1,8 +1,9 @@
 -- Why the chart of a script that was read ends early.
-use Rattle.std.proofs.Common.{◌⊎◌, ℕ, List, inl, inr}
-use Rattle.litmus_chart.specs.Fault.{IsChartFault, ChartStopsAt}
+use Rattle.std.proofs.Common.{◌≡◌, ◌⊎◌, ℕ, List, Option, inl, inr, subst}
+use Rattle.address_map.specs.declared.config.Config.{Config}
+use Rattle.litmus_chart.specs.Fault.{Draws, IsChartFault, ChartStopsAt}
 use Rattle.litmus_script.specs.Machine.{bound_of}
-use Rattle.litmus_script.specs.Play.{IsOfRun}
+use Rattle.litmus_script.specs.Play.{IsOfRun, PlaysUpTo}
 use Rattle.litmus_script.specs.Script.{IsScript, commands_of}
 use Rattle.litmus_script.specs.declared.script.Script.{Script}
 use Rattle.litmus_text.specs.declared.fault.TextFault.{TextFault}
@@ -17,3 +18,13 @@ fault_of_script all script fault read (inr stopped) = inr (inr (
   read,
   stopped,
 ))
+
+-- the machine that is drawn has the script's shape
+pub stops : (config other : Config) (commands : List (ℕ × List (List ℕ)))
+    (before after : Option (List ℕ)) (fault : TextFault)
+    → other ≡ config → PlaysUpTo Draws other commands tt before after fault → ChartStopsAt config commands fault
+stops config other commands before after fault same stopped = record {
+  before = before;
+  after = after;
+  stopped = subst (λ (k : Config). PlaysUpTo Draws k commands tt before after fault) same stopped;
+}

@@ -1,19 +1,27 @@
-//! Draws a script's run as a sequence diagram, in Mermaid's words.
+//! Draws a script's run as a sequence diagram, in Mermaid's words, or one line of it as a space-time diagram, in SVG.
 //!
-//! [`run_chart`] plays a script on a machine, and looks before each call at what it can change: the message in front of
-//! its channel, and the lines as they are.
+//! [`run_chart`] and [`run_svg`] play a script on a machine, and look before each call at what it can change: the
+//! message in front of its channel, and the lines as they are.
 //!
 //! - `chart` draws the commands, `picture` the messages and the changes of lines, of which `names` keeps those asked
 //!   for;
 //! - `seen` is what was looked at before a call;
 //! - `arrow` says who takes part and what an arrow says, `note` what the notes say;
+//! - `svg` records the rows of a space-time diagram, which `space_time` keeps and `drawing` draws; `sends` says what a
+//!   step sends.
 #![tactic(auto)]
 
 pub use chart::run_chart;
+pub use svg::run_svg;
 
 mod arrow;
 mod chart;
+mod drawing;
 mod names;
 mod note;
 mod picture;
 mod seen;
+mod sends;
+mod space_time;
+mod style;
+mod svg;

@@ -1,0 +1,206 @@
+"""Draws each example's first line as `lockup chart --svg` does, and compares the picture with what `--explain` tells.
+
+The picture is taken apart by its lifelines and rows: each arrow's ends are the sender and the receiver, and the rows of
+its sending and its delivery; each bar is a state and the row from which it holds; a ring is a message that was blocked,
+or an access in vain. What is expected is worked out from the explained answers, message by message.
+"""
+import re
+import xml.etree.ElementTree as xml
+from collections import namedtuple
+
+from harness import each, lockup, same, want
+from harness.scripts import example, examples, is_trace
+
+Arrow = namedtuple("Arrow", "kind sender receiver sent taken")
+SVG = "{http://www.w3.org/2000/svg}"
+KINDS = {"req": ("GetS", "GetM", "PutS", "PutM"), "fwd": ("Fwd-GetS", "Fwd-GetM", "Inv", "Put-Ack"),
+         "data": ("Data", "Data-E"), "ack": ("Inv-Ack",), "home": ("Data home",)}
+
+
+def kind_of(message: str) -> str:
+    name = re.sub(r"\(.*", "", message)
+    return next(kind for kind, names in KINDS.items() if name in names)
+
+
+# the picture
+
+class Picture:
+    def __init__(self, text: str):
+        root = xml.fromstring(text)
+        rows = [it for it in root.iter(f"{SVG}text") if it.get("class") == "row"]
+        self.rows = [" ".join(it.text.split()[1:]) for it in rows]
+        self.heights = {int(it.get("y")) - 4: number for number, it in enumerate(rows)}
+        self.names = {int(it.get("x")): it.text for it in root.iter(f"{SVG}text") if it.get("class") == "name"}
+        self.arrows = sorted(self.arrow(it) for it in root.iter(f"{SVG}line") if it.get("marker-end"))
+        self.bars = sorted(self.bar(it) for it in root.iter(f"{SVG}rect"))
+        self.rings = [(self.names[int(it.get("cx"))], self.heights[int(it.get("cy"))])
+                      for it in root.iter(f"{SVG}circle")]
+
+    def near(self, x: int) -> str:
+        return next(name for at, name in self.names.items() if abs(at - x) == 10)
+
+    def arrow(self, it) -> Arrow:
+        kind, *flight = it.get("class").split()
+        ends = [int(it.get(name)) for name in ("x1", "y1", "x2", "y2")]
+        sent = self.heights[ends[1] - 4]
+        if flight:
+            return Arrow(kind, self.near(ends[0]), "?", sent, -1)
+        return Arrow(kind, self.near(ends[0]), self.near(ends[2]), sent, self.heights[ends[3]])
+
+    def bar(self, it) -> tuple:
+        return self.names[int(it.get("x")) + 10], self.heights[int(it.get("y"))], it.get("class").split()[1]
+
+
+# what is expected
+
+def steps_of(script: str) -> list[tuple[str, str]]:
+    """Returns each command, and each delivery of a pump, with its explained answer."""
+    out = lockup("script", "-", "--explain", "--echo", text=script).out.splitlines()
+    steps, command = [], ""
+    for line in out:
+        words = line.split()
+        if words and words[0] in ("issue", "evict", "hand", "word", "state", "pump") or re.fullmatch("deliver [^(]*", line):
+            if "   " not in line:
+                command = line
+                continue
+        delivery = re.match(r"(deliver (?:[a-z0-9]+ ?)+)   (.*)", line)
+        if command.startswith("pump") and delivery:
+            steps.append((delivery[1].strip(), delivery[2]))
+        elif command and not command.startswith("pump"):
+            steps.append((" ".join(command.split()), line))
+            command = ""
+    return steps
+
+
+def line_of(command: str) -> int | None:
+    words = command.split()
+    if words[0] == "issue":
+        return int(words[4]) // 8
+    if words[0] == "evict":
+        return int(words[2])
+    return int(words[2]) if words[0] == "deliver" else None
+
+
+def channel_of(command: str) -> tuple[str, str]:
+    """Returns the kind of a delivery's channel, and who takes from it."""
+    _, kind, _, *ends = command.split()
+    return kind, "directory" if kind in ("req", "home") else f"core {ends[0]}"
+
+
+def named(who: str) -> str:
+    return "directory" if who.startswith("dir") else who
+
+
+class Account:
+    """What an explained run does to the line that it names first."""
+
+    def __init__(self, script: str):
+        self.rows, self.arrows, self.bars, self.rings, self.line = [], [], [], [], None
+        self.open, self.states = [], {}
+        for command, told in steps_of(script):
+            at = line_of(command)
+            if at is not None:
+                self.line = at if self.line is None else self.line
+                self.step(command, told, at == self.line)
+        self.arrows += [Arrow(kind, sender, "?", sent, -1) for kind, sender, _, sent in self.open]
+        self.arrows.sort()
+        self.bars.sort()
+
+    def step(self, command: str, told: str, is_own: bool) -> None:
+        leaves = re.search(rf"; line {self.line} to (\w+)", told)
+        if not is_own:
+            if command.startswith("issue") and leaves:
+                core = f"core {command.split()[1]}"
+                row = self.row(command)
+                self.send("req", core, "directory", row)
+                self.state(core, leaves[1], row)
+            return
+        row = self.row(command)
+        if re.match("blocked|nothing|stall|refused|broken", told):
+            who = channel_of(command)[1] if command.startswith("deliver") else f"core {command.split()[1]}"
+            self.rings.append((who, row))
+            return
+        actor = re.search(r"(dir|core) \d+ \(", told)
+        if not actor:
+            return
+        who = named(actor[0].removesuffix(" ("))
+        if command.startswith("deliver"):
+            self.take(*channel_of(command), row, command)
+        for sent in re.findall(r"sends ([^;]*)", told):
+            for message, to in re.findall(r"([A-Z][\w-]*(?:\(\d+\))?(?: home)?) to ((?:core|dir) \d+)", sent):
+                self.send(kind_of(message), who, named(to), row)
+        states = re.findall(r"(?:: |; )to (\w+)", told)
+        if states:
+            self.state(who, states[-1], row)
+
+    def row(self, command: str) -> int:
+        self.rows.append(command)
+        return len(self.rows) - 1
+
+    def send(self, kind: str, sender: str, receiver: str, row: int) -> None:
+        self.open.append((kind, sender, receiver, row))
+
+    def take(self, kind: str, receiver: str, row: int, command: str) -> None:
+        sender = f"core {command.split()[-1]}" if kind in ("req", "ack") else None
+        for it in self.open:
+            if it[0] == kind and it[2] == receiver and sender in (None, it[1]):
+                self.open.remove(it)
+                self.arrows.append(Arrow(kind, it[1], receiver, it[3], row))
+                return
+        want(False, f"a delivery of nothing that was sent: {command}")
+
+    def state(self, who: str, state: str, row: int) -> None:
+        if self.states.get(who, "I") != state:
+            self.states[who] = state
+            self.bars.append((who, row, state))
+
+
+def check(script: str) -> None:
+    ran = lockup("chart", "--svg", "-", text=script)
+    same("status", 0, ran.status)
+    picture, account = Picture(ran.out), Account(script)
+    same("rows", account.rows, picture.rows)
+    same("arrows", account.arrows, picture.arrows)
+    same("bars", account.bars, picture.bars)
+    same("rings", account.rings, picture.rings)
+
+
+def scripts() -> list[str]:
+    return [name for name in examples() if not is_trace(example(name))]
+
+
+@each(scripts)
+def test_space_time_is_what_is_told(name: str) -> None:
+    check(example(name))
+
+
+VICTIM = """cores 2
+lines 8
+sets 1
+ways 1
+issue 0 0 store 0 1
+pump 9
+issue 0 1 load 8
+pump 9
+issue 1 0 load 0
+issue 1 1 store 0 4
+deliver req 0 1
+deliver fwd 0 0
+deliver data 0 1
+"""
+
+
+def test_space_time_of_a_victim_and_of_a_write_behind_a_load() -> None:
+    check(VICTIM)
+
+
+def test_space_time_of_a_line_that_is_asked_for() -> None:
+    for words in (["--svg", "--line", "1"], ["--line", "1"]):
+        picture = Picture(lockup("chart", *words, "-", text=VICTIM).out)
+        same("rows", ["issue 0 1 load 8", "deliver req 1 0", "deliver data 1 0"], picture.rows)
+
+
+def test_space_time_up_to_a_fault() -> None:
+    ran = lockup("chart", "--svg", "-", text="issue 0 0 load 0\nnonsense\n")
+    same("status", 2, ran.status)
+    same("rows", ["issue 0 0 load 0"], Picture(ran.out).rows)

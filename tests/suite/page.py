@@ -1,11 +1,21 @@
-"""Steps each example's page through in a real browser: at each step it shows what `state`,
-`waiting` and `show` print.
+"""Steps each example's page through in a real browser, and compares what is drawn with what the
+program prints.
 
 For each script the page of `lockup page` is looked at as JSON, and then opened in chromium without
-a window: every step is shown, by the page's own functions, and what stands on the page is read from
-its boxes: each line, its directory, home copy and copies, its messages, and which lines stand in
-which set of each core's cache. Lines that differ in nothing but their blanks are shown as they are
-written. A script with an invalid line has the steps before it and the error.
+a window, where every step is shown of every line, and what stands there is read:
+
+- the states on each lifeline, at its head and in its bar at the cursor, are those of `state`, each
+  in its own colour;
+- the arrows are those of `lockup chart`, from the same sender to the same receiver, and at each
+  step those in flight are the ones that `waiting` prints: so each begins and ends at the steps of
+  its sending and delivery, where it is drawn too. Rings are the chart's crosses;
+- what was performed is what `log` prints; copies, targets and replies are those of `show`; and who
+  leaves a set is the first of it that can;
+- one row of the tables is lit, and it is that of the explained answer.
+
+Lines that differ in nothing but their blanks are shown as they are written. A script with an
+invalid line has the steps before it and the error. Keys, a telephone, paper, still pictures and a
+long run have tests of their own.
 """
 import json
 import re
@@ -19,34 +29,83 @@ from harness import Different, Skipped, each, lockup, needs, same, seconds, want
 from harness.scripts import split
 from harness.states import States, shown_scripts, states_of
 
-# What is read from the page at each step. It knows the page's parts by their classes and by their
-# text alone.
-READ = """
+# What is read from the page. It knows the page's parts by their classes and marks alone.
+READERS = """
 <script>
-const read = [];
-for (let step = 0; step <= steps.length; step++) {
-    show(step);
-    const shown = [...document.querySelectorAll('.line')].map(card => {
-        const boxes = [...card.querySelectorAll('.box')];
-        return {
-            line: card.querySelector('h2').textContent,
-            states: boxes.map(box => box.querySelector('b').textContent),
-            held: boxes.slice(1).map(box => [...box.querySelectorAll('.held')].map(it => it.textContent)),
-            who: boxes[0].lastChild.textContent,
-            home: card.querySelector('.word').textContent,
-            messages: [...card.querySelectorAll('.messages li')].map(it => it.textContent),
-        };
-    });
-    const now = document.getElementById('now');
-    const caches = [...document.querySelectorAll('#caches tr')].map(it => [...it.children].map(cell => cell.textContent));
-    const rest = [...now.querySelectorAll('.rest')].map(it => it.textContent);
-    read.push({ step, now: now.textContent, rest, shown, caches });
+const all = (kind, from = document) => [...from.querySelectorAll(kind)];
+const texts = (kind, from = document) => all(kind, from).map(it => it.textContent);
+const number = (it, name) => Number(it.getAttribute(name));
+const cells = from => all('tr', from).map(it => [...it.children].map(cell => cell.textContent));
+const byName = name => Object.fromEntries(all(`[data-${name}]`).map(it => [it.dataset[name], it.textContent]));
+function readBars() {
+    return all('.bar').map(it => ({ who: it.dataset.who, state: it.dataset.state, colour: getComputedStyle(it).fill,
+        middle: number(it, 'x') + number(it, 'width') / 2, top: number(it, 'y'), height: number(it, 'height') }));
 }
-document.body.replaceChildren(document.createElement('pre'));
-document.body.firstChild.textContent = JSON.stringify(read);
-document.body.firstChild.id = 'read';
+function readArrows() {
+    return all('[data-channel]').map(it => {
+        const line = it.querySelector('line');
+        return { ...it.dataset, way: ['x1', 'y1', 'x2', 'y2'].map(name => number(line, name)) };
+    });
+}
+function readLine() {
+    const cursor = document.querySelector('#cursor line');
+    return { line: at('line').querySelector('h2').textContent, who: texts('#line .who')[0], home: texts('#line .word'),
+        messages: texts('.messages li'), heads: byName('chip'), may: byName('may'), bars: readBars(),
+        cursor: number(cursor, 'y1'), flying: all('[data-flying]').map(it => it.dataset.flying) };
+}
+function readStep() {
+    const cores = all('.core').map(it => ({ core: it.dataset.core, registers: cells(it.querySelector('table')).slice(1),
+        used: it.querySelector('caption').textContent, sets: all('.set', it).map(row => texts('th, td', row)),
+        leaving: all('.leaving', it).map(row => texts('td', row)),
+        blocks: all('.copy', it).map(row => texts('td', row)) }));
+    const met = all('#met tr').map(row => texts('th, td', row));
+    return { now: texts('#now .command')[0], answer: texts('#now .answer')[0], cores, met, lit: texts('#met .lit'),
+        rest: texts('.rest') };
+}
+function tell(read) {
+    document.body.replaceChildren(document.createElement('pre'));
+    document.body.firstChild.textContent = JSON.stringify(read);
+    document.body.firstChild.id = 'read';
+}
 </script>
 """
+
+READ_ALL = READERS + """
+<script>
+const read = [];
+const names = [...at('follow').options].map(it => it.value);
+for (let step = 0; step <= steps.length; step++) {
+    show(step);
+    read.push({ step, ...readStep(), lines: names.map(line => { follow(line); return readLine(); }) });
+}
+// room for all of the run
+document.body.style.height = '12000px';
+const drawing = names.map(line => {
+    at('follow').value = line;
+    show(steps.length);
+    return { line, arrows: readArrows(), rings: all('.ring').length, marks: texts('.performed, .mark'),
+        rows: all('.row').map(it => [number(it, 'data-step'), number(it.querySelector('line'), 'y1')]) };
+});
+const performedAt = row => row.performed.map(it => [Number(sliceOf(row.line)), it.number, it.access, String(it.reply)]);
+tell({ read, drawing, performed: rows.flatMap(performedAt) });
+</script>
+"""
+
+# the colours of states, as they are chosen for light paper
+COLOURS = {
+    "I": "#dcdcdc", "S": "#86c784", "M": "#de6f5e", "E": "#cf9bdc", "IS_D": "#bcd6f2", "IM_AD": "#fdc27d",
+    "IM_A": "#fbe3a6", "SM_AD": "#b3e0a2", "SM_A": "#d9f2c4", "S_D": "#86cfc6", "MI_A": "#e0b3a6", "SI_A": "#cdbfa8",
+    "II_A": "#c3bcc9",
+}
+# what a core may do with its copy
+MAY = {
+    "I": "no copy", "S": "reads", "M": "reads and writes", "E": "reads and writes", "SM_AD": "reads, waits",
+    "SM_A": "reads, waits", **dict.fromkeys(("IS_D", "IM_AD", "IM_A", "MI_A", "SI_A", "II_A"), "waits"),
+}
+MISSING = ("IS_D", "IM_AD", "IM_A", "SM_AD", "SM_A")
+LEAVING = ("MI_A", "SI_A", "II_A")
+SHAPE = {"cores": 2, "slices": 1, "sets": 4, "ways": 2, "mshrs": 4, "targets": 4, "writebacks": 2}
+
 
 def value_of(page: str) -> str:
     """Returns the text of the value of JSON in a page."""
@@ -83,10 +142,10 @@ def test_an_invalid_line() -> None:
     same("the page of a script with an invalid line", wanted, told)
 
 
-def opened(file: str, room: str) -> str:
+def opened(file: str, room: str, *more: str) -> str:
     """Returns what a browser without a window makes of a file."""
     flags = "--headless --no-sandbox --disable-gpu --disable-dev-shm-usage --dump-dom".split()
-    words = [shutil.which("chromium"), *flags, f"--user-data-dir={room}/profile", f"file://{file}"]
+    words = [shutil.which("chromium"), *flags, *more, f"--user-data-dir={room}/profile", f"file://{file}"]
     return subprocess.run(words, capture_output=True, text=True, timeout=100).stdout
 
 
@@ -107,98 +166,447 @@ def needs_a_browser() -> None:
         raise Skipped("'chromium' doesn't run here")
 
 
-def read_in_a_browser(page: str, room: str) -> list[dict[str, Any]]:
-    """Returns what stands on a page at each of its steps."""
-    file = write(f"{room}/page.html", page.replace("</body>", READ + "</body>"))
-    found = re.search(r'<pre id="read">(.*?)</pre>', opened(str(file), room), re.S)
+def read_in_a_browser(script: str, reads: str, *more: str) -> Any:
+    """Returns what a reader finds on a script's page."""
+    needs_a_browser()
+    page = lockup("page", "-", text=script).out
+    with tempfile.TemporaryDirectory(ignore_cleanup_errors=True) as room:
+        file = write(f"{room}/page.html", page.replace("</body>", reads + "</body>"))
+        found = re.search(r'<pre id="read">(.*?)</pre>', opened(str(file), room, *more), re.S)
     if not found:
-        raise Different("the browser shows no steps")
+        raise Different("the browser shows nothing")
     return json.loads(found.group(1).replace("&lt;", "<").replace("&gt;", ">").replace("&amp;", "&"))
 
 
-def shown_as(state: str) -> dict[str, Any]:
-    """Returns what a page has to show of a line, from what `state` prints of it."""
-    line, entry, owner, sharers, home, cores = re.fullmatch(
-        r"line (\d+) dir (\S+) owner (\S+) sharers (\S+) home (.*) cores (.*)", state).groups()
+def shape_of(script: str) -> dict[str, int]:
+    config, _ = split(script)
+    shape = dict(SHAPE)
+    shape.update((it.split()[0], int(it.split()[1])) for it in config if it.split()[0] in shape)
+    return shape
+
+
+def rgb(colour: str) -> str:
+    return f"rgb({', '.join(str(int(colour[at:at + 2], 16)) for at in (1, 3, 5))})"
+
+
+# ---- states and messages
+
+def check_lifelines(at: str, state: str, shown: dict[str, Any]) -> None:
+    """Compares what is drawn of a line at a step with what `state` prints."""
+    entry, owner, sharers, home, cores = re.fullmatch(
+        r"line \d+ dir (\S+) owner (\S+) sharers (\S+) home (.*) cores (.*)", state).groups()
+    states = {"directory": entry, **{f"core {core}": it for core, it in enumerate(cores.split())}}
+    same(f"states at the heads at {at}", states, shown["heads"])
+    same(f"what may be done at {at}", {who: "" if who == "directory" else MAY[it] for who, it in states.items()},
+         shown["may"])
     who = f"owner {owner}" if owner != "-" else f"sharers {sharers}" if sharers != "-" else "no copies"
-    return {"line": f"line {line}", "states": [entry, *cores.split()], "who": who, "home": f"home copy {home}"}
+    same(f"entry at {at}", (who, [f"home copy {home}"]), (shown["who"], shown["home"]))
+    under = [it for it in shown["bars"] if it["top"] <= shown["cursor"] - 20 < it["top"] + it["height"]]
+    same(f"states at the cursor at {at}", states, {it["who"]: it["state"] for it in under})
+    same(f"colours at {at}", {who: rgb(COLOURS[it]) for who, it in states.items()},
+         {it["who"]: it["colour"] for it in under})
 
 
-def held_of(state: str, shown: list[str]) -> list[list[str]]:
-    """Returns what a page has to show in the box of each core of a line, from what `state` and
-    `show` print."""
-    line, cores = state.split()[1], len(state.split(" cores ")[1].split())
-    found, last = [[] for _ in range(cores)], None
+def check_messages(at: str, line: str, waiting: list[str], shown: dict[str, Any]) -> None:
+    """Compares the messages of a line at a step with what `waiting` prints."""
+    awaited = {"IS_D": "Data", "IM_AD": "Data and Inv-Ack", "IM_A": "Inv-Ack", "SM_AD": "Data and Inv-Ack",
+               "SM_A": "Inv-Ack", "S_D": "Data home"}
+    own = [it.split("   ") for it in waiting if it.split()[2] == line]
+    same(f"messages at {at}", len(own), len(shown["messages"]))
+    for (command, name, fate), listed in zip(own, shown["messages"]):
+        told = f"{fate} waits for {awaited[fate.split()[1]]}" if fate.startswith("blocked") else fate
+        found = re.fullmatch(r"(.+) (directory|core \d+) → (directory|core \d+): (.*) \((.*)\)", listed)
+        want(found, f"{at} doesn't say who sent: {listed}")
+        same(f"a message at {at}", [name, told, command], [found[1], found[4], found[5]])
+    same(f"messages in flight at {at}", sorted(command for command, _, _ in own), sorted(set(shown["flying"])))
+
+
+# ---- what the cores hold
+
+def copies_of(shown: list[str]) -> dict[str, list[dict[str, Any]]]:
+    """Returns what each core has, from what `show` prints."""
+    found, last = {}, None
     for text in shown:
-        words = text.split()
-        if words[:1] == ["core"] and words[2] == "line":
-            last = found[int(words[1])] if words[3] == line else None
-            if last is not None:
-                # what has no block yet or any more, and who isn't told yet how many
-                # acknowledgements come
-                last += [] if words[4] in ("IS_D", "IM_AD", "II_A") else [text[text.index("block"):]]
-                acks = re.findall(r"acks \d+ of \d+", text)
-                last += [re.sub(r"\d+$", "?", it) if words[4] in ("IM_AD", "SM_AD") else it for it in acks]
-        elif " awaits " in text and last is not None:
-            last.append(re.fullmatch(r"core \d+ (.*) seq \d+ since \d+", text).group(1))
+        copy = re.fullmatch(r"core (\d+) line (\d+) (\S+)(?: acks (\d+) of (\d+))? block (.*)", text)
+        if copy:
+            core, line, state, come, whole, block = copy.groups()
+            acks = "" if come is None else f"acks {come} of {'?' if state in ('IM_AD', 'SM_AD') else whole}"
+            # what has no block yet or any more has none to show
+            last = {"line": line, "state": state, "acks": acks, "waits": [],
+                    "block": "" if state in ("IS_D", "IM_AD", "II_A") else block}
+            found.setdefault(core, []).append(last)
+        elif " awaits " in text:
+            tag, access = re.fullmatch(r"core \d+ tag (\d+) awaits (.*) seq \d+ since \d+", text).groups()
+            last["waits"].append(f"tag {tag} {access}")
     return found
 
 
-def told(copies: list[tuple[int, str]]) -> str:
-    return ", ".join(f"line {line} {state}" for line, state in copies)
-
-
-def caches_of(script: str, lines: list[str]) -> list[list[str]]:
-    """Returns the rows that a page has to show of the caches, from the script's configuration and
-    what `state` prints."""
-    config, _ = split(script)
-    shape = {"slices": 1, "sets": 4, "ways": 2}
-    shape.update((it.split()[0], int(it.split()[1])) for it in config if it.split()[0] in shape)
-    places, copies = {}, {}
-    for text in lines:
-        line, cores = int(text.split()[1]), text.split(" cores ")[1].split()
-        places[line] = line % shape["slices"], line // shape["slices"] % shape["sets"]
-        copies[line] = cores
-    sets = sorted(set(places.values()))
-    heading = [f"set {at}" if shape["slices"] == 1 else f"slice {slice_} set {at}" for slice_, at in sets]
-    rows = [["Cache", *heading, "leaves"]]
-    for core in range(len(next(iter(copies.values()), []))):
-        held = [(line, copies[line][core]) for line in sorted(copies) if copies[line][core] != "I"]
-        leaves = [it for it in held if it[1] in ("MI_A", "SI_A", "II_A")]
-        cells = []
-        for place in sets:
-            there = [it for it in held if it not in leaves and places[it[0]] == place]
-            cells.append(f"{told(there)} {len(there)} of {shape['ways']}".strip())
-        rows.append([f"core {core}", *cells, told(leaves) or "-"])
-    return rows if lines else []
-
-
-def check_step(script: str, step: dict[str, Any], command: str, states: States) -> None:
-    """Compares what is shown of a step with what the program prints."""
-    at, by_line = f"step {step['step']}", sorted(states.lines, key=lambda it: int(it.split()[1]))
-    shown = [{key: it[key] for key in ("line", "states", "who", "home")} for it in step["shown"]]
-    same(f"states at {at}", [shown_as(it) for it in by_line], shown)
-    held = [it["held"] for it in step["shown"]]
-    same(f"copies and accesses at {at}", [held_of(it, states.held) for it in by_line], held)
-    same(f"caches at {at}", caches_of(script, states.lines), step["caches"])
-    rest = [it for it in states.held if re.match(r"core \d+ tag \d+ reply |slice \d+ ring .", it)]
+def check_cores(script: str, at: str, shown: list[str], step: dict[str, Any]) -> None:
+    """Compares the tables of each core with what `show` prints."""
+    shape, inverted = shape_of(script), re.search(r"^misses inverted", script, re.M)
+    wanted, got = copies_of(shown), {it["core"]: it for it in step["cores"]}
+    same(f"cores at {at}", sorted(wanted), sorted(got))
+    for core, copies in wanted.items():
+        missing = [it for it in copies if it["state"] in MISSING]
+        rows = [[f"line {it['line']}", it["state"], it["acks"],
+                 "; ".join(it["waits"]) + ("" if inverted else f" ({len(it['waits'])} of {shape['targets']})")]
+                for it in missing]
+        same(f"registers of core {core} at {at}", rows, got[core]["registers"])
+        bound = "an entry for each tag" if inverted else f"{len(missing)} of {shape['mshrs'] * shape['slices']} used"
+        same(f"registers in use at {at}", f"miss registers: {bound}", got[core]["used"])
+        same(f"blocks of core {core} at {at}", [[f"line {it['line']}", it["block"]] for it in copies if it["block"]],
+             got[core]["blocks"])
+        leaving = [[f"line {it['line']}", it["state"]] for it in copies if it["state"] in LEAVING]
+        same(f"what core {core} writes back at {at}", leaving, got[core]["leaving"])
+        stay = [it for it in copies if it["state"] not in LEAVING]
+        check_sets(shape, f"core {core} at {at}", stay, got[core]["sets"])
+    rest = [it for it in shown if re.match(r"core \d+ tag \d+ reply |slice \d+ ring .", it)]
     same(f"replies and order at {at}", rest, step["rest"])
-    listed = " ".join(text for it in step["shown"] for text in it["messages"])
-    for message in states.messages:
-        delivery, name_of, fate = message.split("   ")
-        want(f"({delivery})" in listed and name_of in listed and fate in listed, f"{at} doesn't show: {message}")
-    want(step["now"].startswith(command), f"{at} doesn't show its command")
 
 
-@seconds(5)
+def check_sets(shape: dict[str, int], what: str, copies: list[dict[str, Any]], shown: list[list[str]]) -> None:
+    sets = {}
+    for it in copies:
+        slice_, rest = int(it["line"]) % shape["slices"], int(it["line"]) // shape["slices"]
+        name = f"set {rest % shape['sets']}" if shape["slices"] == 1 else f"slice {slice_} set {rest % shape['sets']}"
+        sets.setdefault(name, []).append(f"line {it['line']} {it['state']}")
+    same(f"sets of {what}", {name: sorted(it) for name, it in sets.items()},
+         {row[0]: sorted(row[1:-1]) for row in shown})
+    for row in shown:
+        free = shape["ways"] - len(row) + 2
+        same(f"free ways of {what}", "full" if free == 0 else f"{free} free", row[-1])
+
+
+def check_victim(script: str, at: str, step: dict[str, Any], before: dict[str, Any], answer: str) -> None:
+    """Checks that a line which makes room was the first of its set that could."""
+    found = re.search(r"   core (\d+) \(I, .*; line (\d+) to ", answer)
+    if not found or re.search(r"^policy random", script, re.M):
+        return
+    core, line = found.groups()
+    rows = [row for it in before["cores"] if it["core"] == core for row in it["sets"]]
+    row = next(row for row in rows if any(cell.split()[1:2] == [line] for cell in row[1:-1]))
+    can = [cell.split()[1] for cell in row[1:-1] if cell.split()[2] in ("S", "M", "E")]
+    same(f"the first line of its set at {at}", line, can[0])
+
+
+# ---- the row of the table
+
+@cache
+def tables() -> dict[str, list[list[str]]]:
+    """Returns the rows of the tables, each as the names of its columns and its cells."""
+    found = {}
+    for who, word in (("core", "cache"), ("dir", "directory")):
+        parts = lockup("table", word, "--exclusive").out.split("\n\n")
+        rows = [[[cell.strip() for cell in line[1:-1].split("|")] for line in part.split("\n")
+                 if line.startswith("|") and not line.startswith("|---")] for part in parts]
+        found[who] = [(table[0], row) for table in rows if table for row in table[1:]]
+    return found
+
+
+def row_name(script: str, state: str, core: str | None) -> str:
+    """Returns the name of the directory's row for an entry, as `state` prints it, and a core that
+    asks."""
+    entry, owner, sharers = re.match(r"line \d+ dir (\S+) owner (\S+) sharers (\S+)", state).groups()
+    if entry == "I":
+        return "I (exclusive on)" if re.search(r"^exclusive on", script, re.M) else "I (exclusive off)"
+    if entry == "M":
+        return "M, owner r" if owner == core else "M, owner o"
+    who = set() if sharers == "-" else set(sharers.split(","))
+    mine, others = core in who, who - {core}
+    if entry == "S":
+        return f"S, sharers {'r, x' if mine and others else 'r' if mine else 'x'}"
+    return f"S_D, sharers {'o, r' if mine and others else 'r' if mine else 'o, x'}" if who else "S_D"
+
+
+def check_row(script: str, at: str, step: dict[str, Any], answer: str, before: list[str]) -> None:
+    """Compares the row that is lit with the case of the explained answer."""
+    case = re.match(r"[^\n]*?   (core|dir) \d+ \((\S+), (.*?)\): (?:to (\w+))?", answer)
+    words = step["now"].split()
+    if not case or words[0] == "pump":
+        return same(f"no row at {at}", [], step["lit"])
+    who, state, event, to = case.groups()
+    if who == "dir":
+        unnamed = f"line 0 dir {state} owner - sharers -"
+        old = next((it for it in before if it.startswith(f"line {int(words[2])} ")), unnamed)
+        name, column = row_name(script, old, words[3] if words[1] == "req" else None), event
+    else:
+        name, column = state, re.sub(r" for core \d+|\(\d+\)$", "", event)
+    lit = []
+    for heading, row in tables()[who]:
+        if row[0].replace(" (exclusive on)", "") != name and row[0] != name:
+            continue
+        for title, cell in list(zip(heading, row))[1:]:
+            plain = title.replace(" (exclusive on)", "")
+            if title in (column, f"{column} of r") or plain.startswith(column + ",") and cell.split("; ")[-1] == to:
+                lit.append(cell)
+    same(f"the row at {at}", (name, lit), (step["met"][1][0].replace(" (exclusive on)", "") if who == "core"
+                                          else step["met"][1][0], step["lit"]))
+    want(len(lit) >= 1, f"no cell is lit at {at}")
+
+
+# ---- the drawing of the whole run
+
+def chart_of(script: str) -> tuple[list[tuple[str, ...]], int]:
+    """Returns the arrows of the chart, and how many messages it shows as blocked, by their lines."""
+    arrows, blocked = [], {}
+    for text in lockup("chart", "-", text=script).out.split("\n"):
+        found = re.fullmatch(r" +(\w+?)(->>|-x)(\w+?): (.*), line (\d+)( \(blocked\))?", text)
+        if found and found[2] == "->>":
+            who = ["directory" if it.startswith("dir") else it.replace("core", "core ") for it in (found[1], found[3])]
+            arrows.append((*who, found[4], found[5]))
+        elif found:
+            blocked[found[5]] = blocked.get(found[5], 0) + 1
+    return arrows, blocked
+
+
+def check_drawing(script: str, drawing: list[dict[str, Any]], wanted: list[States]) -> None:
+    """Compares the arrows and rings of the whole run with the chart, and their ends with the rows."""
+    arrows, blocked = chart_of(script)
+    for it in drawing:
+        line, rows = it["line"], {}
+        for step, y in it["rows"]:
+            rows.setdefault(step, []).append(y)
+        made = [arrow for arrow in it["arrows"] if arrow["delivered"]]
+        made.sort(key=lambda arrow: arrow["way"][3])
+        same(f"arrows of line {line}", [arrow[:3] for arrow in arrows if arrow[3] == line],
+             [(arrow["from"], arrow["to"], arrow["name"]) for arrow in made])
+        same(f"rings of line {line}", blocked.get(line, 0), it["rings"])
+        for arrow in it["arrows"]:
+            check_ends(arrow, rows)
+        for step, states in enumerate(wanted, 1):
+            flying = {arrow["channel"]: arrow["name"] for arrow in reversed(it["arrows"])
+                      if int(arrow["sent"]) <= step and (not arrow["delivered"] or int(arrow["delivered"]) > step)}
+            waiting = dict(text.split("   ")[:2] for text in states.messages if text.split()[2] == line)
+            same(f"arrows of line {line} that cross step {step}", waiting, flying)
+
+
+def check_ends(arrow: dict[str, Any], rows: dict[int, list[float]]) -> None:
+    """Checks that an arrow is drawn from the row of its sending to that of its delivery."""
+    _, y1, _, y2 = arrow["way"]
+    want(any(0 < y1 - y < 10 for y in rows[int(arrow["sent"])]), f"not drawn from where it is sent: {arrow}")
+    if arrow["delivered"]:
+        want(y2 in rows[int(arrow["delivered"])], f"not drawn to where it is delivered: {arrow}")
+
+
+def check_performed(script: str, got: list[list[Any]]) -> None:
+    """Compares what was performed with the logs."""
+    slices = shape_of(script)["slices"]
+    logs = "\n".join(f"log {it}" for it in range(slices))
+    out = lockup("script", "--echo", "-", text=script.rstrip("\n") + "\n" + logs + "\n").out.split("\n")
+    for slice_ in range(slices):
+        begins = len(out) - 1 - out[::-1].index(f"log {slice_}")
+        entries = []
+        for text in out[begins + 1:]:
+            if text.startswith("log "):
+                break
+            words = text.split()
+            if words[:1] == ["entry"]:
+                entries.append((" ".join(words[4:-2]), words[-2]))
+        same(f"what slice {slice_} performed", [(slice_, at, *it) for at, it in enumerate(entries)],
+             [tuple(it) for it in got if it[0] == slice_])
+
+
+@seconds(8)
 @each(shown_scripts)
 def test_in_a_browser(name: str) -> None:
-    needs_a_browser()
     script = shown_scripts()[name]
-    with tempfile.TemporaryDirectory(ignore_cleanup_errors=True) as room:
-        steps = read_in_a_browser(lockup("page", "-", text=script).out, room)
+    found = read_in_a_browser(script, READ_ALL, "--window-size=1400,900")
     commands, wanted = states_of(script)
-    same("steps", len(commands) + 1, len(steps))
-    same("lines before the first command", [], steps[0]["shown"])
-    for step, command, states in zip(steps[1:], commands, wanted):
-        check_step(script, step, command, states)
+    run = json.loads(value_of(lockup("page", "-", text=script).out))
+    read = found["read"]
+    same("steps", len(commands) + 1, len(read))
+    for step, command, states, told in zip(read[1:], commands, wanted, run["steps"]):
+        at, before = f"step {step['step']}", read[step["step"] - 1]
+        same(f"command at {at}", command, step["now"])
+        want(told["answer"].startswith(step["answer"]), f"{at} doesn't show its answer")
+        check_cores(script, at, states.held, step)
+        check_victim(script, at, step, before, told["answer"])
+        check_row(script, at, step, told["answer"], wanted[step["step"] - 2].lines if step["step"] > 1 else [])
+        for shown in step["lines"]:
+            state = next((it for it in states.lines if it.startswith(shown["line"] + " ")), None)
+            if state:
+                check_lifelines(at, state, shown)
+                check_messages(at, shown["line"].split()[1], states.messages, shown)
+    check_drawing(script, found["drawing"], wanted)
+    check_performed(script, found["performed"])
+
+
+# ---- how it is used
+
+A_RACE = """# A race: an Inv before its Data.
+issue 0 0 load 0
+deliver req 0 0
+issue 1 0 store 0 6
+deliver req 0 1
+# The Inv has to wait.
+deliver fwd 0 0
+deliver data 0 0
+deliver fwd 0 0
+"""
+
+PRESS = READERS + """
+<script>
+function pressed(key, more = {}, target = document.body) {
+    const event = new KeyboardEvent('keydown', { key, bubbles: true, cancelable: true, ...more });
+    target.dispatchEvent(event);
+    return [now, event.defaultPrevented];
+}
+const read = {
+    right: [pressed('ArrowRight'), pressed('ArrowRight'), pressed('ArrowRight')], left: pressed('ArrowLeft'),
+    end: pressed('End'), past: pressed('ArrowRight'), home: pressed('Home'), before: pressed('ArrowLeft'),
+    down: pressed('ArrowDown', {}, at('time')), up: pressed('ArrowUp', {}, at('time')),
+    scroll: pressed('ArrowDown', {}, at('focus')), browser: pressed('ArrowLeft', { altKey: true }),
+    button: pressed(' ', {}, at('forward')), tables: pressed(' ', {}, document.querySelector('summary')),
+    input: pressed('ArrowRight', {}, at('step')),
+};
+read.play = [pressed(' '), at('play').textContent, pressed(' '), at('play').textContent].flat();
+show(5);
+const rect = at('diagram').getBoundingClientRect();
+const cursor = document.getElementById('cursor');
+read.slider = [cursor.getAttribute('role'), cursor.getAttribute('aria-valuenow'), cursor.getAttribute('aria-valuemax')];
+const told = { clientX: 9, pointerId: 1, bubbles: true, cancelable: true };
+const point = (kind, y) => new PointerEvent(kind, { ...told, clientY: y });
+at('diagram').setPointerCapture = () => {};
+cursor.dispatchEvent(point('pointerdown', rect.top + cursorY(placed())));
+at('diagram').dispatchEvent(point('pointermove', rect.top + cursorY(placed()) - 2 * ROW));
+at('diagram').dispatchEvent(point('pointerup', rect.top));
+read.dragged = now;
+document.querySelector('.row[data-step="2"]').dispatchEvent(new MouseEvent('click', { bubbles: true }));
+read.clicked = now;
+show(4);
+show(5);
+read.said = at('said').textContent;
+read.live = at('said').getAttribute('aria-live');
+read.caption = at('caption').textContent;
+read.title = document.title;
+read.moving = all('.moving').length;
+show(6);
+read.landing = all('.moving').length;
+read.buttons = all('button').map(it => it.getAttribute('aria-label') || it.textContent);
+tell(read);
+</script>
+"""
+
+
+@seconds(3)
+def test_keys_and_the_pointer() -> None:
+    """What the keys do, and what they leave to the browser and to buttons; what is told of a step."""
+    read = read_in_a_browser(A_RACE, PRESS)
+    wanted = {
+        "right": [[1, True], [2, True], [3, True]], "left": [2, True], "end": [7, True], "past": [7, True],
+        "home": [0, True], "before": [0, True], "down": [1, True], "up": [0, True], "scroll": [0, False],
+        "browser": [0, False], "button": [0, False], "tables": [0, False], "input": [0, False],
+        "play": [0, True, "stop", 0, True, "play"], "slider": ["slider", "5", "7"], "dragged": 3, "clicked": 2,
+        "said": "step 5 of 7: deliver fwd 0 0: blocked; core 0 in IS_D, Inv for core 1; waits for Data",
+        "live": "polite", "caption": "The Inv has to wait.", "title": "A race - lockup", "moving": 0, "landing": 1,
+        "buttons": ["to the start", "a step back", "play", "a step forward", "to the end"],
+    }
+    for key, value in wanted.items():
+        same(key, value, read[key])
+
+
+@seconds(3)
+def test_where_motion_is_unwelcome() -> None:
+    read = read_in_a_browser(A_RACE, PRESS, "--force-prefers-reduced-motion")
+    same("messages that move", (0, 0), (read["moving"], read["landing"]))
+
+
+PHONE = READERS + """
+<script>
+const read = [];
+for (let step = 1; step <= steps.length; step++) {
+    show(step);
+    const command = document.querySelector('#now .command').getBoundingClientRect();
+    const row = document.querySelector('.row.current').getBoundingClientRect();
+    const cursor = document.querySelector('#cursor line').getBoundingClientRect();
+    const time = at('time').getBoundingClientRect();
+    read.push([scrollX, scrollY, document.documentElement.scrollHeight <= innerHeight,
+        command.top > 0 && command.bottom < innerHeight, row.top >= time.top && cursor.bottom <= time.bottom, innerWidth]);
+}
+tell(read);
+</script>
+"""
+
+
+@seconds(3)
+def test_on_a_telephone() -> None:
+    """The command and its row are in view at each step, and nothing else scrolls."""
+    read = read_in_a_browser(shown_scripts()["writer_waits_for_acknowledgements"], PHONE, "--window-size=390,844")
+    want(read, "no steps")
+    for step, (*rest, width) in enumerate(read, 1):
+        want(width <= 500, f"the window is {width} wide")
+        same(f"at step {step}", [0, 0, True, True, True], rest)
+
+
+PRINT = READERS + """
+<script>
+dispatchEvent(new Event('beforeprint'));
+tell(all('figure').map(it => ({ text: it.textContent, states: texts('.letters', it), names: texts('.label', it) })));
+</script>
+"""
+
+
+@seconds(3)
+def test_on_paper() -> None:
+    """A picture for each step in which something happened, with the states behind it and what is in
+    flight."""
+    read = read_in_a_browser(A_RACE, PRINT)
+    pictures = [
+        (["IS_D", "I"], ["GetS (in flight)"]), (["IS_D", "S"], ["GetS", "Data(0) (in flight)"]),
+        (["IS_D", "S", "IM_AD"], ["Data(0) (in flight)", "GetM (in flight)"]),
+        (["IS_D", "M", "IM_AD"], ["GetM", "Data(0) (in flight)", "Data(1) (in flight)", "Inv for core 1 (in flight)"]),
+        (["IS_D", "M", "IM_AD"], ["Data(0) (in flight)", "Data(1) (in flight)", "Inv for core 1 (in flight)"]),
+        (["S", "M", "IM_AD"], ["Data(0)", "Data(1) (in flight)", "Inv for core 1 (in flight)"]),
+        (["I", "M", "IM_AD"], ["Inv for core 1", "Data(1) (in flight)", "Inv-Ack (in flight)"]),
+    ]
+    same("pictures", pictures, [(it["states"], it["names"]) for it in read])
+    want("5. deliver fwd 0 0 blocked" in read[4]["text"] and "The Inv has to wait." in read[4]["text"], "no caption")
+
+
+LONG = READERS + """
+<script>
+const timed = work => { const began = performance.now(); work(); return performance.now() - began; };
+const read = { steps: steps.length, opened: performance.now() };
+read.slowest = Math.max(...[1, 9000, 9001, 9002, 5000, 5001, 10002, 3].map(it => timed(() => show(it))));
+read.drawn = [1, 5000, 10002].map(it => { show(it); return all('#diagram *').length; });
+read.rows = all('.row').map(it => number(it, 'data-step'));
+tell(read);
+</script>
+"""
+
+
+@seconds(60)
+def test_a_long_run() -> None:
+    """10,002 commands are opened in time and stepped without a wait, and what isn't in view isn't
+    drawn."""
+    script = "".join(f"issue {at % 2} 0 add 0 1\npump 99\nhand {at % 2} 0\n" for at in range(3334))
+    read = read_in_a_browser(script, LONG, "--window-size=1280,900")
+    same("steps", 10002, read["steps"])
+    want(all(0 < it < 600 for it in read["drawn"]), f"{read['drawn']} elements are drawn")
+    same("the last row", 10002, read["rows"][-1])
+    want(len(read["rows"]) < 40, f"{len(read['rows'])} rows are drawn")
+    # ten times what it takes here, for a browser that has a hundredth of a busy machine
+    want(read["opened"] < 20000 and read["slowest"] < 2000, f"it takes {read['opened']} and {read['slowest']} ms")
+
+
+WIDE = READERS + """
+<script>
+show(steps.length);
+const read = { heads: texts('[data-chip]').length, drawn: all('.bar').map(it => it.dataset.who) };
+at('time').scrollLeft = 99999;
+draw();
+read.last = all('.bar').map(it => it.dataset.who);
+tell(read);
+</script>
+"""
+
+
+@seconds(20)
+def test_64_cores() -> None:
+    """Of many lifelines those in view are drawn, the directory's first."""
+    script = "cores 64\n" + "".join(f"issue {core} 0 add 0 1\npump 99\n" for core in range(64))
+    read = read_in_a_browser(script, WIDE, "--window-size=1280,900")
+    first, last = set(read["drawn"]), set(read["last"])
+    want("directory" in first and "core 0" in first and "core 63" not in first, f"first come {sorted(first)}")
+    want("core 63" in last and "core 0" not in last, f"last come {sorted(last)}")
+    want(max(len(first), len(last)) < 12, f"{len(first)} and {len(last)} lifelines are drawn")

@@ -12,18 +12,28 @@ use Rattle.protocol_tables.specs.Cache.{table_of as cache_table}
 use Rattle.protocol_tables.specs.Directory.{table_of as directory_table}
 use Rattle.script_page.specs.Json.{json_of}
 use Rattle.script_page.specs.Step.{IsStep, Shown}
-use Rattle.script_page.specs.declared.frame.TheConstants.{HEAD, TAIL}
+use Rattle.script_page.specs.declared.frame.controls.TheConstants.{STORY, TAIL}
+use Rattle.script_page.specs.declared.frame.diagram.TheConstants.{DIAGRAM}
+use Rattle.script_page.specs.declared.frame.focus.TheConstants.{FOCUS}
+use Rattle.script_page.specs.declared.frame.head.TheConstants.{BODY, HEAD}
+use Rattle.script_page.specs.declared.frame.run.TheConstants.{RUN}
+use Rattle.script_page.specs.declared.frame.time.TheConstants.{TIME}
 use Rattle.slice_core_plan.specs.Calls.{PartsView}
 
 -- what stands before the steps: the script itself, and the protocol's tables
 abbrev pub text_of_begin : List ℕ → List ℕ
 text_of_begin script =
-    HEAD.now ++ (codes "{\"script\":" ++ (json_of script ++ (codes ",\"cache\":" ++ (json_of (cache_table true)
-    ++ (codes ",\"directory\":" ++ (json_of (directory_table true) ++ codes ",\"steps\":[\n"))))))
+    HEAD.now ++ (BODY.now ++ (codes "{\"script\":" ++ (json_of script ++ (codes ",\"cache\":"
+    ++ (json_of (cache_table true) ++ (codes ",\"directory\":" ++ (json_of (directory_table true)
+    ++ codes ",\"steps\":[\n")))))))
 
--- .. and what stands behind them
+-- the code of the page
+abbrev pub code_of_page : List ℕ
+code_of_page = RUN.now ++ (TIME.now ++ (DIAGRAM.now ++ (FOCUS.now ++ (STORY.now ++ TAIL.now))))
+
+-- .. and what stands behind the steps
 abbrev pub text_of_end : List ℕ
-text_of_end = codes "null]}\n" ++ TAIL.now
+text_of_end = codes "null]}\n" ++ code_of_page
 
 -- a step, as what a player does of a command
 abbrev pub Steps : Config → Shown → List ℕ → Command → Option (List ℕ) → Option (List ℕ) → Shown → Type 0

@@ -10,10 +10,15 @@ ghost use Rattle.litmus_text.specs.Statement.{statements_from};
 ghost use Rattle.protocol_tables.specs.Cache.{table_of as cache_table};
 ghost use Rattle.protocol_tables.specs.Directory.{table_of as directory_table};
 ghost use Rattle.script_page.specs.Page.{HasSteps, IsPage, IsPageFault, IsPageOf, PageStopsAt, text_of_begin};
-ghost use Rattle.script_page.specs.Page.{text_of_end};
+ghost use Rattle.script_page.specs.Page.{code_of_page, text_of_end};
 ghost use Rattle.slice_core_plan.specs.Calls.{PartsView};
 
-use super::frame::{HEAD, TAIL};
+use super::frame::controls::{STORY, TAIL};
+use super::frame::diagram::DIAGRAM;
+use super::frame::focus::FOCUS;
+use super::frame::head::{BODY, HEAD};
+use super::frame::run::RUN;
+use super::frame::time::TIME;
 use super::json::write_json;
 use super::player::Paged;
 use address_map::Checked;
@@ -136,6 +141,7 @@ fn write_begin<W: fmt::Write>(
     ensures { OnOk result (WritesInCalls W.write_str_gives out.old (text_of_begin script.now) out.new) }
 {
     out.write_str(HEAD)?;
+    out.write_str(BODY)?;
     out.write_str("{\"script\":")?;
     write_json(script, out)?;
     out.write_str(",\"cache\":")?;
@@ -196,11 +202,23 @@ fn write_end<W: fmt::Write>(out: &mut W) -> fmt::Result
     ensures { OnOk result (WritesInCalls W.write_str_gives out.old text_of_end out.new) }
 {
     out.write_str("null]}\n")?;
+    write_code(out)
+}
+
+/// Writes the page's code.
+fn write_code<W: fmt::Write>(out: &mut W) -> fmt::Result
+    ensures { OnOk result (WritesInCalls W.write_str_gives out.old code_of_page out.new) }
+{
+    out.write_str(RUN)?;
+    out.write_str(TIME)?;
+    out.write_str(DIAGRAM)?;
+    out.write_str(FOCUS)?;
+    out.write_str(STORY)?;
     out.write_str(TAIL)
 }
 
 /// .. where a line can't be taken.
 fn end_at<W: fmt::Write>(fault: &TextFault, out: &mut W) -> fmt::Result {
     writeln!(out, "null],\"fault\":\"{fault}\"}}")?;
-    out.write_str(TAIL)
+    write_code(out)
 }

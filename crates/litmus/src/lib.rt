@@ -2,15 +2,18 @@
 //!
 //! - [`read_line`] reads what the program's own words ask for.
 //! - [`run_script`] runs a script, [`run_explained`] tells what happened behind each answer, [`run_beside`] prints each
-//!   answer beside its command, [`run_chart`] draws the run as a sequence diagram, and [`run_page`] writes it as a page
-//!   for a browser, [`run_waves`] as waves for a wave viewer. [`expected`] tells what a line at fault was to say.
+//!   answer beside its command, [`run_chart`] draws the run as a sequence diagram, [`run_svg`] one line of it over
+//!   time, and [`run_page`] writes it as a page for a browser, [`run_waves`] as waves for a wave viewer. [`expected`]
+//!   tells what a line at fault was to say.
 //! - [`run_trace`] writes a model checker's trace as a script.
 //! - [`run_prompt`] answers a script's lines one by one, and gives a [`Saver`] the script so far.
 //! - [`run_test`] tests a script against the answers that it wants.
 //! - [`run_litmus`] runs a litmus test over threads, and [`run_walk`] on random schedules without any; each counts the
 //!   outcomes, and tells a [`Progress`] how far it is, which with [`Silent`] nobody sees. [`write_walk`] prints a round
 //!   of such a schedule as a script.
-//! - [`run_programs`] runs programs on a random schedule, and reports what each core and each line met.
+//! - [`run_programs`] runs programs on a random schedule, and reports what each core and each line met. [`run_sweep`]
+//!   runs them once for each row of a [`Sweep`], side by side, and prints the rows. [`write_workload`] prints the
+//!   programs of a workload.
 //! - [`check_trace`] judges a trace, and answers its [`Verdict`]; [`run_check`] writes what that comes to.
 //! - [`run_table`] prints a table of the protocol with its legend, and [`run_export`] the protocol of one line as a
 //!   model.
@@ -21,13 +24,17 @@
 
 pub use check::run_check;
 pub use export::run_export;
-pub use litmus_chart::run_chart;
-pub use litmus_command_line::{CommandLine, ModelCores, ScriptForm, Table, read_line};
+pub use litmus_chart::{run_chart, run_svg};
+pub use litmus_command_line::{
+    CommandLine, ModelCores, ScriptForm, Table, read_line, read_settings,
+};
 pub use litmus_script::run_script;
 pub use litmus_test::{Progress, Silent};
 pub use litmus_text::TextFault;
 pub use murphi_trace::run_trace;
+pub use program_generate::{GenerateFault, Size, Workload, write_workload};
 pub use program_run::{Form, run_programs};
+pub use program_sweep::{RowFault, RowForm, Seeds, Sweep, SweepFault, run_sweep};
 pub use script_beside::run_beside;
 pub use script_explained::{expected, run_explained};
 pub use script_page::run_page;

@@ -1,6 +1,6 @@
 -- What `clap`'s getters give of a subcommand is what it read.
 use Rattle.std.proofs.Common.{◌≡◌, ◌∙◌, ℕ, Bool, true, false, List, Option, Some, None, refl, sym, ap, ap₂, inl, inr}
-use Rattle.std.proofs.Common.{option_map}
+use Rattle.std.proofs.Common.{option_map, map, []}
 use Rattle.std.specs.Prelude.{Box, IfSome, Result, unwrap_or}
 use Rattle.std.specs.Box.{box_value}
 use Rattle.std.specs.Borrow.{Bor}
@@ -14,9 +14,10 @@ use Rattle.clap.specs.declared.parser.matches.ArgMatches.{ArgMatches}
 use Rattle.clap.specs.declared.parser.matches.ArgMatches.TheViews.{out-ArgMatches, out-SubCommand}
 use Rattle.clap.specs.declared.parser.matches.Found.{Found}
 use Rattle.clap.specs.Matches.{ReadsOne}
-use Rattle.clap.specs.Words.{Row, Text, first_of, first_value, one_text, rows_of, subcommand_name_of}
+use Rattle.clap.specs.Words.{Row, Text, all_of, first_of, first_value, matched_of, one_text, raw_values, rows_of}
+use Rattle.clap.specs.Words.{subcommand_name_of}
 use Rattle.clap.specs.Words.{subcommand_rows, subcommand_rows_of}
-use Rattle.clap.proofs.WalkLemmas.{first_value-rows, one_text-rows}
+use Rattle.clap.proofs.WalkLemmas.{first_value-rows, one_text-rows, raw_values-rows}
 use Rattle.litmus_command_line.specs.CommandLine.{IsAsked, IsLine, IsNumberOf, is_given}
 use Rattle.litmus_command_line.specs.declared.command_line.CommandLine.{CommandLine}
 
@@ -91,3 +92,25 @@ pub none_given : (found : Found) (id : Text) (text : Option (Bor Text)) → text
     → option_map (λ s. s.now) text ≡ first_value found id → first_of id (rows_of found) ≡ None
 none_given found id None is given = sym (given ∙ first_value-rows found id)
 none_given found id (Some s) is given = cc (is)
+
+-- the values that a getter gives are those of the rows
+all_given : (found : Found) (id : Text) (texts : Option (Bor (List (Bor Text))))
+    → option_map (λ s. map (λ v. v.now) s.now) texts ≡ option_map raw_values (matched_of found id)
+    → all_of id (rows_of found) ≡ option_map (λ s. map (λ v. v.now) s.now) texts
+all_given found id texts given = sym (given ∙ raw_values-rows found id)
+
+pub some_given : (found : Found) (id : Text) (texts : Option (Bor (List (Bor Text)))) (these : Bor (List (Bor Text)))
+    → texts ≡ Some these
+    → option_map (λ s. map (λ v. v.now) s.now) texts ≡ option_map raw_values (matched_of found id)
+    → unwrap_or (all_of id (rows_of found)) [] ≡ map (λ v. v.now) these.now
+some_given found id texts these is given =
+    ap (λ o. unwrap_or o [])
+    (all_given found id texts given ∙ ap (option_map (λ s. map (λ v. v.now) s.now)) is)
+
+-- .. or there are none
+pub none_of_all : (found : Found) (id : Text) (texts : Option (Bor (List (Bor Text)))) → texts ≡ None
+    → option_map (λ s. map (λ v. v.now) s.now) texts ≡ option_map raw_values (matched_of found id)
+    → unwrap_or (all_of id (rows_of found)) [] ≡ []
+none_of_all found id texts is given =
+    ap (λ o. unwrap_or o [])
+    (all_given found id texts given ∙ ap (option_map (λ s. map (λ v. v.now) s.now)) is)

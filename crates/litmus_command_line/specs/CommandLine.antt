@@ -1,14 +1,15 @@
 -- What the program's words ask for, as `clap` reads them.
 use Rattle.std.specs.Prelude.{◌≡◌, ℕ, Bool, true, false, List, [], ◌∷◌, map, Option, Some, None, IsSomeAnd, codes}
+use Rattle.std.specs.Prelude.{◌||◌, is_some, unwrap_or}
 use Rattle.std.specs.Option.{option_map, option_map_or}
 use Rattle.std.specs.Str.{bytes_eq}
 use Rattle.std.specs.Str.Parse.{digits_value, without_leading_plus}
 use Rattle.std.specs.Borrow.{Bor}
 use Rattle.clap.specs.declared.builder.command.Command.{Command}
 use Rattle.clap.specs.declared.builder.command.Command.TheViews.{out-Command as fields_of}
-use Rattle.clap.specs.Words.{App, Row, Rule, Text, app_of, first_of, new_app, new_rule, one_of, subcommand_of}
+use Rattle.clap.specs.Words.{App, Row, Rule, Text, all_of, app_of, first_of, new_app, new_rule, one_of, subcommand_of}
 use Rattle.clap.specs.Words.{with_rule, with_subcommand}
-use Rattle.clap.specs.declared.builder.action.ArgAction.TheVariants.{SetTrue}
+use Rattle.clap.specs.declared.builder.action.ArgAction.TheVariants.{Append, SetTrue}
 use Rattle.clap.specs.declared.builder.value_parser.ValueParser.TheVariants as value_parsers
 use Rattle.litmus_command_line.specs.declared.command_line.CommandLine.{CommandLine}
 use Rattle.litmus_command_line.specs.declared.command_line.CommandLine.TheVariants as command_lines
@@ -52,14 +53,6 @@ script_app = with_rule (with_rule answering_app (lone_rule (codes "vcd"))) (lone
 abbrev pub try_app : App
 try_app = with_rule (new_app (codes "try")) (new_rule (codes "FILE"))
 
--- the subcommand that draws the run of a script
-abbrev pub chart_app : App
-chart_app = with_rule (new_app (codes "chart")) file_rule
-
--- the subcommand that writes it as a page
-abbrev pub page_app : App
-page_app = with_rule (new_app (codes "page")) file_rule
-
 -- an option `--name` that takes a number below 2^64
 abbrev pub number_rule : Text → Rule
 number_rule name = record (new_rule name) {
@@ -68,9 +61,23 @@ number_rule name = record (new_rule name) {
   parser = Some (value_parsers.Unsigned 0 18446744073709551615);
 }
 
+-- the subcommand that draws the run of a script
+abbrev pub chart_app : App
+chart_app =
+    with_rule (with_rule (with_rule (new_app (codes "chart")) file_rule) (flag_rule (codes "svg")))
+    (number_rule (codes "line"))
+
+-- the subcommand that writes it as a page
+abbrev pub page_app : App
+page_app = with_rule (new_app (codes "page")) file_rule
+
 -- .. from 1 on
 abbrev pub positive_rule : Text → Rule
 positive_rule name = record (number_rule name) { parser = Some (value_parsers.Unsigned 1 18446744073709551615) }
+
+-- .. from 1 to 64
+abbrev pub few_rule : Text → Rule
+few_rule name = record (number_rule name) { parser = Some (value_parsers.Unsigned 1 64) }
 
 -- an option that takes a number, which has this value where it is given none
 abbrev pub number_rule_or : Text → Text → Rule
@@ -92,12 +99,46 @@ walk_app =
     (number_rule_or (codes "seed") (codes "1")))
     (flag_rule (codes "script"))
 
--- the subcommand that runs programs
+-- an option `--name` that takes a text
+abbrev pub text_rule : Text → Rule
+text_rule name = record (new_rule name) { long = Some name; value_names = 1 }
+
+-- .. as often as it is given
+abbrev pub settings_rule : Text → Rule
+settings_rule name = record (text_rule name) { action = Some Append }
+
+-- .. which can't stand with some others
+abbrev pub lone_text_rule : Text → Rule
+lone_text_rule name = record (text_rule name) { is_free = false }
+
+-- the subcommand that runs programs, with the options of one run
+abbrev pub reporting_app : App
+reporting_app =
+    with_rule
+    (with_rule
+    (with_rule (with_rule (new_app (codes "run")) file_rule) (few_rule (codes "outstanding")))
+    (number_rule_or (codes "seed") (codes "1")))
+    (flag_rule (codes "json"))
+
+-- .. and with those of many
 abbrev pub run_app : App
 run_app =
     with_rule
-    (with_rule (with_rule (new_app (codes "run")) file_rule) (number_rule_or (codes "seed") (codes "1")))
-    (flag_rule (codes "json"))
+    (with_rule (with_rule reporting_app (settings_rule (codes "set"))) (lone_text_rule (codes "seeds")))
+    (lone_rule (codes "csv"))
+
+-- the argument that names a workload, which has to be there
+abbrev pub name_rule : Rule
+name_rule = record (new_rule (codes "NAME")) { required = true }
+
+-- the subcommand that prints a workload's programs
+abbrev pub generate_app : App
+generate_app =
+    with_rule
+    (with_rule
+    (with_rule (with_rule (new_app (codes "generate")) name_rule) (number_rule_or (codes "cores") (codes "4")))
+    (number_rule_or (codes "size") (codes "16")))
+    (number_rule_or (codes "seed") (codes "1"))
 
 -- the subcommand that tests a script
 abbrev pub test_app : App
@@ -153,11 +194,13 @@ table_program names =
     (with_subcommand
     (with_subcommand
     (with_subcommand
+    (with_subcommand
     (with_subcommand (with_subcommand (with_subcommand top_app script_app.top) try_app.top) chart_app.top)
     page_app.top)
     litmus_app.top)
     walk_app.top)
     run_app.top)
+    generate_app.top)
     test_app.top)
     check_app.top)
     (table_app names).top
@@ -255,13 +298,20 @@ IsFormOf rows (script_forms.Beside explain) = AreGiven rows false explain true f
 IsFormOf rows script_forms.Waves = AreGiven rows false false false true false
 IsFormOf rows script_forms.FromMurphi = AreGiven rows false false false false true
 
+-- rows are asked for, and no report
+abbrev pub is_swept : List Row → Bool
+is_swept rows =
+    is_given (codes "csv") rows || is_some (first_of (codes "set") rows) || is_some (first_of (codes "seeds") rows)
+
 -- the subcommand of this name, with these values, is what the line holds
 abbrev pub IsLine : Text → List Row → CommandLine → Type 0
 IsLine name rows (command_lines.Script file form) =
     (name ≡ codes "script") × (first_of (codes "FILE") rows ≡ Some file.now) × IsFormOf rows form
 IsLine name rows (command_lines.Try file) =
     (name ≡ codes "try") × (option_map (λ f. f.now) file ≡ first_of (codes "FILE") rows)
-IsLine name rows (command_lines.Chart file) = (name ≡ codes "chart") × (first_of (codes "FILE") rows ≡ Some file.now)
+IsLine name rows (command_lines.Chart file svg line) =
+    (name ≡ codes "chart") × (first_of (codes "FILE") rows ≡ Some file.now)
+    × (svg ≡ is_given (codes "svg") rows) × IsNumberIfGiven (codes "line") rows line
 IsLine name rows (command_lines.Page file) = (name ≡ codes "page") × (first_of (codes "FILE") rows ≡ Some file.now)
 IsLine name rows (command_lines.Litmus file seed limit) =
     (name ≡ codes "litmus") × (first_of (codes "FILE") rows ≡ Some file.now)
@@ -270,9 +320,18 @@ IsLine name rows (command_lines.Walk file rounds seed script) =
     (name ≡ codes "walk") × (first_of (codes "FILE") rows ≡ Some file.now)
     × IsNumberIfGiven (codes "rounds") rows rounds × IsNumberOf (codes "seed") rows seed
     × (script ≡ is_given (codes "script") rows)
-IsLine name rows (command_lines.Run file seed json) =
-    (name ≡ codes "run") × (first_of (codes "FILE") rows ≡ Some file.now) × IsNumberOf (codes "seed") rows seed
-    × (json ≡ is_given (codes "json") rows)
+IsLine name rows (command_lines.Run file outstanding seed json) =
+    (name ≡ codes "run") × (first_of (codes "FILE") rows ≡ Some file.now)
+    × IsNumberIfGiven (codes "outstanding") rows outstanding × IsNumberOf (codes "seed") rows seed
+    × (json ≡ is_given (codes "json") rows) × (is_swept rows ≡ false)
+IsLine name rows (command_lines.Sweep file outstanding seed seeds json) =
+    (name ≡ codes "run") × (first_of (codes "FILE") rows ≡ Some file.now)
+    × IsNumberIfGiven (codes "outstanding") rows outstanding × IsNumberOf (codes "seed") rows seed
+    × (option_map (λ s. s.now) seeds ≡ first_of (codes "seeds") rows) × (json ≡ is_given (codes "json") rows)
+    × (is_swept rows ≡ true)
+IsLine name rows (command_lines.Generate workload cores size seed) =
+    (name ≡ codes "generate") × (first_of (codes "NAME") rows ≡ Some workload.now)
+    × IsNumberOf (codes "cores") rows cores × IsNumberOf (codes "size") rows size × IsNumberOf (codes "seed") rows seed
 IsLine name rows (command_lines.Test file) = (name ≡ codes "test") × (first_of (codes "FILE") rows ≡ Some file.now)
 IsLine name rows (command_lines.Check file) = (name ≡ codes "check") × (first_of (codes "FILE") rows ≡ Some file.now)
 IsLine name rows (command_lines.Table table exclusive) =
@@ -289,3 +348,15 @@ IsAsked read line = IsSomeAnd read (λ p. IsLine p.0 p.1 line)
 -- the line is what the program's words ask for
 abbrev pub IsRead : List Text → CommandLine → Type 0
 IsRead words line = (app : App) × IsLockup app × IsAsked (subcommand_of app words) line
+
+-- what stands behind each `--set`
+abbrev pub settings_of : List Row → List Text
+settings_of rows = unwrap_or (all_of (codes "set") rows) []
+
+abbrev pub settings_in : Option (Text × List Row) → List Text
+settings_in None = []
+settings_in (Some read) = settings_of read.1
+
+-- .. of the program's words
+abbrev pub AreSettings : List Text → List Text → Type 0
+AreSettings words texts = (app : App) × IsLockup app × (texts ≡ settings_in (subcommand_of app words))

@@ -1,4 +1,4 @@
-ghost use Rattle.std.specs.Prelude.{◌≡◌, ◌<◌, length, map, IfOk, IfSome, IsOkAnd, string_bytes, codes, false};
+ghost use Rattle.std.specs.Prelude.{◌≡◌, ◌<◌, length, map, IfOk, IfSome, IsOkAnd, string_bytes, codes, false, is_some};
 ghost use Rattle.clap.specs.declared.builder.command.Command.TheViews.{out-Command as fields_of};
 ghost use Rattle.litmus_command_line.specs.CommandLine.{IsAsked, IsFormOf, IsLine, IsLockup, IsRead, IsTable, IsWith};
 ghost use Rattle.litmus_command_line.specs.CommandLine.{chart_app, check_app};
@@ -6,7 +6,9 @@ ghost use Rattle.litmus_command_line.specs.CommandLine.{answering_app, file_rule
 ghost use Rattle.litmus_command_line.specs.CommandLine.{script_app, test_app, top_app, word_of};
 ghost use Rattle.litmus_command_line.specs.CommandLine.{IsNumberOf, IsNumberIfGiven, litmus_app, number_rule};
 ghost use Rattle.litmus_command_line.specs.CommandLine.{IsExport, IsOpenExport, number_rule_or, run_app, try_app};
-ghost use Rattle.litmus_command_line.specs.CommandLine.{positive_rule, walk_app, word_of_number};
+ghost use Rattle.litmus_command_line.specs.CommandLine.{few_rule, positive_rule, walk_app, word_of_number};
+ghost use Rattle.litmus_command_line.specs.CommandLine.{AreSettings, generate_app, is_swept, lone_text_rule};
+ghost use Rattle.litmus_command_line.specs.CommandLine.{reporting_app, settings_in, settings_of, settings_rule, text_rule};
 ghost use Rattle.std.specs.Option.{option_map};
 ghost use Rattle.clap.specs.Words.{app_of, found_of, rows_of, rule_of, first_of, subcommand_rows_of};
 
@@ -30,9 +32,12 @@ pub enum CommandLine<'a> {
     Try {
         file: Option<&'a str>,
     },
-    /// Draw the run of the script in this file.
+    /// Draw the run of the script in this file: as a sequence diagram, or with `svg` or a line as the space-time diagram
+    /// of a line.
     Chart {
         file: &'a str,
+        svg: bool,
+        line: Option<u64>,
     },
     /// Write the run of the script in this file as a page for a browser.
     Page {
@@ -53,11 +58,29 @@ pub enum CommandLine<'a> {
         seed: u64,
         script: bool,
     },
-    /// Run the programs in this file in the order that the seed draws. With `json`, report as a value of JSON.
+    /// Run the programs in this file in the order that the seed draws, with so many accesses of a core under way, if a
+    /// number is given, and not as many as the text says. With `json`, report as a value of JSON.
     Run {
         file: &'a str,
+        outstanding: Option<u64>,
         seed: u64,
         json: bool,
+    },
+    /// Run the programs in this file once for each combination of the settings that `read_settings` reads, and for each
+    /// of the seeds, or for the one seed where none are given. With `json`, print the rows as a value of JSON.
+    Sweep {
+        file: &'a str,
+        outstanding: Option<u64>,
+        seed: u64,
+        seeds: Option<&'a str>,
+        json: bool,
+    },
+    /// Print the programs of a workload of this name, for so many cores and of this size.
+    Generate {
+        name: &'a str,
+        cores: u64,
+        size: u64,
+        seed: u64,
     },
     /// Test the script in this file against the answers that it wants.
     Test {
@@ -105,6 +128,37 @@ pub fn read_line<'a>(alloc: Global, words: &'a [String]) -> Result<CommandLine<'
     }
 }
 
+/// Reads the settings that vary, each as it is written behind `--set`, of words that ask for rows.
+pub fn read_settings<'a>(alloc: Global, words: &'a [String]) -> Result<Vec<&'a str>, Error>
+    ensures { IfOk result
+        (λ texts. AreSettings (map string_bytes words.entry.now) (map (λ text. text.now) texts.items)) }
+{
+    let matches = lockup(alloc)?.try_get_matches_from(words)?;
+    let texts = settings_in(alloc, &matches);
+    drop(matches);
+    Ok(texts?)
+}
+
+fn settings_in<'a>(alloc: Global, matches: &ArgMatches<'a>) -> Result<Vec<&'a str>, AllocError>
+    ensures { IfOk result
+        (λ texts. map (λ text. text.now) texts.items ≡ settings_in (subcommand_rows_of matches.now)) }
+{
+    match matches.subcommand() {
+        Some((_, given)) => settings_of(alloc, given),
+        None => Ok(Vec::new(alloc)),
+    }
+}
+
+fn settings_of<'a>(alloc: Global, given: &ArgMatches<'a>) -> Result<Vec<&'a str>, AllocError>
+    ensures { IfOk result
+        (λ texts. map (λ text. text.now) texts.items ≡ settings_of (rows_of (found_of given.now))) }
+{
+    match given.get_strs("set") {
+        Some(texts) => Vec::from_slice(alloc, texts),
+        None => Ok(Vec::new(alloc)),
+    }
+}
+
 fn missing(alloc: Global) -> Result<Error, AllocError> {
     lockup(alloc)?.error(ErrorKind::MissingSubcommand, "a subcommand is missing")
 }
@@ -121,6 +175,7 @@ fn asked<'a>(matches: &ArgMatches<'a>) -> Option<CommandLine<'a>>
         "litmus" => litmus_line(given),
         "walk" => walk_line(given),
         "run" => run_line(given),
+        "generate" => generate_line(given),
         "test" => test_line(given),
         "check" => check_line(given),
         "table" => table_line(given),
@@ -166,7 +221,9 @@ fn chart_line<'a>(given: &ArgMatches<'a>) -> Option<CommandLine<'a>>
     ensures { IfSome result (IsLine (codes "chart") (rows_of (found_of given.now))) }
 {
     let file = file_of(given)?;
-    Some(CommandLine::Chart { file })
+    let svg = is_given(given, "svg");
+    let line = number_if_given(given, "line")?;
+    Some(CommandLine::Chart { file, svg, line })
 }
 
 fn page_line<'a>(given: &ArgMatches<'a>) -> Option<CommandLine<'a>>
@@ -204,9 +261,40 @@ fn run_line<'a>(given: &ArgMatches<'a>) -> Option<CommandLine<'a>>
     ensures { IfSome result (IsLine (codes "run") (rows_of (found_of given.now))) }
 {
     let file = file_of(given)?;
+    let outstanding = number_if_given(given, "outstanding")?;
     let seed = number_of(given, "seed")?;
     let json = is_given(given, "json");
-    Some(CommandLine::Run { file, seed, json })
+    if !is_swept(given) {
+        return Some(CommandLine::Run {
+            file,
+            outstanding,
+            seed,
+            json,
+        });
+    }
+    let seeds = text_if_given(given, "seeds");
+    Some(CommandLine::Sweep {
+        file,
+        outstanding,
+        seed,
+        seeds,
+        json,
+    })
+}
+
+fn generate_line<'a>(given: &ArgMatches<'a>) -> Option<CommandLine<'a>>
+    ensures { IfSome result (IsLine (codes "generate") (rows_of (found_of given.now))) }
+{
+    let name = text_of(given, "NAME")?;
+    let cores = number_of(given, "cores")?;
+    let size = number_of(given, "size")?;
+    let seed = number_of(given, "seed")?;
+    Some(CommandLine::Generate {
+        name,
+        cores,
+        size,
+        seed,
+    })
 }
 
 fn test_line<'a>(given: &ArgMatches<'a>) -> Option<CommandLine<'a>>
@@ -295,6 +383,33 @@ fn number_if_given(given: &ArgMatches<'_>, name: &str) -> Option<Option<u64>>
     Some(Some(number_of(given, name)?))
 }
 
+/// The text that an argument has.
+fn text_of<'a>(given: &ArgMatches<'a>, name: &str) -> Option<&'a str>
+    ensures { IfSome result (λ text. first_of name.now (rows_of (found_of given.now)) ≡ Some text.now) }
+{
+    given.get_str(name)
+}
+
+/// The text that an option was given first, if it was given one.
+fn text_if_given<'a>(given: &ArgMatches<'a>, name: &str) -> Option<&'a str>
+    ensures { option_map (λ text. text.now) result ≡ first_of name.now (rows_of (found_of given.now)) }
+{
+    given.get_str(name)
+}
+
+/// Whether rows are asked for, and no report.
+fn is_swept(given: &ArgMatches<'_>) -> bool
+    ensures { result ≡ is_swept (rows_of (found_of given.now)) }
+{
+    is_given(given, "csv") || has_text(given, "set") || has_text(given, "seeds")
+}
+
+fn has_text(given: &ArgMatches<'_>, name: &str) -> bool
+    ensures { result ≡ is_some (first_of name.now (rows_of (found_of given.now))) }
+{
+    text_if_given(given, name).is_some()
+}
+
 /// Whether an option without a value was given.
 fn is_given(given: &ArgMatches<'_>, name: &str) -> bool
     ensures { result ≡ is_given name.now (rows_of (found_of given.now)) }
@@ -312,6 +427,7 @@ fn lockup<'a>(alloc: Global) -> Result<Command<'a>, AllocError>
     let program = with(program, litmus(alloc))?;
     let program = with(program, walk(alloc))?;
     let program = with(program, run(alloc))?;
+    let program = with(program, generate(alloc))?;
     let program = with(program, test(alloc))?;
     let program = with(program, check(alloc))?;
     let program = with(program, table(alloc))?;
@@ -324,7 +440,7 @@ fn top<'a>(alloc: Global) -> Command<'a>
 {
     Command::new(alloc, "lockup")
         .about("Runs a verified model of lockup-free caches under a directory protocol")
-        .version("0.2.0")
+        .version("0.3.0")
         .subcommand_required(true)
 }
 
@@ -393,9 +509,21 @@ fn chart<'a>(alloc: Global) -> Result<Command<'a>, AllocError>
     ensures plain { IfOk result (λ c. (fields_of c).has_globals ≡ false) }
 {
     Command::new(alloc, "chart")
-        .about("Draws the run of a script as a sequence diagram, in Mermaid's words")
-        .after_help("Example: lockup chart examples/shared_line.txt")
-        .arg(file(alloc, "The script: one command a line; - is standard input"))
+        .about(
+            "Draws the run of a script as a sequence diagram, in Mermaid's words, or as a picture",
+        )
+        .after_help(help::CHART)
+        .arg(file(alloc, "The script: one command a line; - is standard input"))?
+        .arg(flag(
+            alloc,
+            "svg",
+            "Draw one line's states and messages over time, as a picture in SVG",
+        ))?
+        .arg(number(
+            alloc,
+            "line",
+            "Draw this line so, and not the one that is named first",
+        ))
 }
 
 fn page<'a>(alloc: Global) -> Result<Command<'a>, AllocError>
@@ -451,12 +579,45 @@ fn run<'a>(alloc: Global) -> Result<Command<'a>, AllocError>
     ensures reads { IfOk result (λ c. app_of c ≡ run_app) }
     ensures plain { IfOk result (λ c. (fields_of c).has_globals ≡ false) }
 {
+    let reporting = reporting(alloc)?;
+    reporting
+        .arg(settings(
+            alloc,
+            "set",
+            "SETTING",
+            "Run with each of these values: --set ways=1,2,4; may be given again",
+        ))?
+        .arg(lone_text(
+            alloc,
+            "seeds",
+            "RANGE",
+            "Run with each of these seeds: --seeds 1..20",
+            &["seed"],
+        )?)?
+        .arg(lone_flag(
+            alloc,
+            "csv",
+            "Print a row of each run, and no report; so do --set and --seeds",
+            &["json"],
+        )?)
+}
+
+/// The same with the options of one run alone.
+fn reporting<'a>(alloc: Global) -> Result<Command<'a>, AllocError>
+    ensures reads { IfOk result (λ c. app_of c ≡ reporting_app) }
+    ensures plain { IfOk result (λ c. (fields_of c).has_globals ≡ false) }
+{
     Command::new(alloc, "run")
         .about(
             "Runs a program for each core, and counts its hits, its messages and its misses by cause",
         )
         .after_help(help::RUN)
         .arg(file(alloc, "The programs; - is standard input"))?
+        .arg(few(
+            alloc,
+            "outstanding",
+            "How many accesses of a core may be under way, and not as many as the text says",
+        ))?
         .arg(number_or(
             alloc,
             "seed",
@@ -464,6 +625,24 @@ fn run<'a>(alloc: Global) -> Result<Command<'a>, AllocError>
             "1",
         ))?
         .arg(flag(alloc, "json", "Report as one value of JSON"))
+}
+
+fn generate<'a>(alloc: Global) -> Result<Command<'a>, AllocError>
+    ensures reads { IfOk result (λ c. app_of c ≡ generate_app) }
+    ensures plain { IfOk result (λ c. (fields_of c).has_globals ≡ false) }
+{
+    Command::new(alloc, "generate")
+        .about("Prints the programs of a workload, for 'lockup run'")
+        .after_help(help::GENERATE)
+        .arg(Arg::new(alloc, "NAME").help("The workload").required(true))?
+        .arg(number_or(alloc, "cores", "How many cores", "4"))?
+        .arg(number_or(
+            alloc,
+            "size",
+            "Its size; what it counts is listed below",
+            "16",
+        ))?
+        .arg(number_or(alloc, "seed", "Seeds what is drawn at random", "1"))
 }
 
 fn test<'a>(alloc: Global) -> Result<Command<'a>, AllocError>
@@ -571,12 +750,54 @@ fn positive_number<'a>(alloc: Global, name: &'a str, help: &'a str) -> Arg<'a>
     number(alloc, name, help).value_parser(ValueParser::unsigned(1, u64::MAX))
 }
 
+/// An option with a number from 1 to 64.
+fn few<'a>(alloc: Global, name: &'a str, help: &'a str) -> Arg<'a>
+    ensures rule { rule_of result ≡ few_rule name.entry.now }
+    ensures plain { result.global ≡ false }
+{
+    number(alloc, name, help).value_parser(ValueParser::unsigned(1, 64))
+}
+
 /// An option with a number, which is this one where none is given.
 fn number_or<'a>(alloc: Global, name: &'a str, help: &'a str, value: &'a str) -> Arg<'a>
     ensures rule { rule_of result ≡ number_rule_or name.entry.now value.entry.now }
     ensures plain { result.global ≡ false }
 {
     number(alloc, name, help).default_value(value)
+}
+
+/// An option with a text.
+fn text<'a>(alloc: Global, name: &'a str, value: &'a str, help: &'a str) -> Arg<'a>
+    ensures rule { rule_of result ≡ text_rule name.entry.now }
+    ensures plain { result.global ≡ false }
+{
+    Arg::new(alloc, name)
+        .long(name)
+        .value_name(value)
+        .help(help)
+}
+
+/// .. which may be given more than once.
+fn settings<'a>(alloc: Global, name: &'a str, value: &'a str, help: &'a str) -> Arg<'a>
+    ensures rule { rule_of result ≡ settings_rule name.entry.now }
+    ensures plain { result.global ≡ false }
+{
+    text(alloc, name, value, help).action(ArgAction::Append)
+}
+
+/// .. which can't stand with these others.
+fn lone_text<'a>(
+    alloc: Global,
+    name: &'a str,
+    value: &'a str,
+    help: &'a str,
+    others: &'a [&'a str],
+) -> Result<Arg<'a>, AllocError>
+    requires { 0 < length others.now }
+    ensures rule { IfOk result (λ arg. rule_of arg ≡ lone_text_rule name.entry.now) }
+    ensures plain { IfOk result (λ arg. arg.global ≡ false) }
+{
+    text(alloc, name, value, help).conflicts_with_all(others)
 }
 
 /// An option without a value.

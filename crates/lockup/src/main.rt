@@ -2,19 +2,21 @@
 //! answers lines of standard input one by one.
 //!
 //! Answers go to standard output, through one buffer. A fault goes to standard error as one line, behind all
-//! answers that came before it. Only a litmus test that runs over threads starts any.
+//! answers that came before it. Only a litmus test that runs over threads and programs of which rows are asked for
+//! start any.
 #![tactic(auto)]
 
 use clap::Error;
 use clap::error::ErrorKind;
 use litmus::{
-    CommandLine, Form, ScriptForm, expected, read_line, run_beside, run_chart, run_check,
-    run_explained, run_export, run_litmus, run_page, run_programs, run_script, run_table, run_test,
-    run_trace, run_walk, run_waves, write_walk,
+    CommandLine, Form, ScriptForm, Seeds, Size, SweepFault, expected, read_line, run_beside,
+    run_chart, run_check, run_explained, run_export, run_litmus, run_page, run_programs,
+    run_script, run_svg, run_table, run_test, run_trace, run_walk, run_waves, write_walk,
 };
 use litmus_text::TextFault;
 use painted::Painted;
 use progress::Shown;
+use rows::Rows;
 use std::alloc::Global;
 use std::env::VarError;
 use std::fmt::Display;
@@ -28,6 +30,8 @@ use std::{env, fs, io};
 mod painted;
 mod progress;
 mod prompt;
+mod rows;
+mod workload;
 
 /// The exit status where the command line or the file is refused.
 const REFUSED: u8 = 2;
@@ -75,8 +79,46 @@ where
         Err(error) => return report(rt, people, &error, unread(&error)),
     };
     match read_line(rt.alloc(), &words) {
+        Ok(
+            CommandLine::Sweep {
+                file,
+                outstanding,
+                seed,
+                seeds,
+                json,
+            },
+        ) => {
+            let seeds = seeds_of(seed, seeds);
+            rows::run(
+                rt,
+                people,
+                &words,
+                Rows {
+                    file,
+                    outstanding,
+                    seeds,
+                    json,
+                },
+            )
+        }
+        Ok(
+            CommandLine::Generate {
+                name,
+                cores,
+                size,
+                seed,
+            },
+        ) => workload::run(rt, people, name, Size { cores, size, seed }),
         Ok(line) => answer(rt, line, people),
         Err(error) => show(rt, people, &error),
+    }
+}
+
+/// The seeds that are given, or else the one.
+fn seeds_of<'a>(seed: u64, seeds: Option<&'a str>) -> Result<Seeds, SweepFault<'a>> {
+    match seeds {
+        Some(text) => Seeds::read(text),
+        None => Ok(Seeds::one(seed)),
     }
 }
 
@@ -139,15 +181,17 @@ const fn is_explained(line: CommandLine<'_>) -> bool {
 fn file_of<'a>(line: CommandLine<'a>) -> Option<&'a str> {
     match line {
         CommandLine::Script { file, .. }
-        | CommandLine::Chart { file }
+        | CommandLine::Chart { file, .. }
         | CommandLine::Page { file }
         | CommandLine::Test { file }
         | CommandLine::Litmus { file, .. }
         | CommandLine::Walk { file, .. }
         | CommandLine::Run { file, .. }
+        | CommandLine::Sweep { file, .. }
         | CommandLine::Check { file } => Some(file),
         CommandLine::Try { file } => file,
-        CommandLine::Table { .. } | CommandLine::Export { .. } => None,
+        CommandLine::Generate { .. } | CommandLine::Table { .. } | CommandLine::Export { .. } =>
+            None,
     }
 }
 
@@ -199,7 +243,12 @@ where
     match line {
         CommandLine::Script { form, .. } => write_run(alloc, input, form, out),
         CommandLine::Try { .. } => prompt::run(rt, input, people.type_lines, out),
-        CommandLine::Chart { .. } => run_chart(alloc, input, out),
+        CommandLine::Chart {
+            svg: false,
+            line: None,
+            ..
+        } => run_chart(alloc, input, out),
+        CommandLine::Chart { line, .. } => run_svg(alloc, input, line, out),
         CommandLine::Page { .. } => run_page(alloc, input, out),
         CommandLine::Test { .. } => run_test(alloc, input, out),
         CommandLine::Litmus { seed, limit, .. } => {
@@ -214,11 +263,13 @@ where
             run_walk(alloc, input, rounds, seed, shown, out)
         }
         CommandLine::Run {
+            outstanding,
             seed,
-            json: true,
+            json,
             ..
-        } => run_programs(alloc, input, seed, Form::Json, out),
-        CommandLine::Run { seed, .. } => run_programs(alloc, input, seed, Form::Table, out),
+        } => run_programs(alloc, input, outstanding, seed, report_form(json), out),
+        // These are printed by `rows::run` and `workload::run`.
+        CommandLine::Sweep { .. } | CommandLine::Generate { .. } => Ok(REFUSED),
         CommandLine::Check { .. } => run_check(alloc, input, out),
         CommandLine::Table { table, exclusive } => run_table(table, exclusive, out),
         CommandLine::Export {
@@ -227,6 +278,11 @@ where
             closed,
         } => run_export(cores, exclusive, closed, out),
     }
+}
+
+/// How the counts of programs are printed.
+const fn report_form(json: bool) -> Form {
+    if json { Form::Json } else { Form::Table }
 }
 
 /// Runs a script, and prints the run in this form.

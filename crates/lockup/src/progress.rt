@@ -17,3 +17,18 @@ impl<R: Eprint> Progress for Shown<'_, R> {
         }
     }
 }
+
+/// Shows how many rows of a sweep are done, where somebody watches.
+#[derive(Drop)]
+pub struct ShownRows<'a, R: Eprint> {
+    pub rt: &'a R,
+    pub is_watched: bool,
+}
+
+impl<R: Eprint> Progress for ShownRows<'_, R> {
+    fn done(&mut self, rows: u64, all: u64) {
+        if self.is_watched && rows < all {
+            let _ = eprint!(self.rt; "{rows} of {all} rows\r");
+        }
+    }
+}

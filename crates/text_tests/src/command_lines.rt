@@ -123,7 +123,11 @@ fn reads_a_trace_of_the_model(rt: HostRuntime) -> Result<(), Fail> {
 
 #[test]
 fn reads_a_chart_and_a_check(rt: HostRuntime) -> Result<(), Fail> {
-    let chart = CommandLine::Chart { file: "first.txt" };
+    let chart = CommandLine::Chart {
+        file: "first.txt",
+        svg: false,
+        line: None,
+    };
     let check = CommandLine::Check { file: "-" };
     assert!(rt; is_read(rt.alloc(), &["lockup", "chart", "first.txt"], chart)?);
     assert!(rt; is_read(rt.alloc(), &["lockup", "check", "-"], check)?);

@@ -46,6 +46,19 @@ Documents: docs/TEXTS.md (each line and answer)
 
 Example: lockup try examples/first_add.txt";
 
+/// What stands below the options of `chart`.
+pub const CHART: &str = "\
+Without options, a diagram in Mermaid's words: each message an arrow where it is delivered. With
+--svg, one line over time, from top to bottom: a lifeline for the directory and each core that takes
+part, with its states; each message an arrow from its sending to its delivery, dashed while it is in
+flight; a ring where a message had to wait or an access stalled, and why. The line is the one that a
+command names first, or that of --line, which draws such a picture by itself.
+
+Documents: docs/TEXTS.md (both diagrams)
+
+Examples: lockup chart examples/shared_line.txt
+          lockup chart --svg examples/invalidation_before_data.txt > run.svg";
+
 /// What stands below the options of `litmus`.
 pub const LITMUS: &str = "\
 Each round runs the test's programs on a new machine, in a thread for each core, beside threads
@@ -82,16 +95,45 @@ A text of programs says what each core asks for, one access after another:
   repeat 100
     add 0 1            (or load 0, store 0 VALUE, cas 0 EXPECTED NEW)
     load 8..15         each of these words
+    settle             wait until the core's accesses are performed
   end
+
+A core waits for each access before the next, unless 'outstanding N' stands before the first core: up
+to N of its accesses are under way then, from 1 to 64. One that stalls is tried again, and the report
+counts for each core the primary and secondary misses, and the stalls by their reason.
 
 Accesses and deliveries come in an order that is drawn from the seed. The report has a row for each
 core and for each line. A miss is counted by its cause: cold (the core never had the line), replaced
 (it gave the line up), upgrade (it may read the line and is to write it), and true or false (it lost
 the line to another's write; true where another core wrote the very word since).
 
-Documents: docs/TEXTS.md (the lines of programs, the columns of the report)
+With --set, --seeds or --csv each combination of values and seeds is a run, and each run a row: its
+settings, its seed, and the sums over all lines. A setting is cores, slices, lines, sets, ways,
+mshrs, targets, writebacks, policy, misses or exclusive, and takes the place of the text's. The last
+setting varies fastest, and the seeds faster still. Runs are side by side on all processors. With
+--json the rows are one value of JSON.
 
-Example: lockup run examples/programs/false_sharing.txt";
+Documents: docs/TEXTS.md (the lines of programs, the columns of the report and of rows)
+
+Example: lockup run examples/programs/false_sharing.txt
+         lockup run examples/programs/histogram_shared.txt --set ways=1,2,4 --seeds 1..20 --csv";
+
+/// What stands below the options of `generate`.
+pub const GENERATE: &str = "\
+Workloads, and what their size counts:
+
+  matmul      a blocked product of matrices: rows and columns, at most 64
+  histogram   items that each core counts in bins that all share
+  ring        items that each even core hands to the next one in a ring buffer
+  lock        times that each core takes a lock by compare-exchange
+  chase       lines that each core visits once, in an order drawn at random
+  uniform     accesses of each core to lines drawn at random
+  zipf        accesses of each core to lines of which few are drawn often
+  stencil     rows and columns of a grid, of which each core has a band
+
+Documents: docs/EXAMPLES.md (what each shows)
+
+Example: lockup generate matmul --cores 4 --size 16 > matmul.txt";
 
 /// What stands below the options of `test`.
 pub const TEST: &str = "\

@@ -52,6 +52,13 @@ returns-in-run c =
     let found = c.in_ok-name.ensures.rows in
     asked_of c.args.matches.now (codes "run") rows c.run_line.result named found c.run_line.ensures
 
+pub returns-in-generate : goal.returns-in-generate
+returns-in-generate c =
+    let named = rw c.in-generate.is at c.in_ok-name.ensures.name in
+    let rows = rows_of (found_of c.in_ok-name.given.now) in
+    let found = c.in_ok-name.ensures.rows in
+    asked_of c.args.matches.now (codes "generate") rows c.generate_line.result named found c.generate_line.ensures
+
 pub returns-in-test : goal.returns-in-test
 returns-in-test c =
     let named = rw c.in-test.is at c.in_ok-name.ensures.name in

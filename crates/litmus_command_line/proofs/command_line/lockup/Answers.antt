@@ -19,12 +19,14 @@ returns c =
     c.in_ok-program-6.ensures in
     let seven = with_known c.run.result _ _ _ _ six c.run.ensures.reads c.run.ensures.plain
     c.in_ok-program-7.ensures in
-    let eight = with_known c.test.result _ _ _ _ seven c.test.ensures.reads c.test.ensures.plain
+    let eight = with_known c.generate.result _ _ _ _ seven c.generate.ensures.reads c.generate.ensures.plain
     c.in_ok-program-8.ensures in
-    let nine = with_known c.check.result _ _ _ _ eight c.check.ensures.reads c.check.ensures.plain
+    let nine = with_known c.test.result _ _ _ _ eight c.test.ensures.reads c.test.ensures.plain
     c.in_ok-program-9.ensures in
-    let ten = with_table c.table.result _ _ _ nine (λ names. refl) c.table.ensures.reads c.table.ensures.plain
+    let ten = with_known c.check.result _ _ _ _ nine c.check.ensures.reads c.check.ensures.plain
     c.in_ok-program-10.ensures in
-    IfOk-weaker c.with-11.result _ _
-    (λ made. with_export c.export.result _ _ ten c.export.ensures.reads c.export.ensures.plain)
-    c.with-11.ensures
+    let eleven = with_table c.table.result _ _ _ ten (λ names. refl) c.table.ensures.reads c.table.ensures.plain
+    c.in_ok-program-11.ensures in
+    IfOk-weaker c.with-12.result _ _
+    (λ made. with_export c.export.result _ _ eleven c.export.ensures.reads c.export.ensures.plain)
+    c.with-12.ensures

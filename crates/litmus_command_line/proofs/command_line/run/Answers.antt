@@ -1,24 +1,24 @@
-use Rattle.std.proofs.Common.{◌≡◌, ◌∙◌, ◌||◌, false, rules, ap₂, codes}
+use Rattle.std.proofs.Common.{◌∙◌, ◌||◌, ap₂}
 use Rattle.std.proofs.lemmas.Result.{IfOk-weaker}
-use Rattle.clap.specs.declared.builder.command.Command.TheViews.{out-Command as fields_of}
-use Rattle.clap.specs.Words.{app_of, new_app, with_rule}
+use Rattle.clap.specs.Words.{with_rule}
 use Rattle.litmus_command_line.proofs.command_line.run.Goals as goal
 
 pub returns-clause-reads : goal.returns-clause-reads
 returns-clause-reads c =
-    let named : app_of c.after_help.result ≡ new_app (codes "run") = search rules in
-    let file = c.in_ok-arg.ensures.shape c.file.ensures.plain ∙ ap₂ with_rule named c.file.ensures.rule in
-    let seed = c.in_ok-arg-2.ensures.shape c.number_or.ensures.plain
-    ∙ ap₂ with_rule file c.number_or.ensures.rule in
+    let settings = c.in_ok-arg.ensures.shape c.settings.ensures.plain
+    ∙ ap₂ with_rule c.in_ok-reporting.ensures.reads c.settings.ensures.rule in
+    let seeds = c.in_ok-arg-2.ensures.shape c.in_ok-lone_text.ensures.plain
+    ∙ ap₂ with_rule settings c.in_ok-lone_text.ensures.rule in
     IfOk-weaker c.arg-3.result _ _
-    (λ made adds. adds.shape c.flag.ensures.plain ∙ ap₂ with_rule seed c.flag.ensures.rule)
+    (λ made adds. adds.shape c.in_ok-lone_flag.ensures.plain ∙ ap₂ with_rule seeds c.in_ok-lone_flag.ensures.rule)
     c.arg-3.ensures
 
 pub returns-clause-plain : goal.returns-clause-plain
 returns-clause-plain c =
-    let none : (fields_of c.after_help.result).has_globals ≡ false = search rules in
-    let file = c.in_ok-arg.ensures.globals ∙ ap₂ (λ a b. a || b) none c.file.ensures.plain in
-    let seed = c.in_ok-arg-2.ensures.globals ∙ ap₂ (λ a b. a || b) file c.number_or.ensures.plain in
+    let settings = c.in_ok-arg.ensures.globals
+    ∙ ap₂ (λ a b. a || b) c.in_ok-reporting.ensures.plain c.settings.ensures.plain in
+    let seeds = c.in_ok-arg-2.ensures.globals
+    ∙ ap₂ (λ a b. a || b) settings c.in_ok-lone_text.ensures.plain in
     IfOk-weaker c.arg-3.result _ _
-    (λ made adds. adds.globals ∙ ap₂ (λ a b. a || b) seed c.flag.ensures.plain)
+    (λ made adds. adds.globals ∙ ap₂ (λ a b. a || b) seeds c.in_ok-lone_flag.ensures.plain)
     c.arg-3.ensures

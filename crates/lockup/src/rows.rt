@@ -1,0 +1,113 @@
+//! The rows of a sweep.
+
+use super::progress::ShownRows;
+use super::{People, complain, read, report, show};
+use litmus::{RowFault, RowForm, Seeds, Sweep, SweepFault, read_settings, run_sweep};
+use litmus_text::TextFault;
+use std::alloc::Global;
+use std::io::{self, BufWriter, Write};
+use std::rt::Files;
+use std::thread::Threads;
+
+/// What the command line says of rows beside their settings.
+#[derive(Drop)]
+pub struct Rows<'a> {
+    pub file: &'a str,
+    pub outstanding: Option<u64>,
+    pub seeds: Result<Seeds, SweepFault<'a>>,
+    pub json: bool,
+}
+
+/// Runs the programs in a file once for each row that the command line asks for, and prints the rows. Returns the exit
+/// status.
+pub fn run<R>(rt: &R, people: People, words: &[String], rows: Rows<'_>) -> u8
+where
+    R: Files + Input + AllocGlobal + Print + Eprint + Threads + Sync,
+{
+    let Rows {
+        file,
+        outstanding,
+        seeds,
+        json,
+    } = rows;
+    let settings = match read_settings(rt.alloc(), words) {
+        Ok(settings) => settings,
+        Err(error) => return show(rt, people, &error),
+    };
+    let sweep = match read_sweep(rt.alloc(), settings.as_slice(), seeds, outstanding) {
+        Ok(sweep) => sweep,
+        Err(fault) => {
+            complain(rt, people, fault);
+            return fault.status();
+        }
+    };
+    let input = match read(rt, file) {
+        Ok(input) => input,
+        Err(error) => return report(rt, people, &error, format_args!("cannot read {file}")),
+    };
+    let form = if json { RowForm::Json } else { RowForm::Csv };
+    match print_rows(rt, people, input.as_slice(), &sweep, form) {
+        Ok(()) => 0,
+        Err(fault) => complain_of(rt, people, &sweep, fault),
+    }
+}
+
+fn read_sweep<'a>(
+    alloc: Global,
+    settings: &[&'a str],
+    seeds: Result<Seeds, SweepFault<'a>>,
+    outstanding: Option<u64>,
+) -> Result<Sweep<'a>, SweepFault<'a>> {
+    Sweep::read(alloc, settings, seeds?, outstanding)
+}
+
+/// Prints the rows, also those before a fault.
+fn print_rows<R>(
+    rt: &R,
+    people: People,
+    input: &[u8],
+    sweep: &Sweep<'_>,
+    form: RowForm,
+) -> Result<(), RowFault>
+where
+    R: Files + Input + AllocGlobal + Print + Eprint + Threads + Sync,
+{
+    let Ok(mut out) = BufWriter::new(rt.alloc(), io::writer(rt)) else {
+        return Err(RowFault::NoMemory);
+    };
+    let mut shown = ShownRows {
+        rt,
+        is_watched: people.watch,
+    };
+    let ran = run_sweep(rt.alloc(), rt, input, sweep, form, &mut shown, &mut out);
+    match out.flush() {
+        Ok(()) => ran,
+        Err(_) => Err(RowFault::CannotWrite),
+    }
+}
+
+/// Complains of a fault, and returns the exit status.
+fn complain_of<R>(rt: &R, people: People, sweep: &Sweep<'_>, fault: RowFault) -> u8
+where
+    R: AllocGlobal + Eprint,
+{
+    match fault {
+        RowFault::Row { row, refusal } => {
+            let mut name = String::new(rt.alloc());
+            if sweep.name(row, &mut name).is_err() {
+                complain(rt, people, TextFault::NoMemory);
+                return TextFault::NoMemory.status();
+            }
+            complain(rt, people, format_args!("{name}: {refusal}"));
+            refusal.status()
+        }
+        RowFault::CannotWrite => {
+            complain(rt, people, TextFault::CannotWrite);
+            TextFault::CannotWrite.status()
+        }
+        RowFault::NoMemory => {
+            complain(rt, people, TextFault::NoMemory);
+            TextFault::NoMemory.status()
+        }
+    }
+}

@@ -1,0 +1,9 @@
+pub mod Calls
+pub mod Checks
+pub mod Counts
+pub mod Looks
+pub mod Made
+pub mod Named
+pub mod Number
+pub mod Numbers
+pub mod Owner

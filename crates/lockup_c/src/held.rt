@@ -1,0 +1,8 @@
+use simulator::{Simulator, TraceJudge};
+
+/// What a handle may have.
+#[derive(Drop)]
+pub enum Held {
+    Machine(Simulator),
+    Trace(TraceJudge),
+}

@@ -1,0 +1,26 @@
+//! The library that C links: a machine behind a handle (`include/lockup.h`).
+//!
+//! Each export of `lockup.h` takes what the handle has out of it, makes one call, and puts it back. What the call does
+//! stands in specs/Calls.antt, which says the promise of the slice's own call again: of the handle's machine, at what the
+//! numbers name (specs/Named.antt), with the numbers of the answer (specs/Number.antt, specs/Numbers.antt). A code other
+//! than 0 leaves what the handle has.
+//!
+//! A [`handle::Handle`] owns a box at its pointer, or is null (specs/Owner.antt). Three functions reach the pointer, and
+//! are proved by hand; C passes nothing for a parameter of type `Global`.
+#![tactic(auto)]
+
+pub use handle::Handle;
+pub use held::Held;
+
+mod check;
+mod codes;
+mod counts;
+mod handle;
+mod held;
+mod looks;
+mod made;
+mod names;
+mod numbers;
+mod plans;
+mod steps;
+mod structs;

@@ -1,0 +1,35 @@
+-- What a simulator has, and what it is built from.
+use Rattle.std.specs.Prelude.{◌≡◌, ℕ, List, Ok, Err}
+use Rattle.address_map.specs.Config.{checked_of}
+use Rattle.address_map.specs.declared.address.CoreId.{CoreId}
+use Rattle.address_map.specs.declared.config.Config.{Config}
+use Rattle.address_map.specs.declared.request.Request.{Request}
+use Rattle.litmus_script.specs.Machine.{HasAt, IsNewMachine, bound_of}
+use Rattle.litmus_text.specs.declared.fault.TextFault.{TextFault}
+use Rattle.litmus_text.specs.declared.fault.TextFault.TheVariants as text_faults
+use Rattle.litmus_text.specs.declared.settings.Settings.{Settings}
+use Rattle.slice_core_plan.specs.Calls.{PartsView}
+use Rattle.simulator.specs.declared.simulator.Simulator.{Simulator}
+use Rattle.simulator.specs.declared.simulator.Simulator.TheVariants as simulators
+
+-- the shape of the machine
+abbrev pub config_of : Simulator → Config
+config_of (simulators.Explicit machine) = machine.config
+config_of (simulators.Inverted machine) = machine.config
+
+-- what each slice has, in order
+abbrev pub slices_of : Simulator → List PartsView
+slices_of (simulators.Explicit machine) = machine.slices.items
+slices_of (simulators.Inverted machine) = machine.slices.items
+
+-- a new machine of these settings, which are allowed
+pub record IsNewSimulator (settings : Settings) (simulator : Simulator) : Type 0 where
+  pub allowed : checked_of settings.config ≡ Ok (config_of simulator)
+  pub fresh : IsNewMachine (config_of simulator) (bound_of settings.misses (config_of simulator)) (slices_of simulator)
+
+-- why there is none: a field isn't allowed, or an allocation failed
+abbrev pub IsNotBuilt : Config → TextFault → Type 0
+IsNotBuilt config (text_faults.Config error) = checked_of config ≡ Err error
+IsNotBuilt config text_faults.NoMemory = Unit {0}
+IsNotBuilt config text_faults.CannotWrite = ⊥
+IsNotBuilt config (text_faults.Line number fault) = ⊥

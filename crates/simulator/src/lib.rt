@@ -1,0 +1,16 @@
+//! The machine of a script, call by call.
+//!
+//! - [`Simulator`] is a machine with either kind of miss file. Its calls do what the commands of a script do, and each
+//!   contract says the promise of the slice's own call again (`slice_core_plan`); the others say what a call would do,
+//!   and what there is. [`Simulator::build`] takes what the lines of a script configure.
+//! - [`TraceJudge`] judges a trace entry by entry, as it comes.
+//!
+//! Only [`Simulator::build`], [`Simulator::issue`], [`Simulator::waited_lines`] and the calls of [`TraceJudge`] allocate.
+#![tactic(auto)]
+
+pub use judge::TraceJudge;
+pub use simulator::Simulator;
+
+mod judge;
+mod simulator;
+mod slices;

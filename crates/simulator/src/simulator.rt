@@ -1,0 +1,276 @@
+ghost use Rattle.std.specs.Prelude.{◌≡◌, ◌/◌, ◌%◌, ◌<◌, ◌↔◌, All, IfErr, IfOk, IfSome, IsTrue};
+ghost use Rattle.address_map.specs.Locator.{local_at};
+ghost use Rattle.address_map.specs.Place.{line_of as line_of_word};
+ghost use Rattle.litmus_script.specs.Issued.{IsIssued, IsOutOfMemory};
+ghost use Rattle.litmus_script.specs.Machine.{HasAt, IsAnswered, IsFront, IsLineView, IsShownWord, log_at};
+ghost use Rattle.litmus_text.specs.Command.{HasCore};
+ghost use Rattle.simulator.specs.Simulator.{IsNewSimulator, IsNotBuilt, config_of, slices_of};
+ghost use Rattle.slice_core.specs.Facts.{copy_at, targets_at};
+ghost use Rattle.slice_core.specs.declared.run.Call.TheVariants as slice_calls;
+ghost use Rattle.slice_core.specs.declared.run.CallAnswer.TheVariants as call_answers;
+ghost use Rattle.slice_core_plan.specs.Calls.{next_pick};
+ghost use Rattle.slice_core_plan.specs.Decision.{decision_of};
+ghost use Rattle.slice_core_plan.specs.Plan.{planned_at};
+ghost use Rattle.slice_core_plan.specs.View.{IsQuiet};
+ghost use Rattle.slice_core_steps.specs.CoreLines.{lines_of_core};
+ghost use Rattle.slice_core_steps.specs.declared.core_lines.CoreLines.TheVariants as core_lines;
+ghost use Rattle.slice_queues.specs.Waiting.{lines_waiting};
+ghost use Rattle.slice_queues_message.specs.Pick.{line_of};
+
+use super::slices;
+use address_map::{Checked, CoreId, LineAddr, Request, SliceId, WordAddr};
+use arrayvec::ArrayVec;
+use litmus_script::{Issued, Machine};
+use litmus_text::{Settings, TextFault};
+use mshr_file::{ExplicitFile, InvertedFile, MissKind, Target};
+use slice_core::{
+    CacheCopy, Class, Decision, Delivered, DeliveredNext, Entry, Evicted, LineView, Message,
+    Numbered, Pick, Picks, Plan, Stats,
+};
+use std::alloc::{AllocError, Global};
+
+/// A machine, whose caches have either kind of miss file.
+#[derive(Drop)]
+pub enum Simulator {
+    Explicit(Machine<ExplicitFile>),
+    Inverted(Machine<InvertedFile>),
+}
+
+impl Simulator {
+    /// A machine of these settings, in which nothing was asked for yet.
+    pub fn build(alloc: Global, settings: Settings) -> Result<Self, TextFault>
+        ensures new { IfOk result (IsNewSimulator settings) }
+        ensures fault { IfErr result (IsNotBuilt settings.config) }
+    {
+        let Settings { config, misses } = settings;
+        let config = config.check().map_err(TextFault::Config)?;
+        match misses {
+            MissKind::Explicit => Ok(Simulator::Explicit(Machine::build(alloc, config)?)),
+            MissKind::Inverted => Ok(Simulator::Inverted(Machine::build(alloc, config)?)),
+        }
+    }
+
+    pub fn config(&self) -> &Checked
+        ensures { result.now ≡ config_of self.now }
+    {
+        match self {
+            Simulator::Explicit(machine) => &machine.config,
+            Simulator::Inverted(machine) => &machine.config,
+        }
+    }
+
+    /// A word past the memory goes to slice 0, which refuses it.
+    pub fn issue(&mut self, core: CoreId, request: Request) -> Result<Issued, TextFault>
+        requires { HasCore (config_of self.old) core }
+        ensures config { config_of self.new ≡ config_of self.old }
+        ensures issued { IfOk result (λ issued. IsIssued ((line_of_word request.word).0 % (config_of self.old).slices)
+            core request issued (slices_of self.old) (slices_of self.new)) }
+        ensures memory { IfErr result (λ fault. IsOutOfMemory
+            ((line_of_word request.word).0 % (config_of self.old).slices)
+            core request (slices_of self.old) (slices_of self.new)) }
+    {
+        match self {
+            Simulator::Explicit(machine) => machine.issue(core, request),
+            Simulator::Inverted(machine) => machine.issue(core, request),
+        }
+    }
+
+    pub fn evict(&mut self, core: CoreId, line: LineAddr) -> Evicted
+        requires { HasCore (config_of self.old) core }
+        ensures config { config_of self.new ≡ config_of self.old }
+        ensures answered { IsAnswered (line.0 % (config_of self.old).slices)
+            (slice_calls.Evict core line) (call_answers.Evict result) (slices_of self.old) (slices_of self.new) }
+    {
+        match self {
+            Simulator::Explicit(machine) => machine.evict(core, line),
+            Simulator::Inverted(machine) => machine.evict(core, line),
+        }
+    }
+
+    pub fn deliver(&mut self, pick: Pick) -> Delivered
+        ensures config { config_of self.new ≡ config_of self.old }
+        ensures answered { IsAnswered ((line_of pick).0 % (config_of self.old).slices)
+            (slice_calls.Deliver pick) (call_answers.Deliver result) (slices_of self.old) (slices_of self.new) }
+    {
+        match self {
+            Simulator::Explicit(machine) => machine.deliver(pick),
+            Simulator::Inverted(machine) => machine.deliver(pick),
+        }
+    }
+
+    /// Delivers the next message of a slice and of these channels that can be moved.
+    pub fn deliver_next(&mut self, slice: SliceId, class: Class) -> DeliveredNext
+        requires { slice.0 < (config_of self.old).slices }
+        ensures config { config_of self.new ≡ config_of self.old }
+        ensures answered { IsAnswered slice.0 (slice_calls.DeliverNext class) (call_answers.DeliverNext result)
+            (slices_of self.old) (slices_of self.new) }
+    {
+        match self {
+            Simulator::Explicit(machine) => slices::deliver_next(machine, slice, class),
+            Simulator::Inverted(machine) => slices::deliver_next(machine, slice, class),
+        }
+    }
+
+    pub fn hand(&mut self, core: CoreId, slice: SliceId) -> Option<Numbered>
+        requires core { HasCore (config_of self.old) core }
+        requires slice { slice.0 < (config_of self.old).slices }
+        ensures config { config_of self.new ≡ config_of self.old }
+        ensures answered { IsAnswered slice.0 (slice_calls.Hand core) (call_answers.Hand result)
+            (slices_of self.old) (slices_of self.new) }
+    {
+        match self {
+            Simulator::Explicit(machine) => machine.hand(core, slice),
+            Simulator::Inverted(machine) => machine.hand(core, slice),
+        }
+    }
+
+    /// What [`Simulator::issue`] would decide of the request.
+    pub fn decide(&self, core: CoreId, request: Request) -> Decision
+        requires { HasCore (config_of self.now) core }
+        ensures { HasAt (slices_of self.now) ((line_of_word request.word).0 % (config_of self.now).slices)
+            (λ state. result ≡ decision_of state.view core request) }
+    {
+        match self {
+            Simulator::Explicit(machine) => slices::decide(machine, core, request),
+            Simulator::Inverted(machine) => slices::decide(machine, core, request),
+        }
+    }
+
+    /// What [`Simulator::deliver`] would do.
+    pub fn plan(&self, pick: Pick) -> Plan
+        ensures { HasAt (slices_of self.now) ((line_of pick).0 % (config_of self.now).slices)
+            (λ state. result ≡ planned_at state.view pick) }
+    {
+        match self {
+            Simulator::Explicit(machine) => slices::plan(machine, pick),
+            Simulator::Inverted(machine) => slices::plan(machine, pick),
+        }
+    }
+
+    /// What [`Simulator::deliver_next`] would deliver.
+    pub fn next(&self, slice: SliceId, class: Class) -> DeliveredNext
+        requires { slice.0 < (config_of self.now).slices }
+        ensures { HasAt (slices_of self.now) slice.0 (λ state. result ≡ next_pick state class) }
+    {
+        match self {
+            Simulator::Explicit(machine) => slices::next(machine, slice, class),
+            Simulator::Inverted(machine) => slices::next(machine, slice, class),
+        }
+    }
+
+    /// A core's copy of a line, also one that is being written back: none of a line that the memory doesn't have.
+    pub fn copy(&self, core: CoreId, line: LineAddr) -> Option<CacheCopy>
+        requires { HasCore (config_of self.now) core }
+        ensures { HasAt (slices_of self.now) (line.0 % (config_of self.now).slices)
+            (λ state. result ≡ copy_at state.view core (local_at state.view.lines line.0)) }
+    {
+        match self {
+            Simulator::Explicit(machine) => slices::copy(machine, core, line),
+            Simulator::Inverted(machine) => slices::copy(machine, core, line),
+        }
+    }
+
+    /// What its slice has of a line: none for a line that the memory doesn't have.
+    pub fn line(&self, line: LineAddr) -> Option<LineView>
+        ensures { IsLineView (slices_of self.now) (line.0 % (config_of self.now).slices) line result }
+    {
+        match self {
+            Simulator::Explicit(machine) => machine.view(line),
+            Simulator::Inverted(machine) => machine.view(line),
+        }
+    }
+
+    /// The accesses of a core that wait for a line, the oldest first.
+    pub fn targets(&self, core: CoreId, line: LineAddr) -> ArrayVec<Target, 64>
+        requires { HasCore (config_of self.now) core }
+        ensures { HasAt (slices_of self.now) (line.0 % (config_of self.now).slices)
+            (λ state. result.items ≡ targets_at state.view core (local_at state.view.lines line.0)) }
+    {
+        match self {
+            Simulator::Explicit(machine) => slices::targets(machine, core, line),
+            Simulator::Inverted(machine) => slices::targets(machine, core, line),
+        }
+    }
+
+    /// The lines for which a core holds a miss register in a slice.
+    pub fn waited_lines(
+        &self,
+        alloc: Global,
+        core: CoreId,
+        slice: SliceId,
+    ) -> Result<Vec<LineAddr>, AllocError>
+        requires core { HasCore (config_of self.now) core }
+        requires slice { slice.0 < (config_of self.now).slices }
+        ensures { IfOk result (λ lines. HasAt (slices_of self.now) slice.0
+            (λ state. lines.items ≡ lines_of_core state.view core core_lines.Waiting)) }
+    {
+        match self {
+            Simulator::Explicit(machine) => slices::waited_lines(alloc, machine, core, slice),
+            Simulator::Inverted(machine) => slices::waited_lines(alloc, machine, core, slice),
+        }
+    }
+
+    /// The channels of a slice in which a message waits.
+    pub fn waiting(&self, slice: SliceId) -> Picks<'_>
+        requires { slice.0 < (config_of self.now).slices }
+        ensures { HasAt (slices_of self.now) slice.0 (λ state. result ≡ lines_waiting
+            state.view.lines.slice state.view.lines.slices 0 state.view.channels) }
+    {
+        match self {
+            Simulator::Explicit(machine) => slices::waiting(machine, slice),
+            Simulator::Inverted(machine) => slices::waiting(machine, slice),
+        }
+    }
+
+    /// The message that a delivery at the pick would take.
+    pub fn front(&self, pick: Pick) -> Option<Message>
+        ensures { IsFront (slices_of self.now) ((line_of pick).0 % (config_of self.now).slices) pick result }
+    {
+        match self {
+            Simulator::Explicit(machine) => machine.front(pick),
+            Simulator::Inverted(machine) => machine.front(pick),
+        }
+    }
+
+    /// Whether nothing is in flight, and each reply is handed out.
+    pub fn is_quiet(&self) -> bool
+        ensures { IsTrue result ↔ All (λ state. IsQuiet state.view) (slices_of self.now) }
+    {
+        match self {
+            Simulator::Explicit(machine) => machine.is_quiet(),
+            Simulator::Inverted(machine) => machine.is_quiet(),
+        }
+    }
+
+    /// The value of a word of the memory, where its slice is quiet.
+    pub fn word(&self, word: WordAddr) -> Option<u64>
+        requires { word.0 / 8 < (config_of self.now).lines }
+        ensures { IsShownWord (slices_of self.now) (word.0 / 8 % (config_of self.now).slices) word result }
+    {
+        match self {
+            Simulator::Explicit(machine) => machine.word_now(word),
+            Simulator::Inverted(machine) => machine.word_now(word),
+        }
+    }
+
+    /// What a slice has counted.
+    pub fn stats(&self, slice: SliceId) -> &Stats
+        requires { slice.0 < (config_of self.now).slices }
+        ensures { HasAt (slices_of self.now) slice.0 (λ state. result.now ≡ state.stats) }
+    {
+        match self {
+            Simulator::Explicit(machine) => slices::stats(machine, slice),
+            Simulator::Inverted(machine) => slices::stats(machine, slice),
+        }
+    }
+
+    /// What a slice has performed, in order.
+    pub fn log(&self, slice: SliceId) -> &[Entry]
+        ensures { result.now ≡ log_at (slices_of self.now) slice.0 }
+    {
+        match self {
+            Simulator::Explicit(machine) => machine.log_of(slice),
+            Simulator::Inverted(machine) => machine.log_of(slice),
+        }
+    }
+}

@@ -60,6 +60,10 @@ def use(path: Path, after_gate: bool) -> None:
     _under_test, _after_gate = path, after_gate
 
 
+def gate_ran() -> bool:
+    return _after_gate
+
+
 def run(words: Sequence[str | Path], text: str | IO | None = None, **how) -> Ran:
     """Runs a program at the top of the repository. `text` is its standard input, or a file that is;
     without it there is none."""

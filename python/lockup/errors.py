@@ -1,0 +1,52 @@
+"""An exception for each code that a call can return."""
+FIELDS = ("cores", "slices", "lines", "sets", "ways", "mshrs", "targets", "writebacks", "init", "counters")
+
+
+class LockupError(Exception):
+    """A call that was not made; nothing has changed. `code` is what the library returned."""
+
+    def __init__(self, code: int, said: str) -> None:
+        super().__init__(said)
+        self.code = code
+
+
+class NoMachine(LockupError):
+    """The machine was closed."""
+
+
+class OutOfRange(LockupError, IndexError):
+    """The machine has no such core, slice, line or word, or there is no such number."""
+
+
+class NoMemory(LockupError, MemoryError):
+    """An allocation failed."""
+
+
+class InUse(LockupError):
+    """The handle has a machine already."""
+
+
+class NotAllowed(LockupError, ValueError):
+    """A configuration isn't allowed; `field` is the first field at fault."""
+
+    def __init__(self, code: int, said: str) -> None:
+        super().__init__(code, said)
+        self.field = FIELDS[code - 101]
+
+
+_KINDS = {
+    1: (NoMachine, "there is no machine: it was closed"),
+    2: (OutOfRange, "out of range"),
+    3: (NoMemory, "no memory"),
+    4: (InUse, "the handle has a machine already"),
+}
+
+
+def error_of(code: int) -> LockupError:
+    """Returns the exception for a code other than 0."""
+    if code in _KINDS:
+        kind, said = _KINDS[code]
+        return kind(code, said)
+    if 101 <= code <= 110:
+        return NotAllowed(code, f"config {code - 100} {FIELDS[code - 101]}")
+    return LockupError(code, f"code {code}")

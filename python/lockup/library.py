@@ -1,0 +1,106 @@
+"""Finds the shared object, and declares its functions."""
+import ctypes
+import os
+from ctypes import POINTER, c_size_t, c_uint32, c_uint64, c_void_p
+from pathlib import Path
+from typing import Callable, Dict, Iterator, Optional
+
+NAME = "liblockup.so"
+WORD = c_uint64
+# a handle is a pointer, and passed by a pointer to it
+HANDLE = POINTER(c_void_p)
+# an output is passed as the address of a buffer that is made once
+BUFFER = c_void_p
+
+
+def places() -> Iterator[Path]:
+    """Returns where the shared object may stand: beside this package, in a prefix above it, or in the repository."""
+    here = Path(__file__).resolve().parent
+    yield here / NAME
+    for folder in here.parents:
+        yield folder / "lib" / NAME
+        yield folder / "crates/lockup_c/out" / NAME
+
+
+def found() -> str:
+    """Returns the path of the shared object. LOCKUP_LIBRARY comes first; the loader's own search last."""
+    asked = os.environ.get("LOCKUP_LIBRARY")
+    if asked:
+        return asked
+    return next((str(it) for it in places() if it.is_file()), NAME)
+
+
+PROTOTYPES = {
+    "version": [],
+    "defaults": [BUFFER],
+    "make": [HANDLE, BUFFER],
+    "make_with": [HANDLE, BUFFER, BUFFER, c_size_t, BUFFER, c_size_t],
+    "free": [HANDLE],
+    "issue": [HANDLE, WORD, WORD, WORD, WORD, WORD, WORD, BUFFER],
+    "evict": [HANDLE, WORD, WORD, BUFFER],
+    "deliver": [HANDLE, WORD, WORD, WORD, WORD, BUFFER],
+    "deliver_next": [HANDLE, WORD, WORD, BUFFER],
+    "hand": [HANDLE, WORD, WORD, BUFFER],
+    "decide": [HANDLE, WORD, WORD, WORD, WORD, WORD, WORD, BUFFER],
+    "plan": [HANDLE, WORD, WORD, WORD, WORD, BUFFER],
+    "next": [HANDLE, WORD, WORD, BUFFER],
+    "copy_at": [HANDLE, WORD, WORD, BUFFER],
+    "directory_at": [HANDLE, WORD, BUFFER],
+    "quiet": [HANDLE, BUFFER],
+    "word_at": [HANDLE, WORD, BUFFER],
+    "counts_of_core": [HANDLE, WORD, WORD, BUFFER],
+    "counts_of_messages": [HANDLE, WORD, BUFFER],
+    "entries": [HANDLE, WORD, BUFFER],
+    "entry_at": [HANDLE, WORD, WORD, BUFFER],
+    "check_new": [HANDLE],
+    "check_begin": [HANDLE, WORD, WORD],
+    "check_entry": [HANDLE, BUFFER],
+    "check_verdict": [HANDLE, BUFFER],
+    "check_free": [HANDLE],
+}
+
+
+class Words(Dict[int, c_uint64]):
+    """Numbers as the library takes them, the small ones made once: to make one costs more than to find it."""
+
+    def __missing__(self, number: int) -> c_uint64:
+        if not 0 <= number < 1 << 64:
+            raise OverflowError(f"a number is from 0 to 2^64 - 1, and not {number}")
+        return c_uint64(number)
+
+
+WORDS = Words((number, c_uint64(number)) for number in range(1024))
+
+
+class Library:
+    """The functions of the shared object, by their names without `lockup_`, each declared when it is first asked for."""
+
+    def __init__(self, path: str) -> None:
+        self.path = path
+        # one that holds the interpreter during a call, which costs less, and lets no two threads into it
+        self.loaded = ctypes.PyDLL(path)
+        # an access is asked for most: its numbers are WORDS, which aren't converted again
+        self.issue_words = self.loaded["lockup_issue"]
+        self.issue_words.restype = c_uint32
+
+    def __getattr__(self, name: str) -> Callable[..., int]:
+        if name not in PROTOTYPES:
+            raise AttributeError(name)
+        function = self.loaded[f"lockup_{name}"]
+        function.argtypes, function.restype = PROTOTYPES[name], c_uint32
+        setattr(self, name, function)
+        return function
+
+
+_opened: Optional[Library] = None
+
+
+def library() -> Library:
+    """Returns the shared object, loaded once."""
+    global _opened
+    if _opened is None:
+        try:
+            _opened = Library(found())
+        except OSError as error:
+            raise ImportError(f"{NAME} can't be loaded: {error}; LOCKUP_LIBRARY may name it") from None
+    return _opened

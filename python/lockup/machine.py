@@ -1,0 +1,275 @@
+"""A machine: a directory in slices, and cores with a private cache each."""
+import ctypes
+import struct
+from ctypes import c_uint64, c_void_p
+from types import TracebackType
+from typing import Iterator, Mapping, NoReturn, Optional, Sequence, Tuple, Type
+
+from .errors import OutOfRange, error_of
+from .library import WORDS, library
+from .names import Channel, CopyState, Delivered, Evicted, Misses, Policy
+from .values import (
+    ANSWERS, Copy, CoreCounts, Decision, Delivery, Directory, Entry, Issued, MessageCounts, Planned, Receipt,
+)
+
+FIELDS = "cores slices lines sets ways mshrs targets writebacks policy seed misses exclusive".split()
+# the words of the largest struct
+MOST_WORDS = 16
+_words = {count: struct.Struct(f"={count}Q").unpack_from for count in range(1, MOST_WORDS)}
+_three = _words[3]
+_new = tuple.__new__
+_NONE = WORDS[0]
+
+
+class Config:
+    """The configuration that a script has that says nothing, with other values for some fields.
+
+    The fields are those of `lockup_config`: cores, slices, lines, sets, ways, mshrs, targets, writebacks, policy, seed,
+    misses, exclusive.
+    """
+
+    def __init__(self, **fields: int) -> None:
+        self._values = (c_uint64 * len(FIELDS))()
+        library().defaults(ctypes.addressof(self._values))
+        for name, value in fields.items():
+            if name not in FIELDS:
+                raise TypeError(f"a machine has no {name}: {', '.join(FIELDS)}")
+            self._values[FIELDS.index(name)] = WORDS[int(value)]
+
+    def __getattr__(self, name: str) -> int:
+        if name not in FIELDS:
+            raise AttributeError(name)
+        return self._values[FIELDS.index(name)]
+
+    def __repr__(self) -> str:
+        return f"Config({', '.join(f'{name}={value}' for name, value in zip(FIELDS, self._values))})"
+
+    def script(self) -> str:
+        """Returns the lines of a script that configure the same machine."""
+        rows = [f"{name} {getattr(self, name)}" for name in FIELDS[:8]]
+        policy = Policy(self.policy).name.lower()
+        rows.append(f"policy {policy} {self.seed}" if self.policy == Policy.RANDOM else f"policy {policy}")
+        rows += [f"misses {Misses(self.misses).name.lower()}", f"exclusive {'on' if self.exclusive else 'off'}"]
+        return "".join(f"{row}\n" for row in rows)
+
+
+class Machine:
+    """A machine, step by step. Nothing happens by itself: each call makes one step, and the order is the caller's.
+
+    >>> with Machine(cores=2, exclusive=True, init={0: 5}) as machine:
+    ...     machine.load(0, tag=0, word=0)
+    ...     machine.settle()
+    ...     machine.hand(0)
+    <pending 0>
+    2
+    Receipt(number=0, tag=0, reply=5)
+
+    A call that can't be made raises an exception of `errors`, and has changed nothing. A machine is closed by `close`, at
+    the end of a `with`, or when it isn't used any more. It takes part in one call at a time: threads share none.
+    """
+
+    def __init__(self, config: Optional[Config] = None, init: Optional[Mapping[int, int]] = None,
+                 counters: Sequence[int] = (), **fields: int) -> None:
+        """Makes a machine of a configuration, or of some fields of one. `init` maps words to the values with which they
+        begin; `counters` are words that are never stored to."""
+        self._handle = c_void_p()
+        self._at = ctypes.byref(self._handle)
+        if config is not None and fields:
+            raise TypeError("a configuration, or fields of one")
+        self.config = config or Config(**fields)
+        self._buffer = (c_uint64 * MOST_WORDS)()
+        self._out = c_void_p(ctypes.addressof(self._buffer))
+        # what each access needs, found once
+        self._library = library()
+        self._issue = self._library.issue_words
+        self._address = c_void_p(ctypes.addressof(self._handle))
+        self._make(dict(init or {}), counters)
+
+    def _make(self, init: Mapping[int, int], counters: Sequence[int]) -> None:
+        pairs = [WORDS[it] for pair in sorted(init.items()) for it in pair]
+        # an array of none still has an address
+        first = (c_uint64 * max(len(pairs), 1))(*pairs)
+        second = (c_uint64 * max(len(counters), 1))(*(WORDS[it] for it in counters))
+        config, initial, counted = (ctypes.addressof(it) for it in (self.config._values, first, second))
+        code = self._library.make_with(self._at, config, initial, len(pairs) // 2, counted, len(counters))
+        if code:
+            raise error_of(code)
+
+    def close(self) -> None:
+        """Frees the machine. Every other call then raises NoMachine."""
+        if self._handle:
+            self._library.free(self._at)
+
+    def __enter__(self) -> "Machine":
+        return self
+
+    def __exit__(self, kind: Optional[Type[BaseException]], error: Optional[BaseException],
+                 trace: Optional[TracebackType]) -> None:
+        self.close()
+
+    def __del__(self) -> None:
+        if getattr(self, "_handle", None):
+            self.close()
+
+    def __copy__(self) -> NoReturn:
+        raise TypeError("a machine is never copied")
+
+    def __deepcopy__(self, memo: object) -> NoReturn:
+        raise TypeError("a machine is never copied")
+
+    def __reduce__(self) -> NoReturn:
+        raise TypeError("a machine is never copied")
+
+    def __repr__(self) -> str:
+        if not self._handle:
+            return "<lockup.Machine: closed>"
+        config = self.config
+        return f"<lockup.Machine: {config.cores} cores, {config.slices} slices of {config.lines // config.slices} lines>"
+
+    def _ask(self, name: str, count: int, *words: int) -> Tuple[int, ...]:
+        """Calls a function, and returns the words of its output."""
+        code = getattr(self._library, name)(self._at, *[WORDS[it] for it in words], self._out)
+        if code:
+            raise error_of(code)
+        return _words[count](self._buffer)
+
+    def _count(self, name: str, *words: int) -> int:
+        return self._ask(name, 1, *words)[0]
+
+    # ---- steps
+
+    def issue(self, core: int, tag: int, op: int, word: int, operand: int = 0, replacement: int = 0) -> Issued:
+        """The core asks for a word under a tag from 0 to 63 that it hasn't in use in the word's slice.
+
+        `operand` is what is stored or added, or what CAS expects; `replacement` is what CAS then writes.
+        """
+        code = self._issue(self._address, WORDS[core], WORDS[tag], WORDS[op], WORDS[word], WORDS[operand],
+                           WORDS[replacement], self._out)
+        if code:
+            raise error_of(code)
+        answer, number, reply = _three(self._buffer)
+        return _new(Issued, (ANSWERS[answer], number, reply))
+
+    def load(self, core: int, tag: int, word: int) -> Issued:
+        """The core asks for the value of a word."""
+        # as issue does, without a call in between: it is what is asked for most
+        code = self._issue(self._address, WORDS[core], WORDS[tag], _NONE, WORDS[word], _NONE, _NONE, self._out)
+        if code:
+            raise error_of(code)
+        answer, number, reply = _three(self._buffer)
+        return _new(Issued, (ANSWERS[answer], number, reply))
+
+    def store(self, core: int, tag: int, word: int, value: int) -> Issued:
+        """The core writes a word."""
+        return self.issue(core, tag, 1, word, value)
+
+    def add(self, core: int, tag: int, word: int, value: int) -> Issued:
+        """The core adds to a word, modulo 2^64."""
+        return self.issue(core, tag, 2, word, value)
+
+    def cas(self, core: int, tag: int, word: int, expected: int, new: int) -> Issued:
+        """The core writes a word where its value is the expected one."""
+        return self.issue(core, tag, 3, word, expected, new)
+
+    def evict(self, core: int, line: int) -> Evicted:
+        """The core evicts its copy of a line."""
+        return Evicted(self._count("evict", core, line))
+
+    def deliver(self, channel: int, line: int, core: int = 0, sender: int = 0) -> Delivered:
+        """Delivers the message in front of a channel: REQ from a core, FWD and DATA to it, ACK to it from a sender, HOME."""
+        return Delivered(self._count("deliver", channel, line, core, sender))
+
+    def deliver_next(self, slice: int = 0, channel: int = Channel.ANY) -> Delivery:
+        """Delivers the next message of a slice that can be moved. Lines are served in turn."""
+        return Delivery.of(self._ask("deliver_next", 5, slice, channel))
+
+    def settle(self) -> int:
+        """Delivers whatever can be moved, until nothing can. Returns how many messages were moved."""
+        moved, slices, still = 0, range(self.config.slices), True
+        while still:
+            still = False
+            for number in slices:
+                while self._ask("deliver_next", 5, number, Channel.ANY)[0] == Delivered.MOVED:
+                    moved, still = moved + 1, True
+        return moved
+
+    def hand(self, core: int, slice: int = 0) -> Optional[Receipt]:
+        """Hands out the core's next reply of a slice, or None where it has none."""
+        handed, *receipt = self._ask("hand", 4, core, slice)
+        return Receipt(*receipt) if handed else None
+
+    def replies(self, core: int, slice: int = 0) -> Iterator[Receipt]:
+        """Hands out the core's replies of a slice, one after another."""
+        while (receipt := self.hand(core, slice)) is not None:
+            yield receipt
+
+    # ---- what a step would do
+
+    def decide(self, core: int, tag: int, op: int, word: int, operand: int = 0, replacement: int = 0) -> Decision:
+        """Returns what `issue` would do."""
+        return Decision.of(self._ask("decide", 4, core, tag, op, word, operand, replacement))
+
+    def plan(self, channel: int, line: int, core: int = 0, sender: int = 0) -> Planned:
+        """Returns what `deliver` would do."""
+        return Planned.of(self._ask("plan", 4, channel, line, core, sender), channel)
+
+    def next(self, slice: int = 0, channel: int = Channel.ANY) -> Delivery:
+        """Returns what `deliver_next` would deliver."""
+        return Delivery.of(self._ask("next", 5, slice, channel))
+
+    # ---- what there is
+
+    def copy(self, core: int, line: int) -> Copy:
+        """Returns a core's copy of a line, also one that is being written back."""
+        return Copy.of(self._ask("copy_at", 11, core, line))
+
+    def state(self, core: int, line: int) -> CopyState:
+        """Returns the state of a core's copy."""
+        return CopyState(self._ask("copy_at", 11, core, line)[0])
+
+    def directory(self, line: int) -> Directory:
+        """Returns the directory's entry of a line."""
+        return Directory.of(self._ask("directory_at", 11, line))
+
+    @property
+    def quiet(self) -> bool:
+        """Whether no message waits, no register is held, no write-back is pending, and each reply was handed out."""
+        return bool(self._count("quiet"))
+
+    def word(self, word: int) -> Optional[int]:
+        """Returns the value of a word, or None where its slice isn't quiet."""
+        quiet, value = self._ask("word_at", 2, word)
+        return value if quiet else None
+
+    def counts(self, core: int, slice: int = 0) -> CoreCounts:
+        """Returns what a core has counted in a slice."""
+        return CoreCounts.of(self._ask("counts_of_core", 10, core, slice))
+
+    def message_counts(self, slice: int = 0) -> MessageCounts:
+        """Returns the messages that a slice has delivered."""
+        return MessageCounts(*self._ask("counts_of_messages", 5, slice))
+
+    def log(self, slice: int = 0) -> "Log":
+        """Returns what a slice has performed: a sequence that grows with it."""
+        return Log(self, slice)
+
+
+class Log(Sequence[Entry]):
+    """The log of a slice, in the order in which its accesses were performed."""
+
+    def __init__(self, machine: Machine, slice: int) -> None:
+        self._machine, self._slice = machine, slice
+
+    def __len__(self) -> int:
+        return self._machine._count("entries", self._slice)
+
+    def __getitem__(self, nth):  # type: ignore[no-untyped-def]
+        if isinstance(nth, slice):
+            return [self[it] for it in range(*nth.indices(len(self)))]
+        place = nth + len(self) if nth < 0 else nth
+        if place < 0:
+            raise OutOfRange(2, "out of range")
+        return Entry.of(self._machine._ask("entry_at", 9, self._slice, place))
+
+    def __repr__(self) -> str:
+        return f"<lockup.Log of slice {self._slice}: {len(self)} entries>"

@@ -1,0 +1,107 @@
+"""Runs what examples/cosim shows: a cache that agrees with the golden model over 100,000 calls, and
+the same with a planted bug, which is found at the first answer that differs. The counterexample is
+a script: played by the program its last answer is the golden model's, and it can be drawn.
+
+In SystemVerilog under Verilator (each of three wrong rows), in C++ (each of three bugs of its miss
+registers), and as a trace that is judged as it comes."""
+import os
+import re
+import sys
+import tempfile
+from pathlib import Path
+
+from harness import ROOT, Ran, each, lockup, needs, read, run, same, seconds, want
+from harness.library import shared
+
+FOLDER = ROOT / "examples/cosim"
+AGREE = "agree: 100000 calls\n"
+DIFFER = re.compile(r"differ at call (\d+): (.*)\n *golden model: answer (\d) reason (\d) reply (\d+)\n"
+                    r" *cache: *answer (\d) reason (\d) reply (\d+)\n *the calls that lead there: (.*)\n")
+
+
+def cosim(*words: str | Path) -> Ran:
+    return run([FOLDER / words[0], *words[1:]], env={**os.environ, "LOCKUP_LIBRARY": str(shared())})
+
+
+def answers_of(script: Path) -> list[str]:
+    ran = lockup("script", script)
+    same("status and error of the counterexample", (0, ""), (ran.status, ran.err))
+    return ran.out.splitlines()
+
+
+def golden_answer(command: str, answer: int, reason: int, reply: int) -> str:
+    """Returns what a script prints where the golden model answers so."""
+    verb = command.split()[0]
+    if verb == "issue":
+        return [f"done .* reply {reply}", "pending .*", f"stall {reason} .*", f"refused {reason} .*"][answer]
+    if verb == "evict":
+        return ["evicting", "not held", "busy", "buffer full"][answer]
+    if verb == "deliver":
+        return ["moved", "blocked", "nothing"][answer]
+    return f"receipt .* tag {reason} reply {reply}" if answer else "none"
+
+
+def judge_difference(ran: Ran, script: Path) -> None:
+    same("status and error", (1, ""), (ran.status, ran.err))
+    told = DIFFER.fullmatch(ran.out)
+    want(told, f"it says no difference: {ran.out}")
+    want(told.groups()[2:5] != told.groups()[5:8], "the two answers are the same")
+    command, golden = told[2], [int(it) for it in told.groups()[2:5]]
+    same("the last command", command, read(script).splitlines()[-1])
+    want(re.fullmatch(golden_answer(command, *golden), answers_of(script)[-1]), "the script's last answer is another")
+    chart = lockup("chart", script)
+    same("status and error of its chart", (0, ""), (chart.status, chart.err))
+    want(chart.out.startswith("sequenceDiagram\n"), "it has no chart")
+
+
+def needs_verilator() -> None:
+    shared()
+    needs("verilator", "c++", "make")
+
+
+@seconds(60)
+def test_systemverilog() -> None:
+    needs_verilator()
+    same("status and output", (0, AGREE), cosim("systemverilog")[:2])
+
+
+@seconds(60)
+@each(lambda: "123")
+def test_wrong_row(row: str) -> None:
+    needs_verilator()
+    with tempfile.TemporaryDirectory() as room:
+        script = Path(room, "counterexample.txt")
+        judge_difference(cosim("systemverilog", row, f"+script={script}"), script)
+
+
+@seconds(10)
+def test_cpp() -> None:
+    shared()
+    needs("c++")
+    same("status, output and error", (0, AGREE, ""), tuple(cosim("cpp")))
+
+
+@seconds(10)
+@each(lambda: "123")
+def test_wrong_registers(bug: str) -> None:
+    shared()
+    needs("c++")
+    with tempfile.TemporaryDirectory() as room:
+        script = Path(room, "counterexample.txt")
+        judge_difference(cosim("cpp", bug, "100000", "1", script), script)
+
+
+def judged(trace: str) -> Ran:
+    environment = {**os.environ, "LOCKUP_LIBRARY": str(shared())}
+    return run([sys.executable, FOLDER / "judge_trace.py"], trace, env=environment)
+
+
+@each(lambda: ["agrees", "lost update"])
+def test_trace(name: str) -> None:
+    """The verdict is that of `lockup check`, and a wrong trace is read no further."""
+    words = ["--lost-update"] * (name == "lost update")
+    trace = run([sys.executable, FOLDER / "toy_simulator.py", *words]).out
+    wanted, ran = lockup("check", "-", text=trace), judged(trace)
+    same("status", wanted.status, ran.status)
+    want(ran.out.startswith(wanted.out.rstrip("\n")), f"check says {wanted.out}, the judge {ran.out}")
+    same("it is as planted", int(bool(words)), ran.status)

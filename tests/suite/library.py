@@ -1,0 +1,546 @@
+"""The C library, and what stands on it.
+
+- The first page of lockup.h compiles with one command, over the archive alone, as C and as C++.
+- Each example script is played through C calls (tests/harness/player.c) to the answers that stand
+  beside it, which were worked out by hand; 100,000 random calls, with both miss files and with E, to
+  those of `lockup script`; valgrind finds no error, and two threads with a machine each the same.
+- With each allocation refused in turn the call says so once, and made again all goes on as before.
+- Each code is met, changes nothing, and leaves zeros; a configuration is refused for its first field.
+- The Python module: its own examples, errors, what it refuses, the judge of traces beside `check`,
+  and `pip install` without the network.
+- The prototypes of the Python module and of the SystemVerilog package are those of lockup.h, and so
+  are their numbers.
+"""
+import copy
+import ctypes
+import doctest
+import os
+import pickle
+import random
+import re
+import shutil
+import sys
+import tempfile
+from typing import Iterator
+
+from harness import (
+    ROOT, Ran, Skipped, each, each_refused, lockup, needs, read, run, same, seconds, want,
+)
+from harness.library import FIRST_SAYS, INCLUDE, archive, module, part_of, player, shared
+from harness.scripts import example, examples, is_trace
+
+FIRST = ROOT / "examples/library/first.c"
+CALLS = 100_000
+HEADER = INCLUDE / "lockup.h"
+
+
+def played(script: str, *words: str, under: tuple[str, ...] = ()) -> Ran:
+    """Plays a script through the C library."""
+    return run([*under, player(), *words], script)
+
+
+# ---- C
+
+@each(lambda: ["c", "c++"])
+def test_first_page(language: str) -> None:
+    """With the archive alone, and nothing else on the command."""
+    needs("cc")
+    with tempfile.TemporaryDirectory() as room:
+        words = ["cc", "-x", language, FIRST, "-x", "none", f"-I{INCLUDE}", archive(), "-o", f"{room}/first"]
+        made = run([*words, "-Wall", "-Wextra", "-Wpedantic", "-Werror"])
+        same("the compiler", (0, "", ""), tuple(made))
+        same("output", (0, FIRST_SAYS, ""), tuple(run([f"{room}/first"])))
+
+
+def without_show(script: str) -> str:
+    """Returns a script without the commands that the player doesn't know."""
+    return "".join(f"{row}\n" for row in script.split("\n") if not row.startswith(("show", "waiting")))
+
+
+def scripts() -> list[str]:
+    return [name for name in examples() if not is_trace(example(name))]
+
+
+@each(scripts)
+def test_worked(name: str) -> None:
+    script = example(name)
+    wanted = read(ROOT / f"examples/{name}.out")
+    if script != without_show(script):
+        script = without_show(script)
+        wanted = lockup("script", "-", text=script).out
+    same("answers", (0, wanted, ""), tuple(played(script)))
+
+
+def access_of(draw: random.Random, words: int) -> str:
+    kind = draw.choice(("load", "store", "add", "cas"))
+    numbers = {"load": 0, "cas": 2}.get(kind, 1)
+    word = draw.randrange(words) if draw.randrange(50) else words + draw.randrange(9)
+    return " ".join([kind, str(word), *(str(draw.randrange(4)) for _ in range(numbers))])
+
+
+def command_of(draw: random.Random, cores: int, slices: int, lines: int) -> str:
+    core, other, line = draw.randrange(cores), draw.randrange(cores), draw.randrange(lines)
+    kinds = {
+        f"issue {core} {draw.choice((*range(12), 63, 64, 255))} {access_of(draw, lines * 8)}": 20,
+        f"deliver {draw.choice(('req', 'fwd', 'data'))} {line} {core}": 50,
+        f"deliver ack {line} {core} {other}": 8,
+        f"deliver home {line}": 4,
+        f"pump {draw.randrange(1, 2 * slices + 1)}": 2,
+        f"hand {core} {draw.randrange(slices)}": 12,
+        f"evict {core} {line}": 4,
+        f"word {draw.randrange(lines * 8)}": 2,
+        f"state {line}": 2,
+        "stats": 1,
+    }
+    return draw.choices([*kinds], [*kinds.values()])[0]
+
+
+def random_script(seed: int, count: int) -> str:
+    """Returns random commands; odd seeds have an inverted file, every second two of them E."""
+    draw = random.Random(seed)
+    cores, slices, lines = draw.choice((2, 3, 4)), draw.choice((1, 2, 4)), 4
+    rows = [f"cores {cores}", f"slices {slices}", f"lines {lines}", "sets 1", f"ways {draw.choice((1, 2))}",
+            f"mshrs {draw.choice((1, 2))}", "targets 2", "writebacks 1", f"misses {('explicit', 'inverted')[seed % 2]}",
+            f"policy {draw.choice(('lru', 'fifo', 'random 5'))}", f"exclusive {('off', 'on')[seed // 2 % 2]}",
+            "init 3 9", f"init 17 {(1 << 64) - 1}", "counter 8"]
+    rows += [command_of(draw, cores, slices, lines) for _ in range(count)]
+    return "".join(f"{row}\n" for row in [*rows, *(f"log {it}" for it in range(slices))])
+
+
+@seconds(30)
+@each(lambda: [(f"seed {seed}", seed) for seed in range(4)])
+def test_random_calls(_: str, seed: int) -> None:
+    script = random_script(seed, CALLS // 4)
+    ran = played(script)
+    same("answers", tuple(lockup("script", "-", text=script)), tuple(ran))
+    # enough came of them
+    for answer in ("done", "pending", "stall", "moved", "blocked", "receipt", "refused 3", "left"):
+        want(len(re.findall(f"^{answer}", ran.out, re.M)) > 5, f"few answers are {answer}")
+
+
+@seconds(5)
+def test_two_threads() -> None:
+    script = random_script(5, 20_000)
+    same("answers", tuple(played(script)), tuple(played(script, "2")))
+
+
+@seconds(30)
+def test_valgrind() -> None:
+    needs("valgrind")
+    script = random_script(6, 3_000)
+    valgrind = ("valgrind", "-q", "--error-exitcode=9", "--leak-check=full", "--show-leak-kinds=all",
+                "--main-stacksize=16777216")
+    same("answers under valgrind", tuple(lockup("script", "-", text=script)), tuple(played(script, under=valgrind)))
+
+
+@seconds(20)
+@each(lambda: [("explicit", 8), ("inverted", 9)])
+def test_refused_allocations(_: str, seed: int) -> None:
+    """The player makes a call once more that lacked memory: nothing else may differ. A call may do without an
+    allocation."""
+    script, wanted, told = random_script(seed, 400), None, 0
+    for refused, ran in each_refused([player()], script):
+        wanted = wanted if refused else ran.out
+        told += ran.err == "no memory 1\n"
+        same(f"with allocation {refused} refused", (0, wanted), (ran.status, ran.out))
+        want(ran.err in ("", "no memory 1\n"), f"with allocation {refused} refused: {ran.err}")
+    want(told > 5, f"{told} calls lacked memory")
+
+
+# ---- codes
+
+class Raw:
+    """The functions of the shared object, on a handle and a buffer of its own."""
+
+    def __init__(self) -> None:
+        module()
+        self.functions = part_of("library").library()
+        self.handle, self.buffer = ctypes.c_void_p(), (ctypes.c_uint64 * 16)()
+
+    def __call__(self, name: str, *words: int, out: int = 0) -> tuple[int, list[int]]:
+        """Calls a function whose output has `out` words. Returns its code and these."""
+        for place in range(16):
+            self.buffer[place] = 77
+        buffer = [ctypes.addressof(self.buffer)] * (out > 0)
+        code = getattr(self.functions, name)(ctypes.byref(self.handle), *words, *buffer)
+        want(all(it == 77 for it in self.buffer[out:]), f"{name} writes behind its {out} words")
+        return code, list(self.buffer[:out])
+
+    def make(self, **fields: int) -> int:
+        config = module().Config(**fields)
+        return self("make", ctypes.addressof(config._values))[0]
+
+
+OK, NO_MACHINE, OUT_OF_RANGE, NO_MEMORY, IN_USE = range(5)
+# each function with a handle: words that are right on a machine of 2 cores, 1 slice and 16 lines, and of its output
+FUNCTIONS = {
+    "issue": ([0, 0, 0, 0, 0, 0], 3), "evict": ([0, 0], 1), "deliver": ([0, 0, 0, 0], 1), "deliver_next": ([0, 5], 5),
+    "hand": ([0, 0], 4), "decide": ([0, 0, 0, 0, 0, 0], 4), "plan": ([0, 0, 0, 0], 4), "next": ([0, 5], 5),
+    "copy_at": ([0, 0], 11), "directory_at": ([0], 11), "quiet": ([], 1),
+    "word_at": ([0], 2), "counts_of_core": ([0, 0], 10), "counts_of_messages": ([0], 5), "entries": ([0], 1),
+    "entry_at": ([0, 0], 9),
+}
+# words that are out of range: the function, the place of the word, and the least that is
+PAST = [
+    ("issue", 0, 2), ("issue", 1, 256), ("issue", 2, 4), ("evict", 0, 2), ("evict", 1, 16), ("deliver", 0, 5),
+    ("deliver", 1, 16), ("deliver", 2, 2), ("deliver_next", 0, 1), ("deliver_next", 1, 6), ("hand", 0, 2), ("hand", 1, 1),
+    ("decide", 0, 2), ("decide", 1, 256), ("decide", 2, 4), ("plan", 0, 5), ("plan", 1, 16), ("plan", 2, 2),
+    ("next", 0, 1), ("next", 1, 6), ("copy_at", 0, 2), ("copy_at", 1, 16), ("directory_at", 0, 16),
+    ("word_at", 0, 128), ("counts_of_core", 0, 2), ("counts_of_core", 1, 1), ("counts_of_messages", 0, 1),
+    ("entries", 0, 1), ("entry_at", 0, 1), ("entry_at", 1, 1),
+]
+
+
+def seen(raw: Raw) -> list:
+    """Returns what can be seen of a machine of 2 cores."""
+    looks = [("entries", 0), ("entry_at", 0, 0), ("copy_at", 1, 0), ("next", 0, 5), ("counts_of_core", 0, 0), ("counts_of_messages", 0), ("copy_at", 0, 0), ("directory_at", 0), ("quiet",)]
+    return [raw(name, *words, out=FUNCTIONS[name][1]) for name, *words in looks]
+
+
+def test_no_machine() -> None:
+    raw = Raw()
+    for name, (words, out) in FUNCTIONS.items():
+        same(name, (NO_MACHINE, [0] * out), raw(name, *words, out=out))
+    same("free", (NO_MACHINE, []), raw("free"))
+    same("the handle", None, raw.handle.value)
+
+
+def test_out_of_range() -> None:
+    """.. on a machine with one access that waits, and with 2^64 - 1 too."""
+    raw = Raw()
+    same("make", OK, raw.make())
+    same("an access", (OK, [1, 0, 0]), raw("issue", 0, 0, 2, 0, 5, 0, out=3))
+    same("its data", OK, raw("deliver", 0, 0, 0, 0, out=1)[0])
+    same("performed", OK, raw("deliver", 2, 0, 0, 0, out=1)[0])
+    same("another access", (OK, [1, 1, 0]), raw("issue", 0, 1, 0, 8, 0, 0, out=3))
+    before = seen(raw)
+    for name, place, least in PAST:
+        words, out = FUNCTIONS[name]
+        for number in (least, (1 << 64) - 1):
+            changed = [*words[:place], number, *words[place + 1:]]
+            same(f"{name} {changed}", (OUT_OF_RANGE, [0] * out), raw(name, *changed, out=out))
+    for words in ([3, 0, 0, 2], [3, 0, 2, 0]):
+        same(f"an acknowledgement {words}", (OUT_OF_RANGE, [0]), raw("deliver", *words, out=1))
+    same("what is seen afterwards", before, seen(raw))
+    same("free", (OK, []), raw("free"))
+
+
+def test_in_use() -> None:
+    raw = Raw()
+    same("make", OK, raw.make(cores=3))
+    held = raw.handle.value
+    same("make again", IN_USE, raw.make(cores=5))
+    same("the handle", held, raw.handle.value)
+    same("core 2 is there", OK, raw("copy_at", 2, 0, out=11)[0])
+    same("core 3 isn't", OUT_OF_RANGE, raw("copy_at", 3, 0, out=11)[0])
+    same("free", (OK, []), raw("free"))
+    same("the handle is empty", None, raw.handle.value)
+    same("made anew", OK, raw.make())
+    raw("free")
+
+
+# fields that aren't allowed, the first of which is told, as docs/TEXTS.md has them
+NOT_ALLOWED = [
+    ({"cores": 0}, 101), ({"cores": 65}, 101), ({"slices": 3}, 102), ({"slices": 0}, 102), ({"lines": 0}, 103),
+    ({"lines": 65537}, 103), ({"lines": 3, "slices": 2}, 103), ({"sets": 3}, 104), ({"sets": 512}, 104),
+    ({"ways": 0}, 105), ({"ways": 17}, 105), ({"mshrs": 0}, 106), ({"mshrs": 33}, 106), ({"targets": 33}, 107),
+    ({"writebacks": 0}, 108), ({"writebacks": 17}, 108), ({"cores": 0, "ways": 0}, 101), ({"ways": 0, "mshrs": 0}, 105),
+    ({"policy": 3}, 2), ({"misses": 2}, 2), ({"exclusive": 2}, 2), ({"cores": (1 << 64) - 1}, 101),
+    ({"sets": (1 << 32) + 1}, 104),
+]
+
+
+def test_configurations() -> None:
+    raw = Raw()
+    for fields, code in NOT_ALLOWED:
+        same(f"{fields}", (code, None), (raw.make(**fields), raw.handle.value))
+    for fields in ({"cores": 64, "lines": 65536, "slices": 4, "sets": 256, "ways": 16}, {"cores": 1, "lines": 1}):
+        same(f"{fields}", OK, raw.make(**fields))
+        raw("free")
+
+
+def made_with(raw: Raw, pairs: list[int], counters: list[int]) -> int:
+    config = module().Config()
+    initial = (ctypes.c_uint64 * max(len(pairs), 1))(*pairs)
+    counted = (ctypes.c_uint64 * max(len(counters), 1))(*counters)
+    words = (ctypes.addressof(config._values), ctypes.addressof(initial), len(pairs) // 2, ctypes.addressof(counted),
+             len(counters))
+    return raw("make_with", *words)[0]
+
+
+def test_lists() -> None:
+    """Words that begin with values, and counters: ascending, and of the memory."""
+    raw = Raw()
+    for pairs, counters, code in (([128, 1], [], 109), ([3, 1, 3, 2], [], 109), ([4, 1, 3, 1], [], 109), ([], [128], 110),
+                                  ([], [5, 5], 110), ([], [*range(9)], 110), ([128, 0], [128], 109)):
+        same(f"{pairs} {counters}", (code, None), (made_with(raw, pairs, counters), raw.handle.value))
+    same("allowed", OK, made_with(raw, [0, 7, 127, 9], [*range(0, 64, 8)]))
+    same("word 127", (OK, [1, 9]), raw("word_at", 127, out=2))
+    same("a store to a counter", (OK, [3, 4, 0]), raw("issue", 0, 0, 1, 8, 5, 0, out=3))
+    raw("free")
+
+
+def test_codes_of_the_judge() -> None:
+    raw = Raw()
+    same("no trace", (NO_MACHINE, [0, 0]), raw("check_verdict", out=2))
+    same("nothing to free", NO_MACHINE, raw("check_free")[0])
+    same("new", [OK, IN_USE], [raw("check_new")[0], raw("check_new")[0]])
+    same("a word past all", OUT_OF_RANGE, raw("check_begin", 524288, 0)[0])
+    same("ascending", [OK, OK, OUT_OF_RANGE], [raw("check_begin", it, 7)[0] for it in (0, 524287, 5)])
+    for place, least in ((0, 64), (2, 64), (3, 4), (4, 524288)):
+        entry = (ctypes.c_uint64 * 9)(*(least if it == place else 0 for it in range(9)))
+        same(f"word {place} of an entry", OUT_OF_RANGE, raw("check_entry", ctypes.addressof(entry))[0])
+    same("verdict", (OK, [0, 0]), raw("check_verdict", out=2))
+    entry = (ctypes.c_uint64 * 9)(0, 0, 0, 0, 0, 0, 0, 7, 0)
+    same("an entry", OK, raw("check_entry", ctypes.addressof(entry))[0])
+    same("verdict on it", (OK, [0, 1]), raw("check_verdict", out=2))
+    same("a beginning behind an entry", OUT_OF_RANGE, raw("check_begin", 524287, 0)[0])
+    same("free", [OK, None], [raw("check_free")[0], raw.handle.value])
+
+
+# ---- the judge of traces
+
+# traces and their verdicts, worked out by hand in docs/TEXTS.md
+TRACES = {
+    "legal": ([("init", 0, 7), ("entry", 0, 0, 0, "load", 0, 7, 0), ("entry", 1, 0, 0, "cas", 0, 7, 9, 7, 0)], "legal", 2),
+    "reply": ([("entry", 0, 0, 0, "add", 0, 5, 0, 0), ("entry", 0, 1, 0, "load", 0, 6, 1)], "reply", 1),
+    "order": ([("entry", 0, 1, 0, "load", 0, 0, 0), ("entry", 0, 0, 1, "load", 0, 0, 0)], "order", 1),
+    "since": ([("entry", 0, 0, 0, "load", 0, 0, 1)], "since", 0),
+}
+OPERANDS = {"load": 0, "store": 1, "add": 1, "cas": 2}
+
+
+def verdict_of(rows: list[tuple]) -> tuple[str, int]:
+    """Gives the judge these rows of a trace."""
+    library, init = module(), {it[1]: it[2] for it in rows if it[0] == "init"}
+    with library.Judge(init=init) as judge:
+        for _, core, seq, tag, name, word, *rest in (it for it in rows if it[0] == "entry"):
+            count = OPERANDS[name]
+            operand, replacement = (*rest[:count], 0, 0)[:2]
+            reply, since = rest[count:]
+            judge.add(core, seq, library.Op[name.upper()], word, operand, replacement, reply, tag, since)
+        return judge.verdict.verdict.name.lower(), judge.verdict.entry
+
+
+@each(lambda: TRACES)
+def test_judge(name: str) -> None:
+    rows, verdict, entry = TRACES[name]
+    same("verdict", (verdict, entry), verdict_of(rows))
+
+
+def spoiled_log(seed: int) -> str:
+    """Returns what `lockup script` logs of random commands, with one number changed."""
+    trace = lockup("script", "-", text=random_script(seed, 2_000)).out.partition("lockup-trace")[2]
+    rows = trace.partition("lockup-trace")[0].split("\n")[1:]
+    rows = [row for row in rows if row.startswith(("init", "entry"))]
+    draw = random.Random(seed)
+    if seed % 4:
+        place = draw.randrange(len(rows) // 2, len(rows))
+        words = rows[place].split()
+        at = draw.choice((2, len(words) - 2, len(words) - 1)) if words[0] == "entry" else 2
+        words[at] = str(int(words[at]) + draw.choice((1, 3)))
+        rows[place] = " ".join(words)
+    return "".join(f"{row}\n" for row in ["lockup-trace 2", *rows])
+
+
+@seconds(5)
+@each(lambda: [(f"seed {seed}", seed) for seed in range(12)])
+def test_judge_beside_check(_: str, seed: int) -> None:
+    trace = spoiled_log(seed)
+    told = re.match(r"legal (\d+) entries|illegal entry (\d+): (\w+)", lockup("check", "-", text=trace).out)
+    want(told, "check has no verdict")
+    rows = [tuple(int(it) if it.isdigit() else it for it in row.split()) for row in trace.split("\n")[1:-1]]
+    wanted = ("legal", int(told[1])) if told[1] else (told[3], int(told[2]))
+    same("verdict", wanted, verdict_of(rows))
+
+
+# ---- Python
+
+@each(lambda: ["machine", "judge"])
+def test_examples_of_the_module(part: str) -> None:
+    library = module()
+    tested = doctest.testmod(part_of(part), extraglobs={it: getattr(library, it) for it in library.__all__})
+    same("failed", 0, tested.failed)
+    want(tested.attempted, "it has no examples")
+
+
+def test_shown_python() -> None:
+    """What docs/LIBRARY.md shows prints what stands behind its prints."""
+    module()
+    blocks = re.findall(r"```python\n(.*?)```", read(ROOT / "docs/LIBRARY.md"), re.S)
+    same("blocks", 2, len(blocks))
+    for block in blocks:
+        wanted = "".join(f"{it}\n" for it in re.findall(r"^ *print\(.*\) +# (.*)$", block, re.M))
+        code = run([sys.executable, "-c", block], env={**os.environ, "PYTHONPATH": str(ROOT / "python")})
+        same("what it prints", (0, wanted, ""), tuple(code))
+
+
+def missed(ways: int, uses: bool) -> int:
+    """Returns the misses of examples/library/misses_against_ways.py, counted with lists: LRU where a use counts, else
+    FIFO."""
+    sets, count = [[] for _ in range(4)], 0
+    for line in random.Random(1).choices(range(256), [1 / (place + 1) for place in range(256)], k=2000):
+        held = sets[line % 4]
+        if line in held:
+            if uses:
+                held.append(held.pop(held.index(line)))
+            continue
+        count += 1
+        held.append(line)
+        if len(held) > ways:
+            held.pop(0)
+    return count
+
+
+@seconds(5)
+def test_misses_against_ways() -> None:
+    environment = {**os.environ, "LOCKUP_LIBRARY": str(shared()), "PYTHONPATH": str(ROOT / "python")}
+    ran = run([sys.executable, ROOT / "examples/library/misses_against_ways.py"], env=environment)
+    told = [[int(it) for it in re.findall(r"ways +(\d+)", part)] for part in re.split("^[A-Z]+\n", ran.out, flags=re.M)]
+    wanted = [[missed(ways, uses) for ways in (1, 2, 4, 8, 16)] for uses in (True, False)]
+    same("misses under LRU and FIFO", wanted, told[1:3])
+
+
+def test_errors_of_the_module() -> None:
+    library = module()
+    closed = library.Machine()
+    closed.close()
+    closed.close()
+    machine = library.Machine(cores=2)
+    cases = [
+        (lambda: closed.load(0, 0, 0), library.NoMachine, 1), (lambda: machine.load(2, 0, 0), library.OutOfRange, 2),
+        (lambda: machine.log()[0], IndexError, 2), (lambda: machine.log(1), None, None),
+        (lambda: library.Machine(ways=99), library.NotAllowed, 105),
+        (lambda: library.Machine(ways=99), ValueError, 105), (lambda: copy.copy(machine), TypeError, None),
+        (lambda: library.Machine(way=1), TypeError, None), (lambda: machine.load(1 << 64, 0, 0), OverflowError, None),
+        (lambda: machine.store(0, 0, 0, -1), OverflowError, None), (lambda: machine.evict(-1, 0), OverflowError, None),
+        (lambda: library.Machine(cores=-1), OverflowError, None), (lambda: pickle.dumps(machine), TypeError, None),
+    ]
+    for call, kind, code in cases:
+        raised = None
+        try:
+            call()
+        except Exception as error:
+            raised = error
+        want(isinstance(raised, kind) if kind else raised is None, f"{raised!r} isn't {kind}")
+        same("code", code, getattr(raised, "code", None))
+    same("field", "ways", raised_by(library))
+
+
+def raised_by(library) -> str:
+    try:
+        library.Machine(ways=0)
+    except library.NotAllowed as error:
+        return error.field
+    return "nothing"
+
+
+def test_texts_of_the_module() -> None:
+    library = module()
+    with library.Machine(cores=2) as machine:
+        said = [repr(machine.load(0, 0, 0)), repr(machine.store(0, 0, 0, 1)),
+                repr(machine.next()), repr(machine), repr(machine.log())]
+    said.append(repr(machine))
+    same("texts", ["<pending 0>", "<refused TAG_BUSY>", "<moved req 0 0>",
+                   "<lockup.Machine: 2 cores, 1 slices of 16 lines>",
+                   "<lockup.Log of slice 0: 0 entries>", "<lockup.Machine: closed>"], said)
+
+
+@seconds(20)
+def test_pip_install() -> None:
+    """Without the network, and with the shared object inside."""
+    library = shared()
+    if run([sys.executable, "-m", "pip", "--version"]).status:
+        raise Skipped("'pip' isn't there")
+    with tempfile.TemporaryDirectory() as room:
+        shutil.copytree(ROOT / "python", f"{room}/python", ignore=shutil.ignore_patterns("__pycache__"))
+        environment = {"PATH": os.environ["PATH"], "LOCKUP_LIBRARY": str(library), "HOME": room,
+                       "PIP_NO_INDEX": "1", "PIP_ROOT_USER_ACTION": "ignore", "PIP_DISABLE_PIP_VERSION_CHECK": "1"}
+        made = run([sys.executable, "-m", "pip", "install", "-q", "--target", f"{room}/to", f"{room}/python"],
+                   cwd=room, env=environment)
+        same("pip", (0, ""), (made.status, made.err))
+        code = ("import lockup\nwith lockup.Machine() as machine:\n    machine.add(0, 0, 0, 5)\n    machine.settle()\n"
+                "    print(machine.word(0), machine.hand(0).reply, machine.word(0))\n    print(lockup.__file__)")
+        ran = run([sys.executable, "-c", code], cwd=room, env={"PATH": environment["PATH"], "PYTHONPATH": f"{room}/to"})
+        same("output", (0, f"None 0 5\n{room}/to/lockup/__init__.py\n", ""), tuple(ran))
+
+
+# ---- what is written more than once
+
+def header_numbers() -> dict[str, int]:
+    """Returns the numbers that lockup.h names."""
+    found, text = {}, re.sub(r"/\*.*?\*/", "", read(HEADER), flags=re.S)
+    for body in re.findall(r"enum \{(.*?)\};", text, re.S):
+        found |= {name: int(number) for name, number in re.findall(r"(LOCKUP_\w+) = (\d+)", body)}
+    return found
+
+
+def systemverilog_numbers() -> Iterator[tuple[str, int]]:
+    text = re.sub(r"//.*", "", read(ROOT / "systemverilog/lockup_pkg.sv"))
+    for body in re.findall(r"typedef enum (?:int|longint) unsigned \{(.*?)\}", text, re.S):
+        number = -1
+        for name, given in re.findall(r"(LOCKUP_\w+)(?: = (\d+))?", body):
+            number = int(given) if given else number + 1
+            yield name, number
+
+
+def test_numbers_of_systemverilog() -> None:
+    same("numbers", header_numbers(), dict(systemverilog_numbers()))
+
+
+# where the module names a number otherwise than lockup.h
+RENAMED = {
+    "REFUSED_OUT_OF_RANGE": "NO_WORD",
+    "VERDICT_REPLY": "WRONG_REPLY", "VERDICT_ORDER": "WRONG_ORDER", "VERDICT_SINCE": "WRONG_SINCE",
+    **{f"DIRECTORYSTATE_{it}": f"DIR_{it}" for it in ("I", "S", "M", "S_D")},
+}
+
+
+def test_numbers_of_python() -> None:
+    library, numbers = module(), header_numbers()
+    kinds = [it for it in vars(library).values() if isinstance(it, type) and it.__module__ == "lockup.names"]
+    for kind in kinds:
+        for member in kind:
+            name = RENAMED.get(f"{kind.__name__.upper()}_{member.name}", member.name)
+            same(f"{kind.__name__}.{member.name}", numbers.get(f"LOCKUP_{name}"), int(member))
+    named = {f"LOCKUP_{RENAMED.get(f'{kind.__name__.upper()}_{it.name}', it.name)}" for kind in kinds for it in kind}
+    codes = re.compile(r"LOCKUP_(OK|NO_MACHINE|OUT_OF_RANGE|NO_MEMORY|IN_USE|CONFIG_\w+|NO_CORE)$")
+    same("numbers without a name in Python", [], [it for it in numbers if it not in named and not codes.match(it)])
+
+
+def header_functions() -> dict[str, list[str]]:
+    """Returns the functions of lockup.h, each with the kinds of its parameters: a handle, a number, an output."""
+    text = re.sub(r"/\*.*?\*/", "", read(HEADER), flags=re.S)
+    found = {}
+    for name, body in re.findall(r"uint32_t lockup_(\w+)\((.*?)\);", text, re.S):
+        rows = [" ".join(it.split()) for it in body.split(",")]
+        found[name] = [kind_of(it) for it in rows if it != "void"]
+    return found
+
+
+def kind_of(parameter: str) -> str:
+    if re.match(r"lockup_(machine|check) \*", parameter):
+        return "handle"
+    return "buffer" if "*" in parameter else "number"
+
+
+def test_functions_of_python() -> None:
+    module()
+    part = part_of("library")
+    kinds = {part.HANDLE: "handle", part.WORD: "number", ctypes.c_size_t: "number", part.BUFFER: "buffer"}
+    told = {name: [kinds[it] for it in takes] for name, takes in part.PROTOTYPES.items()}
+    same("functions", header_functions(), told)
+
+
+def test_functions_of_systemverilog() -> None:
+    text = " ".join(re.sub(r"//.*", "", read(ROOT / "systemverilog/lockup_pkg.sv")).split())
+    found = {}
+    for name, body in re.findall(r"function int unsigned lockup_(\w+)\((.*?)\);", text):
+        rows = [it.strip() for it in body.split(",") if it.strip()]
+        found[name] = ["handle" if "chandle" in it else "buffer" if it.startswith("output") or "[" in it else "number"
+                       for it in rows]
+    same("functions", header_functions(), found)
+    sizes = {name: int(size) for name, size in re.findall(r"output longint unsigned (\w+)\[(\d+)\]", text)}
+    want(sizes["issued"] == 3 and sizes["performed"] == 9, f"sizes of outputs: {sizes}")
+
+

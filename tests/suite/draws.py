@@ -1,4 +1,4 @@
-"""Draws what a seed draws anew, by the generator xoshiro256++ written here, and compares it with
+"""Draws what a seed draws anew, by the generator of tests/harness/generator.py, and compares it with
 what the program does.
 
 - A walk: each call of the script that `lockup walk FILE --seed N --script` prints is that of the
@@ -18,41 +18,13 @@ from pathlib import Path
 from typing import Iterator
 
 from harness import ROOT, Ran, each, lockup, read, same, seconds, want, write
+from harness.generator import MASK, Generator
 
 FOLDER = ROOT / "examples/litmus"
 PROGRAMS = ROOT / "examples/programs"
-MASK = (1 << 64) - 1
 SEEDS = (0, 10, (1 << 32) + 10, MASK)
 ACCESSES = ("load", "store", "add", "cas")
 WORDS = 8
-
-
-class Generator:
-    """xoshiro256++ of Blackman and Vigna, with a state that SplitMix64 makes of a number."""
-
-    def __init__(self, seed: int) -> None:
-        self.state = []
-        for _ in range(4):
-            seed = (seed + 0x9E3779B97F4A7C15) & MASK
-            mixed = ((seed ^ (seed >> 30)) * 0xBF58476D1CE4E5B9) & MASK
-            mixed = ((mixed ^ (mixed >> 27)) * 0x94D049BB133111EB) & MASK
-            self.state.append(mixed ^ (mixed >> 31))
-
-    @staticmethod
-    def rotated(word: int, places: int) -> int:
-        return ((word << places) | (word >> (64 - places))) & MASK
-
-    def word(self) -> int:
-        s = self.state
-        drawn = (self.rotated((s[0] + s[3]) & MASK, 23) + s[0]) & MASK
-        shifted = (s[1] << 17) & MASK
-        s[2] ^= s[0]
-        s[3] ^= s[1]
-        s[1] ^= s[2]
-        s[0] ^= s[3]
-        s[2] ^= shifted
-        s[3] = self.rotated(s[3], 45)
-        return drawn
 
 
 class Thread:

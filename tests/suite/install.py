@@ -1,7 +1,9 @@
 """What tools/install and tools/release put where: an installed program is found by name through a
 link, man pages and completions have each subcommand and option of the program's help, and the
 program of the archive runs in an empty root with a C library alone (where the test may change its
-root)."""
+root). With the library a first program is compiled over the archive, by pkg-config and with the
+shared object, the Python module finds it without being told where it is, and the C++ example runs
+from its place; without it install says so, and release refuses."""
 import hashlib
 import os
 import re
@@ -13,6 +15,7 @@ from pathlib import Path
 from typing import Iterator
 
 from harness import ROOT, is_sanitized, lockup, needs, program, read, run, same, seconds
+from harness.library import FIRST_SAYS, archive, shared
 
 FIRST_ADD = "examples/first_add"
 COMPLETIONS = ("bash-completion/completions/lockup", "zsh/site-functions/_lockup",
@@ -29,10 +32,51 @@ def tree() -> Iterator[tuple[Path, Path]]:
         for path in ROOT.iterdir():
             if path.is_file():
                 shutil.copy(path, top)
-        for name in ("tools", "docs", "examples"):
+        for name in ("tools", "docs", "examples", "include", "python", "systemverilog"):
             shutil.copytree(ROOT / name, top / name)
         shutil.copy(program(), top / "crates/lockup/out/lockup")
         yield top, Path(room)
+
+
+def put_library(top: Path) -> None:
+    """Puts the library where tools/library would build it."""
+    (top / "crates/lockup_c/out").mkdir(parents=True)
+    for path in (archive(), shared()):
+        shutil.copy(path, top / "crates/lockup_c/out")
+
+
+FIRST = "share/doc/lockup/examples/library/first.c"
+# how first.c is compiled in an installed prefix, and what is said to the loader
+COMPILED = {
+    "archive": ("cc {first} -I{prefix}/include {prefix}/lib/liblockup.a", {}),
+    "pkg-config": ("cc {first} $(pkg-config --cflags --libs lockup)", {"LD_LIBRARY_PATH": "{prefix}/lib"}),
+    "c++": ("c++ -x c++ {first} -x none -I{prefix}/include {prefix}/lib/liblockup.a", {}),
+}
+
+
+def check_library(prefix: Path, room: Path) -> None:
+    """Uses an installed library in each of its ways, by a path without blanks."""
+    with tempfile.TemporaryDirectory() as plain:
+        Path(plain, "prefix").symlink_to(prefix)
+        use_library(Path(plain, "prefix"), room)
+
+
+def use_library(prefix: Path, room: Path) -> None:
+    plain = {key: value for key, value in os.environ.items() if key != "LOCKUP_LIBRARY"}
+    for name, (command, told) in COMPILED.items():
+        words = command.format(first=prefix / FIRST, prefix=prefix)
+        environment = {**plain, "PKG_CONFIG_PATH": f"{prefix}/lib/pkgconfig"}
+        if name != "pkg-config" or shutil.which("pkg-config"):
+            same(name, (0, "", ""), tuple(run(["bash", "-c", f"{words} -o first"], cwd=room, env=environment)))
+            loader = {key: value.format(prefix=prefix) for key, value in told.items()}
+            ran = run(["./first"], cwd=room, env={**plain, **loader})
+            same(f"first.c by {name}", (0, FIRST_SAYS, ""), tuple(ran))
+    code = "import lockup; m = lockup.Machine(); m.add(0, 0, 0, 5); m.settle(); print(m.hand(0).reply, m.load(0, 0, 0))"
+    ran = run(["python3", "-c", code], env={**plain, "PYTHONPATH": f"{prefix}/share/lockup/python"})
+    same("the Python module", (0, "0 <done 1 reply 5>\n", ""), tuple(ran))
+    ran = run([prefix / "share/doc/lockup/examples/cosim/cpp", "0", "1000"], env=plain)
+    same("the C++ example", (0, "agree: 1000 calls\n", ""), tuple(ran))
+    same("the imports", True, (prefix / "share/lockup/systemverilog/lockup_pkg.sv").is_file())
 
 
 def options_of(command: str) -> list[str]:
@@ -92,12 +136,24 @@ def test_install() -> None:
         words = ["/usr/bin/env", f"PATH={room / 'links'}", "lockup", "script", "first_add.txt"]
         ran = run(words, cwd=ROOT / "examples")
         same("by name through a link", (0, read(ROOT / f"{FIRST_ADD}.out")), (ran.status, ran.out))
+        same("without the library", False, (room / "a prefix/include").exists())
+
+
+@seconds(20)
+def test_install_library() -> None:
+    needs("cc", "c++")
+    with tree() as (top, room):
+        put_library(top)
+        ran = run([top / "tools/install", "--prefix", room / "a_prefix"])
+        same("install", (0, 1), (ran.status, ran.err.count("\n")))
+        check_library(room / "a_prefix", room)
 
 
 @seconds(10)
 def test_release() -> None:
-    needs("rt")
+    needs("rt", "cc", "c++")
     with tree() as (top, room):
+        put_library(top)
         ran = run([top / "tools/release", room / "dist"])
         same("release", 0, ran.status)
         archive = Path(ran.err.split("\n")[-2])
@@ -107,6 +163,7 @@ def test_release() -> None:
             it.extractall(room / "unpacked", filter="data")
         unpacked = next((room / "unpacked").iterdir())
         check_tree(unpacked)
+        check_library(unpacked, room)
         kit = run(["rt", "version"]).out.split("\n")[0]
         same("RELEASE has the kit's line", True, kit in read(unpacked / "RELEASE"))
         # AddressSanitizer wants to read its own program in /proc
@@ -120,3 +177,10 @@ def test_nothing_to_install() -> None:
         same("install", 1, run([top / "tools/install", "--prefix", room / "a prefix"]).status)
         if shutil.which("rt"):
             same("release", 1, run([top / "tools/release", room / "dist"]).status)
+
+
+def test_no_library_to_release() -> None:
+    needs("rt")
+    with tree() as (top, room):
+        ran = run([top / "tools/release", room / "dist"])
+        same("release", (1, True), (ran.status, "tools/library" in ran.err))

@@ -2,10 +2,12 @@
 ample memory and then once with each of the allocations refused in turn. core_tester says what came
 of it: the machine can't be built; or a request was refused memory, or a thread couldn't be started,
 and what was left is done again; or the audit wanted memory, gave the cores back, and was made
-again; or it did without. In each case but the first the sums are right at the end."""
+again; or it did without. In each case but the first the sums are right at the end. Then it does the
+same with ample memory, and with each of its threads refused in turn."""
+import tempfile
 from collections import Counter
 
-from harness import Different, each_refused, same, seconds, tester
+from harness import Different, each_refused, preloaded, read, run, same, seconds, tester
 
 ROW = "two threads in want of memory"
 CAME = {
@@ -43,3 +45,18 @@ def test_refused() -> None:
         if all(came[what] >= least for what, least in LEAST.items()):
             return
     raise Different(f"some of {LEAST} weren't met: {dict(came)}")
+
+
+# the jobs are run twice, first with nothing to do, each time in two threads beside one that moves messages
+THREADS = 6
+
+
+def test_refused_threads() -> None:
+    with tempfile.TemporaryDirectory() as room:
+        told = f"{room}/told"
+        for refused in range(THREADS + 1):
+            ran = run([tester("core_tester"), "memory"], env=preloaded("started_threads", REFUSED=refused, TOLD=told))
+            came = "a thread isn't started\n" if refused else ""
+            same(f"with thread {refused} refused", (0, f"{came}{ROW}: as wanted\n"), (ran.status, ran.out))
+            if refused == 0:
+                same("threads", THREADS, len(read(told)))

@@ -1,11 +1,12 @@
 """Watches a long run as somebody at a terminal does: standard error is a pseudo-terminal, which is
 told how far it is.
 
-Behind each 500 rounds but the last stands how many of them are done, on one line. Where nobody
-watches nothing is said.
+Behind each 500 rounds but the last stands how many of them are done, on one line, and behind each
+batch of rows but the last how many rows are. Where nobody watches nothing is said.
 """
 import os
 import pty
+import re
 import subprocess
 import tempfile
 
@@ -39,4 +40,17 @@ def test_rounds(verb: str) -> None:
         test = str(write(f"{room}/test", TEST))
         same("watched", (0, TOLD), watched(verb, test))
         alone = lockup(verb, test)
+        same("unwatched", (0, ""), (alone.status, alone.err))
+
+
+def test_rows() -> None:
+    with tempfile.TemporaryDirectory() as room:
+        text = str(write(f"{room}/text", "core 0\nload 0\n"))
+        words = ("run", text, "--seeds", "1..2000", "--csv")
+        status, told = watched(*words)
+        done = [int(count) for count in re.findall(rb"(\d+) of 2000 rows\r", told)]
+        same("status", 0, status)
+        same("told", b"".join(b"%d of 2000 rows\r" % count for count in done), told)
+        same("ascending, below all", sorted(set(done) & set(range(1, 2000))), done)
+        alone = lockup(*words)
         same("unwatched", (0, ""), (alone.status, alone.err))

@@ -1,0 +1,110 @@
+"""Runs sweeps: each row has the numbers that `lockup run --json` prints of the run of the text with
+the row's settings and seed, the rows stand in their order, and what can't be run is refused. And
+generates each workload: `lockup run` takes it."""
+import csv
+import io
+import itertools
+import json
+import tempfile
+
+from harness import each, lockup, same, want, write
+
+TEXT = "# two cores, one line\n\ncores 2\nways 1\n\ncore 0\nrepeat 4\nadd 0 1\nload 8..40\nend\ncore 1\nrepeat 4\nadd 1 1\nend\n"
+BEFORE = "# two cores, one line\n\ncores 2\nways 1\n\n"
+SIZES = {"matmul": 6, "histogram": 9, "ring": 20, "lock": 5, "chase": 33, "uniform": 40, "zipf": 40, "stencil": 7}
+REFUSED = {
+    "--set walls=1": "--set walls: there is no such setting",
+    "--set ways": "--set ways: not NAME=VALUE,VALUE..",
+    "--set ways=": "--set ways=: not NAME=VALUE,VALUE..",
+    "--set ways=1,two": "--set ways: two is none of its values",
+    "--set ways=1,": "--set ways:  is none of its values",
+    "--set ways=1 --set ways=2": "--set ways: given twice",
+    "--set counter=8": "--set counter: its lines add up, so none replaces another",
+    "--set mshrs=1 --set ways=1,17 --seeds 3..4": "mshrs=1 ways=17 seed 3: config 5 Ways",
+    "--set cores=1": "cores=1 seed 1: line 11: out of range",
+    "--seeds 5..1": "--seeds 5..1: runs backwards",
+    "--seeds x": "--seeds x: not FIRST..LAST",
+    "--seeds 1..1000001": "more than 1000000 rows",
+}
+
+
+def with_settings(settings: dict[str, str]) -> str:
+    return BEFORE + "".join(f"{name} {value}\n" for name, value in settings.items()) + TEXT[len(BEFORE):]
+
+
+def rows_of(text: str, *words: str) -> list[dict[str, str]]:
+    ran = lockup("run", text, *words)
+    same("status and error", (0, ""), (ran.status, ran.err))
+    return list(csv.DictReader(io.StringIO(ran.out)))
+
+
+def test_rows() -> None:
+    with tempfile.TemporaryDirectory() as room:
+        text = str(write(f"{room}/text", TEXT))
+        words = ("--set", "ways=1,2", "--set", "policy=lru,random 7", "--seeds", "3..5")
+        rows = rows_of(text, *words, "--csv")
+        combinations = list(itertools.product(["1", "2"], ["lru", "random 7"], ["3", "4", "5"]))
+        same("order", combinations, [(row["ways"], row["policy"], row["seed"]) for row in rows])
+        listed = json.loads(lockup("run", text, *words, "--json").out)
+        same("rows of JSON", len(rows), len(listed))
+        for row, other in zip(rows, listed):
+            settings = {name: row[name] for name in ("ways", "policy")}
+            alone = str(write(f"{room}/alone", with_settings(settings)))
+            report = json.loads(lockup("run", alone, "--seed", row["seed"], "--json").out)["all"]
+            counts = {name: int(row[name]) for name in report}
+            same(f"row {settings} {row['seed']}", report, counts)
+            same("columns", [*settings, "seed", *report], list(row))
+            same("row of JSON", {"ways": int(row["ways"]), "policy": row["policy"], "seed": int(row["seed"]), **report}, other)
+
+
+def test_rows_by_hand() -> None:
+    # One core loads a word twice: a cold miss and a hit, with one request and one block.
+    with tempfile.TemporaryDirectory() as room:
+        text = str(write(f"{room}/text", "core 0\nload 0\nload 0\n"))
+        ran = lockup("run", text, "--set", "ways=2,1", "--seeds", "7..8")
+        head = "ways,seed,requests,hits,misses,cold,replaced,upgrade,true,false,evict,req,fwd,data,ack,home\n"
+        rows = "".join(f"{ways},{seed},2,1,1,1,0,0,0,0,0,1,0,1,0,0\n" for ways in (2, 1) for seed in (7, 8))
+        same("rows", (0, "", head + rows), (ran.status, ran.err, ran.out))
+        ran = lockup("run", text, "--csv")
+        same("one row", head.removeprefix("ways,") + "1,2,1,1,1,0,0,0,0,0,1,0,1,0,0\n", ran.out)
+
+
+@each(lambda: list(REFUSED))
+def test_refused(words: str) -> None:
+    with tempfile.TemporaryDirectory() as room:
+        text = str(write(f"{room}/text", TEXT))
+        ran = lockup("run", text, *words.split())
+        same("status and error", (2, f"lockup: {REFUSED[words]}\n"), (ran.status, ran.err))
+
+
+@each(lambda: list(SIZES))
+def test_workload(name: str) -> None:
+    with tempfile.TemporaryDirectory() as room:
+        words = ("generate", name, "--cores", "3", "--size", str(SIZES[name]), "--seed", "5")
+        made = lockup(*words)
+        same("status and error", (0, ""), (made.status, made.err))
+        same("again", made.out, lockup(*words).out)
+        ran = lockup("run", str(write(f"{room}/text", made.out)), "--json")
+        same("status and error of the run", (0, ""), (ran.status, ran.err))
+        want(json.loads(ran.out)["all"]["requests"] > 0, "no access")
+
+
+def test_workloads_by_hand() -> None:
+    machine = "cores 1\nlines 2\nsets 16\nways 4\ncore 0\n"
+    lock = "repeat 2\n  cas 0 0 1\n  load 8\n  store 8 0\n  store 0 0\nend\n"
+    same("lock", machine + lock, lockup("generate", "lock", "--cores", "1", "--size", "2").out)
+    row = "load 0..1\nload 8\nload 10\nload 16\nstore 16 1\n"
+    matmul = lockup("generate", "matmul", "--cores", "1", "--size", "2").out
+    want(matmul.startswith("cores 1\nlines 3\nsets 16\nways 4\ncore 0\n" + row), "matmul")
+
+
+def test_refused_workloads() -> None:
+    for words, told in {
+        "nothing": "no such workload (matmul, histogram, ring, lock, chase, uniform, zipf, stencil)",
+        "lock --cores 0": "--cores takes 1 to 64",
+        "lock --cores 65": "--cores takes 1 to 64",
+        "matmul --size 65": "--size takes 1 to 64 here",
+        "lock --cores 4 --size 1000000": "more than 1000000 accesses",
+    }.items():
+        ran = lockup("generate", *words.split())
+        same(words, (2, "", f"lockup: {told}\n"), (ran.status, ran.out, ran.err))

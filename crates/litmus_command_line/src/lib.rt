@@ -13,4 +13,5 @@ pub use table::Table;
 mod command_line;
 mod export;
 mod form;
+mod subcommands;
 mod table;

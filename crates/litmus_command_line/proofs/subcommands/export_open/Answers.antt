@@ -4,7 +4,7 @@ use Rattle.clap.specs.declared.builder.command.Command.TheViews.{out-Command as 
 use Rattle.clap.specs.Words.{app_of, new_app, rule_of, with_rule}
 use Rattle.clap.specs.declared.builder.value_parser.ValueParser.TheVariants as value_parsers
 use Rattle.litmus_command_line.specs.CommandLine.{cores_rule, form_rule}
-use Rattle.litmus_command_line.proofs.command_line.export_open.Goals as goal
+use Rattle.litmus_command_line.proofs.subcommands.export_open.Goals as goal
 
 pub returns-clause-reads : goal.returns-clause-reads
 returns-clause-reads c =

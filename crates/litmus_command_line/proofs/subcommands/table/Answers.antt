@@ -3,7 +3,7 @@ use Rattle.std.proofs.lemmas.Result.{IfOk-weaker}
 use Rattle.clap.specs.Words.{app_of, new_app, rule_of, with_rule}
 use Rattle.clap.specs.declared.builder.value_parser.ValueParser.TheVariants as value_parsers
 use Rattle.litmus_command_line.specs.CommandLine.{table_rule}
-use Rattle.litmus_command_line.proofs.command_line.table.Goals as goal
+use Rattle.litmus_command_line.proofs.subcommands.table.Goals as goal
 
 pub returns-clause-reads : goal.returns-clause-reads
 returns-clause-reads c =

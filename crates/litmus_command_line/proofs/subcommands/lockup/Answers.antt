@@ -1,7 +1,7 @@
 use Rattle.std.proofs.Common.{refl}
 use Rattle.std.proofs.lemmas.Result.{IfOk-weaker}
 use Rattle.litmus_command_line.proofs.BuiltLemmas.{with_export, with_known, with_table}
-use Rattle.litmus_command_line.proofs.command_line.lockup.Goals as goal
+use Rattle.litmus_command_line.proofs.subcommands.lockup.Goals as goal
 
 pub returns : goal.returns
 returns c =

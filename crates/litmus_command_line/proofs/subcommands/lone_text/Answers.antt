@@ -3,7 +3,7 @@ use Rattle.std.proofs.lemmas.Result.{IfOk-weaker}
 use Rattle.clap.specs.Words.{Rule}
 use Rattle.clap.specs.declared.builder.arg.Arg.{Arg}
 use Rattle.litmus_command_line.proofs.BuiltLemmas.{rule-conflicting}
-use Rattle.litmus_command_line.proofs.command_line.lone_text.Goals as goal
+use Rattle.litmus_command_line.proofs.subcommands.lone_text.Goals as goal
 
 pub returns-clause-rule : goal.returns-clause-rule
 returns-clause-rule c =

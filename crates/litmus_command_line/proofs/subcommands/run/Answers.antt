@@ -1,7 +1,7 @@
 use Rattle.std.proofs.Common.{◌∙◌, ◌||◌, ap₂}
 use Rattle.std.proofs.lemmas.Result.{IfOk-weaker}
 use Rattle.clap.specs.Words.{with_rule}
-use Rattle.litmus_command_line.proofs.command_line.run.Goals as goal
+use Rattle.litmus_command_line.proofs.subcommands.run.Goals as goal
 
 pub returns-clause-reads : goal.returns-clause-reads
 returns-clause-reads c =

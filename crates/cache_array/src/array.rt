@@ -33,6 +33,22 @@ impl<V, P> Model for CacheArray<V, P> {
         (record { sets = boxed_slice_items array.sets; policy = array.policy }) };
 }
 
+impl<V: Copy, P: Copy> CacheArray<V, P> {
+    /// The same sets, in memory of their own.
+    pub fn try_clone(&self, alloc: Global) -> Result<Self, AllocError>
+        ensures { IfOk result (λ copy. copy ≡ self.now) }
+    {
+        let mut sets = Vec::with_capacity(alloc, self.sets.len())?;
+        for index in 0..self.sets.len() {
+            sets.push(self.sets[index].try_clone(alloc)?)?;
+        }
+        Ok(CacheArray {
+            sets: sets.into_boxed_slice(),
+            policy: self.policy,
+        })
+    }
+}
+
 impl<V: Copy, P: Policy + Drop> CacheArray<V, P> {
     ghost use Rattle.cache_array.specs.Array.{set_index, slots_at, with_slots, lines_at, held_at, HasWay, empty_array};
     ghost use Rattle.cache_array.specs.Array.{IsArray, SetsOnly};

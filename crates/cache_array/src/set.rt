@@ -57,6 +57,20 @@ impl<V: Copy> Set<V> {
         Ok(Set { slots, ways })
     }
 
+    /// The same set, in memory of its own.
+    pub fn try_clone(&self, alloc: Global) -> Result<Self, AllocError>
+        ensures { IfOk result (λ copy. copy ≡ self.now) }
+    {
+        let mut slots = Vec::with_capacity(alloc, self.ways)?;
+        for way in 0..self.slots.len() {
+            slots.push_reserved(self.slots[way]);
+        }
+        Ok(Set {
+            slots,
+            ways: self.ways,
+        })
+    }
+
     /// Whether there is room for one more line.
     pub fn has_way(&self) -> bool
         ensures { IsTrue result ↔ (length self.now.slots < self.now.ways) }

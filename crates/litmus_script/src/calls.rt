@@ -16,7 +16,7 @@ use address_map::{Checked, CoreId, LineAddr, Request, SliceId, WordAddr};
 use litmus_text::TextFault;
 use mshr_file::MissFile;
 use slice_core::{Class, DeliveredNext, Evicted, Issue, LineView, Numbered, Refused, SliceState};
-use std::alloc::Global;
+use std::alloc::{AllocError, Global};
 
 pub(crate) fn build<F: MissFile>(
     alloc: Global,
@@ -30,6 +30,16 @@ pub(crate) fn build<F: MissFile>(
 {
     let state = SliceState::build(alloc, config, slice)?;
     Ok(state)
+}
+
+/// The same slice, in memory of its own.
+pub(crate) fn copied<F: MissFile>(
+    state: &SliceState<F>,
+    alloc: Global,
+) -> Result<SliceState<F>, AllocError>
+    ensures { IfOk result (λ copy. copy ≡ state.now) }
+{
+    state.try_clone(alloc)
 }
 
 /// An access of a core, and what became of it.

@@ -74,6 +74,24 @@ impl<F: MissFile> Machine<F> {
         })
     }
 
+    /// The same machine, in memory of its own.
+    pub fn try_clone(&self) -> Result<Self, AllocError>
+        ensures config { IfOk result (λ copy. copy.config ≡ self.now.config) }
+        ensures slices { IfOk result (λ copy. copy.slices.items ≡ self.now.slices.items) }
+    {
+        let alloc = self.alloc;
+        let config = self.config.try_clone(alloc)?;
+        let mut slices = Vec::with_capacity(alloc, self.slices.len())?;
+        for slice in 0..self.slices.len() {
+            slices.push(calls::copied(&self.slices[slice], alloc)?)?;
+        }
+        Ok(Machine {
+            config,
+            slices,
+            alloc,
+        })
+    }
+
     /// A word past the memory goes to slice 0, which refuses it.
     // Most commands are accesses: what became of one isn't put together where it is written at once.
     #[inline(always)]

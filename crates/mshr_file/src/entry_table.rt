@@ -53,6 +53,20 @@ impl EntryTable {
         }
     }
 
+    /// The same entries.
+    pub fn copy(&self) -> Self
+        requires { IsEntryTable self.now }
+        ensures kept { IsEntryTable result }
+        ensures same { waiting_in result ≡ waiting_in self.now }
+    {
+        let mut order = ArrayVec::new();
+        let _ = order.try_extend_from_slice(self.order.as_slice());
+        EntryTable {
+            entries: self.entries,
+            order,
+        }
+    }
+
     /// The entry with the tag.
     pub fn entry(&self, tag: u8) -> Option<&Waiting>
         requires { IsEntryTable self.now }

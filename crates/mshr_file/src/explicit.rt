@@ -43,6 +43,14 @@ impl MissFile for ExplicitFile {
         Ok(ExplicitFile { table, fields })
     }
 
+    fn try_clone(&self, alloc: Global) -> Result<Self, AllocError> {
+        let table = self.table.try_clone(alloc)?;
+        Ok(ExplicitFile {
+            table,
+            fields: self.fields,
+        })
+    }
+
     fn find(&self, line: Local) -> bool {
         self.table.find(line)
     }

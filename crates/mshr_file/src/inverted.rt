@@ -59,6 +59,14 @@ impl MissFile for InvertedFile {
         Ok(InvertedFile { table, lines: 0 })
     }
 
+    fn try_clone(&self, _alloc: Global) -> Result<Self, AllocError> {
+        let table = self.table.copy();
+        Ok(InvertedFile {
+            table,
+            lines: self.lines,
+        })
+    }
+
     fn find(&self, line: Local) -> bool {
         self.table.waits(line)
     }

@@ -25,6 +25,11 @@ pub trait MissFile: Sized + Drop {
         ensures empty { IfOk result (λ file. misses file ≡ []) }
         ensures bound { IfOk result (λ file. bound file ≡ bound_by config.now) };
 
+    /// The same misses, in memory of their own.
+    fn try_clone(&self, alloc: Global) -> Result<Self, AllocError>
+        ensures misses { IfOk result (λ copy. misses copy ≡ misses self.now) }
+        ensures bound { IfOk result (λ copy. bound copy ≡ bound self.now) };
+
     /// Whether there is a register for the line.
     fn find(&self, line: Local) -> bool
         ensures found { result ≡ has_miss (misses self.now) line.0 }

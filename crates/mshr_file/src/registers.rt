@@ -42,6 +42,20 @@ impl Register {
     }
 }
 
+/// The same line and targets.
+impl Clone for Register {
+    ghost use Rattle.std.specs.Prelude.{◌≡◌};
+
+    ghost is_clone = { λ register copy. copy ≡ register };
+
+    fn clone(&self) -> Result<Self, AllocError> {
+        Ok(Register {
+            targets: self.targets.clone()?,
+            line: self.line,
+        })
+    }
+}
+
 /// What a search reads of a register: its line, and how many targets it has.
 #[derive(Clone, Copy, Debug)]
 pub struct Row {
@@ -95,6 +109,21 @@ impl RegisterTable {
             rows,
             registers,
             open_count: 0,
+        })
+    }
+
+    /// The same registers, in memory of their own.
+    pub fn try_clone(&self, alloc: Global) -> Result<Self, AllocError>
+        requires { IsKept self.now }
+        ensures kept { IfOk result IsKept }
+        ensures same { IfOk result (λ copy. registers_in copy ≡ registers_in self.now) }
+    {
+        let rows = Vec::from_slice(alloc, self.rows.as_slice())?;
+        let registers = Vec::from_clones(alloc, self.registers.as_slice())?;
+        Ok(RegisterTable {
+            rows: rows.into_boxed_slice(),
+            registers: registers.into_boxed_slice(),
+            open_count: self.open_count,
         })
     }
 

@@ -98,6 +98,18 @@ impl Stats {
         })
     }
 
+    /// The same counts, in memory of their own.
+    pub fn try_clone(&self, alloc: Global) -> Result<Self, AllocError>
+        ensures { IfOk result (λ copy. copy ≡ self.now) }
+    {
+        let cores = Vec::from_slice(alloc, self.cores.as_slice())?;
+        Ok(Stats {
+            cores: cores.into_boxed_slice(),
+            messages: self.messages,
+            exclusive: self.exclusive,
+        })
+    }
+
     /// The counts of each core.
     pub fn cores(&self) -> &[CoreStats]
         ensures { result.now ≡ self.now.cores }

@@ -65,6 +65,15 @@ impl<F: MissFile> SliceState<F> {
         })
     }
 
+    /// The same slice, in memory of its own.
+    pub fn try_clone(&self, alloc: Global) -> Result<Self, AllocError>
+        ensures { IfOk result (λ copy. copy ≡ self.now) }
+    {
+        Ok(SliceState {
+            parts: self.parts.try_clone(alloc)?,
+        })
+    }
+
     /// Accepts a request of a core, or says why not. A request that hits is performed and handed out by this answer;
     /// one that misses becomes a target, and waits for messages to be delivered. The log grows first, so that no other
     /// call takes memory.

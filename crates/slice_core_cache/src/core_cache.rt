@@ -80,6 +80,23 @@ impl<F: MissFile> CoreCache<F> {
         })
     }
 
+    /// The same cache, in memory of its own.
+    pub fn try_clone(&self, alloc: Global) -> Result<Self, AllocError>
+        ensures { IfOk result (λ copy. copy ≡ self.now) }
+    {
+        let array = self.array.try_clone(alloc)?;
+        let file = self.file.try_clone(alloc)?;
+        let generator = self.generator.clone()?;
+        Ok(CoreCache {
+            array,
+            file,
+            buffer: self.buffer.copy(),
+            tags: self.tags.copy(),
+            generator,
+            accepted: self.accepted,
+        })
+    }
+
     /// How many requests of the core were accepted.
     pub fn accepted(&self) -> u64
         ensures { result ≡ self.now.accepted }

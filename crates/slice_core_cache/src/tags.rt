@@ -44,6 +44,16 @@ impl Tags {
         Tags { states, replies }
     }
 
+    /// The same tags.
+    pub fn copy(&self) -> Self
+        ensures { result ≡ self.now }
+    {
+        Tags {
+            states: self.states,
+            replies: self.replies,
+        }
+    }
+
     pub fn get(&self, tag: u8) -> TagState
         requires { tag < 64 }
         ensures { result ≡ tag_in self.now tag }

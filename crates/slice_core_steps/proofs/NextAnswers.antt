@@ -6,9 +6,8 @@ use Rattle.address_map.specs.declared.address.LineAddr.{LineAddr}
 use Rattle.address_map.specs.declared.address.Local.{Local}
 use Rattle.slice_answer.specs.declared.answer.Cell.{Cell}
 use Rattle.slice_answer.specs.declared.answer.Delivered.{Delivered}
-use Rattle.slice_answer.specs.declared.answer.Delivered.TheVariants as delivered
 use Rattle.slice_core_plan.specs.Next.{next_by, IsNextIn, IsNoBetter}
-use Rattle.slice_core_plan.specs.Calls.{PartsView, AfterDelivery, AfterPlan, IsDone, IsMove, IsNextPick, IsStuck}
+use Rattle.slice_core_plan.specs.Calls.{PartsView, AfterDelivery, AfterPlan, IsMove, IsNextPick, IsStuck}
 use Rattle.slice_core_plan.specs.Calls.{SomePlan}
 use Rattle.slice_core_plan.specs.Plan.{plan_of, planned_at}
 use Rattle.slice_core_plan.specs.Ring.{pick_of}
@@ -19,7 +18,6 @@ use Rattle.slice_queues_message.specs.Pick.{channel_of, pick_at}
 use Rattle.slice_queues_message.specs.declared.channel.Channel.{Channel}
 use Rattle.slice_queues_message.specs.declared.channel.Channel.TheVariants as channels
 use Rattle.slice_queues_message.specs.declared.channel.Class.{Class}
-use Rattle.slice_queues_message.specs.declared.channel.Pick.{Pick}
 use Rattle.slice_answer.specs.declared.answer.Delivery.TheVariants as deliveries
 use Rattle.slice_answer.specs.declared.answer.Delivery.{Delivery}
 use Rattle.slice_core_plan.specs.declared.transition.Transition.{Transition}

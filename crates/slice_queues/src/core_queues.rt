@@ -44,4 +44,16 @@ impl CoreQueues {
             forwarded: ForwardedQueue::Empty,
         }
     }
+
+    /// The same messages.
+    pub fn copy(&self) -> Self
+        ensures { result ≡ self.now }
+    {
+        CoreQueues {
+            acks: self.acks,
+            forwarded: self.forwarded,
+            request: self.request,
+            data_message: self.data_message,
+        }
+    }
 }

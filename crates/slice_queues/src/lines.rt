@@ -15,7 +15,7 @@ use std::boxed::BoxedSlice;
 use std::marker::Model;
 
 /// What a line has beside its cores' channels.
-#[derive(Drop)]
+#[derive(Clone, Copy)]
 pub struct LineHead {
     // What says whether and where messages wait stands in front.
     pub mail: Mail,
@@ -137,6 +137,17 @@ fn push_blank(cores: &mut Vec<CoreQueues>, width: usize)
     }
 }
 
+// Adds the same cores' channels.
+fn copy_runs(from: &[CoreQueues], to: &mut Vec<CoreQueues>)
+    requires { length to.old.items + length from.now ≤ vec_capacity to.old }
+    ensures items { to.new.items ≡ to.old.items ++ from.now }
+    ensures capacity { vec_capacity to.new ≡ vec_capacity to.old }
+{
+    for place in 0..from.len() {
+        to.push_reserved(from[place].copy());
+    }
+}
+
 impl Lines {
     ghost use Rattle.slice_queues.specs.Line.{empty_line, has_mail, messages_at, HasRoom, SendsOnly, TakesOnly};
     ghost use Rattle.slice_queues.specs.Line.{TakesInvalidations, after_invalidating};
@@ -158,6 +169,21 @@ impl Lines {
             cores,
             width,
             waiting: 0,
+        })
+    }
+
+    /// The same messages, in memory of their own. Runs that no line has are not touched.
+    pub fn try_clone(&self, alloc: Global) -> Result<Self, AllocError>
+        ensures { IfOk result (λ copy. copy ≡ self.now) }
+    {
+        let heads = Vec::from_slice(alloc, self.heads.as_slice())?;
+        let mut cores = Vec::with_capacity(alloc, self.cores.capacity())?;
+        copy_runs(self.cores.as_slice(), &mut cores);
+        Ok(Lines {
+            heads: heads.into_boxed_slice(),
+            cores,
+            width: self.width,
+            waiting: self.waiting,
         })
     }
 

@@ -62,6 +62,19 @@ impl Queues {
         })
     }
 
+    /// The same channels and ring, in memory of their own.
+    pub fn try_clone(&self, alloc: Global) -> Result<Self, AllocError>
+        ensures { IfOk result (λ copy. copy ≡ self.now) }
+    {
+        let lines = self.lines.try_clone(alloc)?;
+        let ring = self.ring.try_clone(alloc)?;
+        Ok(Queues {
+            lines,
+            ring,
+            locator: self.locator,
+        })
+    }
+
     /// How many lines the slice has.
     pub fn lines(&self) -> usize
         ensures { result ≡ length self.now.channels.lines }

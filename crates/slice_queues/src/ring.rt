@@ -39,6 +39,19 @@ impl LineRing {
         })
     }
 
+    /// The same round, in memory of its own.
+    pub fn try_clone(&self, alloc: Global) -> Result<Self, AllocError>
+        ensures { IfOk result (λ copy. copy ≡ self.now) }
+    {
+        let mut order = HeapCircularBuffer::with_capacity(alloc, self.order.capacity())?;
+        let listed = Vec::from_slice(alloc, self.listed.as_slice())?;
+        copy_items(&self.order, &mut order);
+        Ok(LineRing {
+            order,
+            listed: listed.into_boxed_slice(),
+        })
+    }
+
     pub fn len(&self) -> usize
         ensures len { result ≡ length self.now.order }
         ensures order { IsOrder self.now.order self.now.lines }
@@ -89,4 +102,16 @@ impl LineRing {
             self.listed[first] = false;
         }
     }
+}
+
+// Fills an empty buffer of the same capacity with the same items.
+fn copy_items(from: &HeapCircularBuffer<usize>, to: &mut HeapCircularBuffer<usize>)
+    requires empty { to.old.items ≡ [] }
+    requires capacity { to.old.capacity ≡ from.now.capacity }
+    ensures { to.new ≡ from.now }
+{
+    let _ = from.len();
+    let (front, back) = from.as_slices();
+    let _ = to.fill_from_slice(front);
+    let _ = to.fill_from_slice(back);
 }

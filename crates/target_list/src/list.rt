@@ -5,6 +5,7 @@ ghost use Rattle.target_list.specs.Target.{is_load};
 
 use super::target::Target;
 use arrayvec::ArrayVec;
+use std::alloc::AllocError;
 use std::marker::Model;
 
 /// The most targets that a list holds: a core has 64 tags, and each names one access at a time.
@@ -139,6 +140,20 @@ impl TargetList {
             self.targets.clear();
             self.taken = 0;
         }
+    }
+}
+
+/// The same targets. It takes no memory.
+impl Clone for TargetList {
+    ghost use Rattle.std.specs.Prelude.{◌≡◌};
+
+    ghost is_clone = { λ list copy. copy ≡ list };
+
+    fn clone(&self) -> Result<Self, AllocError> {
+        Ok(TargetList {
+            targets: self.to_vec(),
+            taken: 0,
+        })
     }
 }
 

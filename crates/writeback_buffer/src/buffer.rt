@@ -42,6 +42,18 @@ impl WritebackBuffer {
         }
     }
 
+    /// The same write-backs. It takes no memory.
+    pub fn copy(&self) -> Self
+        ensures { result ≡ self.now }
+    {
+        let mut write_backs = ArrayVec::new();
+        let _ = write_backs.try_extend_from_slice(self.write_backs.as_slice());
+        WritebackBuffer {
+            write_backs,
+            capacity: self.capacity,
+        }
+    }
+
     /// What is held of a line. A line has one write-back at most.
     pub fn get(&self, line: Local) -> Option<&Leaving>
         ensures held { option_copied result ≡ held_at self.now.write_backs line.0 }

@@ -1,5 +1,5 @@
 ghost use Rattle.std.specs.Box.{boxed_slice_items};
-ghost use Rattle.std.specs.Prelude.{◌≡◌, ◌<◌, IfOk};
+ghost use Rattle.std.specs.Prelude.{◌≡◌, ◌<◌, IfOk, vec_capacity};
 ghost use Rattle.slice_core_plan.specs.Initial.{IsInitialBlock, AreInitialEntries, AreNewCaches};
 ghost use Rattle.slice_core_plan.specs.Calls.{PartsView, IsNew};
 
@@ -11,6 +11,7 @@ use directory_table::{DirEntry, DirState};
 use mshr_file::MissFile;
 use slice_answer::Stats;
 use slice_core_cache::CoreCache;
+use slice_log::Entry;
 use slice_queues::Queues;
 use std::alloc::{AllocError, Global};
 use std::boxed::BoxedSlice;
@@ -35,6 +36,57 @@ impl<F: MissFile> Parts<F> {
             exclusive: config.exclusive(),
         })
     }
+}
+
+impl<F: MissFile> Parts<F> {
+    /// The same slice, in memory of its own.
+    pub fn try_clone(&self, alloc: Global) -> Result<Self, AllocError>
+        ensures { IfOk result (λ copy. copy ≡ self.now) }
+    {
+        Ok(Parts {
+            entries: copied(alloc, &self.entries)?,
+            queues: self.queues.try_clone(alloc)?,
+            caches: copied_caches(alloc, &self.caches)?,
+            log: copied_log(alloc, &self.log)?,
+            stats: self.stats.try_clone(alloc)?,
+            init: copied(alloc, &self.init)?,
+            counters: copied(alloc, &self.counters)?,
+            lines: self.lines,
+            pending: self.pending,
+            exclusive: self.exclusive,
+        })
+    }
+}
+
+fn copied<T: Copy>(alloc: Global, items: &BoxedSlice<T>) -> Result<BoxedSlice<T>, AllocError>
+    ensures { IfOk result (λ copy. boxed_slice_items copy ≡ boxed_slice_items items.now) }
+{
+    BoxedSlice::from_slice(alloc, items.as_slice())
+}
+
+fn copied_caches<F: MissFile>(
+    alloc: Global,
+    caches: &BoxedSlice<CoreCache<F>>,
+) -> Result<BoxedSlice<CoreCache<F>>, AllocError>
+    ensures { IfOk result (λ copy. boxed_slice_items copy ≡ boxed_slice_items caches.now) }
+{
+    let mut all = Vec::with_capacity(alloc, caches.len())?;
+    for core in 0..caches.len() {
+        all.push(caches[core].try_clone(alloc)?)?;
+    }
+    Ok(all.into_boxed_slice())
+}
+
+// The same entries, with room for as many.
+fn copied_log(alloc: Global, log: &Vec<Entry>) -> Result<Vec<Entry>, AllocError>
+    ensures items { IfOk result (λ copy. copy.items ≡ log.now.items) }
+    ensures room { IfOk result (λ copy. vec_capacity copy ≡ vec_capacity log.now) }
+{
+    let mut copy = Vec::with_capacity(alloc, log.capacity())?;
+    for number in 0..log.len() {
+        copy.push_reserved(log[number]);
+    }
+    Ok(copy)
 }
 
 fn new_entries(

@@ -1,5 +1,5 @@
 -- How a check of a trace ends.
-use Rattle.std.specs.Prelude.{◌≡◌, ℕ, ◌++◌, ◌⊎◌, List, Option, codes, decimal}
+use Rattle.std.specs.Prelude.{◌≡◌, ℕ, ◌++◌, ◌⊎◌, Bool, true, false, List, Option, codes, decimal}
 use Rattle.std.specs.Io.KnownBytes.{Appends}
 use Rattle.std.specs.Str.Lines.{lines}
 use Rattle.litmus_script.specs.Play.{IsOfRun}
@@ -28,11 +28,22 @@ text_of_verdict (verdicts.Legal entries) = codes "legal " ++ (decimal entries ++
 text_of_verdict (verdicts.Illegal entry reason) =
     codes "illegal entry " ++ (decimal entry ++ (codes ": " ++ (text_of_reason reason ++ codes "\n")))
 
+-- .. and the value of JSON that does
+abbrev pub json_of_verdict : Verdict → List ℕ
+json_of_verdict (verdicts.Legal entries) = codes "{\"legal\":true,\"entries\":" ++ (decimal entries ++ codes "}\n")
+json_of_verdict (verdicts.Illegal entry reason) =
+    codes "{\"legal\":false,\"entry\":"
+    ++ (decimal entry ++ (codes ",\"reason\":\"" ++ (text_of_reason reason ++ codes "\"}\n")))
+
+abbrev pub told_of : Bool → Verdict → List ℕ
+told_of false verdict = text_of_verdict verdict
+told_of true verdict = json_of_verdict verdict
+
 -- the text is a trace, what it comes to is printed, and the status is that of it
-pub record IsChecked (text : List ℕ) (before after : Option (List ℕ)) (status : ℕ) : Type 0 where
+pub record IsChecked (text : List ℕ) (json : Bool) (before after : Option (List ℕ)) (status : ℕ) : Type 0 where
   pub verdict : Verdict
   pub judged : IsJudged text verdict
-  pub printed : Appends before after (text_of_verdict verdict)
+  pub printed : Appends before after (told_of json verdict)
   pub is : status ≡ status_of verdict
 
 -- Why a trace wasn't judged: there was no memory, its verdict couldn't be written, or the text is no trace. Then the

@@ -1,7 +1,8 @@
 ghost use Rattle.std.specs.Prelude.{◌≡◌, IfErr, IfOk, OnOk};
 ghost use Rattle.std.specs.Fmt.{WritesInCalls};
 ghost use Rattle.std.specs.Io.KnownBytes.{Appends};
-ghost use Rattle.litmus.specs.Check.{IsChecked, IsNotChecked, status_of, text_of_reason, text_of_verdict};
+ghost use Rattle.litmus.specs.Check.{IsChecked, IsNotChecked, json_of_verdict, status_of, text_of_reason};
+ghost use Rattle.litmus.specs.Check.{text_of_verdict, told_of};
 
 use litmus_script::TextWriter;
 use litmus_text::TextFault;
@@ -10,24 +11,54 @@ use std::fmt;
 use std::io::Write;
 use trace_check::{Reason, Verdict, check_trace};
 
-/// Judges a trace, and prints what it comes to. Returns the exit status.
-pub fn run_check<W: Write>(alloc: Global, input: &[u8], out: &mut W) -> Result<u8, TextFault>
-    ensures checked { IfOk result (IsChecked input.now (W.contents out.old) (W.contents out.new)) }
+/// Judges a trace, and prints what it comes to, as a line of text or as a value of JSON. Returns the exit status.
+pub fn run_check<W: Write>(
+    alloc: Global,
+    input: &[u8],
+    json: bool,
+    out: &mut W,
+) -> Result<u8, TextFault>
+    ensures checked { IfOk result (IsChecked input.now json (W.contents out.old) (W.contents out.new)) }
     ensures fault { IfErr result (IsNotChecked input.now) }
 {
     let verdict = check_trace(alloc, input)?;
-    print_verdict(verdict, out)?;
+    print_verdict(verdict, json, out)?;
     Ok(status_of(verdict))
 }
 
-fn print_verdict<W: Write>(verdict: Verdict, out: &mut W) -> Result<(), TextFault>
-    ensures printed { OnOk result (Appends (W.contents out.old) (W.contents out.new) (text_of_verdict verdict)) }
+fn print_verdict<W: Write>(verdict: Verdict, json: bool, out: &mut W) -> Result<(), TextFault>
+    ensures printed { OnOk result (Appends (W.contents out.old) (W.contents out.new) (told_of json verdict)) }
     ensures fault { IfErr result (λ fault. fault ≡ TextFault.CannotWrite) }
 {
     let mut answers = TextWriter { out };
-    match write_verdict(verdict, &mut answers) {
+    match write_told(verdict, json, &mut answers) {
         Ok(()) => Ok(()),
         Err(_) => Err(TextFault::CannotWrite),
+    }
+}
+
+fn write_told<W: fmt::Write>(verdict: Verdict, json: bool, out: &mut W) -> fmt::Result
+    ensures { OnOk result (WritesInCalls W.write_str_gives out.old (told_of json verdict) out.new) }
+{
+    if json {
+        write_json(verdict, out)
+    } else {
+        write_verdict(verdict, out)
+    }
+}
+
+fn write_json<W: fmt::Write>(verdict: Verdict, out: &mut W) -> fmt::Result
+    ensures { OnOk result (WritesInCalls W.write_str_gives out.old (json_of_verdict verdict) out.new) }
+{
+    match verdict {
+        Verdict::Legal(entries) => writeln!(out, "{{\"legal\":true,\"entries\":{entries}}}"),
+        Verdict::Illegal(entry, reason) => {
+            let word = word_of(reason);
+            writeln!(
+                out,
+                "{{\"legal\":false,\"entry\":{entry},\"reason\":\"{word}\"}}"
+            )
+        }
     }
 }
 

@@ -2,7 +2,7 @@
 //!
 //! - [`read_line`] reads what the program's own words ask for.
 //! - [`run_script`] runs a script, [`run_explained`] tells what happened behind each answer, [`run_beside`] prints each
-//!   answer beside its command, [`run_chart`] draws the run as a sequence diagram, [`run_svg`] one line of it over
+//!   answer beside its command, [`run_json`] each command as a value of JSON, [`run_chart`] draws the run as a sequence diagram, [`run_svg`] one line of it over
 //!   time, and [`run_page`] writes it as a page for a browser, [`run_waves`] as waves for a wave viewer. [`expected`]
 //!   tells what a line at fault was to say.
 //! - [`run_trace`] writes a model checker's trace as a script.
@@ -11,11 +11,11 @@
 //! - [`run_litmus`] runs a litmus test over threads, and [`run_walk`] on random schedules without any; each counts the
 //!   outcomes, and tells a [`Progress`] how far it is, which with [`Silent`] nobody sees. [`write_walk`] prints a round
 //!   of such a schedule as a script.
-//! - [`run_programs`] runs programs on a random schedule, and reports what each core and each line met. [`run_sweep`]
-//!   runs them once for each row of a [`Sweep`], side by side, and prints the rows. [`write_workload`] prints the
-//!   programs of a workload.
+//! - [`run_programs`] runs programs on a random schedule, and reports what each core and each line met.
+//!   [`write_schedule`] prints that schedule as a script. [`run_sweep`] runs them once for each row of a [`Sweep`], side
+//!   by side, and prints the rows. [`write_workload`] prints the programs of a workload.
 //! - [`check_trace`] judges a trace, and answers its [`Verdict`]; [`run_check`] writes what that comes to.
-//! - [`run_table`] prints a table of the protocol with its legend, and [`run_export`] the protocol of one line as a
+//! - [`run_table`] prints a table of the protocol with its legend, [`run_table_rows`] its rows as values of JSON, and [`run_export`] the protocol of one line as a
 //!   model.
 //!
 //! Running, drawing, reading and walking are crates of their own. What is wrong with a text, or why it can't be run or
@@ -32,16 +32,18 @@ pub use litmus_script::run_script;
 pub use litmus_test::{Progress, Silent};
 pub use litmus_text::TextFault;
 pub use murphi_trace::run_trace;
+pub use outcomes_json::OutcomeForm;
 pub use program_generate::{GenerateFault, Size, Workload, write_workload};
-pub use program_run::{Form, run_programs};
+pub use program_run::{Form, run_programs, write_schedule};
 pub use program_sweep::{RowFault, RowForm, Seeds, Sweep, SweepFault, run_sweep};
 pub use script_beside::run_beside;
 pub use script_explained::{expected, run_explained};
+pub use script_json::run_json;
 pub use script_page::run_page;
 pub use script_prompt::{Saver, run_prompt};
 pub use script_test::run_test;
 pub use script_waves::run_waves;
-pub use table::run_table;
+pub use table::{run_table, run_table_rows};
 pub use tests::{run_litmus, run_walk, write_walk};
 pub use trace_check::{Reason, Verdict, check_trace};
 

@@ -9,12 +9,13 @@ ghost use Rattle.std.specs.Io.KnownBytes.{Appends};
 use litmus_test::{LitmusTest, Progress};
 use litmus_text::TextFault;
 use litmus_threads::play_test;
+use outcomes_json::OutcomeForm;
 use std::alloc::Global;
 use std::io::Write;
 use std::sync::Wait;
 use std::thread::Threads;
 
-/// Runs a litmus test over threads, and prints the table of its outcomes, or which round was stuck. Returns the exit
+/// Runs a litmus test over threads, and prints its outcomes in this form, or which round was stuck. Returns the exit
 /// status.
 pub fn run_litmus<R: Threads + Wait + Sync, W: Write, P: Progress>(
     alloc: Global,
@@ -22,40 +23,42 @@ pub fn run_litmus<R: Threads + Wait + Sync, W: Write, P: Progress>(
     input: &[u8],
     seed: u64,
     limit: u64,
+    form: OutcomeForm,
     progress: &mut P,
     out: &mut W,
 ) -> Result<u8, TextFault>
     ensures done { IfOk result (λ status. IsOfTest input.now
-        (λ test. IsEndOf test (λ text. Appends (W.contents out.old) (W.contents out.new) text) status)) }
+        (λ test. IsEndOf test form (λ text. Appends (W.contents out.old) (W.contents out.new) text) status)) }
     ensures fault { IfErr result (IsTestNotRun input.now) }
 {
     let test = LitmusTest::read(alloc, input)?;
-    let ended = play_test(alloc, rt, &test, seed, limit, progress, out);
+    let ended = play_test(alloc, rt, &test, seed, limit, form, progress, out);
     // In one call: dropped where it is it would be taken apart, each part with a proof of its own.
     drop(test);
     ended
 }
 
-/// Runs a litmus test on random schedules, so many rounds or as many as it says, and prints their table with the
+/// Runs a litmus test on random schedules, so many rounds or as many as it says, and prints their outcomes with the
 /// seed of the first round that had each outcome, or which round was stuck. Returns the exit status.
 pub fn run_walk<W: Write, P: Progress>(
     alloc: Global,
     input: &[u8],
     rounds: Option<u64>,
     seed: u64,
+    form: OutcomeForm,
     progress: &mut P,
     out: &mut W,
 ) -> Result<u8, TextFault>
     ensures done { IfOk result (λ status. IsOfTest input.now (λ test.
-        PrintsRounds test (bound_of test.misses test.config) (unwrap_or rounds test.rounds) seed status
+        PrintsRounds test (bound_of test.misses test.config) form (unwrap_or rounds test.rounds) seed status
         (W.contents out.old) (W.contents out.new)
-        ⊎ PrintsStuck test (bound_of test.misses test.config) (unwrap_or rounds test.rounds) seed status
+        ⊎ PrintsStuck test (bound_of test.misses test.config) form (unwrap_or rounds test.rounds) seed status
         (W.contents out.old) (W.contents out.new))) }
     ensures fault { IfErr result (IsTestNotRun input.now) }
 {
     let test = LitmusTest::read(alloc, input)?;
     let rounds = rounds.unwrap_or(test.rounds);
-    let ended = litmus_rounds::run_walk(alloc, &test, rounds, seed, progress, out);
+    let ended = litmus_rounds::run_walk(alloc, &test, rounds, seed, form, progress, out);
     drop(test);
     ended
 }

@@ -47,7 +47,9 @@ answering_app =
 
 -- .. and with those that print something else in their place
 abbrev pub script_app : App
-script_app = with_rule (with_rule answering_app (lone_rule (codes "vcd"))) (lone_rule (codes "from-murphi"))
+script_app =
+    with_rule (with_rule (with_rule answering_app (lone_rule (codes "vcd"))) (lone_rule (codes "from-murphi")))
+    (lone_rule (codes "json"))
 
 -- the subcommand that answers a script's lines one by one, behind a text that may be left out
 abbrev pub try_app : App
@@ -87,17 +89,21 @@ number_rule_or name value = record (number_rule name) { defaults = value ∷ [] 
 abbrev pub litmus_app : App
 litmus_app =
     with_rule
+    (with_rule
     (with_rule (with_rule (new_app (codes "litmus")) file_rule) (number_rule_or (codes "seed") (codes "1")))
-    (number_rule_or (codes "limit") (codes "1000000"))
+    (number_rule_or (codes "limit") (codes "1000000")))
+    (flag_rule (codes "json"))
 
 -- the subcommand that runs one on random schedules
 abbrev pub walk_app : App
 walk_app =
     with_rule
     (with_rule
+    (with_rule
     (with_rule (with_rule (new_app (codes "walk")) file_rule) (positive_rule (codes "rounds")))
     (number_rule_or (codes "seed") (codes "1")))
-    (flag_rule (codes "script"))
+    (flag_rule (codes "script")))
+    (lone_rule (codes "json"))
 
 -- an option `--name` that takes a text
 abbrev pub text_rule : Text → Rule
@@ -120,12 +126,14 @@ reporting_app =
     (number_rule_or (codes "seed") (codes "1")))
     (flag_rule (codes "json"))
 
--- .. and with those of many
+-- .. and with those of many, and that of a script
 abbrev pub run_app : App
 run_app =
     with_rule
+    (with_rule
     (with_rule (with_rule reporting_app (settings_rule (codes "set"))) (lone_text_rule (codes "seeds")))
-    (lone_rule (codes "csv"))
+    (lone_rule (codes "csv")))
+    (lone_rule (codes "script"))
 
 -- the argument that names a workload, which has to be there
 abbrev pub name_rule : Rule
@@ -146,11 +154,14 @@ test_app = with_rule (new_app (codes "test")) file_rule
 
 -- the subcommand that judges a trace
 abbrev pub check_app : App
-check_app = with_rule (new_app (codes "check")) file_rule
+check_app = with_rule (with_rule (new_app (codes "check")) file_rule) (flag_rule (codes "json"))
 
 -- the subcommand that prints one of these tables
 abbrev pub table_app : Bor (List (Bor Text)) → App
-table_app names = with_rule (with_rule (new_app (codes "table")) (table_rule names)) (flag_rule (codes "exclusive"))
+table_app names =
+    with_rule
+    (with_rule (with_rule (new_app (codes "table")) (table_rule names)) (flag_rule (codes "exclusive")))
+    (flag_rule (codes "json"))
 
 -- the argument that is one of these forms, and the option that is one of these numbers: both have to be there
 abbrev pub form_rule : Bor (List (Bor Text)) → Rule
@@ -285,18 +296,19 @@ IsNumberIfGiven name rows None = first_of name rows ≡ None
 IsNumberIfGiven name rows (Some n) = IsNumberOf name rows n
 
 -- these options of `script` were given, and no other
-abbrev pub AreGiven : List Row → (echo explain beside vcd from_murphi : Bool) → Type 0
-AreGiven rows echo explain beside vcd from_murphi =
+abbrev pub AreGiven : List Row → (echo explain beside vcd from_murphi json : Bool) → Type 0
+AreGiven rows echo explain beside vcd from_murphi json =
     (echo ≡ is_given (codes "echo") rows) × (explain ≡ is_given (codes "explain") rows)
     × (beside ≡ is_given (codes "beside") rows) × (vcd ≡ is_given (codes "vcd") rows)
-    × (from_murphi ≡ is_given (codes "from-murphi") rows)
+    × (from_murphi ≡ is_given (codes "from-murphi") rows) × (json ≡ is_given (codes "json") rows)
 
 -- the options ask for this form, and none of them is left out of it
 abbrev pub IsFormOf : List Row → ScriptForm → Type 0
-IsFormOf rows (script_forms.Answers echo explain) = AreGiven rows echo explain false false false
-IsFormOf rows (script_forms.Beside explain) = AreGiven rows false explain true false false
-IsFormOf rows script_forms.Waves = AreGiven rows false false false true false
-IsFormOf rows script_forms.FromMurphi = AreGiven rows false false false false true
+IsFormOf rows (script_forms.Answers echo explain) = AreGiven rows echo explain false false false false
+IsFormOf rows (script_forms.Beside explain) = AreGiven rows false explain true false false false
+IsFormOf rows script_forms.Waves = AreGiven rows false false false true false false
+IsFormOf rows script_forms.Json = AreGiven rows false false false false false true
+IsFormOf rows script_forms.FromMurphi = AreGiven rows false false false false true false
 
 -- rows are asked for, and no report
 abbrev pub is_swept : List Row → Bool
@@ -313,17 +325,18 @@ IsLine name rows (command_lines.Chart file svg line) =
     (name ≡ codes "chart") × (first_of (codes "FILE") rows ≡ Some file.now)
     × (svg ≡ is_given (codes "svg") rows) × IsNumberIfGiven (codes "line") rows line
 IsLine name rows (command_lines.Page file) = (name ≡ codes "page") × (first_of (codes "FILE") rows ≡ Some file.now)
-IsLine name rows (command_lines.Litmus file seed limit) =
+IsLine name rows (command_lines.Litmus file seed limit json) =
     (name ≡ codes "litmus") × (first_of (codes "FILE") rows ≡ Some file.now)
     × IsNumberOf (codes "seed") rows seed × IsNumberOf (codes "limit") rows limit
-IsLine name rows (command_lines.Walk file rounds seed script) =
+    × (json ≡ is_given (codes "json") rows)
+IsLine name rows (command_lines.Walk file rounds seed script json) =
     (name ≡ codes "walk") × (first_of (codes "FILE") rows ≡ Some file.now)
     × IsNumberIfGiven (codes "rounds") rows rounds × IsNumberOf (codes "seed") rows seed
-    × (script ≡ is_given (codes "script") rows)
-IsLine name rows (command_lines.Run file outstanding seed json) =
+    × (script ≡ is_given (codes "script") rows) × (json ≡ is_given (codes "json") rows)
+IsLine name rows (command_lines.Run file outstanding seed json script) =
     (name ≡ codes "run") × (first_of (codes "FILE") rows ≡ Some file.now)
     × IsNumberIfGiven (codes "outstanding") rows outstanding × IsNumberOf (codes "seed") rows seed
-    × (json ≡ is_given (codes "json") rows) × (is_swept rows ≡ false)
+    × (json ≡ is_given (codes "json") rows) × (script ≡ is_given (codes "script") rows) × (is_swept rows ≡ false)
 IsLine name rows (command_lines.Sweep file outstanding seed seeds json) =
     (name ≡ codes "run") × (first_of (codes "FILE") rows ≡ Some file.now)
     × IsNumberIfGiven (codes "outstanding") rows outstanding × IsNumberOf (codes "seed") rows seed
@@ -333,10 +346,11 @@ IsLine name rows (command_lines.Generate workload cores size seed) =
     (name ≡ codes "generate") × (first_of (codes "NAME") rows ≡ Some workload.now)
     × IsNumberOf (codes "cores") rows cores × IsNumberOf (codes "size") rows size × IsNumberOf (codes "seed") rows seed
 IsLine name rows (command_lines.Test file) = (name ≡ codes "test") × (first_of (codes "FILE") rows ≡ Some file.now)
-IsLine name rows (command_lines.Check file) = (name ≡ codes "check") × (first_of (codes "FILE") rows ≡ Some file.now)
-IsLine name rows (command_lines.Table table exclusive) =
+IsLine name rows (command_lines.Check file json) =
+    (name ≡ codes "check") × (first_of (codes "FILE") rows ≡ Some file.now) × (json ≡ is_given (codes "json") rows)
+IsLine name rows (command_lines.Table table exclusive json) =
     (name ≡ codes "table") × (first_of (codes "TABLE") rows ≡ Some (word_of table))
-    × (exclusive ≡ is_given (codes "exclusive") rows)
+    × (exclusive ≡ is_given (codes "exclusive") rows) × (json ≡ is_given (codes "json") rows)
 IsLine name rows (command_lines.Export cores exclusive closed) =
     (name ≡ codes "export") × (first_of (codes "cores") rows ≡ Some (word_of_number cores))
     × (exclusive ≡ is_given (codes "exclusive") rows) × (closed ≡ is_given (codes "closed") rows)

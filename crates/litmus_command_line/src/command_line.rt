@@ -37,27 +37,32 @@ pub enum CommandLine<'a> {
         file: &'a str,
     },
     /// Run the litmus test in this file over threads. The seed is that of the cores' extra turns, and no run takes more
-    /// turns than `limit`.
+    /// turns than `limit`. With `json`, print its outcomes as a value of JSON.
     Litmus {
         file: &'a str,
         seed: u64,
         limit: u64,
+        json: bool,
     },
     /// Run the litmus test in this file on random schedules: so many rounds, or as many as it says, of which the first
-    /// has this seed. With `script`, print the round of this seed as a script.
+    /// has this seed. With `json`, print its outcomes as a value of JSON. With `script`, print the round of this seed as a
+    /// script.
     Walk {
         file: &'a str,
         rounds: Option<u64>,
         seed: u64,
         script: bool,
+        json: bool,
     },
     /// Run the programs in this file in the order that the seed draws, with so many accesses of a core under way, if a
-    /// number is given, and not as many as the text says. With `json`, report as a value of JSON.
+    /// number is given, and not as many as the text says. With `json`, report as a value of JSON. With `script`, print
+    /// what was asked of the machine as a script, and no report.
     Run {
         file: &'a str,
         outstanding: Option<u64>,
         seed: u64,
         json: bool,
+        script: bool,
     },
     /// Run the programs in this file once for each combination of the settings that `read_settings` reads, and for each
     /// of the seeds, or for the one seed where none are given. With `json`, print the rows as a value of JSON.
@@ -79,14 +84,17 @@ pub enum CommandLine<'a> {
     Test {
         file: &'a str,
     },
-    /// Judge the trace in this file.
+    /// Judge the trace in this file. With `json`, print the verdict as a value of JSON.
     Check {
         file: &'a str,
+        json: bool,
     },
-    /// Print a table of the protocol, with the exclusive state or without it.
+    /// Print a table of the protocol, with the exclusive state or without it. With `json`, print its rows as values of
+    /// JSON.
     Table {
         table: Table,
         exclusive: bool,
+        json: bool,
     },
     /// Print a line's protocol as a model of so many cores, with the exclusive state or without it, and what can be
     /// completed once no core asks any more, or not.
@@ -185,11 +193,13 @@ fn form_of(given: &ArgMatches<'_>) -> Option<ScriptForm>
     let beside = is_given(given, "beside");
     let vcd = is_given(given, "vcd");
     let from_murphi = is_given(given, "from-murphi");
-    match (echo, explain, beside, vcd, from_murphi) {
-        (_, _, false, false, false) => Some(ScriptForm::Answers { echo, explain }),
-        (false, _, true, false, false) => Some(ScriptForm::Beside { explain }),
-        (false, false, false, true, false) => Some(ScriptForm::Waves),
-        (false, false, false, false, true) => Some(ScriptForm::FromMurphi),
+    let json = is_given(given, "json");
+    match (echo, explain, beside, vcd, from_murphi, json) {
+        (_, _, false, false, false, false) => Some(ScriptForm::Answers { echo, explain }),
+        (false, _, true, false, false, false) => Some(ScriptForm::Beside { explain }),
+        (false, false, false, true, false, false) => Some(ScriptForm::Waves),
+        (false, false, false, false, true, false) => Some(ScriptForm::FromMurphi),
+        (false, false, false, false, false, true) => Some(ScriptForm::Json),
         _ => None,
     }
 }
@@ -223,7 +233,13 @@ fn litmus_line<'a>(given: &ArgMatches<'a>) -> Option<CommandLine<'a>>
     let file = file_of(given)?;
     let seed = number_of(given, "seed")?;
     let limit = number_of(given, "limit")?;
-    Some(CommandLine::Litmus { file, seed, limit })
+    let json = is_given(given, "json");
+    Some(CommandLine::Litmus {
+        file,
+        seed,
+        limit,
+        json,
+    })
 }
 
 fn walk_line<'a>(given: &ArgMatches<'a>) -> Option<CommandLine<'a>>
@@ -233,11 +249,13 @@ fn walk_line<'a>(given: &ArgMatches<'a>) -> Option<CommandLine<'a>>
     let rounds = number_if_given(given, "rounds")?;
     let seed = number_of(given, "seed")?;
     let script = is_given(given, "script");
+    let json = is_given(given, "json");
     Some(CommandLine::Walk {
         file,
         rounds,
         seed,
         script,
+        json,
     })
 }
 
@@ -249,11 +267,13 @@ fn run_line<'a>(given: &ArgMatches<'a>) -> Option<CommandLine<'a>>
     let seed = number_of(given, "seed")?;
     let json = is_given(given, "json");
     if !is_swept(given) {
+        let script = is_given(given, "script");
         return Some(CommandLine::Run {
             file,
             outstanding,
             seed,
             json,
+            script,
         });
     }
     let seeds = text_if_given(given, "seeds");
@@ -292,7 +312,8 @@ fn check_line<'a>(given: &ArgMatches<'a>) -> Option<CommandLine<'a>>
     ensures { IfSome result (IsLine (codes "check") (rows_of (found_of given.now))) }
 {
     let file = file_of(given)?;
-    Some(CommandLine::Check { file })
+    let json = is_given(given, "json");
+    Some(CommandLine::Check { file, json })
 }
 
 fn table_line<'a>(given: &ArgMatches<'a>) -> Option<CommandLine<'a>>
@@ -300,7 +321,12 @@ fn table_line<'a>(given: &ArgMatches<'a>) -> Option<CommandLine<'a>>
 {
     let table = table_of(given)?;
     let exclusive = is_given(given, "exclusive");
-    Some(CommandLine::Table { table, exclusive })
+    let json = is_given(given, "json");
+    Some(CommandLine::Table {
+        table,
+        exclusive,
+        json,
+    })
 }
 
 fn export_line<'a>(given: &ArgMatches<'a>) -> Option<CommandLine<'a>>

@@ -7,6 +7,8 @@ pub enum ScriptForm {
     Beside { explain: bool },
     /// Waves, and no answers.
     Waves,
+    /// Each command with its answer and what happened as a value of JSON.
+    Json,
     /// The file is a model checker's trace. It isn't run, but printed as a script.
     FromMurphi,
 }

@@ -80,6 +80,12 @@ fn script<'a>(alloc: Global) -> Result<Command<'a>, AllocError>
             "from-murphi",
             "FILE is a trace of the model: print it as a script",
             &["echo", "explain", "beside", "vcd"],
+        )?)?
+        .arg(lone_flag(
+            alloc,
+            "json",
+            "Print each command with its answer and what happened as a value of JSON",
+            &["echo", "explain", "beside", "vcd", "from-murphi"],
         )?)
 }
 
@@ -158,7 +164,8 @@ fn litmus<'a>(alloc: Global) -> Result<Command<'a>, AllocError>
             "Seeds the extra turns that a core makes before each step",
             "1",
         ))?
-        .arg(number_or(alloc, "limit", "How many turns a run may take", "1000000"))
+        .arg(number_or(alloc, "limit", "How many turns a run may take", "1000000"))?
+        .arg(flag(alloc, "json", "Print the outcomes as one value of JSON"))
 }
 
 fn walk<'a>(alloc: Global) -> Result<Command<'a>, AllocError>
@@ -180,7 +187,13 @@ fn walk<'a>(alloc: Global) -> Result<Command<'a>, AllocError>
             "The first round's seed; each later one's is one more",
             "1",
         ))?
-        .arg(flag(alloc, "script", "Print the round of this seed, as a script"))
+        .arg(flag(alloc, "script", "Print the round of this seed, as a script"))?
+        .arg(lone_flag(
+            alloc,
+            "json",
+            "Print the outcomes as one value of JSON",
+            &["script"],
+        )?)
 }
 
 fn run<'a>(alloc: Global) -> Result<Command<'a>, AllocError>
@@ -207,6 +220,12 @@ fn run<'a>(alloc: Global) -> Result<Command<'a>, AllocError>
             "csv",
             "Print a row of each run, and no report; so do --set and --seeds",
             &["json"],
+        )?)?
+        .arg(lone_flag(
+            alloc,
+            "script",
+            "Print what was asked of the machine, as a script, and no report",
+            &["json", "set", "seeds", "csv"],
         )?)
 }
 
@@ -272,7 +291,8 @@ fn check<'a>(alloc: Global) -> Result<Command<'a>, AllocError>
             "Judges a trace: whether its log is legal and ordered, or which entry is wrong, and why",
         )
         .after_help("Example: lockup check examples/illegal_trace.txt")
-        .arg(file(alloc, "The trace: one entry a line; - is standard input"))
+        .arg(file(alloc, "The trace: one entry a line; - is standard input"))?
+        .arg(flag(alloc, "json", "Print the verdict as one value of JSON"))
 }
 
 fn table<'a>(alloc: Global) -> Result<Command<'a>, AllocError>
@@ -288,7 +308,8 @@ fn table<'a>(alloc: Global) -> Result<Command<'a>, AllocError>
                 .required(true)
                 .value_parser(TABLES.as_slice()),
         )?
-        .arg(flag(alloc, "exclusive", "Also show the exclusive state"))
+        .arg(flag(alloc, "exclusive", "Also show the exclusive state"))?
+        .arg(flag(alloc, "json", "Print each row as a value of JSON"))
 }
 
 fn export<'a>(alloc: Global) -> Result<Command<'a>, AllocError>

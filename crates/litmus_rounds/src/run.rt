@@ -1,24 +1,22 @@
 ghost use Rattle.std.specs.Prelude.{◌≡◌, ◌⊎◌, ℕ, ◌+◌, ◌<◌, ◌^◌, List, [], ◌∷◌, ◌++◌, IfErr, IfNone, IfOk, IfSome};
 ghost use Rattle.std.specs.Prelude.{IsTrue, OnOk, Some, false};
-ghost use Rattle.std.specs.Prelude.{codes, decimal};
-ghost use Rattle.std.specs.Fmt.{WritesInCalls};
 ghost use Rattle.std.specs.Io.KnownBytes.{Appends};
 ghost use Rattle.litmus_outcomes.specs.Table.{IsTableOf};
-ghost use Rattle.litmus_outcomes.specs.Text.{text_of};
 ghost use Rattle.litmus_rounds.specs.Outcome.{IsOutcome, all_named_requests};
 ghost use Rattle.litmus_rounds.specs.Run.{AreRounds, IsStuck, PrintsRounds, PrintsStuck, seed_of};
 ghost use Rattle.litmus_script.specs.Machine.{bound_of};
 ghost use Rattle.litmus_script.specs.Play.{IsOfRun};
+ghost use Rattle.outcomes_json.specs.Form.{text_of_outcomes, text_of_stuck};
 
 use super::outcome::read_outcome;
-use litmus_outcomes::{NamedRequest, Outcomes, write_table};
+use litmus_outcomes::{NamedRequest, Outcomes};
 use litmus_script::TextWriter;
 use litmus_test::{LitmusTest, Progress};
 use litmus_text::TextFault;
 use litmus_walk::{Walked, named_lines, walk};
 use mshr_file::{ExplicitFile, InvertedFile, MissFile, MissKind};
+use outcomes_json::{OutcomeForm, write_outcomes, write_stuck};
 use std::alloc::{AllocError, Global};
-use std::fmt;
 use std::io::Write;
 
 /// Walks through a litmus test so many times, and prints how often each outcome came, with the seed of the first round
@@ -29,22 +27,23 @@ pub fn run_walk<W: Write, P: Progress>(
     test: &LitmusTest<'_>,
     rounds: u64,
     seed: u64,
+    form: OutcomeForm,
     progress: &mut P,
     out: &mut W,
 ) -> Result<u8, TextFault>
     ensures printed { IfOk result (λ status.
-        PrintsRounds test.now (bound_of test.now.misses test.now.config) rounds seed status
+        PrintsRounds test.now (bound_of test.now.misses test.now.config) form rounds seed status
         (W.contents out.old) (W.contents out.new)
-        ⊎ PrintsStuck test.now (bound_of test.now.misses test.now.config) rounds seed status
+        ⊎ PrintsStuck test.now (bound_of test.now.misses test.now.config) form rounds seed status
         (W.contents out.old) (W.contents out.new)) }
     ensures fault { IfErr result IsOfRun }
 {
     match test.misses {
         MissKind::Explicit => run_on::<ExplicitFile, W, P>(
-            alloc, test, rounds, seed, progress, out,
+            alloc, test, rounds, seed, form, progress, out,
         ),
         MissKind::Inverted => run_on::<InvertedFile, W, P>(
-            alloc, test, rounds, seed, progress, out,
+            alloc, test, rounds, seed, form, progress, out,
         ),
     }
 }
@@ -54,12 +53,13 @@ fn run_on<F: MissFile, W: Write, P: Progress>(
     test: &LitmusTest<'_>,
     rounds: u64,
     seed: u64,
+    form: OutcomeForm,
     progress: &mut P,
     out: &mut W,
 ) -> Result<u8, TextFault>
     ensures printed { IfOk result (λ status.
-        PrintsRounds test.now (F.bound_by test.now.config) rounds seed status (W.contents out.old) (W.contents out.new)
-        ⊎ PrintsStuck test.now (F.bound_by test.now.config) rounds seed status
+        PrintsRounds test.now (F.bound_by test.now.config) form rounds seed status (W.contents out.old) (W.contents out.new)
+        ⊎ PrintsStuck test.now (F.bound_by test.now.config) form rounds seed status
         (W.contents out.old) (W.contents out.new)) }
     ensures fault { IfErr result IsOfRun }
 {
@@ -67,11 +67,11 @@ fn run_on<F: MissFile, W: Write, P: Progress>(
     let stuck = walk_rounds::<F, P>(alloc, test, rounds, seed, progress, &mut outcomes)?;
     match stuck {
         Some(round) => {
-            print_stuck(round, out)?;
+            print_stuck(round, form, out)?;
             Ok(1)
         }
         None => {
-            print_table(test, &outcomes, seed, out)?;
+            print_outcomes(test, &outcomes, seed, form, out)?;
             if outcomes.forbidden(test) == 0 {
                 Ok(0)
             } else {
@@ -81,37 +81,32 @@ fn run_on<F: MissFile, W: Write, P: Progress>(
     }
 }
 
-fn print_stuck<W: Write>(round: u64, out: &mut W) -> Result<(), TextFault>
-    ensures printed { OnOk result (Appends (W.contents out.old) (W.contents out.new)
-        (codes "stuck round " ++ decimal round ++ codes "\n")) }
+fn print_stuck<W: Write>(round: u64, form: OutcomeForm, out: &mut W) -> Result<(), TextFault>
+    ensures printed { OnOk result
+        (Appends (W.contents out.old) (W.contents out.new) (text_of_stuck form round)) }
     ensures fault { IfErr result IsOfRun }
 {
     let mut answers = TextWriter { out };
-    match write_stuck(round, &mut answers) {
+    match write_stuck(round, form, &mut answers) {
         Ok(()) => Ok(()),
         Err(_) => Err(TextFault::CannotWrite),
     }
 }
 
-fn write_stuck<W: fmt::Write>(round: u64, out: &mut W) -> fmt::Result
-    ensures { OnOk result (WritesInCalls W.write_str_gives out.old
-        (codes "stuck round " ++ decimal round ++ codes "\n") out.new) }
-{
-    writeln!(out, "stuck round {round}")
-}
-
-fn print_table<W: Write>(
+fn print_outcomes<W: Write>(
     test: &LitmusTest<'_>,
     outcomes: &Outcomes,
     seed: u64,
+    form: OutcomeForm,
     out: &mut W,
 ) -> Result<(), TextFault>
     ensures printed { (rounds : List (List ℕ)) → IsTableOf rounds outcomes.now → OnOk result
-        (Appends (W.contents out.old) (W.contents out.new) (text_of test.now (Some seed) outcomes.now.rows rounds)) }
+        (Appends (W.contents out.old) (W.contents out.new)
+        (text_of_outcomes form test.now (Some seed) outcomes.now.rows rounds)) }
     ensures fault { IfErr result IsOfRun }
 {
     let mut answers = TextWriter { out };
-    match write_table(test, outcomes, Some(seed), &mut answers) {
+    match write_outcomes(test, outcomes, Some(seed), form, &mut answers) {
         Ok(()) => Ok(()),
         Err(_) => Err(TextFault::CannotWrite),
     }

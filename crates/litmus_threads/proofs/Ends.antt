@@ -5,14 +5,15 @@ use Rattle.std.specs.Prelude.{IfOk, None, OnOk, Option}
 use Rattle.std.specs.Fmt.{WritesInCalls}
 use Rattle.std.proofs.lemmas.List.Elements.{All-push}
 use Rattle.litmus_outcomes.specs.Table.{IsTableOf, TableView}
-use Rattle.litmus_outcomes.specs.Text.{text_of}
 use Rattle.litmus_outcomes.specs.declared.named_request.NamedRequest.{NamedRequest}
 use Rattle.litmus_test.specs.declared.test.LitmusTest.{LitmusTest}
 use Rattle.litmus_text.specs.declared.fault.TextFault.{TextFault}
 use Rattle.litmus_threads.specs.Round.{IsFoundOn, IsOutcomeOf, IsRunOf, IsTableFor, named_requests_of}
-use Rattle.litmus_threads.specs.Run.{HasStatus, IsEndOf, IsTold, text_of_stuck}
+use Rattle.litmus_threads.specs.Run.{HasStatus, IsEndOf, IsTold}
 use Rattle.litmus_threads.specs.declared.rounds.Run.{Run}
 use Rattle.litmus_threads.specs.declared.rounds.Run.TheVariants as runs
+use Rattle.outcomes_json.specs.Form.{text_of_outcomes, text_of_stuck}
+use Rattle.outcomes_json.specs.declared.form.OutcomeForm.{OutcomeForm}
 
 -- One round more had an outcome of the test, and was counted.
 pub table-more : (test : LitmusTest) (round : ℕ) (old new : TableView) (values shown : List ℕ)
@@ -34,24 +35,24 @@ table-more test round old new values shown named_requests same named so_far foun
     }
 
 -- What was told in calls of a writer is told in what these calls come to, where they also show that they left it so.
-pub told-in-calls : {S X N : Type 0} (gives : S → List ℕ → S → Type 0) (old new : S) (test : LitmusTest) (run : Run)
-    (written : X → List ℕ → Type 0) (left exit : X) → IsTold test (λ text. WritesInCalls gives old text new) run
+pub told-in-calls : {S X N : Type 0} (gives : S → List ℕ → S → Type 0) (old new : S) (test : LitmusTest) (form : OutcomeForm)
+    (run : Run) (written : X → List ℕ → Type 0) (left exit : X) → IsTold test form (λ text. WritesInCalls gives old text new) run
     → ((text : List ℕ) → WritesInCalls gives old text new → N × written left text) → (N → left ≡ exit)
-    → IsTold test (written exit) run
-told-in-calls {S} {X} {N} gives old new test (runs.Whole table) written left exit told on same =
+    → IsTold test form (written exit) run
+told-in-calls {S} {X} {N} gives old new test form (runs.Whole table) written left exit told on same =
     λ outcomes table_is.
-    let text : List ℕ = text_of test None table.rows outcomes in
+    let text : List ℕ = text_of_outcomes form test None table.rows outcomes in
     let wrote : N × written left text = on text (told outcomes table_is) in
     subst (λ (x : X). written x text) (same wrote.0) wrote.1
-told-in-calls {S} {X} {N} gives old new test (runs.Stuck round) written left exit told on same =
-    let text : List ℕ = text_of_stuck round in
+told-in-calls {S} {X} {N} gives old new test form (runs.Stuck round) written left exit told on same =
+    let text : List ℕ = text_of_stuck form round in
     let wrote : N × written left text = on text told in
     subst (λ (x : X). written x text) (same wrote.0) wrote.1
 
 -- A run that was told has ended in one of the two ways.
-pub ended : (test : LitmusTest) (run : Run) (written : List ℕ → Type 0) (told : Result ℕ TextFault) → IsRunOf test run
-    → OnOk told (IsTold test written run) → IfOk told (HasStatus test run) → IfOk told (IsEndOf test written)
-ended test (runs.Whole table) written (Ok status) of_test told has =
+pub ended : (test : LitmusTest) (form : OutcomeForm) (run : Run) (written : List ℕ → Type 0) (told : Result ℕ TextFault) → IsRunOf test run
+    → OnOk told (IsTold test form written run) → IfOk told (HasStatus test run) → IfOk told (IsEndOf test form written)
+ended test form (runs.Whole table) written (Ok status) of_test told has =
     inl (record {
       outcomes = of_test.outcomes;
       rows = table.rows;
@@ -61,6 +62,6 @@ ended test (runs.Whole table) written (Ok status) of_test told has =
       text = told of_test.outcomes of_test.table_is;
       status_is = has of_test.outcomes of_test.table_is;
     })
-ended test (runs.Stuck round) written (Ok status) of_test told has =
+ended test form (runs.Stuck round) written (Ok status) of_test told has =
     inr (record { round = round; is_one = of_test; text = told; status_is = has })
-ended test run written (Err fault) of_test told has = tt
+ended test form run written (Err fault) of_test told has = tt

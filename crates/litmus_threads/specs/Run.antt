@@ -1,27 +1,25 @@
 -- What is written of a run of a litmus test, and how it ends.
-use Rattle.std.specs.Prelude.{◌≡◌, ◌⊎◌, ℕ, ◌<◌, ◌==◌, if◌then◌else◌, All, List, ◌++◌, None, codes, count_by, decimal}
+use Rattle.std.specs.Prelude.{◌≡◌, ◌⊎◌, ℕ, ◌<◌, ◌==◌, if◌then◌else◌, All, List, None, count_by}
 use Rattle.std.specs.Prelude.{length}
 use Rattle.litmus_outcomes.specs.Forbid.{is_forbidden}
 use Rattle.litmus_outcomes.specs.Table.{AreRowsOf, IsTableOf, RowView}
-use Rattle.litmus_outcomes.specs.Text.{text_of}
 use Rattle.litmus_test.specs.declared.test.LitmusTest.{LitmusTest}
 use Rattle.litmus_threads.specs.Round.{IsOutcomeOf}
 use Rattle.litmus_threads.specs.declared.rounds.Run.{Run}
 use Rattle.litmus_threads.specs.declared.rounds.Run.TheVariants as runs
+use Rattle.outcomes_json.specs.Form.{text_of_outcomes, text_of_stuck}
+use Rattle.outcomes_json.specs.declared.form.OutcomeForm.{OutcomeForm}
 
 -- the exit status where the rounds had these outcomes: 0 where none of them was forbidden
 abbrev pub status_of : LitmusTest → List (List ℕ) → ℕ
 status_of test outcomes = if count_by (is_forbidden test) outcomes == 0 then 0 else 1
 
--- what is written of a round that was stuck
-abbrev pub text_of_stuck : ℕ → List ℕ
-text_of_stuck round = codes "stuck round " ++ decimal round ++ codes "\n"
-
--- The table of the outcomes was written, or which round was stuck.
-abbrev pub IsTold : LitmusTest → (List ℕ → Type 0) → Run → Type 0
-IsTold test written (runs.Whole table) =
-    (outcomes : List (List ℕ)) → IsTableOf outcomes table → written (text_of test None table.rows outcomes)
-IsTold test written (runs.Stuck round) = written (text_of_stuck round)
+-- The outcomes were written in this form, or which round was stuck.
+abbrev pub IsTold : LitmusTest → OutcomeForm → (List ℕ → Type 0) → Run → Type 0
+IsTold test form written (runs.Whole table) =
+    (outcomes : List (List ℕ)) → IsTableOf outcomes table
+    → written (text_of_outcomes form test None table.rows outcomes)
+IsTold test form written (runs.Stuck round) = written (text_of_stuck form round)
 
 -- This is the exit status.
 abbrev pub HasStatus : LitmusTest → Run → ℕ → Type 0
@@ -29,23 +27,23 @@ HasStatus test (runs.Whole table) status =
     (outcomes : List (List ℕ)) → IsTableOf outcomes table → status ≡ status_of test outcomes
 HasStatus test (runs.Stuck round) status = status ≡ 1
 
--- All rounds were played, each had an outcome of the test, and their table was written.
-pub record IsWhole (test : LitmusTest) (written : List ℕ → Type 0) (status : ℕ) : Type 0 where
+-- All rounds were played, each had an outcome of the test, and these were written.
+pub record IsWhole (test : LitmusTest) (form : OutcomeForm) (written : List ℕ → Type 0) (status : ℕ) : Type 0 where
   pub outcomes : List (List ℕ)
   pub rows : List RowView
   pub rows_are : AreRowsOf outcomes rows
   pub each_round : length outcomes ≡ test.rounds
   pub each : All (IsOutcomeOf test) outcomes
-  pub text : written (text_of test None rows outcomes)
+  pub text : written (text_of_outcomes form test None rows outcomes)
   pub status_is : status ≡ status_of test outcomes
 
 -- A round was stuck, and that was written.
-pub record IsStuck (test : LitmusTest) (written : List ℕ → Type 0) (status : ℕ) : Type 0 where
+pub record IsStuck (test : LitmusTest) (form : OutcomeForm) (written : List ℕ → Type 0) (status : ℕ) : Type 0 where
   pub round : ℕ
   pub is_one : round < test.rounds
-  pub text : written (text_of_stuck round)
+  pub text : written (text_of_stuck form round)
   pub status_is : status ≡ 1
 
 -- how a run of a test may end
-abbrev pub IsEndOf : LitmusTest → (List ℕ → Type 0) → ℕ → Type 0
-IsEndOf test written status = IsWhole test written status ⊎ IsStuck test written status
+abbrev pub IsEndOf : LitmusTest → OutcomeForm → (List ℕ → Type 0) → ℕ → Type 0
+IsEndOf test form written status = IsWhole test form written status ⊎ IsStuck test form written status

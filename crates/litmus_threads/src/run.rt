@@ -5,17 +5,17 @@ ghost use Rattle.litmus_script.specs.Play.{IsOfRun};
 ghost use Rattle.litmus_threads.specs.Run.{HasStatus, IsEndOf, IsTold};
 
 use super::rounds::{Run, run_test};
-use litmus_outcomes::write_table;
 use litmus_script::TextWriter;
 use litmus_test::{LitmusTest, Progress};
 use litmus_text::TextFault;
+use outcomes_json::{OutcomeForm, write_outcomes, write_stuck};
 use std::alloc::Global;
 use std::fmt;
 use std::io::Write;
 use std::sync::Wait;
 use std::thread::Threads;
 
-/// Runs a test, and writes the table of its outcomes, or which round was stuck. Returns the exit status: 1 where an
+/// Runs a test, and writes its outcomes in this form, or which round was stuck. Returns the exit status: 1 where an
 /// outcome came that must not come, or a round was stuck.
 pub fn play_test<R: Threads + Wait + Sync, W: Write, P: Progress>(
     alloc: Global,
@@ -23,36 +23,47 @@ pub fn play_test<R: Threads + Wait + Sync, W: Write, P: Progress>(
     test: &LitmusTest<'_>,
     seed: u64,
     limit: u64,
+    form: OutcomeForm,
     progress: &mut P,
     out: &mut W,
 ) -> Result<u8, TextFault>
-    ensures told { IfOk result (IsEndOf test.now (λ text. Appends (W.contents out.old) (W.contents out.new) text)) }
+    ensures told { IfOk result (IsEndOf test.now form (λ text. Appends (W.contents out.old) (W.contents out.new) text)) }
     ensures fault { IfErr result IsOfRun }
 {
     let run = run_test(rt, alloc, test, seed, limit, progress)?;
-    tell(test, &run, out)
+    tell(test, &run, form, out)
 }
 
 // Writes what the run came to. Returns the exit status.
-fn tell<W: Write>(test: &LitmusTest<'_>, run: &Run, out: &mut W) -> Result<u8, TextFault>
-    ensures told { OnOk result (IsTold test.now (λ text. Appends (W.contents out.old) (W.contents out.new) text)
+fn tell<W: Write>(
+    test: &LitmusTest<'_>,
+    run: &Run,
+    form: OutcomeForm,
+    out: &mut W,
+) -> Result<u8, TextFault>
+    ensures told { OnOk result (IsTold test.now form (λ text. Appends (W.contents out.old) (W.contents out.new) text)
         run.now) }
     ensures status { IfOk result (HasStatus test.now run.now) }
     ensures fault { IfErr result IsOfRun }
 {
     let mut answers = TextWriter { out };
-    match write_run(test, run, &mut answers) {
+    match write_run(test, run, form, &mut answers) {
         Ok(()) => Ok(status_of(test, run)),
         Err(_) => Err(TextFault::CannotWrite),
     }
 }
 
-fn write_run<W: fmt::Write>(test: &LitmusTest<'_>, run: &Run, out: &mut W) -> fmt::Result
-    ensures { OnOk result (IsTold test.now (λ text. WritesInCalls W.write_str_gives out.old text out.new) run.now) }
+fn write_run<W: fmt::Write>(
+    test: &LitmusTest<'_>,
+    run: &Run,
+    form: OutcomeForm,
+    out: &mut W,
+) -> fmt::Result
+    ensures { OnOk result (IsTold test.now form (λ text. WritesInCalls W.write_str_gives out.old text out.new) run.now) }
 {
     match run {
-        Run::Whole(outcomes) => write_table(test, outcomes, None, out),
-        Run::Stuck(round) => writeln!(out, "stuck round {round}"),
+        Run::Whole(outcomes) => write_outcomes(test, outcomes, None, form, out),
+        Run::Stuck(round) => write_stuck(*round, form, out),
     }
 }
 

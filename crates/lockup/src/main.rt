@@ -9,9 +9,10 @@
 use clap::Error;
 use clap::error::ErrorKind;
 use litmus::{
-    CommandLine, Form, ScriptForm, Seeds, Size, SweepFault, expected, read_line, run_beside,
-    run_chart, run_check, run_explained, run_export, run_litmus, run_page, run_programs,
-    run_script, run_svg, run_table, run_test, run_trace, run_walk, run_waves, write_walk,
+    CommandLine, Form, OutcomeForm, ScriptForm, Seeds, Size, SweepFault, expected, read_line,
+    run_beside, run_chart, run_check, run_explained, run_export, run_json, run_litmus, run_page,
+    run_programs, run_script, run_svg, run_table, run_table_rows, run_test, run_trace, run_walk,
+    run_waves, write_schedule, write_walk,
 };
 use litmus_text::TextFault;
 use painted::Painted;
@@ -188,7 +189,7 @@ fn file_of<'a>(line: CommandLine<'a>) -> Option<&'a str> {
         | CommandLine::Walk { file, .. }
         | CommandLine::Run { file, .. }
         | CommandLine::Sweep { file, .. }
-        | CommandLine::Check { file } => Some(file),
+        | CommandLine::Check { file, .. } => Some(file),
         CommandLine::Try { file } => file,
         CommandLine::Generate { .. } | CommandLine::Table { .. } | CommandLine::Export { .. } =>
             None,
@@ -251,17 +252,32 @@ where
         CommandLine::Chart { line, .. } => run_svg(alloc, input, line, out),
         CommandLine::Page { .. } => run_page(alloc, input, out),
         CommandLine::Test { .. } => run_test(alloc, input, out),
-        CommandLine::Litmus { seed, limit, .. } => {
-            run_litmus(alloc, rt, input, seed, limit, shown, out)
+        CommandLine::Litmus {
+            seed,
+            limit,
+            json,
+            ..
+        } => {
+            let form = outcome_form(json);
+            run_litmus(alloc, rt, input, seed, limit, form, shown, out)
         }
         CommandLine::Walk {
             seed,
             script: true,
             ..
         } => write_walk(alloc, input, seed, out),
-        CommandLine::Walk { rounds, seed, .. } => {
-            run_walk(alloc, input, rounds, seed, shown, out)
-        }
+        CommandLine::Walk {
+            rounds,
+            seed,
+            json,
+            ..
+        } => run_walk(alloc, input, rounds, seed, outcome_form(json), shown, out),
+        CommandLine::Run {
+            outstanding,
+            seed,
+            script: true,
+            ..
+        } => write_schedule(alloc, input, outstanding, seed, out),
         CommandLine::Run {
             outstanding,
             seed,
@@ -270,8 +286,17 @@ where
         } => run_programs(alloc, input, outstanding, seed, report_form(json), out),
         // These are printed by `rows::run` and `workload::run`.
         CommandLine::Sweep { .. } | CommandLine::Generate { .. } => Ok(REFUSED),
-        CommandLine::Check { .. } => run_check(alloc, input, out),
-        CommandLine::Table { table, exclusive } => run_table(table, exclusive, out),
+        CommandLine::Check { json, .. } => run_check(alloc, input, json, out),
+        CommandLine::Table {
+            table,
+            exclusive,
+            json: true,
+        } => run_table_rows(alloc, table, exclusive, out),
+        CommandLine::Table {
+            table,
+            exclusive,
+            ..
+        } => run_table(table, exclusive, out),
         CommandLine::Export {
             cores,
             exclusive,
@@ -283,6 +308,15 @@ where
 /// How the counts of programs are printed.
 const fn report_form(json: bool) -> Form {
     if json { Form::Json } else { Form::Table }
+}
+
+/// How the outcomes of a litmus test are printed.
+const fn outcome_form(json: bool) -> OutcomeForm {
+    if json {
+        OutcomeForm::Json
+    } else {
+        OutcomeForm::Table
+    }
 }
 
 /// Runs a script, and prints the run in this form.
@@ -303,6 +337,7 @@ fn write_run<W: Write>(
         } => run_script(alloc, input, echo, out),
         ScriptForm::Beside { explain } => run_beside(alloc, input, explain, out),
         ScriptForm::Waves => run_waves(alloc, input, out),
+        ScriptForm::Json => run_json(alloc, input, out),
         ScriptForm::FromMurphi => run_trace(input, out),
     }
 }

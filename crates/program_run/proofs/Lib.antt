@@ -1,8 +1,9 @@
 pub mod AskLemmas
-pub mod Commas
 pub mod MoveLemmas
 pub mod Names
 pub mod PerformedLemmas
 pub mod RunLemmas
 pub mod Seen
+pub mod TidyLemmas
 pub mod Totals
+pub mod UsageLemmas

@@ -11,7 +11,7 @@ range-suc : (a n j : ℕ) → a + n ≡ j → range_with_len a (suc n) ≡ range
 range-suc a zero j e = ap (λ x. x ∷ []) (omega (arith, e))
 range-suc a (suc n) j e = ap (λ xs. a ∷ xs) (range-suc (a + 1) n j (omega (arith, e)))
 
-range-more : (n : ℕ) → range_with_len 0 (n + 1) ≡ range_with_len 0 n ++ n ∷ []
+pub range-more : (n : ℕ) → range_with_len 0 (n + 1) ≡ range_with_len 0 n ++ n ∷ []
 range-more n = ap (range_with_len 0) (add-one n) ∙ range-suc 0 n n (omega arith)
 
 module _ {X : Type 0} (f : ℕ → X) (test : ℕ → Bool) where

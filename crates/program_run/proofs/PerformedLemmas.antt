@@ -1,11 +1,11 @@
 -- What a delivery performs, one access after another.
-use Rattle.std.proofs.Common.{◌≡◌, ℕ, ◌+◌, ◌<◌, Bool, true, false, List, [], ◌∷◌, drop, get_or, length, refl, sym, subst, ◌∙◌}
+use Rattle.std.proofs.Common.{ℕ, ◌+◌, ◌<◌, Bool, true, false, List, ◌∷◌, drop, get_or, length, refl, sym, subst, ◌∙◌}
 use Rattle.std.proofs.lemmas.List.{at_drop_more, drop_all}
 use Rattle.std.specs.Prelude.{◌≤◌}
 use Rattle.address_map.specs.declared.config.Config.{Config}
 use Rattle.program_text.specs.declared.programs.Programs.{Programs}
 use Rattle.slice_log.specs.declared.entry.Entry.{Entry}
-use Rattle.program_run.specs.History.{History, HasSeen}
+use Rattle.program_run.specs.History.{HasSeen}
 use Rattle.program_run.specs.Run.{Leads, Performs, PerformsAll, RunnerView, RunState, run_of}
 
 -- so many were performed that these are left: whoever performs them has performed all

@@ -1,24 +1,13 @@
 -- The report as one value of JSON (RFC 8259).
-use Rattle.std.specs.Prelude.{ℕ, ◌==◌, Bool, true, false, not, List, [], ◌∷◌, ◌++◌, codes, decimal, filter, length, map}
+use Rattle.std.specs.Prelude.{ℕ, ◌==◌, Bool, true, false, not, List, [], ◌++◌, codes, decimal, filter, length, map}
 use Rattle.std.specs.List.{range_with_len}
+use Rattle.json_text.specs.List.{with_commas}
 use Rattle.program_run.specs.declared.column.Column.{Column}
 use Rattle.program_run.specs.declared.tally.Counts.{Counts}
 use Rattle.program_run.specs.Column.{columns_of_all, columns_of_core, count_in, line_columns, name_of}
 use Rattle.program_run.specs.Tally.{TallyView, counts_at, requests_of, totals_of}
-
--- what stands before a text of a list: a comma, but before the first
-abbrev pub before_text : Bool → List ℕ
-before_text true = []
-before_text false = codes ","
-
--- texts, each behind a comma but the first, if the first of them is one
-abbrev pub with_commas_from : Bool → List (List ℕ) → List ℕ
-with_commas_from first [] = []
-with_commas_from first (text ∷ texts) = (before_text first ++ text) ++ with_commas_from false texts
-
--- texts with commas between them
-abbrev pub with_commas : List (List ℕ) → List ℕ
-with_commas texts = with_commas_from true texts
+use Rattle.program_run.specs.Usage.{usage_at}
+use Rattle.program_run.specs.declared.usage.Usage.{Usage}
 
 -- what a column shows, under its name
 abbrev pub member_of : Counts → Column → List ℕ
@@ -28,10 +17,21 @@ member_of counts column = codes "\"" ++ (name_of column ++ (codes "\":" ++ decim
 abbrev pub members_of : List Column → Counts → List ℕ
 members_of columns counts = with_commas (map (member_of counts) columns)
 
+-- what was in use of a core, where several of its accesses may be under way
+abbrev pub usage_members : Bool → Usage → List ℕ
+usage_members false usage = []
+usage_members true usage =
+    codes ",\"moves\":" ++ (decimal usage.moves
+    ++ (codes ",\"registers_most\":" ++ (decimal usage.most_registers
+    ++ (codes ",\"registers_sum\":" ++ (decimal usage.sum_registers
+    ++ (codes ",\"targets_most\":" ++ (decimal usage.most_targets
+    ++ (codes ",\"targets_sum\":" ++ decimal usage.sum_targets))))))))
+
 -- the object of a core
-abbrev pub core_object : List Column → ℕ → Counts → List ℕ
-core_object columns core counts =
-    codes "{\"core\":" ++ (decimal core ++ codes ",") ++ members_of columns counts ++ codes "}"
+abbrev pub core_object : Bool → ℕ → Counts → Usage → List ℕ
+core_object is_limited core counts usage =
+    codes "{\"core\":" ++ (decimal core ++ codes ",") ++ members_of (columns_of_core is_limited) counts
+    ++ usage_members is_limited usage ++ codes "}"
 
 -- the object of a line
 abbrev pub line_object : ℕ → Counts → List ℕ
@@ -39,12 +39,14 @@ line_object line counts =
     codes "{\"line\":" ++ (decimal line ++ codes ",") ++ members_of line_columns counts ++ codes "}"
 
 -- the objects of these cores
-abbrev pub objects_of_cores : List Column → List Counts → List ℕ → List (List ℕ)
-objects_of_cores columns counts cores = map (λ core. core_object columns core (counts_at counts core)) cores
+abbrev pub objects_of_cores : Bool → List Counts → List Usage → List ℕ → List (List ℕ)
+objects_of_cores is_limited counts usages cores =
+    map (λ core. core_object is_limited core (counts_at counts core) (usage_at usages core)) cores
 
 -- all of them
-abbrev pub core_objects_of : List Column → List Counts → List ℕ
-core_objects_of columns cores = with_commas (objects_of_cores columns cores (range_with_len 0 (length cores)))
+abbrev pub core_objects_of : Bool → List Counts → List Usage → List ℕ
+core_objects_of is_limited cores usages =
+    with_commas (objects_of_cores is_limited cores usages (range_with_len 0 (length cores)))
 
 -- there was an access to the line
 abbrev pub is_asked : List Counts → ℕ → Bool
@@ -59,9 +61,9 @@ abbrev pub line_objects_of : List Counts → List ℕ
 line_objects_of lines = with_commas (objects_of_lines lines (range_with_len 0 (length lines)))
 
 -- the whole value, in one line
-abbrev pub json_of : TallyView → Bool → ℕ → List ℕ
-json_of tally is_limited seed =
+abbrev pub json_of : TallyView → List Usage → Bool → ℕ → List ℕ
+json_of tally usages is_limited seed =
     codes "{\"seed\":" ++ (decimal seed ++ codes ",\"cores\":[")
-    ++ core_objects_of (columns_of_core is_limited) tally.cores
+    ++ core_objects_of is_limited tally.cores usages
     ++ codes "],\"lines\":[" ++ line_objects_of tally.lines
     ++ codes "],\"all\":{" ++ members_of (columns_of_all is_limited) (totals_of tally.lines) ++ codes "}}\n"

@@ -1,6 +1,9 @@
+pub mod Calls
 pub mod Column
 pub mod History
 pub mod Json
 pub mod Report
 pub mod Run
 pub mod Tally
+pub mod Tidy
+pub mod Usage

@@ -1,12 +1,14 @@
 -- The report: the seed, a table of the cores, and one of the lines that were asked for, which ends with the sums. Where
--- several accesses of a core may be under way, a further table of the cores stands behind it.
-use Rattle.std.specs.Prelude.{ℕ, ◌==◌, Bool, true, false, List, [], ◌++◌, codes, decimal, if◌then◌else◌, length}
+-- several accesses of a core may be under way, two further tables of the cores stand behind it.
+use Rattle.std.specs.Prelude.{ℕ, ◌/◌, ◌%◌, ◌==◌, Bool, true, false, List, [], ◌++◌, codes, decimal, if◌then◌else◌, length}
 use Rattle.std.specs.List.{flat_map, range_with_len}
 use Rattle.stats_report.specs.Report.{right_in_10}
 use Rattle.program_run.specs.declared.column.Column.{Column}
 use Rattle.program_run.specs.declared.tally.Counts.{Counts}
 use Rattle.program_run.specs.Column.{core_columns, count_in, line_columns, name_of, parallel_columns}
 use Rattle.program_run.specs.Tally.{TallyView, counts_at, requests_of, totals_of}
+use Rattle.program_run.specs.Usage.{hundredths_of, usage_at, whole_of}
+use Rattle.program_run.specs.declared.usage.Usage.{Usage}
 
 -- the names of columns
 abbrev pub names_of : List Column → List ℕ
@@ -34,6 +36,27 @@ abbrev pub parallel_table : Bool → List Counts → List ℕ
 parallel_table false cores = []
 parallel_table true cores = heading_of (codes "      core") parallel_columns ++ core_rows parallel_columns cores
 
+-- a mean with two places behind the point
+abbrev pub mean_of : ℕ → ℕ → List ℕ
+mean_of sum moves =
+    right_in_10 (decimal (whole_of sum moves))
+    ++ (codes "." ++ (decimal (hundredths_of sum moves / 10) ++ decimal (hundredths_of sum moves % 10)))
+
+-- what was in use of a core: the most, and the mean over the moves
+abbrev pub usage_row : ℕ → Usage → List ℕ
+usage_row core usage =
+    right_in_10 (decimal core) ++ right_in_10 (decimal usage.most_registers) ++ mean_of usage.sum_registers usage.moves
+    ++ right_in_10 (decimal usage.most_targets) ++ mean_of usage.sum_targets usage.moves ++ codes "\n"
+
+abbrev pub usage_rows : List Usage → List ℕ
+usage_rows usages = flat_map (λ core. usage_row core (usage_at usages core)) (range_with_len 0 (length usages))
+
+-- the table of what was in use, where several accesses of a core may be under way
+abbrev pub usage_table : Bool → List Usage → List ℕ
+usage_table false usages = []
+usage_table true usages =
+    codes "      core regs-most    regs-mean tgts-most    tgts-mean\n" ++ usage_rows usages
+
 -- the row of a line, where it was asked for
 abbrev pub line_row : ℕ → Counts → List ℕ
 line_row line counts = if requests_of counts == 0 then [] else row_of line line_columns counts
@@ -43,10 +66,10 @@ abbrev pub line_rows : List Counts → List ℕ
 line_rows lines = flat_map (λ line. line_row line (counts_at lines line)) (range_with_len 0 (length lines))
 
 -- the whole report
-abbrev pub report_of : TallyView → Bool → ℕ → List ℕ
-report_of tally is_limited seed =
+abbrev pub report_of : TallyView → List Usage → Bool → ℕ → List ℕ
+report_of tally usages is_limited seed =
     codes "seed " ++ decimal seed ++ codes "\n"
     ++ heading_of (codes "      core") core_columns ++ core_rows core_columns tally.cores
     ++ heading_of (codes "      line") line_columns ++ line_rows tally.lines
     ++ codes "       all" ++ counts_of line_columns (totals_of tally.lines) ++ codes "\n"
-    ++ parallel_table is_limited tally.cores
+    ++ parallel_table is_limited tally.cores ++ usage_table is_limited usages

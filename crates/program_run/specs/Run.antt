@@ -1,6 +1,6 @@
 -- A run of programs: what may come next, and what each move does to the machine, to where programs stand, and to what
 -- is seen.
-use Rattle.std.specs.Prelude.{◌≡◌, ◌⊎◌, ℕ, ◌*◌, ◌-◌, ◌^◌, ◌+◌, ◌%◌, ◌==◌, nat_lt, not, Bool, true, false}
+use Rattle.std.specs.Prelude.{◌≡◌, ◌⊎◌, ℕ, ◌-◌, ◌^◌, ◌+◌, ◌%◌, ◌==◌, nat_lt, not, Bool, true, false}
 use Rattle.std.specs.Prelude.{if◌then◌else◌, List, [], ◌∷◌, ◌++◌, drop, length, map, filter, min, position, replicate}
 use Rattle.std.specs.Prelude.{slice_get, slice_set, codes, decimal, All, Option, None, Some}
 use Rattle.std.specs.Io.KnownBytes.{Appends}
@@ -18,6 +18,7 @@ use Rattle.litmus_script.specs.Play.{IsOfRun}
 use Rattle.litmus_script.specs.declared.answers.Issued.{Issued}
 use Rattle.litmus_script.specs.declared.answers.Issued.TheVariants as issued_kinds
 use Rattle.litmus_text.specs.Statement.{statements_from}
+use Rattle.litmus_text.specs.declared.command.Command.TheVariants as commands
 use Rattle.litmus_text.specs.declared.fault.TextFault.{TextFault}
 use Rattle.mshr_file.specs.Miss.{Bound}
 use Rattle.program_text.specs.Fault.{IsFault}
@@ -29,7 +30,7 @@ use Rattle.program_text.specs.declared.programs.Step.{Step}
 use Rattle.program_text.specs.declared.programs.Step.TheVariants as step_kinds
 use Rattle.rand_xoshiro.specs.SplitMix64.{splitmix_seed}
 use Rattle.rand_xoshiro.specs.Xoshiro256.{of_seed, plus_plus}
-use Rattle.slice_core.specs.Facts.{front_at}
+use Rattle.slice_core.specs.Facts.{front_at, targets_at}
 use Rattle.slice_core.specs.declared.run.Call.TheVariants as slice_calls
 use Rattle.slice_core.specs.declared.run.CallAnswer.TheVariants as call_answers
 use Rattle.slice_answer.specs.declared.answer.Delivered.{Delivered}
@@ -47,25 +48,32 @@ use Rattle.slice_queues_message.specs.Pick.{channel_of, line_of as line_of_pick}
 use Rattle.slice_queues_message.specs.declared.channel.Class.TheVariants as classes
 use Rattle.slice_queues_message.specs.declared.channel.Pick.{Pick}
 use Rattle.slice_queues_message.specs.declared.message.Message.{Message}
+use Rattle.program_run.specs.Calls.{CallsView, no_calls, text_of_script, with_call}
 use Rattle.program_run.specs.History.{History, HasSeen, after_eviction, after_hit, after_message, after_performing}
 use Rattle.program_run.specs.History.{after_stalling, no_history}
 use Rattle.program_run.specs.Json.{json_of}
 use Rattle.program_run.specs.Report.{report_of}
+use Rattle.program_run.specs.Tidy.{Tidies}
 use Rattle.program_run.specs.Tally.{TallyView, new_tally, tally_after}
+use Rattle.program_run.specs.Usage.{measured, no_usage}
 use Rattle.program_run.specs.declared.run.Form.{Form}
 use Rattle.program_run.specs.declared.run.Form.TheVariants as forms
 use Rattle.program_run.specs.declared.moves.Move.{Move}
 use Rattle.program_run.specs.declared.moves.Move.TheVariants as moves
 use Rattle.program_run.specs.declared.moves.Place.{Place}
+use Rattle.program_run.specs.declared.moves.Takes.{Takes}
+use Rattle.program_run.specs.declared.moves.Takes.TheVariants as takes
 use Rattle.program_run.specs.declared.moves.Turn.{Turn}
 use Rattle.program_run.specs.declared.moves.Turn.TheVariants as turns
 use Rattle.program_run.specs.declared.observer.Observer.{Observer}
+use Rattle.program_run.specs.declared.usage.Usage.{Usage}
 use Rattle.slice_answer.specs.declared.answer.Delivery.TheVariants as deliveries
 use Rattle.slice_answer.specs.declared.answer.Delivery.{Delivery}
 
--- the states of the machine's slices, where each program stands, and what was seen
+-- the states of the machine's slices, the calls that were made of it, where each program stands, and what was seen
 pub record RunState : Type 0 where
   pub slices : List PartsView
+  pub calls : CallsView
   pub places : List Place
   pub history : History
 
@@ -169,26 +177,39 @@ moves_of config programs run = asks_of config programs run.slices run.places ++ 
 
 -- ---- an access
 
--- one access more is waited for, or as many
-abbrev pub more_waiting : Bool → ℕ → ℕ
-more_waiting false waiting = waiting
-more_waiting true waiting = min (waiting + 1) (2 ^ 64 - 1)
+-- an access that takes something up waits
+abbrev pub more_waiting : Takes → ℕ → ℕ
+more_waiting takes.Nothing waiting = waiting
+more_waiting takes.Target waiting = min (waiting + 1) (2 ^ 64 - 1)
+more_waiting takes.Register waiting = min (waiting + 1) (2 ^ 64 - 1)
 
--- a program has taken one more step, and may wait for one more access
-abbrev pub gone_on : ℕ → Bool → Option Place → List Place → List Place
-gone_on number waits None places = places
-gone_on number waits (Some place) places =
+abbrev pub more_registers : Takes → ℕ → ℕ
+more_registers takes.Nothing registers = registers
+more_registers takes.Target registers = registers
+more_registers takes.Register registers = min (registers + 1) (2 ^ 64 - 1)
+
+-- a program has taken one more step, and what this takes up
+abbrev pub gone_on : ℕ → Takes → Option Place → List Place → List Place
+gone_on number kind None places = places
+gone_on number kind (Some place) places =
     slice_set places number (record {
       asked = min (place.asked + 1) (2 ^ 64 - 1);
-      waiting = more_waiting waits place.waiting;
+      waiting = more_waiting kind place.waiting;
+      registers = more_registers kind place.registers;
       stalled = false;
+      usage = place.usage;
     })
 
 -- its next access stalled
 abbrev pub after_stall : ℕ → Option Place → List Place → List Place
 after_stall number None places = places
 after_stall number (Some place) places =
-    slice_set places number (record { asked = place.asked; waiting = place.waiting; stalled = true })
+    slice_set places number (record place { stalled = true })
+
+-- what an access takes up that is pending, by what was decided of it
+abbrev pub takes_of : Decision → Takes
+takes_of (decisions.Access local (access_kinds.PrimaryMiss next ask placement)) = takes.Register
+takes_of decision = takes.Target
 
 -- another line has to leave for the access
 abbrev pub makes_room : Decision → Bool
@@ -212,18 +233,18 @@ after_room lines true state core history = after_leaving lines core (left_in sta
 
 -- What the answer to an access comes to: one that is done at once is a hit, and the core goes on; so it does behind one
 -- that is pending, which may have made room; a stall is counted; and what is refused is nothing.
-abbrev pub AfterAnswer : Config → ℕ → CoreId → Request → Bool → Issued → RunState → RunState → Type 0
-AfterAnswer config number core request room (issued_kinds.Done place reply) old new =
-    (new.places ≡ gone_on number false (slice_get old.places number) old.places)
+abbrev pub AfterAnswer : Config → ℕ → CoreId → Request → Decision → Issued → RunState → RunState → Type 0
+AfterAnswer config number core request decision (issued_kinds.Done place reply) old new =
+    (new.places ≡ gone_on number takes.Nothing (slice_get old.places number) old.places)
     × (new.history ≡ after_hit config.lines core request.word request.op reply old.history)
-AfterAnswer config number core request room (issued_kinds.Pending seq) old new =
-    (new.places ≡ gone_on number true (slice_get old.places number) old.places)
+AfterAnswer config number core request decision (issued_kinds.Pending seq) old new =
+    (new.places ≡ gone_on number (takes_of decision) (slice_get old.places number) old.places)
     × (new.history
-    ≡ after_room config.lines room (slice_get new.slices (slice_of config request)) core old.history)
-AfterAnswer config number core request room (issued_kinds.Stall stall) old new =
+    ≡ after_room config.lines (makes_room decision) (slice_get new.slices (slice_of config request)) core old.history)
+AfterAnswer config number core request decision (issued_kinds.Stall stall) old new =
     (new.places ≡ after_stall number (slice_get old.places number) old.places)
     × (new.history ≡ after_stalling core request.word stall old.history)
-AfterAnswer config number core request room (issued_kinds.Refused refused) old new =
+AfterAnswer config number core request decision (issued_kinds.Refused refused) old new =
     (new.places ≡ old.places) × (new.history ≡ old.history)
 
 -- the access was asked of the machine, which answered it
@@ -233,13 +254,14 @@ pub record Accesses (config : Config) (number : ℕ) (core : CoreId) (request : 
   pub judged : decision_on config old.slices core request ≡ Some decision
   pub issued : Issued
   pub asked : IsIssued (slice_of config request) core request issued old.slices new.slices
-  pub after : AfterAnswer config number core request (makes_room decision) issued old new
+  pub called : new.calls ≡ with_call (commands.Issue core request) old.calls
+  pub after : AfterAnswer config number core request decision issued old new
 
 -- a program goes on in this way: it asks for an access, or has waited
 abbrev pub Turns : Config → ℕ → CoreId → Turn → RunState → RunState → Type 0
 Turns config number core (turns.Ask request) old new = Accesses config number core request old new
 Turns config number core turns.Settled old new =
-    new ≡ record old { places = gone_on number false (slice_get old.places number) old.places }
+    new ≡ record old { places = gone_on number takes.Nothing (slice_get old.places number) old.places }
 
 -- the program takes its next step, if there is one
 abbrev pub Asks : Config → ℕ → Option (CoreId × Turn) → RunState → RunState → Type 0
@@ -248,15 +270,30 @@ Asks config number (Some next) old new = Turns config number next.0 next.1 old n
 
 -- ---- a delivery
 
--- a core waits for one access less
-abbrev pub after_wake : Option ℕ → List Place → List Place
-after_wake None places = places
-after_wake (Some number) places = woken_at (slice_get places number)
+abbrev pub fewer_registers : Bool → ℕ → ℕ
+fewer_registers false registers = registers
+fewer_registers true registers = registers - 1
+
+-- a core waits for one access less, and has one register less if that was closed
+abbrev pub after_wake : Bool → Option ℕ → List Place → List Place
+after_wake closes None places = places
+after_wake closes (Some number) places = woken_at (slice_get places number)
   where
     woken_at : Option Place → List Place
     woken_at None = places
     woken_at (Some place) =
-        slice_set places number (record { asked = place.asked; waiting = place.waiting - 1; stalled = place.stalled })
+        slice_set places number (record place {
+          waiting = place.waiting - 1;
+          registers = fewer_registers closes place.registers;
+        })
+
+-- The delivery has closed the register of a core's line: it performs its first access, and none of the core waits for
+-- the line any more.
+abbrev pub is_closed : Bool → Option PartsView → CoreId → LineAddr → Bool
+is_closed false state core line = false
+is_closed true None core line = false
+is_closed true (Some state) core line =
+    length (targets_at state.view core (local_at state.view.lines line.0)) == 0
 
 -- the program of a core, by its number
 abbrev pub program_of : List CoreProgram → CoreId → Option ℕ
@@ -268,7 +305,10 @@ abbrev pub HandsOut : Bool → Config → Programs → ℕ → Bool → Entry �
 HandsOut false config programs slice is_first entry old new = new ≡ old
 HandsOut true config programs slice is_first entry old new =
     IsMade slice (slice_calls.Hand entry.core) old.slices new.slices
-    × (new.places ≡ after_wake (program_of programs.cores.items entry.core) old.places)
+    × (new.calls ≡ with_call (commands.Hand entry.core (record { 0 = slice })) old.calls)
+    × (new.places ≡ after_wake (is_closed is_first
+    (slice_get old.slices ((line_of entry.word).0 % config.slices)) entry.core (line_of entry.word))
+    (program_of programs.cores.items entry.core) old.places)
     × (new.history ≡ after_performing config.lines is_first entry old.history)
 
 abbrev pub Performs : Config → Programs → ℕ → Bool → Entry → RunState → RunState → Type 0
@@ -290,11 +330,13 @@ AfterDelivery config programs pick front delivered.Moved slices old new =
     let slice : ℕ = (line_of_pick pick).0 % config.slices in
     let moved : RunState = record {
       slices = slices;
+      calls = with_call (commands.Deliver pick) old.calls;
       places = old.places;
       history = after_message config.lines pick front old.history;
     } in
     PerformsAll config programs slice true (drop (length (log_at old.slices slice)) (log_at slices slice)) moved new
-AfterDelivery config programs pick front answer slices old new = new ≡ record old { slices = slices }
+AfterDelivery config programs pick front answer slices old new =
+    new ≡ record old { slices = slices; calls = with_call (commands.Deliver pick) old.calls }
 
 -- a delivery at the pick was asked of the machine, which answered it
 pub record Delivers (config : Config) (programs : Programs) (pick : Pick) (old new : RunState) : Type 0 where
@@ -316,33 +358,44 @@ Makes config programs (moves.Ask number) old new =
     Asks config number (next_of config.cores programs old.places number) old new
 Makes config programs (moves.Deliver pick) old new = Delivers config programs pick old new
 
+-- what each core's accesses take up is measured
+abbrev pub measured_place : Place → Place
+measured_place place = record place { usage = measured place.registers place.waiting place.usage }
+
+abbrev pub measured_run : RunState → RunState
+measured_run run = record run { places = map measured_place run.places }
+
 -- the move that a word draws, each as likely as the others
 abbrev pub drawn_move : ℕ → List Move → Option Move
 drawn_move word moves = slice_get moves (word % length moves)
 
--- These moves are made, one after another. Each is drawn from those that may come next, by the next word of the
--- generator that stands there.
-abbrev pub MakesAll : Config → Programs → List ℕ → List Move → RunState → RunState → Type 0
-MakesAll config programs generator [] old new = new ≡ old
-MakesAll config programs generator (to ∷ more) old new =
+-- These moves are made behind so many others, one after another. Each is drawn from those that may come next, by the
+-- next word of the generator that stands there; behind it, it is measured what is in use, and rings are kept short.
+abbrev pub MakesAll : Config → Programs → List ℕ → ℕ → List Move → RunState → RunState → Type 0
+MakesAll config programs generator made [] old new = new ≡ old
+MakesAll config programs generator made (to ∷ more) old new =
     (next : RunState) × (drawn_move (plus_plus generator).0 (moves_of config programs old) ≡ Some to)
-    × Makes config programs to old next × MakesAll config programs (plus_plus generator).1 more next new
+    × Makes config programs to old next × (tidied : List PartsView) × Tidies config.slices made next.slices tidied
+    × MakesAll config programs (plus_plus generator).1 (made + 1) more (record (measured_run next) { slices = tidied })
+    new
 
 -- The moves that the seed draws are made, up to where none may come next, or 2^64 - 1 of them.
 pub record Runs (config : Config) (programs : Programs) (seed : ℕ) (old new : RunState) : Type 0 where
   pub steps : List Move
-  pub made : MakesAll config programs (of_seed (splitmix_seed 32 seed)) steps old new
+  pub made : MakesAll config programs (of_seed (splitmix_seed 32 seed)) 0 steps old new
   pub ended : (moves_of config programs new ≡ []) ⊎ (length steps ≡ 2 ^ 64 - 1)
 
 -- a program before its first step
 abbrev pub first_place : Place
-first_place = record { asked = 0; waiting = 0; stalled = false }
+first_place = record { asked = 0; waiting = 0; registers = 0; stalled = false; usage = no_usage }
 
--- a new machine, each program before its first step, and nothing seen
-pub record IsNewRun (config : Config) (bound : Bound) (programs : Programs) (run : RunState) : Type 0 where
-  pub fresh : IsNewMachine config bound run.slices
-  pub first : run.places ≡ replicate (length programs.cores.items) first_place
-  pub unseen : run.history ≡ no_history
+-- a new machine of which no call was made, which are wanted or not, each program before its first step, and nothing seen
+pub record IsNewRun (config : Config) (bound : Bound) (programs : Programs) (wanted : Bool) (run : RunState) : Type 0
+  where
+    pub fresh : IsNewMachine config bound run.slices
+    pub uncalled : run.calls ≡ no_calls wanted
+    pub first : run.places ≡ replicate (length programs.cores.items) first_place
+    pub unseen : run.history ≡ no_history
 
 -- a program that stands there has ended
 abbrev pub HasEnded : CoreProgram → Option Place → Type 0
@@ -365,19 +418,27 @@ IsOver programs run = HaveEnded programs.cores.items run.places × All (λ state
 pub record RunnerView : Type 0 where
   pub config : Config
   pub slices : List PartsView
+  pub calls : CallsView
   pub places : List Place
   pub observer : Observer
 
--- a runner of a new machine, each program before its first step, and nothing seen
-pub record IsNewRunner (machine : Config) (bound : Bound) (programs : Programs) (runner : RunnerView) : Type 0 where
+-- a runner that has measured
+abbrev pub measured_runner : RunnerView → RunnerView
+measured_runner runner = record runner { places = map measured_place runner.places }
+
+-- a runner of such a run
+pub record IsNewRunner (machine : Config) (bound : Bound) (programs : Programs) (wanted : Bool) (runner : RunnerView) :
+    Type 0 where
   pub config : runner.config ≡ machine
   pub fresh : IsNewMachine machine bound runner.slices
+  pub uncalled : runner.calls ≡ no_calls wanted
   pub first : runner.places ≡ replicate (length programs.cores.items) first_place
   pub unseen : HasSeen machine no_history runner.observer
 
 -- where the run is, if this was seen so far
 abbrev pub run_of : RunnerView → History → RunState
-run_of runner history = record { slices = runner.slices; places = runner.places; history = history }
+run_of runner history =
+    record { slices = runner.slices; calls = runner.calls; places = runner.places; history = history }
 
 -- Whatever was seen of the run so far, something is seen of it now, and it went on in this way.
 pub record Leads (Goes : RunState → RunState → Type 0) (old new : RunnerView) : Type 0 where
@@ -387,10 +448,27 @@ pub record Leads (Goes : RunState → RunState → Type 0) (old new : RunnerView
 
 -- ---- what is printed
 
+-- what was measured of the program that stands there
+abbrev pub usage_in : Option Place → Usage
+usage_in None = no_usage
+usage_in (Some place) = place.usage
+
+-- .. of the program of a core, if it has one
+abbrev pub usage_of : List CoreProgram → List Place → ℕ → Usage
+usage_of programs places core = by_number (position (λ program. program.core.0 == core) programs)
+  where
+    by_number : Option ℕ → Usage
+    by_number None = no_usage
+    by_number (Some number) = usage_in (slice_get places number)
+
+-- .. of each of so many cores
+abbrev pub usages_of : ℕ → Programs → List Place → List Usage
+usages_of cores programs places = map (usage_of programs.cores.items places) (range_with_len 0 cores)
+
 -- the report in this form, by whether several accesses of a core may be under way
-abbrev pub text_of : Form → TallyView → Bool → ℕ → List ℕ
-text_of forms.Table tally limited seed = report_of tally limited seed
-text_of forms.Json tally limited seed = json_of tally limited seed
+abbrev pub text_of : Form → TallyView → List Usage → Bool → ℕ → List ℕ
+text_of forms.Table tally usages limited seed = report_of tally usages limited seed
+text_of forms.Json tally usages limited seed = json_of tally usages limited seed
 
 -- where nothing may come next before the end
 abbrev pub text_of_stuck : ℕ → List ℕ
@@ -401,17 +479,29 @@ pub record PrintsEnd (config : Config) (programs : Programs) (form : Form) (seed
     (before after : Option (List ℕ)) : Type 0 where
   pub over : IsOver programs run → (status ≡ 0)
       × Appends before after (text_of form (tally_after (new_tally config.cores config.lines) run.history.counted)
-      (is_limited programs.outstanding) seed)
+      (usages_of config.cores programs run.places) (is_limited programs.outstanding) seed)
   pub stuck : ¬ IsOver programs run → (status ≡ 1) × Appends before after (text_of_stuck seed)
 
 -- The programs are run on a new machine by the moves that the seed draws, and what the run's end prints is written.
 pub record IsProgramsRun (bound : Bound) (programs : Programs) (form : Form) (seed status : ℕ)
     (before after : Option (List ℕ)) : Type 0 where
   pub start : RunState
-  pub new : IsNewRun programs.config bound programs start
+  pub new : IsNewRun programs.config bound programs false start
   pub end : RunState
   pub runs : Runs programs.config programs seed start end
   pub prints : PrintsEnd programs.config programs form seed status end before after
+
+-- The programs are run so, and the calls that the moves made are printed as a script for the machine. Status 0 says that
+-- the run is over, and 1 that nothing may come next before.
+pub record PrintsSchedule (bound : Bound) (programs : Programs) (seed status : ℕ) (before after : Option (List ℕ)) :
+    Type 0 where
+  pub start : RunState
+  pub new : IsNewRun programs.config bound programs true start
+  pub end : RunState
+  pub runs : Runs programs.config programs seed start end
+  pub over : IsOver programs end → status ≡ 0
+  pub stuck : ¬ IsOver programs end → status ≡ 1
+  pub printed : Appends before after (text_of_script programs.config programs.misses end.calls.made)
 
 -- so many accesses of a core may be under way, where a number is given
 abbrev pub limited_to : Option ℕ → Programs → Programs

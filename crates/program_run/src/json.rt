@@ -3,7 +3,6 @@
 ghost use Rattle.std.specs.Prelude.{◌≡◌, OnOk};
 ghost use Rattle.std.specs.Fmt.{WritesInCalls};
 ghost use Rattle.program_run.specs.Json.{
-  before_text,
   core_object,
   core_objects_of,
   json_of,
@@ -11,24 +10,30 @@ ghost use Rattle.program_run.specs.Json.{
   line_objects_of,
   member_of,
   members_of,
+  usage_members,
 };
+ghost use Rattle.program_run.specs.Usage.{usage_at};
 
 use super::column::{Column, columns_of_all, columns_of_core, line_columns};
 use super::tally::{Counts, Tally};
+use super::usage::Usage;
+use json_text::write_comma;
 use std::fmt;
 use std::fmt::Write;
 
 /// Writes what the report shows, under the names of its columns.
 pub(crate) fn write_json<W: Write>(
     tally: &Tally,
+    usages: &[Usage],
     is_limited: bool,
     seed: u64,
     out: &mut W,
 ) -> fmt::Result
-    ensures { OnOk result (WritesInCalls W.write_str_gives out.old (json_of tally.now is_limited seed) out.new) }
+    ensures { OnOk result
+        (WritesInCalls W.write_str_gives out.old (json_of tally.now usages.now is_limited seed) out.new) }
 {
     write!(out, "{{\"seed\":{seed},\"cores\":[")?;
-    write_cores(columns_of_core(is_limited), tally.cores(), out)?;
+    write_cores(is_limited, tally.cores(), usages, out)?;
     write!(out, "],\"lines\":[")?;
     write_lines(tally.lines(), out)?;
     write!(out, "],\"all\":{{")?;
@@ -36,25 +41,67 @@ pub(crate) fn write_json<W: Write>(
     writeln!(out, "}}}}")
 }
 
-fn write_cores<W: Write>(columns: &[Column], cores: &[Counts], out: &mut W) -> fmt::Result
-    ensures { OnOk result (WritesInCalls W.write_str_gives out.old (core_objects_of columns.now cores.now) out.new) }
+fn write_cores<W: Write>(
+    is_limited: bool,
+    cores: &[Counts],
+    usages: &[Usage],
+    out: &mut W,
+) -> fmt::Result
+    ensures { OnOk result
+        (WritesInCalls W.write_str_gives out.old (core_objects_of is_limited cores.now usages.now) out.new) }
 {
     let mut is_first = true;
     for (core, counts) in cores.iter().enumerate() {
         write_comma(is_first, out)?;
         is_first = false;
-        write_core(core as u64, columns, counts, out)?;
+        write_core(core as u64, is_limited, counts, usage_at(usages, core), out)?;
     }
     Ok(())
 }
 
-fn write_core<W: Write>(core: u64, columns: &[Column], counts: &Counts, out: &mut W) -> fmt::Result
+fn usage_at(usages: &[Usage], core: usize) -> Usage
+    ensures { result ≡ usage_at usages.now core }
+{
+    match usages.get(core) {
+        Some(usage) => *usage,
+        None => Usage::none(),
+    }
+}
+
+fn write_core<W: Write>(
+    core: u64,
+    is_limited: bool,
+    counts: &Counts,
+    usage: Usage,
+    out: &mut W,
+) -> fmt::Result
     ensures { OnOk result
-        (WritesInCalls W.write_str_gives out.old (core_object columns.now core counts.now) out.new) }
+        (WritesInCalls W.write_str_gives out.old (core_object is_limited core counts.now usage) out.new) }
 {
     write!(out, "{{\"core\":{core},")?;
-    write_members(columns, counts, out)?;
+    write_members(columns_of_core(is_limited), counts, out)?;
+    write_usage(is_limited, usage, out)?;
     write!(out, "}}")
+}
+
+// What was in use, where several accesses of a core may be under way.
+fn write_usage<W: Write>(is_limited: bool, usage: Usage, out: &mut W) -> fmt::Result
+    ensures { OnOk result (WritesInCalls W.write_str_gives out.old (usage_members is_limited usage) out.new) }
+{
+    if !is_limited {
+        return Ok(());
+    }
+    let Usage {
+        moves,
+        most_registers,
+        sum_registers,
+        most_targets,
+        sum_targets,
+    } = usage;
+    write!(
+        out,
+        ",\"moves\":{moves},\"registers_most\":{most_registers},\"registers_sum\":{sum_registers},\"targets_most\":{most_targets},\"targets_sum\":{sum_targets}"
+    )
 }
 
 fn write_lines<W: Write>(lines: &[Counts], out: &mut W) -> fmt::Result
@@ -99,14 +146,4 @@ fn write_member<W: Write>(column: Column, counts: &Counts, out: &mut W) -> fmt::
     let name = column.name();
     let count = column.count(counts);
     write!(out, "\"{name}\":{count}")
-}
-
-// What stands before a text of a list: a comma, but before the first.
-fn write_comma<W: Write>(is_first: bool, out: &mut W) -> fmt::Result
-    ensures { OnOk result (WritesInCalls W.write_str_gives out.old (before_text is_first) out.new) }
-{
-    if is_first {
-        return Ok(());
-    }
-    write!(out, ",")
 }

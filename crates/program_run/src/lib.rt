@@ -12,15 +12,21 @@
 //! - src/observer.rt: what is seen of each call: what becomes of the cores' copies, and what is counted
 //!   (specs/History.antt). A miss is counted under its cause (`miss_cause`).
 //! - src/tally.rt: the counts, for each core and for each line (specs/Tally.antt).
+//! - src/usage.rt: how many miss registers and targets are in use, move by move (specs/Usage.antt).
 //! - src/report.rt and src/json.rt write what was counted (specs/Report.antt, specs/Json.antt).
+//! - src/calls.rt: the calls that the moves make of the machine, where they are wanted; src/script.rt prints them as a
+//!   script (specs/Calls.antt).
 //!
-//! [`run_programs`] is proved to print the report of what the moves of one such run counted (`IsProgramsRun`).
+//! [`run_programs`] is proved to print the report of what the moves of one such run counted (`IsProgramsRun`), and
+//! [`write_schedule`] the calls that the moves of one make, as a script for its machine (`PrintsSchedule`).
 //!
 //! [`Xoshiro256++`]: rand_xoshiro::Xoshiro256PlusPlus
 #![tactic(auto)]
 
 pub use run::{Form, run_programs};
+pub use script::write_schedule;
 
+mod calls;
 mod column;
 mod json;
 mod moves;
@@ -29,4 +35,7 @@ mod performed;
 mod report;
 mod run;
 mod runner;
+mod script;
 mod tally;
+mod tidy;
+mod usage;

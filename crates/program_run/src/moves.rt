@@ -4,11 +4,13 @@ ghost use Rattle.program_run.specs.Run.{
   asks_of,
   decision_on,
   deliveries_of,
+  first_place,
   is_tried,
   may_ask,
   may_stall,
   may_step,
   may_turn,
+  measured_place,
   most_of,
   next_by,
   next_of,
@@ -16,6 +18,7 @@ ghost use Rattle.program_run.specs.Run.{
   turn_of,
 };
 
+use super::usage::Usage;
 use address_map::{CoreId, Request};
 use litmus_script::Machine;
 use mshr_file::MissFile;
@@ -38,8 +41,47 @@ pub(crate) struct Place {
     pub asked: usize,
     /// How many accesses were asked for and aren't performed yet.
     pub waiting: u64,
+    /// How many miss registers hold these.
+    pub registers: u64,
     /// Whether the next access was asked for, and stalled.
     pub stalled: bool,
+    /// What was in use behind each move.
+    pub usage: Usage,
+}
+
+impl Place {
+    /// Before the first step.
+    pub fn first() -> Self
+        ensures { result ≡ first_place }
+    {
+        Place {
+            asked: 0,
+            waiting: 0,
+            registers: 0,
+            stalled: false,
+            usage: Usage::none(),
+        }
+    }
+
+    /// Its usage is measured.
+    pub fn measured(self) -> Self
+        ensures { result ≡ measured_place self }
+    {
+        Place {
+            usage: self.usage.measured(self.registers, self.waiting),
+            ..self
+        }
+    }
+}
+
+/// What an access takes up until it is performed.
+#[derive(Clone, Copy, Debug, PartialEq, Eq)]
+pub(crate) enum Takes {
+    Nothing,
+    /// A target of a miss register that is open.
+    Target,
+    /// A miss register, and its first target.
+    Register,
 }
 
 /// How a program goes on.

@@ -40,13 +40,15 @@ pub(crate) fn hand_out_all<F: MissFile>(
     programs: &Programs,
     slice: SliceId,
     entries: &[Entry],
-)
+) -> Result<(), AllocError>
     requires { slice.0 < runner.old.config.slices }
-    ensures { Leads (PerformsAll runner.old.config programs.now slice.0 true entries.now) runner.old runner.new }
+    ensures { OnOk result
+        (Leads (PerformsAll runner.old.config programs.now slice.0 true entries.now) runner.old runner.new) }
 {
     let mut is_first = true;
     for entry in entries {
-        runner.hand_out(programs, slice, *entry, is_first);
+        runner.hand_out(programs, slice, *entry, is_first)?;
         is_first = false;
     }
+    Ok(())
 }

@@ -3,22 +3,25 @@ ghost use Rattle.std.specs.Fmt.{WritesInCalls};
 ghost use Rattle.stats_report.specs.Report.{right_in_10};
 ghost use Rattle.program_run.specs.Column.{name_of};
 ghost use Rattle.program_run.specs.Report.{core_rows, counts_of, heading_of, line_row, line_rows, names_of};
-ghost use Rattle.program_run.specs.Report.{parallel_table, report_of, row_of};
+ghost use Rattle.program_run.specs.Report.{mean_of, parallel_table, report_of, row_of, usage_row, usage_rows, usage_table};
 
 use super::column::{Column, core_columns, line_columns, parallel_columns};
 use super::tally::{Counts, Tally};
+use super::usage::{Usage, hundredths_of, whole_of};
 use std::fmt;
 use std::fmt::Write;
 
-/// Writes a table of the cores, and one of the lines that were asked for, which ends with the sums. A further table of
-/// the cores stands behind it where several accesses of each may be under way.
+/// Writes a table of the cores, and one of the lines that were asked for, which ends with the sums. Two further tables
+/// of the cores stand behind it where several accesses of each may be under way.
 pub(crate) fn write_report<W: Write>(
     tally: &Tally,
+    usages: &[Usage],
     is_limited: bool,
     seed: u64,
     out: &mut W,
 ) -> fmt::Result
-    ensures { OnOk result (WritesInCalls W.write_str_gives out.old (report_of tally.now is_limited seed) out.new) }
+    ensures { OnOk result
+        (WritesInCalls W.write_str_gives out.old (report_of tally.now usages.now is_limited seed) out.new) }
 {
     writeln!(out, "seed {seed}")?;
     write_heading("      core", core_columns(), out)?;
@@ -28,7 +31,8 @@ pub(crate) fn write_report<W: Write>(
     write!(out, "       all")?;
     write_counts(line_columns(), &tally.all(), out)?;
     writeln!(out)?;
-    write_parallel(is_limited, tally.cores(), out)
+    write_parallel(is_limited, tally.cores(), out)?;
+    write_usages(is_limited, usages, out)
 }
 
 fn write_parallel<W: Write>(is_limited: bool, cores: &[Counts], out: &mut W) -> fmt::Result
@@ -39,6 +43,50 @@ fn write_parallel<W: Write>(is_limited: bool, cores: &[Counts], out: &mut W) -> 
     }
     write_heading("      core", parallel_columns(), out)?;
     write_cores(parallel_columns(), cores, out)
+}
+
+fn write_usages<W: Write>(is_limited: bool, usages: &[Usage], out: &mut W) -> fmt::Result
+    ensures { OnOk result (WritesInCalls W.write_str_gives out.old (usage_table is_limited usages.now) out.new) }
+{
+    if !is_limited {
+        return Ok(());
+    }
+    writeln!(
+        out,
+        "      core regs-most    regs-mean tgts-most    tgts-mean"
+    )?;
+    write_usage_rows(usages, out)
+}
+
+fn write_usage_rows<W: Write>(usages: &[Usage], out: &mut W) -> fmt::Result
+    ensures { OnOk result (WritesInCalls W.write_str_gives out.old (usage_rows usages.now) out.new) }
+{
+    for (core, usage) in usages.iter().enumerate() {
+        write_usage(core as u64, usage, out)?;
+    }
+    Ok(())
+}
+
+fn write_usage<W: Write>(core: u64, usage: &Usage, out: &mut W) -> fmt::Result
+    ensures { OnOk result (WritesInCalls W.write_str_gives out.old (usage_row core usage.now) out.new) }
+{
+    write_number(core, out)?;
+    write_number(usage.most_registers, out)?;
+    write_mean(usage.sum_registers, usage.moves, out)?;
+    write_number(usage.most_targets, out)?;
+    write_mean(usage.sum_targets, usage.moves, out)?;
+    writeln!(out)
+}
+
+// A mean with two places behind the point.
+fn write_mean<W: Write>(sum: u64, moves: u64, out: &mut W) -> fmt::Result
+    ensures { OnOk result (WritesInCalls W.write_str_gives out.old (mean_of sum moves) out.new) }
+{
+    let hundredths = hundredths_of(sum, moves);
+    let tenths = hundredths / 10;
+    let rest = hundredths % 10;
+    write_number(whole_of(sum, moves), out)?;
+    write!(out, ".{tenths}{rest}")
 }
 
 fn write_heading<W: Write>(title: &str, columns: &[Column], out: &mut W) -> fmt::Result

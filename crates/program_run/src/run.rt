@@ -15,6 +15,7 @@ use super::moves::Move;
 use super::report::write_report;
 use super::runner::Runner;
 use super::tally::Tally;
+use super::usage::Usage;
 use litmus_script::TextWriter;
 use litmus_text::TextFault;
 use mshr_file::{ExplicitFile, InvertedFile, MissFile, MissKind};
@@ -55,8 +56,8 @@ pub fn run_programs<W: Write>(
     run_read(alloc, &programs, seed, form, out)
 }
 
-// So many accesses of a core may be under way, where a number is given.
-fn limit(programs: &mut Programs, outstanding: Option<u64>)
+/// So many accesses of a core may be under way, where a number is given.
+pub(crate) fn limit(programs: &mut Programs, outstanding: Option<u64>)
     ensures { programs.new ≡ limited_to outstanding programs.old }
 {
     match outstanding {
@@ -95,11 +96,12 @@ fn run_on<F: MissFile, W: Write>(
         programs.now form seed status (W.contents out.old) (W.contents out.new)) }
     ensures fault { IfErr result IsOfRun }
 {
-    let mut runner = Runner::<F>::new(alloc, programs)?;
+    let mut runner = Runner::<F>::new(alloc, programs, false)?;
     run(alloc, programs, seed, &mut runner)?;
     if runner.is_over(programs) {
         let limited = is_limited(programs.outstanding);
-        print_report(runner.tally(), limited, seed, form, out)?;
+        let usages = runner.usages(alloc, programs)?;
+        print_report(runner.tally(), usages.as_slice(), limited, seed, form, out)?;
         Ok(0)
     } else {
         print_stuck(seed, out)?;
@@ -117,8 +119,8 @@ fn is_limited(outstanding: Option<u64>) -> bool
     }
 }
 
-// Makes moves up to the end.
-fn run<F: MissFile>(
+/// Makes moves up to the end.
+pub(crate) fn run<F: MissFile>(
     alloc: Global,
     programs: &Programs,
     seed: u64,
@@ -135,6 +137,8 @@ fn run<F: MissFile>(
             return Ok(());
         };
         runner.go(programs, to, &mut performed)?;
+        runner.measure();
+        runner.tidy(made);
     }
     Ok(())
 }
@@ -154,17 +158,18 @@ fn draw(generator: &mut Xoshiro256PlusPlus, moves: &[Move]) -> Option<Move>
 
 fn print_report<W: Write>(
     tally: &Tally,
+    usages: &[Usage],
     limited: bool,
     seed: u64,
     form: Form,
     out: &mut W,
 ) -> Result<(), TextFault>
     ensures printed { OnOk result
-        (Appends (W.contents out.old) (W.contents out.new) (text_of form tally.now limited seed)) }
+        (Appends (W.contents out.old) (W.contents out.new) (text_of form tally.now usages.now limited seed)) }
     ensures fault { IfErr result IsOfRun }
 {
     let mut answers = TextWriter { out };
-    match write_form(tally, limited, seed, form, &mut answers) {
+    match write_form(tally, usages, limited, seed, form, &mut answers) {
         Ok(()) => Ok(()),
         Err(_) => Err(TextFault::CannotWrite),
     }
@@ -172,16 +177,18 @@ fn print_report<W: Write>(
 
 fn write_form<W: fmt::Write>(
     tally: &Tally,
+    usages: &[Usage],
     limited: bool,
     seed: u64,
     form: Form,
     out: &mut W,
 ) -> fmt::Result
-    ensures { OnOk result (WritesInCalls W.write_str_gives out.old (text_of form tally.now limited seed) out.new) }
+    ensures { OnOk result
+        (WritesInCalls W.write_str_gives out.old (text_of form tally.now usages.now limited seed) out.new) }
 {
     match form {
-        Form::Table => write_report(tally, limited, seed, out),
-        Form::Json => write_json(tally, limited, seed, out),
+        Form::Table => write_report(tally, usages, limited, seed, out),
+        Form::Json => write_json(tally, usages, limited, seed, out),
     }
 }
 

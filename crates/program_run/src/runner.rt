@@ -1,4 +1,5 @@
-ghost use Rattle.std.specs.Prelude.{◌≡◌, ◌++◌, ◌↔◌, ◌%◌, ◌<◌, All, IfOk, IsTrue, OnOk, Some, drop, slice_get, true};
+ghost use Rattle.std.specs.Prelude.{◌≡◌, ◌++◌, ◌↔◌, ◌%◌, ◌<◌, All, IfOk, IsTrue, OnOk, Some, drop, map, position, slice_get, true};
+ghost use Rattle.std.specs.Prelude.{◌==◌};
 ghost use Rattle.address_map.specs.Locator.{local_at};
 ghost use Rattle.litmus_script.specs.Machine.{HasAt, log_at};
 ghost use Rattle.litmus_text.specs.Command.{HasCore};
@@ -6,6 +7,7 @@ ghost use Rattle.slice_core.specs.Facts.{front_at};
 ghost use Rattle.slice_core_plan.specs.View.{IsQuiet};
 ghost use Rattle.slice_queues_message.specs.Pick.{channel_of, line_of};
 ghost use Rattle.program_run.specs.History.{History, HasSeen};
+ghost use Rattle.program_run.specs.Tidy.{Tidies};
 ghost use Rattle.program_run.specs.Run.{
   Accesses,
   HandsOut,
@@ -21,29 +23,43 @@ ghost use Rattle.program_run.specs.Run.{
   after_wake,
   asks_of,
   deliveries_of,
+  fewer_registers,
   gone_on,
+  is_closed,
   left_in,
   makes_room,
+  measured_place,
+  measured_runner,
+  more_registers,
   more_waiting,
   program_of,
+  takes_of,
+  usage_in,
+  usage_of,
+  usages_of,
 };
 
-use super::moves::{Move, Place, Turn, decide, list_moves, next_turn};
+use super::calls::Calls;
+use super::moves::{Move, Place, Takes, Turn, decide, list_moves, next_turn};
 use super::observer::Observer;
 use super::performed::{hand_out_all, list_performed};
 use super::tally::Tally;
+use super::tidy::tidy;
+use super::usage::Usage;
 use address_map::{CoreId, LineAddr, Request, SliceId};
 use litmus_script::{Issued, Machine};
+use litmus_text::Command;
 use mshr_file::MissFile;
 use program_text::{CoreProgram, Programs};
 use slice_core::{AccessKind, Decision, Delivered, Entry, Message, Pick, Placement};
 use std::alloc::{AllocError, Global};
 use std::marker::Model;
 
-/// A run on its way: the machine, where each program is, and what was seen.
+/// A run on its way: the machine with the calls that are made of it, where each program is, and what was seen.
 #[derive(Drop)]
 pub(crate) struct Runner<F: MissFile> {
     machine: Machine<F>,
+    calls: Calls,
     places: Vec<Place>,
     observer: Observer,
 }
@@ -56,6 +72,7 @@ impl<F: MissFile> Model for Runner<F> {
     ghost view = { λ r. record {
       config = r.machine.config;
       slices = r.machine.slices.items;
+      calls = r.calls;
       places = r.places.items;
       observer = r.observer;
     } };
@@ -64,27 +81,30 @@ impl<F: MissFile> Model for Runner<F> {
 impl<F: MissFile> Runner<F> {
     ghost use Rattle.program_run.specs.Run.{IsNewRunner};
 
-    /// Each program stands before its first step, on a new machine.
-    pub fn new(alloc: Global, programs: &Programs) -> Result<Self, AllocError>
+    /// Each program stands before its first step, on a new machine. Its calls are kept where they are wanted.
+    pub fn new(alloc: Global, programs: &Programs, wanted: bool) -> Result<Self, AllocError>
         ensures { IfOk result
-            (IsNewRunner programs.now.config (F.bound_by programs.now.config) programs.now) }
+            (IsNewRunner programs.now.config (F.bound_by programs.now.config) programs.now wanted) }
     {
         let config = programs.config.try_clone(alloc)?;
         let observer = Observer::new(alloc, &config)?;
-        let first = Place {
-            asked: 0,
-            waiting: 0,
-            stalled: false,
-        };
-        let places = vec![in alloc; first; programs.cores.len()]?;
+        let places = vec![in alloc; Place::first(); programs.cores.len()]?;
         let Ok(machine) = Machine::build(alloc, config) else {
             return Err(AllocError);
         };
         Ok(Runner {
             machine,
+            calls: Calls::new(alloc, wanted),
             places,
             observer,
         })
+    }
+
+    /// The calls that were made of the machine.
+    pub fn calls(&self) -> &[Command]
+        ensures { result.now ≡ self.now.calls.made }
+    {
+        self.calls.made()
     }
 
     /// What was counted.
@@ -92,6 +112,34 @@ impl<F: MissFile> Runner<F> {
         ensures { result.now ≡ self.now.observer.tally }
     {
         &self.observer.tally
+    }
+
+    /// What was measured of each core's accesses.
+    pub fn usages(&self, alloc: Global, programs: &Programs) -> Result<Vec<Usage>, AllocError>
+        ensures { IfOk result
+            (λ usages. usages.items ≡ usages_of self.now.config.cores programs.now self.now.places) }
+    {
+        list_usages(
+            alloc,
+            self.machine.config.cores(),
+            programs,
+            self.places.as_slice(),
+        )
+    }
+
+    /// Measures what each core's accesses take up, behind a move.
+    pub fn measure(&mut self)
+        ensures { self.new ≡ measured_runner self.old }
+    {
+        measure_all(&mut self.places);
+    }
+
+    /// Keeps the rings of the slices short, behind a move that so many others came before.
+    pub fn tidy(&mut self, made: u64)
+        ensures tidied { Tidies self.old.config.slices made self.old.slices self.new.slices }
+        ensures rest { self.new ≡ record self.old { slices = self.new.slices } }
+    {
+        tidy(&mut self.machine, made);
     }
 
     /// Lists what may come next.
@@ -136,7 +184,7 @@ impl<F: MissFile> Runner<F> {
         match turn {
             Turn::Ask(request) => self.access(number, core, request),
             Turn::Settled => {
-                go_on(&mut self.places, number, false);
+                go_on(&mut self.places, number, Takes::Nothing);
                 Ok(())
             }
         }
@@ -146,20 +194,22 @@ impl<F: MissFile> Runner<F> {
         requires { HasCore self.old.config core }
         ensures { OnOk result (Leads (Accesses self.old.config number core request) self.old self.new) }
     {
-        let room = makes_room(decide(&self.machine, core, request));
+        let decision = decide(&self.machine, core, request);
+        self.calls.push(Command::Issue { core, request })?;
         let Ok(issued) = self.machine.issue(core, request) else {
             return Err(AllocError);
         };
         match issued {
             Issued::Done { reply, .. } => {
                 self.observer.hit(core, request.word, request.op, reply);
-                go_on(&mut self.places, number, false);
+                go_on(&mut self.places, number, Takes::Nothing);
                 Ok(())
             }
             Issued::Pending(_) => {
                 let line = request.word.line();
+                let room = makes_room(decision);
                 make_room(room, &self.machine, &mut self.observer, core, line);
-                go_on(&mut self.places, number, true);
+                go_on(&mut self.places, number, takes_of(decision));
                 Ok(())
             }
             Issued::Stall(stall) => {
@@ -182,6 +232,7 @@ impl<F: MissFile> Runner<F> {
         let slice = SliceId(self.machine.slice_of(pick.line()) as u8);
         let front = front_of(&self.machine, pick);
         let before = self.machine.log_of(slice).len();
+        self.calls.push(Command::Deliver(pick))?;
         match self.machine.deliver(pick) {
             Delivered::Moved => {
                 self.observer.deliver(pick, front);
@@ -206,25 +257,36 @@ impl<F: MissFile> Runner<F> {
             self.old self.new) }
     {
         list_performed(&self.machine, slice, before, performed)?;
-        hand_out_all(self, programs, slice, performed.as_slice());
-        Ok(())
+        hand_out_all(self, programs, slice, performed.as_slice())
     }
 
     /// An access that waited is performed, as the first of its delivery or behind others: its reply is handed out, and
     /// its core waits for one less.
-    pub fn hand_out(&mut self, programs: &Programs, slice: SliceId, entry: Entry, is_first: bool)
+    pub fn hand_out(
+        &mut self,
+        programs: &Programs,
+        slice: SliceId,
+        entry: Entry,
+        is_first: bool,
+    ) -> Result<(), AllocError>
         requires { slice.0 < self.old.config.slices }
-        ensures { Leads (Performs self.old.config programs.now slice.0 is_first entry) self.old self.new }
+        ensures { OnOk result
+            (Leads (Performs self.old.config programs.now slice.0 is_first entry) self.old self.new) }
     {
-        if entry.core.0 as usize >= self.machine.config.cores() {
-            return;
+        let core = entry.core;
+        if core.0 as usize >= self.machine.config.cores() {
+            return Ok(());
         }
-        let _ = self.machine.hand(entry.core, slice);
+        let closes = is_closed(is_first, &self.machine, core, entry.word.line());
+        self.calls.push(Command::Hand { core, slice })?;
+        let _ = self.machine.hand(core, slice);
         self.observer.perform(entry, is_first);
         wake(
             &mut self.places,
-            program_of(programs.cores.as_slice(), entry.core),
+            closes,
+            program_of(programs.cores.as_slice(), core),
         );
+        Ok(())
     }
 
     /// Whether all programs ended, nothing is in flight and each reply is handed out.
@@ -249,6 +311,16 @@ fn makes_room(decision: Decision) -> bool
             }
         )
     )
+}
+
+// What an access takes up that is pending, by what was decided of it.
+fn takes_of(decision: Decision) -> Takes
+    ensures { result ≡ takes_of decision }
+{
+    match decision {
+        Decision::Access(_, AccessKind::PrimaryMiss { .. }) => Takes::Register,
+        _ => Takes::Target,
+    }
 }
 
 // Where room was made, the line that left is seen.
@@ -282,26 +354,54 @@ fn left_in<F: MissFile>(machine: &Machine<F>, core: CoreId, line: LineAddr) -> O
     machine.slices[slice].last_written_back(core)
 }
 
-// The program of this number has taken one more step, and may wait for one more access.
-fn go_on(places: &mut Vec<Place>, number: usize, waits: bool)
-    ensures { places.new.items ≡ gone_on number waits (slice_get places.old.items number) places.old.items }
+// Whether the delivery has closed the register of a core's line: it performs its first access, and none of the core
+// waits for the line any more.
+fn is_closed<F: MissFile>(
+    is_first: bool,
+    machine: &Machine<F>,
+    core: CoreId,
+    line: LineAddr,
+) -> bool
+    requires { HasCore machine.now.config core }
+    ensures { result ≡ is_closed is_first
+        (slice_get machine.now.slices.items (line.0 % machine.now.config.slices)) core line }
+{
+    if !is_first {
+        return false;
+    }
+    let slice = machine.slice_of(line);
+    machine.slices[slice].targets(core, line).is_empty()
+}
+
+// The program of this number has taken one more step, and what this takes up.
+fn go_on(places: &mut Vec<Place>, number: usize, takes: Takes)
+    ensures { places.new.items ≡ gone_on number takes (slice_get places.old.items number) places.old.items }
 {
     if number >= places.len() {
         return;
     }
     let place = &mut places[number];
     place.asked = place.asked.saturating_add(1);
-    place.waiting = more_waiting(waits, place.waiting);
+    place.waiting = more_waiting(takes, place.waiting);
+    place.registers = more_registers(takes, place.registers);
     place.stalled = false;
 }
 
-fn more_waiting(waits: bool, waiting: u64) -> u64
-    ensures { result ≡ more_waiting waits waiting }
+fn more_waiting(takes: Takes, waiting: u64) -> u64
+    ensures { result ≡ more_waiting takes waiting }
 {
-    if waits {
-        waiting.saturating_add(1)
-    } else {
-        waiting
+    match takes {
+        Takes::Nothing => waiting,
+        Takes::Target | Takes::Register => waiting.saturating_add(1),
+    }
+}
+
+fn more_registers(takes: Takes, registers: u64) -> u64
+    ensures { result ≡ more_registers takes registers }
+{
+    match takes {
+        Takes::Nothing | Takes::Target => registers,
+        Takes::Register => registers.saturating_add(1),
     }
 }
 
@@ -316,9 +416,9 @@ fn stop(places: &mut Vec<Place>, number: usize)
     place.stalled = true;
 }
 
-// The program of this number waits for one access less.
-fn wake(places: &mut Vec<Place>, number: Option<usize>)
-    ensures { places.new.items ≡ after_wake number places.old.items }
+// The program of this number waits for one access less, and has one register less if that was closed.
+fn wake(places: &mut Vec<Place>, closes: bool, number: Option<usize>)
+    ensures { places.new.items ≡ after_wake closes number places.old.items }
 {
     let Some(number) = number else {
         return;
@@ -328,6 +428,67 @@ fn wake(places: &mut Vec<Place>, number: Option<usize>)
     }
     let place = &mut places[number];
     place.waiting = place.waiting.saturating_sub(1);
+    place.registers = fewer_registers(closes, place.registers);
+}
+
+fn fewer_registers(closes: bool, registers: u64) -> u64
+    ensures { result ≡ fewer_registers closes registers }
+{
+    if closes {
+        registers.saturating_sub(1)
+    } else {
+        registers
+    }
+}
+
+fn measure_all(places: &mut Vec<Place>)
+    ensures { places.new.items ≡ map measured_place places.old.items }
+{
+    for number in 0..places.len() {
+        places[number] = places[number].measured();
+    }
+}
+
+fn list_usages(
+    alloc: Global,
+    cores: usize,
+    programs: &Programs,
+    places: &[Place],
+) -> Result<Vec<Usage>, AllocError>
+    ensures { IfOk result (λ usages. usages.items ≡ usages_of cores programs.now places.now) }
+{
+    let mut usages = Vec::new(alloc);
+    for core in 0..cores {
+        usages.push(usage_of(programs.cores.as_slice(), places, core))?;
+    }
+    Ok(usages)
+}
+
+// What was measured of a core: nothing where it has no program.
+fn usage_of(programs: &[CoreProgram], places: &[Place], core: usize) -> Usage
+    ensures { result ≡ usage_of programs.now places.now core }
+{
+    match number_of(programs, core) {
+        Some(number) => usage_in(places, number),
+        None => Usage::none(),
+    }
+}
+
+fn number_of(programs: &[CoreProgram], core: usize) -> Option<usize>
+    ensures { result ≡ position (λ program. program.core.0 == core) programs.now }
+{
+    programs
+        .iter()
+        .position(|program| program.core.0 as usize == core)
+}
+
+fn usage_in(places: &[Place], number: usize) -> Usage
+    ensures { result ≡ usage_in (slice_get places.now number) }
+{
+    match places.get(number) {
+        Some(place) => place.usage,
+        None => Usage::none(),
+    }
 }
 
 fn program_of(programs: &[CoreProgram], core: CoreId) -> Option<usize>

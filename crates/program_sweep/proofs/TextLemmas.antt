@@ -1,6 +1,9 @@
 -- A text with other settings, line by line.
 use Rattle.std.proofs.Common.{◌≡◌, ℕ, Bool, List, [], ◌∷◌, ◌++◌, ap, ap₂, sym, ◌∙◌, append_assoc, ◌&&◌, not}
-use Rattle.program_sweep.specs.Text.{added_if, ended, ends_settings, left_with}
+use Rattle.std.proofs.Common.{◌<◌, ◌≤◌, ◌+◌, None, Some, drop, false, get_or, length, refl, true}
+use Rattle.std.proofs.lemmas.List.{at_drop_all, at_drop_more}
+use Rattle.program_sweep.specs.declared.setting.Setting.{Setting}
+use Rattle.program_sweep.specs.Text.{added_if, ended, ends_settings, is_outstanding, left_with, outstanding_of}
 
 -- the next line
 pub next_line : (added line : List ℕ) (more left : List (List ℕ)) (is_before ends after : Bool) (old mid new : List ℕ)
@@ -22,3 +25,28 @@ pub end_lines : (added : List ℕ) (is_before : Bool) (left : List (List ℕ)) (
     → new ≡ old ++ added_if added is_before → new ≡ old ++ left_with added is_before left
 end_lines added is_before left old new none one =
     one ∙ ap (λ (t : List ℕ). old ++ t) (sym (ap (left_with added is_before) none))
+
+-- ---- the setting that is how many accesses may be under way
+
+module _ (settings : List Setting) (i : ℕ) where
+  -- a setting of another name is not
+  pub next_outstanding : (setting : Setting) → i < length settings → setting ≡ get_or settings i setting
+      → is_outstanding setting.name.now ≡ false
+      → outstanding_of (drop i settings) ≡ outstanding_of (drop (i + 1) settings)
+  next_outstanding setting below here other =
+      let first : outstanding_of (setting ∷ drop (i + 1) settings) ≡ outstanding_of (drop (i + 1) settings) =
+      rw other refl in
+      at_drop_more outstanding_of settings i setting below
+      ∙ ap (λ (s : Setting). outstanding_of (s ∷ drop (i + 1) settings)) (sym here) ∙ first
+
+  -- one of that name is
+  pub this_outstanding : (setting : Setting) → i < length settings → setting ≡ get_or settings i setting
+      → is_outstanding setting.name.now ≡ true → outstanding_of (drop i settings) ≡ Some setting
+  this_outstanding setting below here named =
+      let first : outstanding_of (setting ∷ drop (i + 1) settings) ≡ Some setting = rw named refl in
+      at_drop_more outstanding_of settings i setting below
+      ∙ ap (λ (s : Setting). outstanding_of (s ∷ drop (i + 1) settings)) (sym here) ∙ first
+
+  -- where none is left none is
+  pub last_outstanding : length settings ≤ i → outstanding_of (drop i settings) ≡ None
+  last_outstanding end = at_drop_all outstanding_of settings i end

@@ -1,3 +1,4 @@
 pub mod Text
+pub mod Read
 pub mod Row
 pub mod Sweep

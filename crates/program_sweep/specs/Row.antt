@@ -1,6 +1,6 @@
 -- The row of a run: its settings, its seed, and what the last object of its report has, which are the sums over all
 -- lines.
-use Rattle.std.specs.Prelude.{ℕ, ◌-◌, ◌==◌, ◌&&◌, ◌||◌, Bool, true, false, not, nat_le, List, [], ◌∷◌, ◌++◌, codes}
+use Rattle.std.specs.Prelude.{ℕ, ◌-◌, ◌==◌, ◌&&◌, ◌||◌, Bool, false, not, nat_le, List, [], ◌∷◌, ◌++◌, codes}
 use Rattle.std.specs.Prelude.{decimal, if◌then◌else◌, length, take}
 use Rattle.std.specs.List.{flat_map}
 use Rattle.program_sweep.specs.declared.row.RowForm.{RowForm}
@@ -33,9 +33,9 @@ kept passes bytes = flat_map (λ byte. one_if (passes byte) byte) bytes
 abbrev pub is_count_byte : ℕ → Bool
 is_count_byte byte = byte == 44 || (nat_le 48 byte && nat_le byte 57)
 
--- a small letter, an underscore or a comma
+-- a small letter, a dash, an underscore or a comma
 abbrev pub is_name_byte : ℕ → Bool
-is_name_byte byte = byte == 44 || byte == 95 || (nat_le 97 byte && nat_le byte 122)
+is_name_byte byte = byte == 44 || byte == 45 || byte == 95 || (nat_le 97 byte && nat_le byte 122)
 
 -- ---- CSV
 

@@ -14,7 +14,7 @@ use Rattle.program_sweep.specs.declared.fault.Refusal.{Refusal}
 use Rattle.program_sweep.specs.declared.row.RowForm.{RowForm}
 use Rattle.program_sweep.specs.declared.sweep.Sweep.{Sweep}
 use Rattle.program_sweep.specs.Row.{foot_of, row_of}
-use Rattle.program_sweep.specs.Text.{lines_of_settings, seed_in, with_settings}
+use Rattle.program_sweep.specs.Text.{IsOutstandingIn, lines_of_settings, seed_in, with_settings}
 
 -- the report that the run of a text with a seed prints, as JSON, where it comes to its end, with so many accesses of a
 -- core under way where a number is given
@@ -27,8 +27,10 @@ pub record IsReport (text : List ℕ) (outstanding : Option ℕ) (seed : ℕ) (r
 -- the row of the run of a text with the settings and the seed of this row
 pub record IsRow (input : List ℕ) (sweep : Sweep) (form : RowForm) (row : ℕ) (text : List ℕ) : Type 0 where
   pub report : List ℕ
+  pub most : Option ℕ
+  pub outstanding : IsOutstandingIn sweep.settings.items sweep.outstanding row most
   pub reported : IsReport (with_settings (lines_of_settings sweep.settings.items row) (lines input))
-      sweep.outstanding (seed_in sweep.seeds row) report
+      most (seed_in sweep.seeds row) report
   pub written : text ≡ row_of form sweep.settings.items row (seed_in sweep.seeds row) report
 
 -- the rows from this one on, in order

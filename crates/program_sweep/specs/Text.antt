@@ -1,7 +1,10 @@
 -- A text of programs with other settings.
-use Rattle.std.specs.Prelude.{ℕ, ◌+◌, ◌/◌, ◌%◌, ◌&&◌, Bool, true, false, not, List, [], ◌∷◌, ◌++◌, codes, is_some, length, map}
-use Rattle.std.specs.Prelude.{if◌then◌else◌, slice_index_or}
+use Rattle.std.specs.Prelude.{◌≡◌, ℕ, ◌+◌, ◌/◌, ◌%◌, ◌&&◌, Bool, true, false, not, List, [], ◌∷◌, ◌++◌, codes, is_some, length, map}
+use Rattle.std.specs.Prelude.{◌||◌, if◌then◌else◌, slice_index_or, Option, None, Some, unwrap_or}
 use Rattle.std.specs.List.{flat_map}
+use Rattle.std.specs.Option.{SomeIff}
+use Rattle.std.specs.Str.Parse.{digits_value}
+use Rattle.litmus_text.specs.Number.{IsNumber}
 use Rattle.litmus_text.specs.Table.{value_named}
 use Rattle.litmus_text.specs.Text.{words_of_line}
 use Rattle.program_sweep.specs.declared.seeds.Seeds.{Seeds}
@@ -57,12 +60,43 @@ value_in setting row =
     slice_index_or (map (λ value. value.now) setting.values.items)
     (row / setting.span % length setting.values.items) []
 
--- the line that sets it
+-- a setting of this name is how many accesses of a core may be under way
+abbrev pub is_outstanding : List ℕ → Bool
+is_outstanding name = is_some (value_named ((codes "outstanding", true) ∷ []) name)
+
+-- of lines that begin with the word the last counts
+abbrev pub replaces : List ℕ → Bool
+replaces word = unwrap_or (value_named names word) false
+
+-- a setting of this name may vary: a later line of it takes the place of an earlier one, or it has none
+abbrev pub may_vary : List ℕ → Bool
+may_vary name = is_outstanding name || replaces name
+
+-- the line that sets it, which there is of each other setting
 abbrev pub line_of_setting : ℕ → Setting → List ℕ
-line_of_setting row setting = setting.name.now ++ codes " " ++ value_in setting row ++ codes "\n"
+line_of_setting row setting =
+    if is_outstanding setting.name.now then []
+    else setting.name.now ++ codes " " ++ value_in setting row ++ codes "\n"
 
 abbrev pub lines_of_settings : List Setting → ℕ → List ℕ
 lines_of_settings settings row = flat_map (line_of_setting row) settings
+
+-- this is the number that the text writes, if it writes one
+abbrev pub IsNumberIn : List ℕ → Option ℕ → Type 0
+IsNumberIn text number = SomeIff number (IsNumber text) (digits_value 10 text)
+
+-- the first setting that is how many accesses of a core may be under way, if one is
+abbrev pub outstanding_of : List Setting → Option Setting
+outstanding_of [] = None
+outstanding_of (setting ∷ more) = if is_outstanding setting.name.now then Some setting else outstanding_of more
+
+-- so many may be under way in a row: as many as that setting says, or else as many as the command line says
+abbrev pub IsOutstandingBy : Option Setting → Option ℕ → ℕ → Option ℕ → Type 0
+IsOutstandingBy None given row most = most ≡ given
+IsOutstandingBy (Some setting) given row most = IsNumberIn (value_in setting row) most
+
+abbrev pub IsOutstandingIn : List Setting → Option ℕ → ℕ → Option ℕ → Type 0
+IsOutstandingIn settings given row most = IsOutstandingBy (outstanding_of settings) given row most
 
 -- the seed of a row
 abbrev pub seed_in : Seeds → ℕ → ℕ

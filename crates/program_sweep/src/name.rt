@@ -1,6 +1,6 @@
-//! The words with which the lines begin that configure a machine.
+//! The names of settings: the words with which the lines begin that configure a machine, and one more.
 ghost use Rattle.std.specs.Prelude.{◌≡◌};
-ghost use Rattle.program_sweep.specs.Text.{is_name};
+ghost use Rattle.program_sweep.specs.Text.{is_name, is_outstanding, may_vary, replaces};
 
 use litmus_text::value_named;
 
@@ -21,6 +21,9 @@ static NAMES: [(&[u8], bool); 13] = [
     (b"counter", false),
 ];
 
+/// How many accesses of a core may be under way, which no line says that configures.
+static OUTSTANDING: [(&[u8], bool); 1] = [(b"outstanding", true)];
+
 /// Whether a line that begins with the word configures, or would if it were well formed.
 pub(crate) fn is_name(word: &[u8]) -> bool
     ensures { result ≡ is_name word.now }
@@ -28,7 +31,24 @@ pub(crate) fn is_name(word: &[u8]) -> bool
     value_named(&NAMES, word).is_some()
 }
 
-/// Whether a later line that begins with the word takes the place of an earlier one.
-pub(crate) fn replaces(word: &[u8]) -> bool {
+/// Whether a setting of this name may vary: a later line of it takes the place of an earlier one, or it is how many
+/// accesses of a core may be under way.
+pub(crate) fn may_vary(name: &[u8]) -> bool
+    ensures { result ≡ may_vary name.now }
+{
+    is_outstanding(name) || replaces(name)
+}
+
+// Whether a later line that begins with the word takes the place of an earlier one.
+fn replaces(word: &[u8]) -> bool
+    ensures { result ≡ replaces word.now }
+{
     value_named(&NAMES, word).unwrap_or(false)
+}
+
+/// Whether a setting of this name is how many accesses of a core may be under way.
+pub(crate) fn is_outstanding(name: &[u8]) -> bool
+    ensures { result ≡ is_outstanding name.now }
+{
+    value_named(&OUTSTANDING, name).is_some()
 }

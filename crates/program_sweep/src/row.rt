@@ -218,11 +218,11 @@ fn is_count_byte(byte: u8) -> bool
     byte == b',' || (b'0' <= byte && byte <= b'9')
 }
 
-// A letter of a name, or a comma between two names.
+// A letter or a dash of a name, or a comma between two names.
 fn is_name_byte(byte: u8) -> bool
     ensures { result ≡ is_name_byte byte }
 {
-    byte == b',' || byte == b'_' || (b'a' <= byte && byte <= b'z')
+    byte == b',' || byte == b'-' || byte == b'_' || (b'a' <= byte && byte <= b'z')
 }
 
 // The members of the last object of a report, and its end.

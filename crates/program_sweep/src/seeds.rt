@@ -1,4 +1,4 @@
-ghost use Rattle.std.specs.Prelude.{◌≡◌, ◌+◌, ◌<◌, ◌≤◌, ◌^◌};
+ghost use Rattle.std.specs.Prelude.{◌≡◌, ◌+◌, ◌-◌, ◌<◌, ◌≤◌, ◌^◌, IfOk, Some};
 
 use super::fault::SweepFault;
 use litmus_text::parse_number;
@@ -13,6 +13,8 @@ pub struct Seeds {
 }
 
 impl Seeds {
+    ghost use Rattle.program_sweep.specs.Read.{IsSeeds};
+
     /// This seed alone.
     pub fn one(seed: u64) -> Seeds
         ensures first { result.first ≡ seed }
@@ -25,26 +27,43 @@ impl Seeds {
     }
 
     /// Reads FIRST..LAST, or one seed.
-    pub fn read<'a>(text: &'a str) -> Result<Seeds, SweepFault<'a>> {
-        let (first, last) = match text.split_once("..") {
-            Some((first, last)) => (first, last),
-            None => (text, text),
-        };
-        let (Some(first), Some(last)) = (
-            parse_number(first.as_bytes()),
-            parse_number(last.as_bytes()),
-        ) else {
-            return Err(SweepFault::BadSeeds(text));
-        };
-        if last < first {
-            return Err(SweepFault::Backwards(text));
+    pub fn read<'a>(text: &'a str) -> Result<Seeds, SweepFault<'a>>
+        ensures { IfOk result (IsSeeds text.entry.now) }
+    {
+        match text.split_once("..") {
+            Some((first, last)) => {
+                let first = parse_number(first.as_bytes());
+                let last = parse_number(last.as_bytes());
+                between(text, first, last)
+            }
+            None => {
+                let seed = parse_number(text.as_bytes());
+                between(text, seed, seed)
+            }
         }
-        if last - first == u64::MAX {
-            return Err(SweepFault::TooManyRows);
-        }
-        Ok(Seeds {
-            first,
-            count: last - first + 1,
-        })
     }
+}
+
+// The seeds from the first to the last, which the text was to say.
+fn between<'a>(
+    text: &'a str,
+    first: Option<u64>,
+    last: Option<u64>,
+) -> Result<Seeds, SweepFault<'a>>
+    ensures { IfOk result
+        (λ seeds. (first ≡ Some seeds.first) × (last ≡ Some (seeds.first + (seeds.count - 1)))) }
+{
+    let (Some(first), Some(last)) = (first, last) else {
+        return Err(SweepFault::BadSeeds(text));
+    };
+    if last < first {
+        return Err(SweepFault::Backwards(text));
+    }
+    if last - first == u64::MAX {
+        return Err(SweepFault::TooManyRows);
+    }
+    Ok(Seeds {
+        first,
+        count: last - first + 1,
+    })
 }

@@ -1,8 +1,10 @@
-ghost use Rattle.std.specs.Prelude.{◌<◌, length};
+ghost use Rattle.std.specs.Prelude.{◌≡◌, ◌==◌, ◌<◌, ◌++◌, ◌∷◌, [], IfOk, OnOk, length, map};
+ghost use Rattle.std.specs.List.{slice_split};
 
 use super::fault::SweepFault;
-use super::name::{is_name, replaces};
-use litmus_text::{ConfigLine, first_words};
+use super::name::{is_name, is_outstanding, may_vary};
+use litmus_text::{ConfigLine, first_words, parse_number};
+use program_text::MOST_OUTSTANDING;
 use std::alloc::{AllocError, Global};
 
 /// A setting that varies: the word with which its lines begin, and its values in their order.
@@ -17,16 +19,17 @@ pub struct Setting<'a> {
 }
 
 impl<'a> Setting<'a> {
+    ghost use Rattle.program_sweep.specs.Read.{IsSetting};
+
     /// Reads NAME=VALUE,VALUE..
-    pub(crate) fn read(alloc: Global, text: &'a str) -> Result<Setting<'a>, SweepFault<'a>> {
+    pub(crate) fn read(alloc: Global, text: &'a str) -> Result<Setting<'a>, SweepFault<'a>>
+        ensures { IfOk result (IsSetting text.entry.now) }
+    {
         let Some((name, listed)) = text.split_once('=') else {
             return Err(SweepFault::NoValue(text));
         };
-        if !is_name(name.as_bytes()) {
-            return Err(SweepFault::Unknown(name));
-        }
-        if !replaces(name.as_bytes()) {
-            return Err(SweepFault::AddsUp(name));
+        if !may_vary(name.as_bytes()) {
+            return Err(unfit(name));
         }
         if listed.is_empty() {
             return Err(SweepFault::NoValue(text));
@@ -43,26 +46,64 @@ impl<'a> Setting<'a> {
     }
 }
 
+// Why a setting of this name can't vary.
+fn unfit<'a>(name: &'a str) -> SweepFault<'a> {
+    if is_name(name.as_bytes()) {
+        SweepFault::AddsUp(name)
+    } else {
+        SweepFault::Unknown(name)
+    }
+}
+
 fn read_values<'a>(
     alloc: Global,
     name: &'a str,
     listed: &'a str,
-) -> Result<Vec<&'a str>, SweepFault<'a>> {
+) -> Result<Vec<&'a str>, SweepFault<'a>>
+    ensures { IfOk result
+        (λ values. map (λ value. value.now) values.items ≡ slice_split (λ b. b == 44) listed.entry.now) }
+{
     let mut values = Vec::new(alloc);
-    for value in listed.split(',') {
-        if !is_value(alloc, name, value)? {
-            return Err(SweepFault::BadValue { name, value });
-        }
-        values.push(value)?;
+    let mut rest = listed;
+    while let Some((value, behind)) = rest.split_once(',') {
+        push_value(alloc, name, value, &mut values)?;
+        rest = behind;
     }
+    push_value(alloc, name, rest, &mut values)?;
     Ok(values)
 }
 
-// Whether the name and the value write a line that configures.
+fn push_value<'a>(
+    alloc: Global,
+    name: &'a str,
+    value: &'a str,
+    values: &mut Vec<&'a str>,
+) -> Result<(), SweepFault<'a>>
+    ensures { OnOk result (values.new.items ≡ values.old.items ++ value.entry ∷ []) }
+{
+    if !is_value(alloc, name, value)? {
+        return Err(SweepFault::BadValue { name, value });
+    }
+    values.push(value)?;
+    Ok(())
+}
+
+// Whether the name and the value write a line that configures, or the value is how many accesses may be under way.
 fn is_value(alloc: Global, name: &str, value: &str) -> Result<bool, AllocError> {
+    if is_outstanding(name.as_bytes()) {
+        return Ok(is_few(parse_number(value.as_bytes())));
+    }
     let mut line = Vec::from_slice(alloc, name.as_bytes())?;
     line.extend_from_slice(b" ")?;
     line.extend_from_slice(value.as_bytes())?;
     let words = first_words(line.as_slice());
     Ok(ConfigLine::parse(words.as_slice()).is_ok())
+}
+
+// Whether so many accesses of a core may be under way.
+fn is_few(number: Option<u64>) -> bool {
+    match number {
+        Some(number) => 1 <= number && number <= MOST_OUTSTANDING,
+        None => false,
+    }
 }

@@ -1,16 +1,18 @@
-ghost use Rattle.std.specs.Prelude.{◌≡◌, ◌+◌, ◌<◌, ◌≤◌, ◌^◌, IfOk, OnOk, length};
+ghost use Rattle.std.specs.Prelude.{◌≡◌, ◌+◌, ◌<◌, ◌≤◌, ◌^◌, IfOk, IfSome, OnOk, length, map};
 ghost use Rattle.std.specs.Io.KnownBytes.{Appends};
 ghost use Rattle.std.specs.Str.Lines.{lines};
 ghost use Rattle.program_sweep.specs.Sweep.{IsReport, MakesRow, MakesRows, PrintsRows, PrintsSweep};
-ghost use Rattle.program_sweep.specs.Text.{lines_of_settings, with_settings};
+ghost use Rattle.program_sweep.specs.Read.{AreSettings, IsSweep, counts_of, rows_of, spans_of, values_of};
+ghost use Rattle.program_sweep.specs.Text.{IsOutstandingIn, lines_of_settings, with_settings};
 
 use super::fault::{Refusal, RowFault, SweepFault};
+use super::name::is_outstanding;
 use super::row::{RowForm, foot_of, push_row};
 use super::seeds::Seeds;
 use super::setting::Setting;
 use super::text::{configures, with_settings};
 use litmus_test::Progress;
-use litmus_text::{Lines, TextFault};
+use litmus_text::{Lines, TextFault, parse_number};
 use program_run::{Form, run_programs};
 use stats_report::write_text;
 use std::alloc::{AllocError, Global};
@@ -30,7 +32,7 @@ pub const RUNS_PER_PROCESSOR: u64 = 4;
 pub struct Sweep<'a> {
     pub settings: Vec<Setting<'a>>,
     pub seeds: Seeds,
-    /// How many accesses of a core may be under way, where that is another number than the text's.
+    /// How many accesses of a core may be under way, where that is another number than the text's and no setting.
     pub outstanding: Option<u64>,
     /// How many there are.
     pub rows: u64,
@@ -43,19 +45,13 @@ impl<'a> Sweep<'a> {
         texts: &[&'a str],
         seeds: Seeds,
         outstanding: Option<u64>,
-    ) -> Result<Sweep<'a>, SweepFault<'a>> {
-        let mut settings = Vec::new(alloc);
-        for text in texts {
-            let setting = Setting::read(alloc, *text)?;
-            if is_set(settings.as_slice(), setting.name) {
-                return Err(SweepFault::Twice(setting.name));
-            }
-            settings.push(setting)?;
-        }
-        let rows = lay_out(settings.as_mut_slice(), seeds.count);
-        if rows > MOST_ROWS {
+    ) -> Result<Sweep<'a>, SweepFault<'a>>
+        ensures { IfOk result (IsSweep (map (λ text. text.now) texts.now) seeds outstanding) }
+    {
+        let mut settings = read_settings(alloc, texts, outstanding)?;
+        let Some(rows) = lay_out(&mut settings, seeds.count) else {
             return Err(SweepFault::TooManyRows);
-        }
+        };
         Ok(Sweep {
             settings,
             seeds,
@@ -76,22 +72,49 @@ impl<'a> Sweep<'a> {
     }
 }
 
-fn is_set(settings: &[Setting<'_>], name: &str) -> bool {
-    settings.iter().any(|setting| setting.name == name)
+fn is_set(settings: &[Setting<'_>], outstanding: Option<u64>, name: &str) -> bool {
+    let is_option = outstanding.is_some() && is_outstanding(name.as_bytes());
+    is_option || settings.iter().any(|setting| setting.name == name)
 }
 
-// Gives each setting its span, the last one first. Returns how many rows there are, or more than a sweep may have.
-fn lay_out(settings: &mut [Setting<'_>], seeds: u64) -> u64
+// Gives each setting its span, the last one first. Returns how many rows there are, if a sweep may have so many.
+fn lay_out(settings: &mut Vec<Setting<'_>>, seeds: u64) -> Option<u64>
     requires { 0 < seeds }
+    ensures kept { IfSome result (λ rows.
+        map values_of settings.new.items ≡ map values_of settings.old.items) }
+    ensures spans { IfSome result (λ rows.
+        map (λ setting. setting.span) settings.new.items ≡ spans_of (counts_of settings.new.items) seeds) }
+    ensures rows { IfSome result (λ rows. rows ≡ rows_of (counts_of settings.new.items) seeds) }
+    ensures few { IfSome result (λ rows. rows ≤ 1000000) }
 {
     let mut rows = seeds;
     let count = settings.len();
     for behind in 0..count {
-        let setting = &mut settings[count - 1 - behind];
+        let place = count - 1 - behind;
+        let setting = &mut settings[place];
         setting.span = rows;
-        rows = rows.saturating_mul(setting.values.len() as u64).max(1);
+        let many = setting.values.as_slice().len() as u64;
+        rows = rows.checked_mul(many)?;
     }
-    rows
+    if rows > MOST_ROWS { None } else { Some(rows) }
+}
+
+fn read_settings<'a>(
+    alloc: Global,
+    texts: &[&'a str],
+    outstanding: Option<u64>,
+) -> Result<Vec<Setting<'a>>, SweepFault<'a>>
+    ensures { IfOk result (λ settings. AreSettings (map (λ text. text.now) texts.now) settings.items) }
+{
+    let mut settings = Vec::new(alloc);
+    for text in texts {
+        let setting = Setting::read(alloc, *text)?;
+        if is_set(settings.as_slice(), outstanding, setting.name) {
+            return Err(SweepFault::Twice(setting.name));
+        }
+        settings.push(setting)?;
+    }
+    Ok(settings)
 }
 
 /// Runs the text once for each row, side by side, and prints the rows. A text that can't be run with some settings ends
@@ -229,10 +252,23 @@ fn make_row(
 {
     let settings = sweep.settings.as_slice();
     let seed = sweep.seeds.seed_in(row);
-    let report = report_of(alloc, input, settings, sweep.outstanding, row, seed)?;
+    let most = outstanding_in(settings, sweep.outstanding, row);
+    let report = report_of(alloc, input, settings, most, row, seed)?;
     let mut text = Vec::new(alloc);
     push_row(&mut text, form, settings, row, seed, report.as_slice())?;
     Ok(text)
+}
+
+// How many accesses of a core may be under way in a row, where a setting or the command line says so.
+fn outstanding_in(settings: &[Setting<'_>], given: Option<u64>, row: u64) -> Option<u64>
+    ensures { IsOutstandingIn settings.now given row result }
+{
+    for setting in settings {
+        if is_outstanding(setting.name.as_bytes()) {
+            return parse_number(setting.value_in(row).as_bytes());
+        }
+    }
+    given
 }
 
 fn report_of(
@@ -259,8 +295,19 @@ fn report_of(
     ) {
         Ok(0) => Ok(report),
         Ok(_) => Err(Refusal::Stuck),
-        Err(fault) => Err(Refusal::Text(in_input(input, settings.len(), fault))),
+        Err(fault) => Err(Refusal::Text(in_input(input, lines_added(settings), fault))),
     }
+}
+
+// How many lines the settings add.
+fn lines_added(settings: &[Setting<'_>]) -> usize {
+    let mut count: usize = 0;
+    for setting in settings {
+        if !is_outstanding(setting.name.as_bytes()) {
+            count = count.saturating_add(1);
+        }
+    }
+    count
 }
 
 // A fault of a text with so many lines more, by the number of its line without them.

@@ -128,7 +128,10 @@ fn reads_a_chart_and_a_check(rt: HostRuntime) -> Result<(), Fail> {
         svg: false,
         line: None,
     };
-    let check = CommandLine::Check { file: "-" };
+    let check = CommandLine::Check {
+        file: "-",
+        json: false,
+    };
     assert!(rt; is_read(rt.alloc(), &["lockup", "chart", "first.txt"], chart)?);
     assert!(rt; is_read(rt.alloc(), &["lockup", "check", "-"], check)?);
     Ok(())
@@ -139,10 +142,12 @@ fn reads_a_table(rt: HostRuntime) -> Result<(), Fail> {
     let cache = CommandLine::Table {
         table: Table::Cache,
         exclusive: false,
+        json: false,
     };
     let directory = CommandLine::Table {
         table: Table::Directory,
         exclusive: true,
+        json: false,
     };
     assert!(rt; is_read(rt.alloc(), &["lockup", "table", "cache"], cache)?);
     assert!(rt;

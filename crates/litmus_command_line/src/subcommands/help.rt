@@ -100,7 +100,8 @@ A text of programs says what each core asks for, one access after another:
 
 A core waits for each access before the next, unless 'outstanding N' stands before the first core: up
 to N of its accesses are under way then, from 1 to 64. One that stalls is tried again, and the report
-counts for each core the primary and secondary misses, and the stalls by their reason.
+counts for each core the primary and secondary misses, the stalls by their reason, and the most and
+the mean of miss registers and of targets in use.
 
 Accesses and deliveries come in an order that is drawn from the seed. The report has a row for each
 core and for each line. A miss is counted by its cause: cold (the core never had the line), replaced
@@ -109,9 +110,12 @@ the line to another's write; true where another core wrote the very word since).
 
 With --set, --seeds or --csv each combination of values and seeds is a run, and each run a row: its
 settings, its seed, and the sums over all lines. A setting is cores, slices, lines, sets, ways,
-mshrs, targets, writebacks, policy, misses or exclusive, and takes the place of the text's. The last
-setting varies fastest, and the seeds faster still. Runs are side by side on all processors. With
---json the rows are one value of JSON.
+mshrs, targets, writebacks, policy, misses, exclusive or outstanding, and takes the place of the
+text's. The last setting varies fastest, and the seeds faster still. Runs are side by side on all
+processors. With --json the rows are one value of JSON.
+
+With '--seed 5 --script' the run of that seed is printed, as a script for 'lockup script', 'lockup
+chart' and 'lockup page'.
 
 Documents: docs/TEXTS.md (the lines of programs, the columns of the report and of rows)
 

@@ -9,7 +9,7 @@ pub returns-clause-done : goal.returns-clause-done
 returns-clause-done g c =
     let contents = g.W.Write.contents in
     let read = c.in_ok-test in
-    let told : IfOk c.play_test-ended.result (IsEndOf read.test (λ text. Appends (contents c.args.out.now)
+    let told : IfOk c.play_test-ended.result (IsEndOf read.test c.args.form (λ text. Appends (contents c.args.out.now)
     (contents c.play_test-ended.new.out) text)) = search in
     IfOk-weaker c.play_test-ended.result _ _ (λ status ends. record {
       test = read.test;

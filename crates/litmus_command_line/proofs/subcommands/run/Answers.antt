@@ -9,9 +9,11 @@ returns-clause-reads c =
     ∙ ap₂ with_rule c.in_ok-reporting.ensures.reads c.settings.ensures.rule in
     let seeds = c.in_ok-arg-2.ensures.shape c.in_ok-lone_text.ensures.plain
     ∙ ap₂ with_rule settings c.in_ok-lone_text.ensures.rule in
-    IfOk-weaker c.arg-3.result _ _
-    (λ made adds. adds.shape c.in_ok-lone_flag.ensures.plain ∙ ap₂ with_rule seeds c.in_ok-lone_flag.ensures.rule)
-    c.arg-3.ensures
+    let csv = c.in_ok-arg-3.ensures.shape c.in_ok-lone_flag.ensures.plain
+    ∙ ap₂ with_rule seeds c.in_ok-lone_flag.ensures.rule in
+    IfOk-weaker c.arg-4.result _ _
+    (λ made adds. adds.shape c.in_ok-lone_flag-2.ensures.plain ∙ ap₂ with_rule csv c.in_ok-lone_flag-2.ensures.rule)
+    c.arg-4.ensures
 
 pub returns-clause-plain : goal.returns-clause-plain
 returns-clause-plain c =
@@ -19,6 +21,7 @@ returns-clause-plain c =
     ∙ ap₂ (λ a b. a || b) c.in_ok-reporting.ensures.plain c.settings.ensures.plain in
     let seeds = c.in_ok-arg-2.ensures.globals
     ∙ ap₂ (λ a b. a || b) settings c.in_ok-lone_text.ensures.plain in
-    IfOk-weaker c.arg-3.result _ _
-    (λ made adds. adds.globals ∙ ap₂ (λ a b. a || b) seeds c.in_ok-lone_flag.ensures.plain)
-    c.arg-3.ensures
+    let csv = c.in_ok-arg-3.ensures.globals ∙ ap₂ (λ a b. a || b) seeds c.in_ok-lone_flag.ensures.plain in
+    IfOk-weaker c.arg-4.result _ _
+    (λ made adds. adds.globals ∙ ap₂ (λ a b. a || b) csv c.in_ok-lone_flag-2.ensures.plain)
+    c.arg-4.ensures

@@ -13,8 +13,9 @@ returns-clause-reads c =
     let rule : rule_of c.value_parser.result ≡ table_rule names = search rules in
     let named : app_of c.after_help.result ≡ new_app (codes "table") = search rules in
     let one = c.in_ok-arg.ensures.shape (search rules) ∙ ap₂ with_rule named rule in
-    IfOk-weaker c.arg-2.result _ _ (λ made adds. record {
+    let two = c.in_ok-arg-2.ensures.shape c.flag.ensures.plain ∙ ap₂ with_rule one c.flag.ensures.rule in
+    IfOk-weaker c.arg-3.result _ _ (λ made adds. record {
       names = names;
       words = search rules;
-      is = adds.shape c.flag.ensures.plain ∙ ap₂ with_rule one c.flag.ensures.rule;
-    }) c.arg-2.ensures
+      is = adds.shape c.flag-2.ensures.plain ∙ ap₂ with_rule two c.flag-2.ensures.rule;
+    }) c.arg-3.ensures

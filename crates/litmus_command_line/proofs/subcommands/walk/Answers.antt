@@ -12,9 +12,10 @@ returns-clause-reads c =
     ∙ ap₂ with_rule file c.positive_number.ensures.rule in
     let seed = c.in_ok-arg-3.ensures.shape c.number_or.ensures.plain
     ∙ ap₂ with_rule rounds c.number_or.ensures.rule in
-    IfOk-weaker c.arg-4.result _ _
-    (λ made adds. adds.shape c.flag.ensures.plain ∙ ap₂ with_rule seed c.flag.ensures.rule)
-    c.arg-4.ensures
+    let script = c.in_ok-arg-4.ensures.shape c.flag.ensures.plain ∙ ap₂ with_rule seed c.flag.ensures.rule in
+    IfOk-weaker c.arg-5.result _ _
+    (λ made adds. adds.shape c.in_ok-lone_flag.ensures.plain ∙ ap₂ with_rule script c.in_ok-lone_flag.ensures.rule)
+    c.arg-5.ensures
 
 pub returns-clause-plain : goal.returns-clause-plain
 returns-clause-plain c =
@@ -22,6 +23,7 @@ returns-clause-plain c =
     let file = c.in_ok-arg.ensures.globals ∙ ap₂ (λ a b. a || b) none c.file.ensures.plain in
     let rounds = c.in_ok-arg-2.ensures.globals ∙ ap₂ (λ a b. a || b) file c.positive_number.ensures.plain in
     let seed = c.in_ok-arg-3.ensures.globals ∙ ap₂ (λ a b. a || b) rounds c.number_or.ensures.plain in
-    IfOk-weaker c.arg-4.result _ _
-    (λ made adds. adds.globals ∙ ap₂ (λ a b. a || b) seed c.flag.ensures.plain)
-    c.arg-4.ensures
+    let script = c.in_ok-arg-4.ensures.globals ∙ ap₂ (λ a b. a || b) seed c.flag.ensures.plain in
+    IfOk-weaker c.arg-5.result _ _
+    (λ made adds. adds.globals ∙ ap₂ (λ a b. a || b) script c.in_ok-lone_flag.ensures.plain)
+    c.arg-5.ensures

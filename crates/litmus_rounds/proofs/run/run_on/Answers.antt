@@ -9,7 +9,7 @@ returns-then-forbidden-eq0-clause-printed g c =
     inl (record {
       table = c.walk_rounds.new.outcomes;
       rounds = are;
-      printed = c.in_ok-print_table-in-None.ensures.printed are.rounds are.table_of;
+      printed = c.in_ok-print_outcomes-in-None.ensures.printed are.rounds are.table_of;
       told = told_none _ (sym counted ∙ c.if-forbidden-eq0.true);
     })
 
@@ -20,6 +20,6 @@ returns-clause-printed g c =
     inl (record {
       table = c.walk_rounds.new.outcomes;
       rounds = are;
-      printed = c.in_ok-print_table-in-None.ensures.printed are.rounds are.table_of;
+      printed = c.in_ok-print_outcomes-in-None.ensures.printed are.rounds are.table_of;
       told = told_some _ (λ none. c.if-forbidden-eq0.false (counted ∙ none));
     })

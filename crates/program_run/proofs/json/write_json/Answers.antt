@@ -5,7 +5,7 @@ use Rattle.program_run.proofs.json.write_json.Goals as goal
 pub returns : goal.returns
 returns g c =
     let then = writes_in_calls_append g.W.Write.write_str_gives in
-    let cores = rw (c.columns_of_core.ensures, c.cores.ensures) at c.in_ok-write_cores.ensures in
+    let cores = rw c.cores.ensures at c.in_ok-write_cores.ensures in
     let lines = rw c.lines.ensures at c.in_ok-write_lines.ensures in
     let all = rw (c.columns_of_all.ensures, c.all.ensures) at c.in_ok-write_members.ensures in
     on_ok_weaker c.writeln.result

@@ -1,7 +1,8 @@
 use Rattle.std.proofs.Common.{drop, length}
 use Rattle.std.specs.Fmt.{WritesInCalls}
 use Rattle.std.specs.List.{range_with_len}
-use Rattle.program_run.specs.Json.{line_objects_of, objects_of_lines, with_commas_from}
+use Rattle.json_text.specs.List.{with_commas_from}
+use Rattle.program_run.specs.Json.{line_objects_of, objects_of_lines}
 use Rattle.program_run.proofs.json.write_lines.Given as goal
 
 -- who writes the objects that are left has written all

@@ -1,6 +1,7 @@
 use Rattle.std.proofs.Common.{drop, map}
 use Rattle.std.specs.Fmt.{WritesInCalls}
-use Rattle.program_run.specs.Json.{member_of, members_of, with_commas_from}
+use Rattle.json_text.specs.List.{with_commas_from}
+use Rattle.program_run.specs.Json.{member_of, members_of}
 use Rattle.program_run.proofs.json.write_members.Given as goal
 
 -- who writes the members that are left has written all

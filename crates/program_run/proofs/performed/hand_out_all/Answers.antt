@@ -14,7 +14,7 @@ pub loop-entry-preserved : goal.loop-entry-preserved
 loop-entry-preserved g c =
     performed_more c.args.programs.now c.args.slice.0 c.loop-entry.is_first c.args.entries.now c.loop-entry.entry-index
     _ c.args.runner.now c.loop-entry.runner c.hand_out.new.self c.loop-entry-test.true c.loop-entry.invariant
-    c.hand_out.ensures
+    c.in_ok-hand_out.ensures
 
 pub returns : goal.returns
 returns g c =

@@ -10,13 +10,15 @@ returns g c =
     let lines_heading = rw c.line_columns.ensures at c.in_ok-write_heading-2.ensures in
     let lines = rw c.lines.ensures at c.in_ok-write_lines.ensures in
     let all = rw (c.line_columns-2.ensures, c.all.ensures) at c.in_ok-write_counts.ensures in
-    on_ok_weaker c.write_parallel.result
+    let parallel = rw c.cores-2.ensures at c.in_ok-write_parallel.ensures in
+    on_ok_weaker c.write_usages.result
     (λ last. then _ _ _ _ _
     (then _ _ _ _ _
     (then _ _ _ _ _
     (then _ _ _ _ _
     (then _ _ _ _ _
     (then _ _ _ _ _
+    (then _ _ _ _ _
     (then _ _ _ _ _ (then _ _ _ _ _ c.in_ok-writeln.ensures.writes cores_heading) cores)
-    lines_heading) lines) c.in_ok-write.ensures.writes) all) c.in_ok-writeln-2.ensures.writes) last)
-    (rw c.cores-2.ensures at c.write_parallel.ensures)
+    lines_heading) lines) c.in_ok-write.ensures.writes) all) c.in_ok-writeln-2.ensures.writes) parallel) last)
+    c.write_usages.ensures

@@ -12,8 +12,11 @@ loop-made-init g c =
 pub loop-made-preserved : goal.loop-made-preserved
 loop-made-preserved g c =
     let draws = rw (c.as_slice.ensures.value, c.in_ok-list_moves.ensures) at c.in-Some.ensures.some in
-    made_more c.args.programs.now _ c.loop-made.generator _ c.loop-made.made c.args.runner.now
-    c.loop-made.runner c.go.new.self c.in-Some.to c.loop-made.invariant draws c.in-Some.ensures.next c.in_ok-go.ensures
+    let tidied = rw c.measure.ensures at c.tidy.ensures.tidied in
+    rw (c.tidy.ensures.rest, c.measure.ensures)
+    (made_more c.args.programs.now _ c.loop-made.generator _ c.loop-made.made c.args.runner.now
+    c.loop-made.runner c.go.new.self c.in-Some.to c.tidy.new.self.slices c.loop-made.invariant draws
+    c.in-Some.ensures.next c.in_ok-go.ensures tidied)
 
 pub returns-in_default : goal.returns-in_default
 returns-in_default g c =

@@ -1,4 +1,4 @@
-use Rattle.std.proofs.Common.{◌≡◌, true}
+use Rattle.std.proofs.Common.{◌≡◌, ◌∙◌, true}
 use Rattle.program_run.proofs.RunLemmas.{programs_run, prints_over, prints_stuck}
 use Rattle.program_run.proofs.run.run_on.Goals as goal
 
@@ -6,7 +6,10 @@ pub returns-then-is_over-clause-done : goal.returns-then-is_over-clause-done
 returns-then-is_over-clause-done g c =
     let config = c.args.programs.now.config in
     let programs = c.args.programs.now in
-    let printed = rw (c.tally.ensures, c.is_limited-limited.ensures) at c.in_ok-print_report.ensures.printed in
+    let same = c.in_ok-run.ensures.config ∙ c.in_ok-runner.ensures.config in
+    let usages = rw same at c.in_ok-usages.ensures in
+    let printed = rw (c.tally.ensures, c.as_slice.ensures.value, usages, c.is_limited-limited.ensures) at
+    c.in_ok-print_report.ensures.printed in
     programs_run (g.F.MissFile.bound_by config) programs c.args.form c.args.seed 0 c.in_ok-runner.runner
     c.run.new.runner _ _ c.in_ok-runner.ensures c.in_ok-run.ensures
     (λ history seen.

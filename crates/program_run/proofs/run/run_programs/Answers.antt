@@ -1,5 +1,4 @@
-use Rattle.std.proofs.Common.{ℕ, subst}
-use Rattle.std.specs.Prelude.{IfOk}
+use Rattle.std.proofs.Common.{ℕ}
 use Rattle.std.proofs.lemmas.Result.{IfOk-weaker}
 use Rattle.litmus_script.specs.Machine.{bound_of}
 use Rattle.program_text.specs.Fault.{IsProgramText, programs_of, settings_of}

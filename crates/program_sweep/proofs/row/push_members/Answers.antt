@@ -1,4 +1,4 @@
-use Rattle.std.proofs.Common.{◌∙◌, ap, refl, ℕ, List}
+use Rattle.std.proofs.Common.{◌∙◌, ap, ℕ, List}
 use Rattle.program_sweep.specs.declared.setting.Setting.{Setting}
 use Rattle.program_sweep.specs.Row.{member_of}
 use Rattle.program_sweep.specs.Text.{value_in}

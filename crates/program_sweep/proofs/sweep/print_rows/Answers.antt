@@ -1,4 +1,4 @@
-use Rattle.std.proofs.Common.{◌≡◌, ◌+◌, ◌∙◌, sym, IfOk}
+use Rattle.std.proofs.Common.{◌+◌, sym, IfOk}
 use Rattle.program_sweep.specs.Sweep.{IsRow}
 use Rattle.program_sweep.proofs.SweepLemmas.{prints_more, prints_one}
 use Rattle.program_sweep.proofs.sweep.print_rows.Goals as goal

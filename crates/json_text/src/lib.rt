@@ -1,0 +1,22 @@
+//! What texts of JSON (RFC 8259) have in common: lists, whose items have commas between them.
+//!
+//! [`write_comma`] writes what stands before an item. The whole list is `with_commas` of specs/List.antt; the lemmas of
+//! proofs/Commas.antt step through one that is written item by item.
+#![tactic(auto)]
+
+ghost use Rattle.std.specs.Prelude.{OnOk};
+ghost use Rattle.std.specs.Fmt.{WritesInCalls};
+ghost use Rattle.json_text.specs.List.{before_text};
+
+use std::fmt;
+use std::fmt::Write;
+
+/// Writes what stands before an item of a list: a comma, but before the first.
+pub fn write_comma<W: Write>(is_first: bool, out: &mut W) -> fmt::Result
+    ensures { OnOk result (WritesInCalls W.write_str_gives out.old (before_text is_first) out.new) }
+{
+    if is_first {
+        return Ok(());
+    }
+    write!(out, ",")
+}

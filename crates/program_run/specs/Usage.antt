@@ -1,0 +1,30 @@
+-- What cores' accesses under way take up, over the moves of a run.
+use Rattle.std.specs.Prelude.{ℕ, ◌+◌, ◌*◌, ◌/◌, ◌%◌, ◌==◌, if◌then◌else◌, List, max, slice_index_or}
+use Rattle.slice_answer.specs.Stats.{next_count}
+use Rattle.stats_report.specs.Report.{capped_sum}
+use Rattle.program_run.specs.declared.usage.Usage.{Usage}
+
+-- nothing was measured
+abbrev pub no_usage : Usage
+no_usage = record { moves = 0; most_registers = 0; sum_registers = 0; most_targets = 0; sum_targets = 0 }
+
+-- so many registers and targets are in use behind one more move
+abbrev pub measured : ℕ → ℕ → Usage → Usage
+measured registers targets usage = record {
+  moves = next_count usage.moves;
+  most_registers = max usage.most_registers registers;
+  sum_registers = capped_sum (usage.sum_registers + registers);
+  most_targets = max usage.most_targets targets;
+  sum_targets = capped_sum (usage.sum_targets + targets);
+}
+
+-- the mean over so many moves: its whole part, and the first two places behind the point
+abbrev pub whole_of : ℕ → ℕ → ℕ
+whole_of sum moves = if moves == 0 then 0 else sum / moves
+
+abbrev pub hundredths_of : ℕ → ℕ → ℕ
+hundredths_of sum moves = if moves == 0 then 0 else sum % moves * 100 / moves
+
+-- what was measured of a core
+abbrev pub usage_at : List Usage → ℕ → Usage
+usage_at usages core = slice_index_or usages core no_usage

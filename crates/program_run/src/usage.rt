@@ -1,0 +1,61 @@
+//! What cores' accesses under way take up.
+ghost use Rattle.std.specs.Prelude.{◌≡◌, ◌<◌};
+ghost use Rattle.program_run.specs.Usage.{hundredths_of, measured, no_usage, whole_of};
+
+/// How many miss registers and targets of a core were in use behind each move: the most, and the sum over the moves. A
+/// number stops at 2^64 - 1.
+#[derive(Clone, Copy, Debug, PartialEq, Eq)]
+pub(crate) struct Usage {
+    pub moves: u64,
+    pub most_registers: u64,
+    pub sum_registers: u64,
+    pub most_targets: u64,
+    pub sum_targets: u64,
+}
+
+impl Usage {
+    /// Nothing was measured.
+    pub fn none() -> Self
+        ensures { result ≡ no_usage }
+    {
+        Usage {
+            moves: 0,
+            most_registers: 0,
+            sum_registers: 0,
+            most_targets: 0,
+            sum_targets: 0,
+        }
+    }
+
+    /// So many are in use behind one more move.
+    pub fn measured(self, registers: u64, targets: u64) -> Self
+        ensures { result ≡ measured registers targets self }
+    {
+        Usage {
+            moves: self.moves.saturating_add(1),
+            most_registers: self.most_registers.max(registers),
+            sum_registers: self.sum_registers.saturating_add(registers),
+            most_targets: self.most_targets.max(targets),
+            sum_targets: self.sum_targets.saturating_add(targets),
+        }
+    }
+}
+
+/// The whole part of a mean: 0 where nothing was measured.
+pub(crate) fn whole_of(sum: u64, moves: u64) -> u64
+    ensures { result ≡ whole_of sum moves }
+{
+    if moves == 0 { 0 } else { sum / moves }
+}
+
+/// The hundredths of a mean, which are cut off behind the second place.
+pub(crate) fn hundredths_of(sum: u64, moves: u64) -> u64
+    ensures hundredths { result ≡ hundredths_of sum moves }
+    ensures few { result < 100 }
+{
+    if moves == 0 {
+        return 0;
+    }
+    let rest = u128::from(sum % moves);
+    (rest * 100 / u128::from(moves)) as u64
+}

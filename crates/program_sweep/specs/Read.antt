@@ -1,0 +1,75 @@
+-- The settings and the seeds that a command line says, and the rows that they make.
+use Rattle.std.specs.Prelude.{◌≡◌, ◌⊎◌, ℕ, ◌+◌, ◌-◌, ◌*◌, ◌≤◌, ◌==◌, true, List, [], ◌∷◌, ◌++◌, Option, codes, length, map}
+use Rattle.std.specs.List.{after_first, before_first, slice_split}
+use Rattle.std.specs.Str.Parse.{digits_value}
+use Rattle.litmus_text.specs.Number.{IsNumber}
+use Rattle.program_sweep.specs.declared.seeds.Seeds.{Seeds}
+use Rattle.program_sweep.specs.declared.setting.Setting.{Setting}
+use Rattle.program_sweep.specs.declared.sweep.Sweep.{Sweep}
+use Rattle.program_sweep.specs.Text.{may_vary}
+
+-- ---- settings
+
+-- the name and the values of a setting
+abbrev pub values_of : Setting → List ℕ × List (List ℕ)
+values_of setting = (setting.name.now, map (λ value. value.now) setting.values.items)
+
+-- The text says such a setting: its name stands before the first equals sign, and its values behind that, between commas.
+pub record Says (text : List ℕ) (setting : List ℕ × List (List ℕ)) : Type 0 where
+  pub name : setting.0 ≡ before_first (λ b. b == 61) text
+  pub known : may_vary setting.0 ≡ true
+  pub values : setting.1 ≡ slice_split (λ b. b == 44) (after_first (λ b. b == 61) text)
+
+abbrev pub IsSetting : List ℕ → Setting → Type 0
+IsSetting text setting = Says text (values_of setting)
+
+-- each text says a setting, in order
+abbrev pub AreSettings : List (List ℕ) → List Setting → Type 0
+AreSettings [] [] = Unit {0}
+AreSettings [] (setting ∷ settings) = ⊥
+AreSettings (text ∷ texts) [] = ⊥
+AreSettings (text ∷ texts) (setting ∷ settings) = IsSetting text setting × AreSettings texts settings
+
+-- ---- seeds
+
+-- the text writes this number
+abbrev pub IsNumeralOf : ℕ → List ℕ → Type 0
+IsNumeralOf number text = IsNumber text × (digits_value 10 text ≡ number)
+
+-- the text is the first seed and the last, with two dots between them
+pub record IsRange (text : List ℕ) (seeds : Seeds) : Type 0 where
+  pub first : List ℕ
+  pub last : List ℕ
+  pub whole : text ≡ first ++ (codes ".." ++ last)
+  pub begins : IsNumeralOf seeds.first first
+  pub ends : IsNumeralOf (seeds.first + (seeds.count - 1)) last
+
+-- the text says these seeds: as a range, or one alone
+abbrev pub IsSeeds : List ℕ → Seeds → Type 0
+IsSeeds text seeds = IsRange text seeds ⊎ (IsNumeralOf seeds.first text × (seeds.count ≡ 1))
+
+-- ---- rows
+
+-- how many values each setting has
+abbrev pub counts_of : List Setting → List ℕ
+counts_of settings = map (λ setting. length setting.values.items) settings
+
+-- how many rows there are with so many values and seeds: one for each combination
+abbrev pub rows_of : List ℕ → ℕ → ℕ
+rows_of [] seeds = seeds
+rows_of (count ∷ counts) seeds = rows_of counts seeds * count
+
+-- how many rows with the same value of a setting stand side by side: one for each combination of those behind it
+abbrev pub spans_of : List ℕ → ℕ → List ℕ
+spans_of [] seeds = []
+spans_of (count ∷ counts) seeds = rows_of counts seeds ∷ spans_of counts seeds
+
+-- the rows that these texts and seeds make: the last setting varies fastest, and the seeds faster still
+pub record IsSweep (texts : List (List ℕ)) (seeds : Seeds) (outstanding : Option ℕ) (sweep : Sweep) : Type 0 where
+  pub settings : AreSettings texts sweep.settings.items
+  pub spans : map (λ setting. setting.span) sweep.settings.items
+      ≡ spans_of (counts_of sweep.settings.items) seeds.count
+  pub rows : sweep.rows ≡ rows_of (counts_of sweep.settings.items) seeds.count
+  pub few : sweep.rows ≤ 1000000
+  pub same_seeds : sweep.seeds ≡ seeds
+  pub same_number : sweep.outstanding ≡ outstanding

@@ -1,0 +1,49 @@
+-- Texts that are written item by item.
+use Rattle.std.proofs.Common.{◌≡◌, ℕ, ◌+◌, ◌<◌, ◌≤◌, Bool, false, List, ◌∷◌, ◌++◌, Option, drop, get_or, length, map}
+use Rattle.std.proofs.Common.{sym, subst, ap, ◌∙◌, if◌then◌else◌, true}
+use Rattle.std.specs.Io.KnownBytes.{Appends}
+use Rattle.std.specs.List.{flat_map}
+use Rattle.std.proofs.KnownBytes.{Appends-nil, Appends-trans}
+use Rattle.std.proofs.lemmas.List.{at_drop_all, at_drop_more}
+use Rattle.json_text.specs.List.{before_text, with_commas_from}
+use Rattle.script_json.specs.Object.{gap_at, is_gap}
+
+-- an item of a list, and then those behind it
+pub item_written : {X : Type 0} (text : X → List ℕ) (first : Bool) (x : X) (rest : List X) (a b c d : Option (List ℕ))
+    → Appends a b (before_text first) → Appends b c (text x) → Appends c d (with_commas_from false (map text rest))
+    → Appends a d (with_commas_from first (map text (x ∷ rest)))
+item_written text first x rest a b c d comma one more =
+    Appends-trans a c d (before_text first ++ text x) _ (Appends-trans a b c (before_text first) (text x) comma one) more
+
+-- the text of the next item, and then those of the items behind it
+pub piece_written : (text : ℕ → List ℕ) (xs : List ℕ) (i : ℕ) (a b c : Option (List ℕ)) → i < length xs
+    → Appends a b (text (get_or xs i 0)) → Appends b c (flat_map text (drop (i + 1) xs))
+    → Appends a c (flat_map text (drop i xs))
+piece_written text xs i a b c below one more =
+    subst (Appends a c) (sym (at_drop_more (flat_map text) xs i 0 below))
+    (Appends-trans a b c (text (get_or xs i 0)) _ one more)
+
+-- behind the last there is none
+pub none_written : (text : ℕ → List ℕ) (xs : List ℕ) (i : ℕ) (a : Option (List ℕ)) → length xs ≤ i
+    → Appends a a (flat_map text (drop i xs))
+none_written text xs i a end = subst (Appends a a) (sym (at_drop_all (flat_map text) xs i end)) (Appends-nil a)
+
+-- no gap at a place: it is further on
+pub gap_further : (xs : List ℕ) (i : ℕ) → i < length xs → is_gap (drop i xs) ≡ false
+    → gap_at (drop i xs) ≡ gap_at (drop (i + 1) xs) + 1
+gap_further xs i below none =
+    let split = at_drop_more (λ (ys : List ℕ). ys) xs i 0 below in
+    let here : is_gap (get_or xs i 0 ∷ drop (i + 1) xs) ≡ false = ap is_gap (sym split) ∙ none in
+    ap gap_at split
+    ∙ ap (λ (b : Bool). if b then 0 else gap_at (drop (i + 1) xs) + 1) here
+
+-- a gap at a place: it is there
+pub gap_here : (xs : List ℕ) (i : ℕ) → i < length xs → is_gap (drop i xs) ≡ true → gap_at (drop i xs) ≡ 0
+gap_here xs i below is =
+    let split = at_drop_more (λ (ys : List ℕ). ys) xs i 0 below in
+    let here : is_gap (get_or xs i 0 ∷ drop (i + 1) xs) ≡ true = ap is_gap (sym split) ∙ is in
+    ap gap_at split ∙ ap (λ (b : Bool). if b then 0 else gap_at (drop (i + 1) xs) + 1) here
+
+-- behind the last place there is none
+pub no_gap : (xs : List ℕ) (i : ℕ) → length xs ≤ i → gap_at (drop i xs) ≡ 0
+no_gap xs i end = at_drop_all gap_at xs i end

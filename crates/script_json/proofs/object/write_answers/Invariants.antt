@@ -1,0 +1,13 @@
+use Rattle.std.proofs.Common.{List, ℕ, Option, map}
+use Rattle.std.specs.Io.KnownBytes.{Appends}
+use Rattle.json_text.specs.List.{with_commas, with_commas_from}
+use Rattle.script_json.specs.Object.{answer_of}
+use Rattle.script_json.proofs.object.write_answers.Given as goal
+
+-- who writes the items that are left has written all
+abbrev pub invariant-loop-line : goal.invariant-loop-line
+invariant-loop-line g l =
+    let contents = g.W.Write.contents in
+    (after : Option (List ℕ))
+    → Appends (contents l.out) after (with_commas_from l.is_first (map answer_of l.line-iterator))
+    → Appends (contents l.fn.out) after (with_commas (map answer_of l.fn.answer))

@@ -1,0 +1,35 @@
+-- A command and its answer as one value of JSON.
+use Rattle.std.specs.Prelude.{ℕ, ◌+◌, ◌==◌, ◌&&◌, Bool, false, List, [], ◌∷◌, ◌++◌, codes, decimal, drop}
+use Rattle.std.specs.Prelude.{if◌then◌else◌, length, map, nat_lt, take}
+use Rattle.json_text.specs.List.{with_commas}
+use Rattle.litmus_text.specs.Text.{words_of_line}
+use Rattle.script_json.specs.Text.{quoted, value_of}
+
+-- the text begins with three blanks
+abbrev pub is_gap : List ℕ → Bool
+is_gap (a ∷ b ∷ c ∷ more) = a == 32 && (b == 32 && c == 32)
+is_gap text = false
+
+-- where the first three blanks stand: at the end where there are none
+abbrev pub gap_at : List ℕ → ℕ
+gap_at [] = 0
+gap_at (byte ∷ more) = if is_gap (byte ∷ more) then 0 else gap_at more + 1
+
+-- what happened behind an answer, behind the three blanks with which it begins
+abbrev pub told_of : List ℕ → List ℕ
+told_of happened = codes ",\"happened\":" ++ quoted happened
+
+abbrev pub happened_of : List ℕ → List ℕ
+happened_of told = if nat_lt (length told) 3 then [] else told_of (drop 3 told)
+
+-- a line of an answer: its words, and what happened behind it
+abbrev pub answer_of : List ℕ → List ℕ
+answer_of line =
+    codes "{\"words\":[" ++ with_commas (map value_of (words_of_line (take (gap_at line) line))) ++ codes "]"
+    ++ happened_of (drop (gap_at line) line) ++ codes "}"
+
+-- the value of a command, in one line: the number of its line, the line, and the lines of its answer
+abbrev pub object_of : ℕ → List ℕ → List (List ℕ) → List ℕ
+object_of number command answer =
+    codes "{\"line\":" ++ decimal number ++ codes ",\"command\":" ++ quoted command
+    ++ codes ",\"answer\":[" ++ with_commas (map answer_of answer) ++ codes "]}\n"

@@ -1,0 +1,102 @@
+//! A command and its answer as one value.
+ghost use Rattle.std.specs.Prelude.{◌≡◌, ◌≤◌, OnOk, decimal, length, map};
+ghost use Rattle.std.specs.Io.KnownBytes.{Appends};
+ghost use Rattle.std.specs.Str.Lines.{lines};
+ghost use Rattle.json_text.specs.List.{with_commas};
+ghost use Rattle.script_json.specs.Object.{answer_of, gap_at, happened_of, is_gap, object_of, told_of};
+
+use super::text::{write_before, write_quoted, write_words};
+use itoa::Buffer;
+use litmus_text::Lines;
+use stats_report::{Cut, write_text};
+use std::io::Write;
+
+/// Writes the value of a command: the number of its line, the line, and the lines of its answer.
+pub(crate) fn write_object<W: Write>(
+    number: u64,
+    command: &[u8],
+    answer: &[u8],
+    out: &mut W,
+) -> Result<(), Cut>
+    ensures { OnOk result (Appends (W.contents out.old) (W.contents out.new)
+        (object_of number command.now (lines answer.now))) }
+{
+    write_text(out, b"{\"line\":")?;
+    write_number(number, out)?;
+    write_text(out, b",\"command\":")?;
+    write_quoted(command, out)?;
+    write_text(out, b",\"answer\":[")?;
+    write_answers(Lines::of(answer), out)?;
+    write_text(out, b"]}\n")
+}
+
+fn write_number<W: Write>(number: u64, out: &mut W) -> Result<(), Cut>
+    ensures { OnOk result (Appends (W.contents out.old) (W.contents out.new) (decimal number)) }
+{
+    let mut buffer = Buffer::new();
+    write_text(out, buffer.format(number).as_bytes())
+}
+
+fn write_answers<W: Write>(answer: Lines<'_>, out: &mut W) -> Result<(), Cut>
+    ensures { OnOk result
+        (Appends (W.contents out.old) (W.contents out.new) (with_commas (map answer_of answer.entry))) }
+{
+    let mut is_first = true;
+    for line in answer {
+        write_before(is_first, out)?;
+        is_first = false;
+        write_answer(line, out)?;
+    }
+    Ok(())
+}
+
+// A line of an answer: its words, and what happened behind it.
+fn write_answer<W: Write>(line: &[u8], out: &mut W) -> Result<(), Cut>
+    ensures { OnOk result (Appends (W.contents out.old) (W.contents out.new) (answer_of line.now)) }
+{
+    let gap = gap_in(line);
+    let (words, told) = line.split_at(gap);
+    write_text(out, b"{\"words\":[")?;
+    write_words(words, out)?;
+    write_text(out, b"]")?;
+    write_happened(told, out)?;
+    write_text(out, b"}")
+}
+
+// What happened, behind the three blanks with which this begins.
+fn write_happened<W: Write>(told: &[u8], out: &mut W) -> Result<(), Cut>
+    ensures { OnOk result (Appends (W.contents out.old) (W.contents out.new) (happened_of told.now)) }
+{
+    if told.len() < 3 {
+        return write_text(out, b"");
+    }
+    let (_, happened) = told.split_at(3);
+    write_told(happened, out)
+}
+
+fn write_told<W: Write>(happened: &[u8], out: &mut W) -> Result<(), Cut>
+    ensures { OnOk result (Appends (W.contents out.old) (W.contents out.new) (told_of happened.now)) }
+{
+    write_text(out, b",\"happened\":")?;
+    write_quoted(happened, out)
+}
+
+// The place of the first three blanks: the line's end where there are none.
+fn gap_in(line: &[u8]) -> usize
+    ensures gap { result ≡ gap_at line.now }
+    ensures within { result ≤ length line.now }
+{
+    for place in 0..line.len() {
+        let (_, behind) = line.split_at(place);
+        if is_gap(behind) {
+            return place;
+        }
+    }
+    line.len()
+}
+
+fn is_gap(text: &[u8]) -> bool
+    ensures { result ≡ is_gap text.now }
+{
+    matches!(text, [b' ', b' ', b' ', ..])
+}

@@ -1,0 +1,53 @@
+//! What plays a script's commands, and writes each as a value.
+use super::object::write_object;
+use address_map::Checked;
+use litmus_script::Player;
+use litmus_text::{Command, Statement, TextFault};
+use std::io::Write;
+
+/// A player that writes each command with what another player answers.
+#[derive(Drop)]
+pub(crate) struct Lister<P: Player> {
+    pub(crate) player: P,
+    /// The room for an answer, which is kept from one to the next.
+    pub(crate) answer: Vec<u8>,
+}
+
+impl<P: Player> Player for Lister<P> {
+    ghost use Rattle.std.specs.Prelude.{ℕ, [], List, Some};
+    ghost use Rattle.std.specs.Io.KnownBytes.{Appends};
+    ghost use Rattle.std.specs.Str.Lines.{lines};
+    ghost use Rattle.script_json.specs.Object.{object_of};
+
+    ghost config_of = { λ lister. P.config_of lister.player };
+
+    ghost plays = { λ old line command before after new. (answer : List ℕ) × (number : ℕ)
+        × P.plays old.player line command (Some []) (Some answer) new.player
+        × Appends before after (object_of number line (lines answer)) };
+
+    fn config(&self) -> &Checked {
+        self.player.config()
+    }
+
+    fn play<W: Write>(
+        &mut self,
+        statement: &Statement<'_>,
+        command: Command,
+        out: &mut W,
+    ) -> Result<(), TextFault> {
+        self.answer.clear();
+        if self
+            .player
+            .play(statement, command, &mut self.answer)
+            .is_err()
+        {
+            // writing to memory fails for want of it
+            return Err(TextFault::NoMemory);
+        }
+        let number = statement.number as u64;
+        match write_object(number, statement.line, self.answer.as_slice(), out) {
+            Ok(()) => Ok(()),
+            Err(_) => Err(TextFault::CannotWrite),
+        }
+    }
+}

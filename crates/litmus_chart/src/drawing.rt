@@ -252,9 +252,9 @@ fn write_marks<W: Write>(space: &SpaceTime, out: &mut W) -> fmt::Result {
 fn write_mark<W: Write>(space: &SpaceTime, mark: Mark, out: &mut W) -> fmt::Result {
     let x = life_of(space, mark.who);
     let y = row_at(mark.row);
-    let beside = beside(mark.who, x);
-    let side = side(mark.who);
     if let What::Performed(entry) = mark.what {
+        let beside = beside(mark.who, x);
+        let side = side(mark.who);
         let below = y.saturating_add(27);
         write!(
             out,
@@ -262,6 +262,8 @@ fn write_mark<W: Write>(space: &SpaceTime, mark: Mark, out: &mut W) -> fmt::Resu
         )?;
         write_performed(entry, out)?;
     } else {
+        // Right of any lifeline there is room: left of the directory stand the commands.
+        let beside = x.saturating_add(HALF + 4);
         let above = y.saturating_sub(4);
         write!(
             out,
@@ -269,7 +271,7 @@ fn write_mark<W: Write>(space: &SpaceTime, mark: Mark, out: &mut W) -> fmt::Resu
         )?;
         write!(
             out,
-            "<text class=\"wait {side}\" x=\"{beside}\" y=\"{above}\">"
+            "<text class=\"wait right\" x=\"{beside}\" y=\"{above}\">"
         )?;
         write_reason(mark.what, out)?;
     }

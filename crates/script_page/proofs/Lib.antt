@@ -1,2 +1,6 @@
-mod PlacedLemmas
+mod Commas
+mod LineLemmas
+mod RestCalls
+mod RestLemmas
+mod RestSteps
 mod StepsLemmas

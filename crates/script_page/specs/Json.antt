@@ -1,7 +1,11 @@
--- Texts as strings of JSON (RFC 8259).
+-- Texts, words and lists as values of JSON (RFC 8259).
 use Rattle.std.specs.Prelude.{ℕ, ◌/◌, ◌%◌, ◌==◌, ◌&&◌, ◌||◌, nat_lt, nat_le, not, Bool, true, false, List, [], ◌∷◌}
-use Rattle.std.specs.Prelude.{◌++◌, codes, get_or}
+use Rattle.std.specs.Prelude.{◌++◌, codes, decimal, get_or, if◌then◌else◌, map, Option, Some, None}
 use Rattle.std.specs.List.{flat_map}
+use Rattle.address_map.specs.CoreSet.{members}
+use Rattle.address_map.specs.declared.address.LineAddr.{LineAddr}
+use Rattle.address_map.specs.declared.block.Block.{Block}
+use Rattle.step_text.specs.Cores.{text_of_cores}
 
 -- a number below 16 as one digit
 abbrev pub hex_digit : ℕ → ℕ
@@ -24,3 +28,40 @@ text_of_byte byte = text_as (is_plain byte) byte
 -- the bytes between quotation marks
 abbrev pub json_of : List ℕ → List ℕ
 json_of bytes = codes "\"" ++ (flat_map text_of_byte bytes ++ codes "\"")
+
+-- ---- lists
+
+-- what stands before an item of a list: a comma, but before the first
+abbrev pub before_text : Bool → List ℕ
+before_text true = []
+before_text false = codes ","
+
+-- texts, each behind a comma but the first, if the first of them is one
+abbrev pub with_commas_from : Bool → List (List ℕ) → List ℕ
+with_commas_from first [] = []
+with_commas_from first (text ∷ texts) = (before_text first ++ text) ++ with_commas_from false texts
+
+-- texts with commas between them
+abbrev pub with_commas : List (List ℕ) → List ℕ
+with_commas texts = with_commas_from true texts
+
+-- a word, as a string of its digits
+abbrev pub text_of_value : ℕ → List ℕ
+text_of_value value = codes "\"" ++ decimal value ++ codes "\""
+
+abbrev pub list_of_values : List ℕ → List ℕ
+list_of_values words = codes "[" ++ (with_commas (map text_of_value words) ++ codes "]")
+
+-- a block, or null where there is none
+abbrev pub text_of_block : Option Block → List ℕ
+text_of_block None = codes "null"
+text_of_block (Some block) = list_of_values block.words
+
+abbrev pub text_of_line_number : LineAddr → List ℕ
+text_of_line_number line = decimal line.0
+
+abbrev pub list_of_lines : List LineAddr → List ℕ
+list_of_lines lines = codes "[" ++ (with_commas (map text_of_line_number lines) ++ codes "]")
+
+abbrev pub list_of_cores : ℕ → List ℕ
+list_of_cores set = if set == 0 then codes "[]" else codes "[" ++ text_of_cores (members set) ++ codes "]"

@@ -5,13 +5,12 @@ use Rattle.address_map.specs.declared.config.Config.{Config}
 use Rattle.litmus_script.specs.Machine.{IsNewMachine}
 use Rattle.litmus_script.specs.Play.{IsOfRun, PlaysAll, PlaysUpTo}
 use Rattle.litmus_script.specs.Script.{IsNotConfigured, IsSetUp}
-use Rattle.litmus_text.specs.declared.command.Command.{Command}
 use Rattle.litmus_text.specs.declared.fault.TextFault.{TextFault}
 use Rattle.mshr_file.specs.Miss.{Bound}
 use Rattle.protocol_tables.specs.Cache.{table_of as cache_table}
 use Rattle.protocol_tables.specs.Directory.{table_of as directory_table}
 use Rattle.script_page.specs.Json.{json_of}
-use Rattle.script_page.specs.Step.{IsStep, Shown}
+use Rattle.script_page.specs.Step.{Steps}
 use Rattle.script_page.specs.declared.frame.controls.TheConstants.{STORY, TAIL}
 use Rattle.script_page.specs.declared.frame.diagram.TheConstants.{DIAGRAM}
 use Rattle.script_page.specs.declared.frame.focus.TheConstants.{FOCUS}
@@ -35,16 +34,12 @@ code_of_page = RUN.now ++ (TIME.now ++ (DIAGRAM.now ++ (FOCUS.now ++ (STORY.now 
 abbrev pub text_of_end : List ℕ
 text_of_end = codes "null]}\n" ++ code_of_page
 
--- a step, as what a player does of a command
-abbrev pub Steps : Config → Shown → List ℕ → Command → Option (List ℕ) → Option (List ℕ) → Shown → Type 0
-Steps config old line command before after new = IsStep config line command old new before after
-
--- The commands are played from these slices on, with no line named before, and a step of each is written.
+-- The commands are played from these slices on, and the steps of each are written.
 pub record HasSteps (config : Config) (commands : List (ℕ × List (List ℕ))) (start : List PartsView)
     (before after : Option (List ℕ)) : Type 0 where
-  pub end : Shown
+  pub end : List PartsView
   pub last : Option (List ℕ)
-  pub played : PlaysAll (Steps config) config commands (record { slices = start; named = [] }) end before last
+  pub played : PlaysAll (Steps config) config commands start end before last
   pub ended : Appends last after text_of_end
 
 -- .. on a new machine
@@ -69,7 +64,7 @@ pub record PageStopsAt (config : Config) (commands : List (ℕ × List (List ℕ
     (fault : TextFault) : Type 0 where
   pub first : Option (List ℕ)
   pub last : Option (List ℕ)
-  pub stopped : PlaysUpTo (Steps config) config commands (record { slices = start; named = [] }) first last fault
+  pub stopped : PlaysUpTo (Steps config) config commands start first last fault
 
 -- why a page has not all of its script: as in scripts, or it couldn't be written
 abbrev pub IsPageFault : List (ℕ × List (List ℕ)) → TextFault → Type 0

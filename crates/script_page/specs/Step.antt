@@ -1,70 +1,179 @@
--- A step of a page: a command, its answer, and what is shown of the machine behind it.
-use Rattle.std.specs.Prelude.{◌≡◌, ◌⊎◌, ℕ, List, [], ◌∷◌, ◌++◌, codes, Contains, Option, Some, None}
+-- A step of a page: a command with its answer, and as data what it can have changed of the machine, as that is then.
+use Rattle.std.specs.Prelude.{◌≡◌, ℕ, ◌%◌, List, [], ◌++◌, codes, decimal, length, Option, Some, None}
 use Rattle.std.specs.Io.KnownBytes.{Appends}
-use Rattle.address_map.specs.Place.{line_of as line_of_word}
-use Rattle.address_map.specs.declared.address.LineAddr.{LineAddr}
+use Rattle.std.specs.List.{slice_get}
 use Rattle.address_map.specs.declared.config.Config.{Config}
-use Rattle.litmus_script.specs.Prints.{IsPrinted}
-use Rattle.litmus_text.specs.Command.{HasLine}
+use Rattle.litmus_script.specs.Answer.{text_of_pumped}
+use Rattle.litmus_script.specs.Pump.{Pumps}
+use Rattle.litmus_script.specs.declared.answers.Pumped.{Pumped}
+use Rattle.litmus_text.specs.Command.{parts_of}
 use Rattle.litmus_text.specs.declared.command.Command.{Command}
 use Rattle.litmus_text.specs.declared.command.Command.TheVariants as commands
-use Rattle.script_explained.specs.Explains.{IsExplained}
+use Rattle.script_explained.specs.Explains.{IsExplained, TellsNext}
+use Rattle.script_page.specs.Access.{text_of_log}
+use Rattle.script_page.specs.Call as calls
+use Rattle.script_page.specs.Core.{text_of_core_in, victim_of}
 use Rattle.script_page.specs.Json.{json_of}
-use Rattle.slice_core_plan.specs.Calls.{PartsView}
+use Rattle.script_page.specs.Line.{text_of_line_in}
+use Rattle.script_page.specs.Scope.{scope_of}
+use Rattle.script_page.specs.declared.call.Planned.{Planned}
+use Rattle.script_page.specs.declared.scope.Scope.{Scope}
+use Rattle.script_page.specs.declared.step.Before.{Before}
+use Rattle.script_text.specs.Line.{text_of_parts}
+use Rattle.slice_answer.specs.declared.answer.Delivery.TheVariants as deliveries
+use Rattle.slice_answer.specs.declared.answer.Delivery.{Delivery}
+use Rattle.slice_core_plan.specs.Calls.{PartsView, next_pick}
+use Rattle.slice_core_plan.specs.Plan.{planned_at}
 use Rattle.slice_queues_message.specs.Pick.{line_of}
+use Rattle.slice_queues_message.specs.declared.channel.Class.TheVariants as classes
+use Rattle.slice_queues_message.specs.declared.channel.Pick.{Pick}
 
--- the line that a command is about, if it is about one
-abbrev pub line_named : Command → Option LineAddr
-line_named (commands.Issue core request) = Some (line_of_word request.word)
-line_named (commands.Evict core line) = Some line
-line_named (commands.Deliver pick) = Some (line_of pick)
-line_named (commands.Word word) = Some (line_of_word word)
-line_named (commands.State line) = Some line
-line_named command = None
+-- ---- what is seen of a command before it is played
 
--- what was named so far: a line of the memory that wasn't named yet goes last
-abbrev pub Names : Config → Option LineAddr → List LineAddr → List LineAddr → Type 0
-Names config None old new = new ≡ old
-Names config (Some line) old new =
-    ((HasLine config line × ¬ Contains old line) × (new ≡ old ++ (line ∷ [])))
-    ⊎ ((¬ (HasLine config line × ¬ Contains old line)) × (new ≡ old))
+-- how long the log of a slice is
+abbrev pub length_of : Option PartsView → ℕ
+length_of None = 0
+length_of (Some state) = length state.view.log
 
--- what `state` prints of each of these lines
-abbrev pub ShowsStates : Config → List PartsView → List LineAddr → Option (List ℕ) → Option (List ℕ) → Type 0
-ShowsStates config slices [] before after = after ≡ before
-ShowsStates config slices (line ∷ more) before after =
-    (middle : Option (List ℕ)) × IsPrinted config (commands.State line) slices slices before middle
-    × ShowsStates config slices more middle after
+abbrev pub length_in : List PartsView → ℕ → ℕ
+length_in slices slice = length_of (slice_get slices slice)
 
--- the texts of a step
-pub record Texts : Type 0 where
-  pub command : List ℕ
-  pub answer : List ℕ
-  pub states : List ℕ
-  pub waiting : List ℕ
-  pub shown : List ℕ
+abbrev pub first_by : Option Scope → List PartsView → ℕ
+first_by None slices = 0
+first_by (Some scope) slices = length_in slices scope.slice
 
--- a step as an object of JSON
-abbrev pub text_of_step : Texts → List ℕ
-text_of_step texts =
-    codes "{\"command\":" ++ (json_of texts.command ++ (codes ",\"answer\":" ++ (json_of texts.answer
-    ++ (codes ",\"states\":" ++ (json_of texts.states ++ (codes ",\"waiting\":" ++ (json_of texts.waiting
-    ++ (codes ",\"shown\":" ++ (json_of texts.shown ++ codes "},\n")))))))))
+-- .. of a command's slice: the number of the first access that it performs
+abbrev pub first_of : Config → Command → List PartsView → ℕ
+first_of config command slices = first_by (scope_of config command) slices
 
--- what a page knows of a run: its slices, and the lines that were named
-pub record Shown : Type 0 where
-  pub slices : List PartsView
-  pub named : List LineAddr
+abbrev pub planned_in : Option PartsView → Pick → Option Planned
+planned_in None pick = None
+planned_in (Some state) pick = Some (record { pick = pick; plan = planned_at state.view pick })
 
--- The command is played and its answer told with what happened; of the machine behind it stand there what `state`
--- prints of each line named so far, and what `waiting` and `show` print.
-pub record IsStep (config : Config) (line : List ℕ) (command : Command) (old new : Shown)
+-- what is planned for the message that a command delivers
+abbrev pub planned_of : Config → Command → List PartsView → Option Planned
+planned_of config (commands.Deliver pick) slices = planned_in (slice_get slices ((line_of pick).0 % config.slices)) pick
+planned_of config command slices = None
+
+abbrev pub before_of : Config → Command → List PartsView → Before
+before_of config command slices =
+    record { first = first_of config command slices; planned = planned_of config command slices }
+
+-- ---- the text of a step
+
+abbrev pub text_of_begin : ℕ → List ℕ
+text_of_begin number = codes "{\"at\":" ++ decimal number ++ codes ",\"command\":"
+
+abbrev pub text_of_call : Command → Option Planned → List ℕ
+text_of_call command None = codes ",\"call\":" ++ calls.text_of_call command ++ codes ",\"plan\":null,"
+text_of_call command (Some planned) =
+    codes ",\"call\":" ++ calls.text_of_call command ++ codes ",\"plan\":"
+    ++ calls.text_of_plan planned.pick planned.plan ++ codes ","
+
+abbrev pub no_changes : List ℕ
+no_changes = codes "\"line\":null,\"victim\":null,\"performed\":null,\"next\":null,\"core\":"
+
+abbrev pub text_of_next : Delivery Pick → List ℕ
+text_of_next next = codes ",\"next\":" ++ calls.text_of_next next ++ codes ",\"core\":"
+
+-- the line that the command is about and one that can have left for it, the accesses that were performed, and the
+-- delivery that the slice would choose next
+abbrev pub text_of_lines : Scope → ℕ → PartsView → List ℕ
+text_of_lines scope first p =
+    codes "\"line\":" ++ (text_of_line_in p.view scope.line
+    ++ (codes ",\"victim\":" ++ (text_of_line_in p.view (victim_of p.view scope)
+    ++ (codes ",\"performed\":" ++ (text_of_log scope.slice first p.view.log
+    ++ text_of_next (next_pick p classes.Any))))))
+
+abbrev pub lines_in : Scope → ℕ → Option PartsView → List ℕ
+lines_in scope first None = no_changes
+lines_in scope first (Some state) = text_of_lines scope first state
+
+abbrev pub text_of_changes : Option Scope → ℕ → List PartsView → List ℕ
+text_of_changes None first slices = no_changes
+text_of_changes (Some scope) first slices = lines_in scope first (slice_get slices scope.slice)
+
+-- all of a step but what the core has
+abbrev pub text_of_front : ℕ → List ℕ → List ℕ → Command → Before → Option Scope → List PartsView → List ℕ
+text_of_front number line answer command before scope slices =
+    text_of_begin number ++ (json_of line ++ (codes ",\"answer\":" ++ (json_of answer
+    ++ (text_of_call command before.planned ++ text_of_changes scope before.first slices))))
+
+abbrev pub core_in : Scope → Option PartsView → List ℕ
+core_in scope None = codes "null"
+core_in scope (Some state) = text_of_core_in state.view scope
+
+-- what the core has
+abbrev pub text_of_core_by : Option Scope → List PartsView → List ℕ
+text_of_core_by None slices = codes "null"
+text_of_core_by (Some scope) slices = core_in scope (slice_get slices scope.slice)
+
+-- A step is written: the command at this place of the script with its answer and what was seen of it before, and what
+-- it can have changed, as the slices have it.
+pub record WritesStep (config : Config) (number : ℕ) (line answer : List ℕ) (command : Command) (seen : Before)
+    (slices : List PartsView) (before after : Option (List ℕ)) : Type 0 where
+  pub first : Option (List ℕ)
+  pub begun : Appends before first
+      (text_of_front number line answer command seen (scope_of config command) slices)
+  pub last : Option (List ℕ)
+  pub core : Appends first last (text_of_core_by (scope_of config command) slices)
+  pub ended : Appends last after (codes "},\n")
+
+-- ---- what a command does to a machine, and what is written of it
+
+-- The command is played, and its step is written: its answer told with what happened, and the slices as they are then.
+-- Its place in the script isn't said here.
+pub record IsStep (config : Config) (line : List ℕ) (command : Command) (old new : List PartsView)
     (before after : Option (List ℕ)) : Type 0 where
-  pub texts : Texts
-  pub command_of : texts.command ≡ line
-  pub played : IsExplained config command old.slices new.slices (Some []) (Some texts.answer)
-  pub names : Names config (line_named command) old.named new.named
-  pub states : ShowsStates config new.slices new.named (Some []) (Some texts.states)
-  pub waiting : IsPrinted config commands.Waiting new.slices new.slices (Some []) (Some texts.waiting)
-  pub shown : IsPrinted config commands.Show new.slices new.slices (Some []) (Some texts.shown)
-  pub written : Appends before after (text_of_step texts)
+  pub number : ℕ
+  pub answer : List ℕ
+  pub played : IsExplained config command old new (Some []) (Some answer)
+  pub written : WritesStep config number line answer command (before_of config command old) new before after
+
+-- a delivery of a pump is a step of its own, as if the command that makes it stood there
+abbrev pub WritesNext : Config → ℕ → List PartsView → Delivery Pick → List ℕ → List PartsView → Option (List ℕ)
+    → Option (List ℕ) → Type 0
+WritesNext config number old (deliveries.Moved pick) told new before after =
+    let command = commands.Deliver pick in
+    WritesStep config number (text_of_parts (parts_of command)) told command (before_of config command old) new before
+    after
+WritesNext config number old answer told new before after = after ≡ before
+
+pub record IsNextStep (config : Config) (number : ℕ) (old : List PartsView) (slice : ℕ) (answer : Delivery Pick)
+    (before after : Option (List ℕ)) (new : List PartsView) : Type 0 where
+  pub told : List ℕ
+  pub made : TellsNext old slice answer (Some []) (Some told) new
+  pub written : WritesNext config number old answer told new before after
+
+-- what is seen of a slice's next delivery before it is made
+abbrev pub seen_by : Config → List PartsView → Delivery Pick → Option Before
+seen_by config slices (deliveries.Moved pick) = Some (before_of config (commands.Deliver pick) slices)
+seen_by config slices answer = None
+
+abbrev pub next_in : Config → List PartsView → Option PartsView → Option Before
+next_in config slices None = None
+next_in config slices (Some state) = seen_by config slices (next_pick state classes.Any)
+
+-- .. and the step that is written of it, where this was seen
+abbrev pub WritesSeen : Config → ℕ → Delivery Pick → Option Before → List ℕ → List PartsView → Option (List ℕ)
+    → Option (List ℕ) → Type 0
+WritesSeen config number (deliveries.Moved pick) (Some seen) told slices before after =
+    let command = commands.Deliver pick in
+    WritesStep config number (text_of_parts (parts_of command)) told command seen slices before after
+WritesSeen config number answer seen told slices before after = after ≡ before
+
+-- A pump: a step for each of its deliveries, and behind them one that says what is left.
+pub record ArePumpSteps (config : Config) (line : List ℕ) (calls : ℕ) (old new : List PartsView)
+    (before after : Option (List ℕ)) : Type 0 where
+  pub number : ℕ
+  pub pumped : Pumped
+  pub middle : Option (List ℕ)
+  pub pumps : Pumps (IsNextStep config number) config.slices calls pumped old new before middle
+  pub said : WritesStep config number line (text_of_pumped pumped ++ codes "\n") (commands.Pump calls)
+      (before_of config (commands.Pump calls) new) new middle after
+
+-- the steps of a command
+abbrev pub Steps : Config → List PartsView → List ℕ → Command → Option (List ℕ) → Option (List ℕ) → List PartsView
+    → Type 0
+Steps config old line (commands.Pump calls) before after new = ArePumpSteps config line calls old new before after
+Steps config old line command before after new = IsStep config line command old new before after

@@ -1,11 +1,14 @@
-//! Strings of JSON.
-ghost use Rattle.std.specs.Prelude.{◌≡◌, ◌<◌, ◌∷◌, [], IsTrue, OnOk};
+//! Strings and lists of JSON.
+ghost use Rattle.std.specs.Prelude.{◌≡◌, ◌<◌, ◌∷◌, [], IsTrue, OnOk, map};
 ghost use Rattle.std.specs.Fmt.{WritesInCalls};
 ghost use Rattle.std.specs.List.{flat_map};
-ghost use Rattle.script_page.specs.Json.{hex_digit, is_plain, json_of, text_as, text_of_byte};
+ghost use Rattle.script_page.specs.Json.{before_text, hex_digit, is_plain, json_of, list_of_lines, list_of_values, text_as};
+ghost use Rattle.script_page.specs.Json.{text_of_block, text_of_byte, text_of_line_number, text_of_value, with_commas};
 
+use address_map::{Block, CoreSet, LineAddr};
 use std::fmt;
 use std::fmt::Write;
+use step_text::Cores;
 
 /// Writes bytes as a string of JSON, in which no tag of HTML begins. A byte that isn't ASCII stands for the character
 /// of its number.
@@ -67,4 +70,99 @@ fn hex_digit(number: u8) -> u8
     ensures ascii { result < 128 }
 {
     b"0123456789abcdef"[number as usize]
+}
+
+/// Writes a block as a list of its words, or null.
+pub(crate) fn write_block<W: Write>(block: Option<Block>, out: &mut W) -> fmt::Result
+    ensures { OnOk result (WritesInCalls W.write_str_gives out.old (text_of_block block) out.new) }
+{
+    match block {
+        Some(block) => write_values(&block.words, out),
+        None => write!(out, "null"),
+    }
+}
+
+/// Writes a list of words. Each is a string, since a number of JSON may be read with fewer bits.
+pub(crate) fn write_values<W: Write>(words: &[u64], out: &mut W) -> fmt::Result
+    ensures { OnOk result (WritesInCalls W.write_str_gives out.old (list_of_values words.now) out.new) }
+{
+    write!(out, "[")?;
+    write_words(words, out)?;
+    write!(out, "]")
+}
+
+fn write_words<W: Write>(words: &[u64], out: &mut W) -> fmt::Result
+    ensures { OnOk result (WritesInCalls W.write_str_gives out.old
+        (with_commas (map text_of_value words.now)) out.new) }
+{
+    let mut is_first = true;
+    for word in words {
+        write_comma(is_first, out)?;
+        is_first = false;
+        write_value(*word, out)?;
+    }
+    Ok(())
+}
+
+fn write_value<W: Write>(value: u64, out: &mut W) -> fmt::Result
+    ensures { OnOk result (WritesInCalls W.write_str_gives out.old (text_of_value value) out.new) }
+{
+    write!(out, "\"{value}\"")
+}
+
+/// Writes a list of lines by their numbers.
+pub(crate) fn write_lines<W: Write>(lines: &[LineAddr], out: &mut W) -> fmt::Result
+    ensures { OnOk result (WritesInCalls W.write_str_gives out.old (list_of_lines lines.now) out.new) }
+{
+    write!(out, "[")?;
+    write_numbers(lines, out)?;
+    write!(out, "]")
+}
+
+fn write_numbers<W: Write>(lines: &[LineAddr], out: &mut W) -> fmt::Result
+    ensures { OnOk result (WritesInCalls W.write_str_gives out.old
+        (with_commas (map text_of_line_number lines.now)) out.new) }
+{
+    let mut is_first = true;
+    for line in lines {
+        write_comma(is_first, out)?;
+        is_first = false;
+        write_number(*line, out)?;
+    }
+    Ok(())
+}
+
+fn write_number<W: Write>(line: LineAddr, out: &mut W) -> fmt::Result
+    ensures { OnOk result (WritesInCalls W.write_str_gives out.old (text_of_line_number line) out.new) }
+{
+    let LineAddr(line) = line;
+    write!(out, "{line}")
+}
+
+/// Writes what stands before an item of a list: a comma, but before the first.
+pub(crate) fn write_comma<W: Write>(is_first: bool, out: &mut W) -> fmt::Result
+    ensures { OnOk result (WritesInCalls W.write_str_gives out.old (before_text is_first) out.new) }
+{
+    if is_first {
+        return Ok(());
+    }
+    write!(out, ",")
+}
+
+/// The cores of a set as a list.
+#[derive(Clone, Copy)]
+pub(crate) struct CoreList(pub(crate) CoreSet);
+
+impl fmt::Display for CoreList {
+    ghost use Rattle.std.specs.Prelude.{Some};
+    ghost use Rattle.script_page.specs.Json.{list_of_cores};
+
+    ghost output = { λ cores. Some (list_of_cores cores.0) };
+
+    fn fmt<W: fmt::Write>(&self, f: &mut fmt::Formatter<W>) -> fmt::Result {
+        if self.0.is_empty() {
+            return f.write_str("[]");
+        }
+        write!(f, "[{}]", Cores(self.0))
+    }
 }

@@ -1,21 +1,29 @@
 //! Writes a script's run as a page that a browser shows.
 //!
-//! [`run_page`] plays a script as `script_explained` does, and writes a step for each command: its line, its answer
-//! with what happened, and of the machine behind it what `state` prints of each line named so far, and what `waiting`
-//! and `show` print (specs/Step.antt). The steps are one value of JSON in a page whose own code (`src/frame`) shows them:
-//! `head` its look and parts, `run` reads the value, `time` finds what happened when, `diagram` draws it, `focus` tells
-//! one step, and `controls` moves through the steps and prints them.
+//! [`run_page`] plays a script as `script_explained` does, and writes a step for each command and for each delivery of
+//! a pump: its line, its answer with what happened, and as data what it can have changed of the machine, as the machine
+//! has it then (specs/Step.antt): a line ([`line`]) with its messages ([`message`]), a core ([`core_part`]) with its copy
+//! ([`copy`]), and what was performed ([`access`]). The steps are one value of JSON in a page whose own code
+//! (`src/frame`) shows them: `head` its look and parts, `run` reads the value, `time` finds what happened when, `diagram`
+//! draws it, `focus` tells one step, and `controls` moves through the steps and prints them.
 //!
-//! [`note_line`] keeps the lines that commands name, for whoever shows a run, and [`write_ascii`] writes a byte.
+//! What a step doesn't give is as it was, as the machine's calls leave it ([`what_is_not_given_stays`]).
 #![tactic(auto)]
 
 pub use json::write_ascii;
-pub use named::note_line;
 pub use page::run_page;
+pub use rest::what_is_not_given_stays;
 
+mod access;
+mod call;
+mod copy;
+mod core_part;
 mod frame;
 mod json;
-mod named;
+mod line;
+mod message;
 mod page;
 mod player;
+mod rest;
+mod scope;
 mod step;

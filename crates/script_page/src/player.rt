@@ -1,41 +1,47 @@
 //! What plays a script's commands for a page.
-ghost use Rattle.std.specs.Prelude.{◌≡◌, [], All, IfErr, IfOk, OnOk, Some};
+ghost use Rattle.std.specs.Prelude.{◌≡◌, ◌++◌, ◌<◌, [], IfErr, IfOk, OnOk, Some, codes};
+ghost use Rattle.std.specs.Fmt.{WritesInCalls};
+ghost use Rattle.std.specs.Io.KnownBytes.{Appends};
+ghost use Rattle.std.specs.List.{slice_get};
+ghost use Rattle.litmus_script.specs.Answer.{text_of_pumped};
 ghost use Rattle.litmus_script.specs.Play.{IsOfRun};
-ghost use Rattle.litmus_script.specs.Prints.{IsPrinted};
-ghost use Rattle.litmus_text.specs.Command.{HasLine, IsInRange};
+ghost use Rattle.litmus_text.specs.Command.{IsInRange, parts_of};
 ghost use Rattle.litmus_text.specs.declared.command.Command.TheVariants as commands;
-ghost use Rattle.script_explained.specs.Explains.{IsExplained};
-ghost use Rattle.script_page.specs.Step.{Names, ShowsStates, line_named};
+ghost use Rattle.script_explained.specs.Explains.{IsExplained, TellsNext};
+ghost use Rattle.script_page.specs.Step.{ArePumpSteps, IsStep, WritesSeen, next_in};
+ghost use Rattle.script_text.specs.Line.{text_of_parts};
 
-use super::named::note_line;
-use super::step::{Texts, write_step};
-use address_map::{Checked, LineAddr};
-use litmus_script::{Machine, Player, TextWriter, written};
+use super::step::{Before, Step, write_step};
+use address_map::Checked;
+use litmus_script::{
+    Deliverer, Machine, Player, Pumped, TextWriter, pump_slices, write_pumped, written,
+};
 use litmus_text::{Command, Statement, TextFault};
 use mshr_file::MissFile;
 use script_explained::Explained;
+use script_text::Delivery;
+use slice_core::{Class, DeliveredNext, Pick};
 use std::alloc::Global;
+use std::fmt;
 use std::io::Write;
 
-/// A player that writes a step of a page for each command.
+/// A player that writes a step of a page for each command, and for each delivery of a pump.
 #[derive(Drop)]
 pub(crate) struct Paged<F: MissFile> {
     pub(crate) explained: Explained<F>,
-    /// The lines that the commands named so far, each once.
-    pub(crate) named: Vec<LineAddr>,
-    ghost placed: { All (HasLine explained.machine.config) named.items },
+    /// The place in the script of the command that is played.
+    number: usize,
 }
 
 impl<F: MissFile> Player for Paged<F> {
     ghost use Rattle.std.specs.Prelude.{◌≡◌};
-    ghost use Rattle.script_page.specs.Step.{IsStep, Shown};
+    ghost use Rattle.script_page.specs.Step.{Steps};
 
     ghost config_of = { λ player. player.explained.machine.config };
 
     ghost plays = { λ old line command before after new. (new.explained.machine.config ≡ old.explained.machine.config)
-        × IsStep old.explained.machine.config line command
-        (record { slices = old.explained.machine.slices.items; named = old.named.items })
-        (record { slices = new.explained.machine.slices.items; named = new.named.items }) before after };
+        × Steps old.explained.machine.config old.explained.machine.slices.items line command before after
+        new.explained.machine.slices.items };
 
     fn config(&self) -> &Checked {
         &self.explained.machine.config
@@ -47,39 +53,83 @@ impl<F: MissFile> Player for Paged<F> {
         command: Command,
         out: &mut W,
     ) -> Result<(), TextFault> {
-        let answer = self.answer(statement, command)?;
-        self.name(command)?;
-        let states = self.states()?;
-        let waiting = self.waiting()?;
-        let shown = self.shown()?;
-        let texts = Texts {
-            command: statement.line,
-            answer: answer.as_slice(),
-            states: states.as_slice(),
-            waiting: waiting.as_slice(),
-            shown: shown.as_slice(),
-        };
-        let mut answers = TextWriter { out };
-        written(write_step(&texts, &mut answers))
+        self.number = statement.number;
+        match command {
+            Command::Pump(calls) => self.pump(statement.line, calls, out),
+            _ => self.step(statement, command, out),
+        }
+    }
+}
+
+/// Each delivery that a pump makes is a step.
+impl<F: MissFile> Deliverer for Paged<F> {
+    ghost use Rattle.std.specs.Prelude.{◌≡◌};
+    ghost use Rattle.script_page.specs.Step.{IsNextStep};
+
+    ghost config_of = { λ player. player.explained.machine.config };
+
+    ghost delivers = { λ old slice answer before after new. (new.explained.machine.config ≡ old.explained.machine.config)
+        × (new.number ≡ old.number)
+        × IsNextStep old.explained.machine.config old.number old.explained.machine.slices.items slice answer
+        before after new.explained.machine.slices.items };
+
+    fn slices(&self) -> usize {
+        self.explained.machine.config.slices()
+    }
+
+    fn deliver_next<W: Write>(
+        &mut self,
+        slice: usize,
+        out: &mut W,
+    ) -> Result<DeliveredNext, TextFault> {
+        let before = self.before_next(slice);
+        let mut told = Vec::new(self.explained.alloc);
+        let delivered = self.tell_next(slice, &mut told)?;
+        self.write_next(delivered, before, told.as_slice(), out)?;
+        Ok(delivered)
     }
 }
 
 impl<F: MissFile> Paged<F> {
     pub(crate) fn new(alloc: Global, machine: Machine<F>) -> Self
-        ensures machine { result.explained.machine ≡ machine }
-        ensures named { result.named.items ≡ [] }
+        ensures { result.explained.machine ≡ machine }
     {
         Paged {
             explained: Explained { machine, alloc },
-            named: Vec::new(alloc),
+            number: 0,
         }
     }
 
-    /// Plays the command. Returns its answer, with what happened.
+    /// Plays a command, and writes its step.
+    fn step<W: Write>(
+        &mut self,
+        statement: &Statement<'_>,
+        command: Command,
+        out: &mut W,
+    ) -> Result<(), TextFault>
+        requires { IsInRange self.old.explained.machine.config command }
+        ensures config { self.new.explained.machine.config ≡ self.old.explained.machine.config }
+        ensures step { OnOk result (IsStep self.old.explained.machine.config statement.now.line.now command
+            self.old.explained.machine.slices.items self.new.explained.machine.slices.items
+            (W.contents out.old) (W.contents out.new)) }
+        ensures fault { IfErr result IsOfRun }
+    {
+        let before = Before::of(&self.explained.machine, command);
+        let answer = self.answer(statement, command)?;
+        let step = Step {
+            number: statement.number,
+            line: statement.line,
+            answer: answer.as_slice(),
+            command,
+            before,
+        };
+        write_step(self.explained.alloc, &self.explained.machine, &step, out)
+    }
+
+    /// Plays a command. Returns its answer, with what happened.
     fn answer(&mut self, statement: &Statement<'_>, command: Command) -> Result<Vec<u8>, TextFault>
         requires { IsInRange self.old.explained.machine.config command }
         ensures config { self.new.explained.machine.config ≡ self.old.explained.machine.config }
-        ensures named { self.new.named ≡ self.old.named }
         ensures played { IfOk result (λ answer. IsExplained self.old.explained.machine.config command
             self.old.explained.machine.slices.items self.new.explained.machine.slices.items
             (Some []) (Some answer.items)) }
@@ -93,72 +143,129 @@ impl<F: MissFile> Paged<F> {
         }
     }
 
-    /// Puts the command's line behind those that were named, where it is a line of the memory and new.
-    fn name(&mut self, command: Command) -> Result<(), TextFault>
-        ensures machine { self.new.explained ≡ self.old.explained }
-        ensures names { OnOk result (Names self.old.explained.machine.config (line_named command)
-            self.old.named.items self.new.named.items) }
+    /// Pumps: writes a step for each delivery, and then one that says what is left.
+    fn pump<W: Write>(&mut self, line: &[u8], calls: u64, out: &mut W) -> Result<(), TextFault>
+        ensures config { self.new.explained.machine.config ≡ self.old.explained.machine.config }
+        ensures steps { OnOk result (ArePumpSteps self.old.explained.machine.config line.now calls
+            self.old.explained.machine.slices.items self.new.explained.machine.slices.items
+            (W.contents out.old) (W.contents out.new)) }
         ensures fault { IfErr result IsOfRun }
     {
-        let Paged { explained, named } = self;
-        note_line(&explained.machine.config, command, named)
+        let number = self.number;
+        let pumped = pump_slices(self, calls, out)?;
+        let answer = pumped_text(self.explained.alloc, pumped)?;
+        let command = Command::Pump(calls);
+        let before = Before::of(&self.explained.machine, command);
+        let step = Step {
+            number,
+            line,
+            answer: answer.as_slice(),
+            command,
+            before,
+        };
+        write_step(self.explained.alloc, &self.explained.machine, &step, out)
     }
 
-    /// What `state` prints of each line that was named.
-    fn states(&self) -> Result<Vec<u8>, TextFault>
-        ensures states { IfOk result (λ states. ShowsStates self.now.explained.machine.config
-            self.now.explained.machine.slices.items
-            self.now.named.items (Some []) (Some states.items)) }
+    /// What is seen of a slice's next delivery before it is made.
+    fn before_next(&self, slice: usize) -> Option<Before>
+        requires { slice < self.now.explained.machine.config.slices }
+        ensures { result ≡ next_in self.now.explained.machine.config self.now.explained.machine.slices.items
+            (slice_get self.now.explained.machine.slices.items slice) }
+    {
+        let machine = &self.explained.machine;
+        match machine.slices.get(slice)?.next(Class::Any) {
+            DeliveredNext::Moved(pick) => Some(Before::of(machine, Command::Deliver(pick))),
+            _ => None,
+        }
+    }
+
+    /// Makes the next delivery of a slice, and tells what happened.
+    fn tell_next(&mut self, slice: usize, told: &mut Vec<u8>) -> Result<DeliveredNext, TextFault>
+        requires slice { slice < self.old.explained.machine.config.slices }
+        requires empty { told.old.items ≡ [] }
+        ensures config { self.new.explained.machine.config ≡ self.old.explained.machine.config }
+        ensures number { self.new.number ≡ self.old.number }
+        ensures told { IfOk result (λ answer. TellsNext self.old.explained.machine.slices.items slice answer
+            (Some []) (Some told.new.items) self.new.explained.machine.slices.items) }
         ensures fault { IfErr result IsOfRun }
     {
-        let mut states = Vec::new(self.explained.alloc);
-        match show_states(&self.explained.machine, self.named.as_slice(), &mut states) {
-            Ok(()) => Ok(states),
+        match self.explained.deliver_next(slice, told) {
+            Ok(delivered) => Ok(delivered),
+            // writing to memory fails for want of it
             Err(_) => Err(TextFault::NoMemory),
         }
     }
 
-    /// What `waiting` prints.
-    fn waiting(&self) -> Result<Vec<u8>, TextFault>
-        ensures waiting { IfOk result (λ waiting. IsPrinted self.now.explained.machine.config commands.Waiting
-            self.now.explained.machine.slices.items self.now.explained.machine.slices.items
-            (Some []) (Some waiting.items)) }
+    /// Writes the step of a delivery that a pump made.
+    fn write_next<W: Write>(
+        &self,
+        delivered: DeliveredNext,
+        before: Option<Before>,
+        told: &[u8],
+        out: &mut W,
+    ) -> Result<(), TextFault>
+        ensures written { OnOk result (WritesSeen self.now.explained.machine.config self.now.number delivered before
+            told.now self.now.explained.machine.slices.items (W.contents out.old) (W.contents out.new)) }
         ensures fault { IfErr result IsOfRun }
     {
-        let mut waiting = Vec::new(self.explained.alloc);
-        match self.explained.machine.run_waiting(&mut waiting) {
-            Ok(()) => Ok(waiting),
-            Err(_) => Err(TextFault::NoMemory),
-        }
-    }
-
-    /// What `show` prints.
-    fn shown(&self) -> Result<Vec<u8>, TextFault>
-        ensures shown { IfOk result (λ shown. IsPrinted self.now.explained.machine.config commands.Show
-            self.now.explained.machine.slices.items self.now.explained.machine.slices.items
-            (Some []) (Some shown.items)) }
-        ensures fault { IfErr result IsOfRun }
-    {
-        let mut shown = Vec::new(self.explained.alloc);
-        match self.explained.machine.run_show(&mut shown) {
-            Ok(()) => Ok(shown),
-            Err(_) => Err(TextFault::NoMemory),
-        }
+        let (DeliveredNext::Moved(pick), Some(before)) = (delivered, before) else {
+            return Ok(());
+        };
+        let line = delivery_text(self.explained.alloc, pick)?;
+        let step = Step {
+            number: self.number,
+            line: line.as_slice(),
+            answer: told,
+            command: Command::Deliver(pick),
+            before,
+        };
+        write_step(self.explained.alloc, &self.explained.machine, &step, out)
     }
 }
 
-/// Writes what `state` prints of each of these lines.
-fn show_states<F: MissFile, W: Write>(
-    machine: &Machine<F>,
-    named: &[LineAddr],
-    out: &mut W,
-) -> Result<(), TextFault>
-    requires { All (HasLine machine.now.config) named.now }
-    ensures states { OnOk result (ShowsStates machine.now.config machine.now.slices.items named.now
-        (W.contents out.old) (W.contents out.new)) }
+/// What a pump answers.
+fn pumped_text(alloc: Global, pumped: Pumped) -> Result<Vec<u8>, TextFault>
+    ensures text { IfOk result (λ text. text.items ≡ text_of_pumped pumped ++ codes "\n") }
+    ensures fault { IfErr result IsOfRun }
 {
-    for line in named {
-        machine.run_state(*line, out)?;
+    let mut text = Vec::new(alloc);
+    match print_pumped(pumped, &mut text) {
+        Ok(()) => Ok(text),
+        Err(_) => Err(TextFault::NoMemory),
     }
-    Ok(())
+}
+
+fn print_pumped<W: Write>(pumped: Pumped, out: &mut W) -> fmt::Result
+    ensures { OnOk result (Appends (W.contents out.old) (W.contents out.new) (text_of_pumped pumped ++ codes "\n")) }
+{
+    let mut answers = TextWriter { out };
+    write_pumped(pumped, &mut answers)
+}
+
+/// The command that makes a delivery.
+fn delivery_text(alloc: Global, pick: Pick) -> Result<Vec<u8>, TextFault>
+    ensures text { IfOk result (λ text. text.items ≡ text_of_parts (parts_of (commands.Deliver pick))) }
+    ensures fault { IfErr result IsOfRun }
+{
+    let mut text = Vec::new(alloc);
+    match print_delivery(pick, &mut text) {
+        Ok(()) => Ok(text),
+        Err(_) => Err(TextFault::NoMemory),
+    }
+}
+
+fn print_delivery<W: Write>(pick: Pick, out: &mut W) -> fmt::Result
+    ensures { OnOk result (Appends (W.contents out.old) (W.contents out.new)
+        (text_of_parts (parts_of (commands.Deliver pick)))) }
+{
+    let mut answers = TextWriter { out };
+    write_delivery(pick, &mut answers)
+}
+
+fn write_delivery<W: fmt::Write>(pick: Pick, out: &mut W) -> fmt::Result
+    ensures { OnOk result (WritesInCalls W.write_str_gives out.old
+        (text_of_parts (parts_of (commands.Deliver pick))) out.new) }
+{
+    let delivery = Delivery(pick);
+    write!(out, "{delivery}")
 }

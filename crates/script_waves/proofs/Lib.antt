@@ -1,1 +1,2 @@
+mod PlacedLemmas
 mod WavesLemmas

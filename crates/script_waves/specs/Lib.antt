@@ -1,3 +1,4 @@
+pub mod Named
 pub mod Signals
 pub mod Values
 pub mod Waves

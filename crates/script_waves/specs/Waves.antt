@@ -10,7 +10,7 @@ use Rattle.litmus_script.specs.Script.{IsNotConfigured, IsSetUp}
 use Rattle.litmus_text.specs.declared.command.Command.{Command}
 use Rattle.litmus_text.specs.declared.fault.TextFault.{TextFault}
 use Rattle.mshr_file.specs.Miss.{Bound}
-use Rattle.script_page.specs.Step.{Names, line_named}
+use Rattle.script_waves.specs.Named.{Names, line_named}
 use Rattle.script_waves.specs.Signals.{text_of_header}
 use Rattle.script_waves.specs.Values.{text_of_command, text_of_lines, text_of_time}
 use Rattle.slice_core_plan.specs.Calls.{PartsView}

@@ -10,6 +10,7 @@ pub use waves::run_waves;
 mod channel;
 mod command;
 mod header;
+mod named;
 mod player;
 mod signal;
 mod values;

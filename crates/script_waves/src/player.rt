@@ -4,16 +4,16 @@ ghost use Rattle.std.specs.Fmt.{WritesInCalls};
 ghost use Rattle.litmus_script.specs.Play.{IsOfRun};
 ghost use Rattle.litmus_script.specs.Prints.{IsPrinted};
 ghost use Rattle.litmus_text.specs.Command.{IsInRange};
-ghost use Rattle.script_page.specs.Step.{Names, line_named};
+ghost use Rattle.script_waves.specs.Named.{Names, line_named};
 ghost use Rattle.script_waves.specs.Waves.{text_of_tick};
 
 use super::command::{write_command, write_time};
+use super::named::note_line;
 use super::values::write_lines;
 use address_map::{Checked, LineAddr};
 use litmus_script::{Machine, Player, TextWriter, written};
 use litmus_text::{Command, Statement, TextFault};
 use mshr_file::MissFile;
-use script_page::note_line;
 use std::alloc::Global;
 use std::fmt;
 use std::io::Write;

@@ -33,9 +33,9 @@ function pictureOf(row) {
 }
 function tellStory() {
     const figures = rows.filter(it => it.event).slice(0, PICTURES).map(row => {
-        const words = row.event.done.map(it => inWords(it, row)).join('; ');
+        const words = row.done.map(it => inWords(it, row)).join('; ');
         const { who, state, name } = row.event;
-        const caption = made('figcaption', '', row.within ? '' : made('p', '', captions[row.step] || ''),
+        const caption = made('figcaption', '', made('p', '', captions[row.step] || ''),
             made('p', '', made('b', '', row.step + '. ' + row.text), ` ${row.said}: ${who} in ${state}, ${name}: ${words}`));
         return made('figure', '', caption, pictureOf(row));
     });
@@ -47,7 +47,6 @@ function tellStory() {
 pub const TAIL: &str = r#"
 // ---- moving through the run
 
-const named = steps.length === 0 ? [] : linesOf(steps[steps.length - 1].states).map(it => lineOf(it).line);
 let timer = 0;
 let later = 0;
 const speed = () => Number(at('speed').value);
@@ -66,6 +65,7 @@ function show(number) {
     showLine();
     showMany();
     showCores();
+    showCould();
     say();
     if (now === before + 1) move(Math.min(900, speed() * 0.7));
 }
@@ -96,8 +96,7 @@ function next() {
 }
 
 function stepOf(hash) {
-    const found = /^#step=(\d+)$/.exec(hash);
-    return found ? Number(found[1]) : 0;
+    return hash.startsWith('#step=') ? Number(hash.slice(6)) || 0 : 0;
 }
 
 // what keeps its own keys: where one writes or chooses, and for the space bar whatever it presses
@@ -120,9 +119,9 @@ function press(event) {
     keys[event.key]();
 }
 
-for (const line of [...named].sort((a, b) => a - b)) at('follow').append(made('option', '', line));
-if (named.length === 0) at('follow').append(made('option', '', '0'));
-at('follow').value = named[0] || '0';
+for (const line of ascending) at('follow').append(made('option', '', line));
+if (ascending.length === 0) at('follow').append(made('option', '', '0'));
+at('follow').value = lines.all.size ? [...lines.all.keys()][0] : 0;
 at('title').textContent = titleOf();
 document.title = titleOf() + ' - lockup';
 at('count').textContent = steps.length;

@@ -8,7 +8,7 @@ let now = 0;
 const ROW = 40;
 const TOP = 88;
 const HALF = 13;
-const followed = () => at('follow').value;
+const followed = () => Number(at('follow').value);
 
 // an element with a class and what it holds
 function made(name, kind, ...inside) {
@@ -48,8 +48,13 @@ function placed() {
         x: who => label + room + gap * place.get(who) - view.scrollLeft,
         y: row => TOP + ROW * row - view.scrollTop,
         // on which side of its lifeline a remark stands
-        side: who => place.get(who) < middle || narrow && place.get(who) === names.length - 1 ? -1 : 1,
-        inward: who => place.get(who) === names.length - 1 ? -1 : 1 };
+        side: who => place.get(who) < middle || narrow && place.get(who) === names.length - 1 ? -1 : 1 };
+}
+
+// the side of a lifeline on which more room is left, up to the commands or to the edge
+function roomier(place, who) {
+    const x = place.x(who);
+    return place.width - x >= x - place.label ? 1 : -1;
 }
 
 function remark(place, who, y, kind, text, side = place.side(who)) {
@@ -58,17 +63,18 @@ function remark(place, who, y, kind, text, side = place.side(who)) {
 }
 
 // the commands, and what each answered in a word or two; those that aren't about the line are dim
-const isShort = row => !row.within && (row.event || /^(empty|left|receipt|nothing|none)/.test(row.said));
+const SHORT = ['empty', 'left', 'receipt', 'nothing', 'none'];
+const isShort = row => !row.within && (row.event || SHORT.includes(row.said.split(' ')[0]));
 function drawRows(place, from, to) {
     const found = [];
     for (let number = from; number <= to; number++) {
         const row = rows[number];
         const y = place.y(number);
-        const other = row.line !== '' && row.line !== followed() ? ' other' : '';
+        const other = row.line !== undefined && row.line !== followed() ? ' other' : '';
         const current = row.step === now ? ' current' : '';
         const group = drawn('g', 'row' + other + current, { 'data-step': row.step, 'data-row': number });
         const most = place.narrow ? 19 : 24;
-        const text = (row.within ? ' · ' : row.step + ' ') + row.text;
+        const text = row.step + (row.within ? ' · ' : ' ') + row.text;
         const short = text.length > most ? text.slice(0, most - 1) + '…' : text;
         const size = place.narrow ? 9.5 : 11;
         group.append(drawn('title', '', {}, text + ': ' + row.said),
@@ -152,12 +158,13 @@ function drawOpen(place, message) {
 const isInFlight = ({ sent, delivered }, row) => sent.number <= row && (!delivered || delivered.number > row);
 
 // What else is marked at a row: a try that was blocked, an access that found no room, and what was performed.
+const STALLS = ['stall', 'busy', 'buffer full'];
 function marksOf(row) {
     const event = row.event;
     if (!event) return [];
     const about = row.line === followed() ? '' : 'line ' + row.line + ': ';
-    if (row.said === 'blocked') return about ? [] : [{ kind: 'ring', text: 'blocked: ' + event.done[0] }];
-    if (/^(stall|busy|buffer full)/.test(row.said)) return [{ kind: 'cross', text: about + row.said }];
+    if (row.plan && row.plan.fate === 'blocked') return about ? [] : [{ kind: 'ring', text: 'blocked: ' + row.done[0] }];
+    if (STALLS.some(it => row.said.startsWith(it))) return [{ kind: 'cross', text: about + row.said }];
     return about ? [] : row.performed.map(it => ({ kind: 'diamond', text: '#' + it.number + ' ' + textOf(it) }));
 }
 function drawMarks(place, row) {
@@ -169,21 +176,21 @@ function drawMarks(place, row) {
         if (kind === 'cross') found.push(drawn('path', 'cross', { d: `M${x - 7},${y - 7} l14,14 m0,-14 l-14,14` }));
         if (kind === 'diamond') found.push(drawn('path', 'diamond', { d: `M${x},${y - 3} l6,6 l-6,6 l-6,-6 z` }));
         const it = kind === 'diamond' ? remark(place, row.event.who, y + 25 + 11 * order, 'performed', text)
-            : remark(place, row.event.who, y + 4, 'mark', text, place.inward(row.event.who));
+            : remark(place, row.event.who, y + 4, 'mark', text, roomier(place, row.event.who));
         it.setAttribute('data-step', row.step);
         found.push(it);
     });
     return found;
 }
 
-const cursorY = place => place.y(lastRow[now]) + ROW / 2 + 9;
+const cursorY = place => place.y(now - 1) + ROW / 2 + 9;
 
 // the cursor: what comes behind it is dim
 function drawCursor(place) {
     const y = cursorY(place);
     const cursor = drawn('g', 'cursor', { id: 'cursor', tabindex: 0, role: 'slider', 'aria-label': 'step',
         'aria-valuemin': 0, 'aria-valuemax': steps.length, 'aria-valuenow': now, 'aria-orientation': 'vertical',
-        'aria-valuetext': now === 0 ? 'before the first command' : rows[firstRow[now]].text });
+        'aria-valuetext': now === 0 ? 'before the first command' : rows[now - 1].text });
     cursor.append(drawn('rect', 'grip', { x: 0, y: y - 9, width: place.width, height: 18 }),
         drawn('line', '', { x1: 0, x2: place.width, y1: y, y2: y }),
         drawn('path', '', { d: `M0,${y - 8} h9 l7,8 l-7,8 h-9 z` }));
@@ -197,7 +204,7 @@ function drawHead(place) {
     for (const who of place.names) {
         const x = place.x(who);
         if (x < place.label || x > place.width + 40) continue;
-        const state = stateIn(historyOf(followed()).get(who), lastRow[now]);
+        const state = stateIn(historyOf(followed()).get(who), now - 1);
         found.push(drawn('text', 'name', { x, y: 15, 'text-anchor': 'middle' }, who),
             drawn('rect', 'chip state-' + state, { x: x - 26, y: 21, width: 52, height: 19, rx: 4, 'data-who': who }),
             drawn('text', 'letters', { x, y: 35, 'text-anchor': 'middle', 'data-chip': who }, state),
@@ -227,7 +234,7 @@ function draw() {
         ...flying.map(it => drawArrow(place, it)),
         ...rows.slice(from, to + 1).flatMap(row => drawMarks(place, row)));
     const open = drawn('g', '', { 'clip-path': 'url(#clip)' },
-        ...flying.filter(it => isInFlight(it, lastRow[now])).map(it => drawOpen(place, it)));
+        ...flying.filter(it => isInFlight(it, now - 1)).map(it => drawOpen(place, it)));
     const held = document.activeElement && document.activeElement.id === 'cursor';
     const commands = drawRows(place, from, to);
     svg.replaceChildren(clip, ...commands, inside, ...drawCursor(place), open, moving, ...drawHead(place));
@@ -237,8 +244,8 @@ function draw() {
 // brings the step into view, by scrolling the diagram alone
 function reveal() {
     const view = at('time');
-    const top = TOP + ROW * firstRow[Math.max(now, 1)] - 40;
-    const bottom = TOP + ROW * (lastRow[now] + 2);
+    const top = TOP + ROW * Math.max(now - 1, 0) - 40;
+    const bottom = TOP + ROW * (now + 1);
     if (view.scrollTop > top - TOP) view.scrollTop = Math.max(0, top - TOP);
     if (view.scrollTop + view.clientHeight < bottom) view.scrollTop = bottom - view.clientHeight;
 }
@@ -263,7 +270,7 @@ const isStill = () => matchMedia('(prefers-reduced-motion: reduce)').matches;
 function move(duration) {
     cancelAnimationFrame(motion);
     moving.replaceChildren();
-    const moved = rows.slice(firstRow[now], lastRow[now] + 1).map(it => it.message)
+    const moved = rows.slice(Math.max(now - 1, 0), now).map(it => it.message)
         .filter(it => it && it.line === followed());
     if (moved.length === 0 || isStill()) return;
     moving.append(...moved.map(it => drawn('circle', 'moving ' + it.kind, { r: 7 })));

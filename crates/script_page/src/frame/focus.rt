@@ -7,35 +7,33 @@ pub const FOCUS: &str = r#"
 // the script's lines, and the comments that stand before each command
 const captions = [];
 function readScript() {
-    const texts = run.script.split('\n').map(it => it.replace(/\r$/, ''));
-    if (texts[texts.length - 1] === '') texts.pop();
-    let next = 0;
+    const firstOf = new Map();
+    steps.forEach((it, before) => firstOf.has(it.at) || firstOf.set(it.at, before + 1));
+    const last = script[script.length - 1] === '' ? script.length - 1 : script.length;
     let said = [];
-    for (const text of texts) {
-        const is = next < steps.length && steps[next].command.trim() === text.trim();
+    script.slice(0, last).forEach((text, before) => {
         const item = made('div', '', text === '' ? ' ' : text);
+        const step = firstOf.get(before + 1);
         if (text.startsWith('#')) said.push(text.slice(1).trim());
-        if (is) {
-            const number = ++next;
-            captions[number] = said.join(' ');
+        if (step) {
+            captions[step] = said.join(' ');
             said = [];
-            item.onclick = () => show(number);
+            item.onclick = () => show(step);
         }
         at('script').querySelector('.script').append(item);
-    }
+    });
     if (run.fault) at('script').querySelector('.script').append(made('div', '', run.fault));
 }
 
 // the run's name: how its first comment begins
 function titleOf() {
-    const comment = run.script.split('\n').find(it => it.startsWith('#')) || '';
+    const comment = script.find(it => it.startsWith('#')) || '';
     return comment.slice(1).split(/[:.]/)[0].trim() || 'a run';
 }
 
 // what was done, in words; the table's words stay as they are
 function inWords(part, row) {
-    const to = /^to (.*)$/.exec(part);
-    if (to) return 'becomes ' + to[1];
+    if (part.startsWith('to ')) return 'becomes ' + part.slice(3);
     if (part === 'k + 1') return 'counts an acknowledgement';
     if (part === 'joins') return 'joins the accesses in its miss register';
     const numbered = it => `${textOf(it)} (number ${it.number})`;
@@ -45,25 +43,22 @@ function inWords(part, row) {
 }
 
 function happened(row) {
-    const { event } = row;
-    const who = event.kind === 'dir' ? DIRECTORY : event.who;
-    const list = made('ul', '', ...event.done.map(it => made('li', '', inWords(it, row))));
-    return made('div', 'words', `${who} in ${event.state}, ${event.name}:`, list);
+    const { event, done } = row;
+    const list = made('ul', '', ...done.map(it => made('li', '', inWords(it, row))));
+    return made('div', 'words', `${event.who} in ${event.state}, ${event.name}:`, list);
 }
 
 function showNow() {
-    const row = rows[lastRow[now]];
-    at('caption').textContent = now === 0 ? captions[1] || '' : captions[now] || '';
+    const row = rows[now - 1];
+    at('caption').textContent = captions[Math.max(now, 1)] || '';
     if (now === 0) {
         at('now').replaceChildren('Before the first command.');
         return;
     }
-    const { command, answer } = steps[now - 1];
-    const told = row.event && !row.within;
-    const parts = [made('div', 'command', made('code', '', command)),
-        made('pre', wordsOf(command)[0] === 'stats' ? 'answer report' : 'answer',
-            told ? row.said : answer.replace(/\n$/, ''))];
-    if (told) parts.push(happened(row));
+    const parts = [made('div', 'command', made('code', '', steps[now - 1].command)),
+        made('pre', row.call.name === 'stats' ? 'answer report' : 'answer',
+            row.event ? row.said : steps[now - 1].answer.trimEnd())];
+    if (row.event) parts.push(happened(row));
     at('now').replaceChildren(...parts);
 }
 
@@ -73,11 +68,11 @@ function say() {
         at('said').textContent = 'before the first command';
         return;
     }
-    const row = rows[lastRow[now]];
-    const parts = [`step ${now} of ${steps.length}: ${row.within ? steps[now - 1].command : row.text}: ${row.said}`];
+    const row = rows[now - 1];
+    const parts = [`step ${now} of ${steps.length}: ${row.text}: ${row.said}`];
     if (row.event) {
-        const { who, state, name, done } = row.event;
-        parts.push(`${who} in ${state}, ${name}`, ...done.map(it => inWords(it, row)));
+        const { who, state, name } = row.event;
+        parts.push(`${who} in ${state}, ${name}`, ...row.done.map(it => inWords(it, row)));
     }
     at('said').textContent = parts.join('; ');
 }
@@ -97,35 +92,33 @@ const tables = { core: tablesOf(run.cache), dir: tablesOf(run.directory) };
 
 // whether a row of a directory's table is for an entry and a core that asks
 function isRowFor(row, entry, core, exclusive) {
-    if (entry.dir === 'I') return row === (exclusive ? 'I (exclusive on)' : 'I (exclusive off)');
-    if (entry.dir === 'M') return row === (entry.owner === core ? 'M, owner r' : 'M, owner o');
-    const sharers = entry.sharers === '-' ? [] : entry.sharers.split(',');
-    const asks = core !== undefined && sharers.includes(core);
-    if (entry.dir === 'S') {
+    const { dir, owner, sharers } = entry;
+    if (dir === 'I') return row === (exclusive ? 'I (exclusive on)' : 'I (exclusive off)');
+    if (dir === 'M') return row === (owner === core ? 'M, owner r' : 'M, owner o');
+    const asks = sharers.includes(core);
+    if (dir === 'S') {
         return row === (!asks ? 'S, sharers x' : sharers.length === 1 ? 'S, sharers r' : 'S, sharers r, x');
     }
     if (sharers.length === 0) return row === 'S_D';
     return row === (!asks ? 'S_D, sharers o, x' : sharers.length === 1 ? 'S_D, sharers r' : 'S_D, sharers o, r');
 }
 
-// The case that a step met: in which table, which row and which columns. A pump meets one with each of its deliveries.
+// the case that a step met: in which table, which row and which columns
+const EVENTS = { load: 'load', write: 'write', eviction: 'eviction' };
 function caseOf(number) {
-    const row = rows[lastRow[number]];
-    if (number === 0 || !row.event || row.within) return null;
-    const { kind, state, name, line, done } = row.event;
-    const next = /^(?:to |hit; to )(\w+)/.exec(done[0]);
-    if (kind === 'core') {
-        const event = name.replace(/ for core \d+$/, '').replace(/\(\d+\)$/, '');
+    const { event, call } = rows[number - 1] || {};
+    if (!event) return null;
+    const column = event.kindOf || EVENTS[event.name];
+    if (event.kind === 'core') {
         const plain = it => it.replace(' (exclusive on)', '');
-        const fits = (column, cell) => column === event
-            || (plain(column).startsWith(event + ',') && (!next || cell.split('; ').pop() === next[1]));
-        return { who: kind, row: it => plain(it) === state, fits };
+        const fits = (title, cell) => title === column
+            || (plain(title).startsWith(column + ',') && (!event.next || cell.split('; ').pop() === event.next));
+        return { who: event.kind, row: it => plain(it) === event.state, fits };
     }
-    const entry = lineAt(number - 1, line);
-    const words = wordsOf(row.text);
-    const core = words[1] === 'req' ? String(Number(words[3])) : undefined;
-    const fits = column => column === name || column === name + ' of r';
-    return { who: kind, row: it => isRowFor(it, entry, core, chosen.exclusive === 'on'), fits };
+    const entry = lineAt(number - 1, event.line);
+    const core = call.class === 'req' ? call.from : undefined;
+    const fits = title => title === column || title === column + ' of r';
+    return { who: event.kind, row: it => isRowFor(it, entry, core, chosen.exclusive === 'on'), fits };
 }
 
 function tableOf(cells, met, isWhole) {
@@ -168,30 +161,29 @@ function showTables() {
 
 // ---- the line, and what the cores hold
 
-// who sent the message that a delivery would take
-function senderOf(command) {
-    const found = (channels.get(command) || []).concat();
-    const message = messages.find(it => it.channel === command && isInFlight(it, lastRow[now]));
-    return message || found[0];
+// who sent the message in front of a channel
+function senderOf(channel) {
+    return (channels.get(channel) || []).find(it => isInFlight(it, now - 1));
 }
 
 function showLine() {
     const line = lineAt(now, followed());
     const before = lineAt(Math.max(now - 1, 0), followed());
-    const shared = line.sharers !== '-' ? 'sharers ' + line.sharers : 'no copies';
-    const who = line.owner !== '-' ? 'owner ' + line.owner : shared;
+    const shared = line.sharers.length ? 'sharers ' + line.sharers : 'no copies';
+    const who = line.owner !== null ? 'owner ' + line.owner : shared;
     const entry = made('span', 'cell state-' + line.dir, line.dir);
     const parts = [made('h2', '', 'line ' + line.line),
         made('div', 'entry', 'directory ', entry, ' ', made('span', 'who', who))];
-    const kind = before.home && before.home !== line.home ? 'word changed' : 'word';
-    if (line.home) parts.push(made('div', kind, 'home copy ' + line.home));
+    const home = line.home.join(' ');
+    const kind = before.home.length && before.home.join(' ') !== home ? 'word changed' : 'word';
+    if (home) parts.push(made('div', kind, 'home copy ' + home));
     const list = made('ul', 'messages');
-    for (const it of waitingAt(now)) {
-        if (it.line !== line.line) continue;
-        const message = senderOf(it.command);
+    for (const it of line.messages) {
+        const channel = channelOf(line.line, it);
+        const message = senderOf(channel);
         const way = message ? `${message.from} → ${message.to}` : '';
-        const command = made('small', '', '(' + it.command + ')');
-        list.append(made('li', '', made('b', it.channel, it.name), ' ' + way + ': ' + it.fate + ' ', command));
+        list.append(made('li', '', made('b', it.class, nameOf(it)), ` ${way}: ${fateOf(now, line.line, it)} `,
+            made('small', '', `(${channel})`)));
     }
     parts.push(made('h3', '', list.children.length ? 'Channels' : 'Channels: no message in flight'), list);
     at('line').replaceChildren(...parts);
@@ -203,66 +195,99 @@ const tableFrom = (caption, heading, body) => {
 };
 const cellOf = state => made('td', 'cell state-' + state, state);
 
+// what the slices have of a core at a step
+const slices = Array.from({ length: shape.slices }, (_, slice) => slice);
+function partsOf(core) {
+    return slices.map(slice => parts.at(keyOf(core, slice), now)).filter(it => it);
+}
+
 // the miss registers of a core: the line of each, its state, and the accesses that wait in their order
-function registersOf(copies) {
-    const used = copies.filter(it => MISSING.includes(it.state));
+function registersOf(core, held) {
+    const used = held.flatMap(it => it.registers).map(line => copyAt(now, core, line));
     const room = `${used.length} of ${shape.mshrs * shape.slices} used`;
     const bound = chosen.misses === 'inverted' ? 'an entry for each tag' : room;
     const rows = used.map(it => {
-        const count = chosen.misses === 'inverted' ? '' : ` (${it.waits.length} of ${shape.targets})`;
-        return made('tr', 'register', made('td', '', 'line ' + it.line), cellOf(it.state), made('td', 'acks', it.acks),
-            made('td', 'targets', it.waits.join('; ') + count));
+        const count = chosen.misses === 'inverted' ? '' : ` (${it.targets.length} of ${shape.targets})`;
+        const waits = it.targets.map(target => `tag ${target.tag} ${accessOf(target, 8 * it.line + target.offset)}`);
+        const acks = it.got || it.needed ? `acks ${it.got} of ${it.needed === null ? '?' : it.needed}` : '';
+        return made('tr', 'register', made('td', '', 'line ' + it.line), cellOf(it.state), made('td', 'acks', acks),
+            made('td', 'targets', waits.join('; ') + count));
     });
     return tableFrom('miss registers: ' + bound, ['line', 'state', 'acknowledgements', 'targets, in order'], rows);
 }
 
 // the sets in which a core has lines: a cell for each way, in the order in which the policy would give them up
-function setsOf(core, copies) {
-    const stays = copies.filter(it => !LEAVING.includes(it.state));
-    const keys = [...new Set(stays.map(it => sliceOf(it.line) + ' ' + setOf(it.line)))].sort();
-    const rows = keys.map(key => {
-        const [slice, set] = key.split(' ');
-        const order = orderAt(core + ' ' + key, lastRow[now]);
-        const lines = stays.filter(it => sliceOf(it.line) + ' ' + setOf(it.line) === key)
-            .sort((a, b) => order.indexOf(a.line) - order.indexOf(b.line));
+const orderOf = { lru: 'least recently used first', fifo: 'first in first', random: 'the victim is drawn' };
+function tableOfSets(core, held) {
+    const rows = held.map(([key, all]) => {
+        const [, slice, set] = key.split(' ');
         const name = shape.slices === 1 ? 'set ' + set : 'slice ' + slice + ' set ' + set;
-        const ways = lines.map(it => made('td', 'way cell state-' + it.state, 'line ' + it.line + ' ' + it.state));
-        const free = shape.ways - lines.length;
+        const ways = all.map(line => copyAt(now, core, line))
+            .map(it => made('td', 'way cell state-' + it.state, 'line ' + it.line + ' ' + it.state));
+        const free = shape.ways - all.length;
         return made('tr', 'set', made('th', '', name), ...ways, made('td', 'free', free === 0 ? 'full' : free + ' free'));
     });
-    const orderOf = { lru: 'least recently used first', fifo: 'first in first', random: 'the victim is drawn' };
     const head = made('caption', '', `ways (${shape.ways} a set), ${orderOf[chosen.policy]}`);
     return made('table', '', head, ...rows);
 }
 
-function leavingOf(copies) {
-    const leaves = copies.filter(it => LEAVING.includes(it.state));
-    const rows = leaves.map(it => made('tr', 'leaving', made('td', '', 'line ' + it.line), cellOf(it.state)));
+function leavingOf(core, leaves) {
+    const rows = leaves.map(line => made('tr', 'leaving', made('td', '', 'line ' + line),
+        cellOf(copyAt(now, core, line).state)));
     return tableFrom(`write-back buffer: ${leaves.length} of ${shape.writebacks * shape.slices}`, [], rows);
 }
 
 // the blocks of a core's copies
-function blocksOf(copies) {
-    const rows = copies.filter(it => it.block !== '')
-        .map(it => made('tr', 'copy', made('td', '', 'line ' + it.line), made('td', '', it.block)));
+function blocksOf(blocks) {
+    const rows = blocks.map(it => made('tr', 'copy', made('td', '', 'line ' + it.line),
+        made('td', '', it.block.join(' '))));
     return tableFrom('blocks', [], rows);
 }
 
+function tableOfCore(core) {
+    const held = partsOf(core);
+    const inSets = [...setsOf[core]].sort().map(key => [key, sets.at(key, now) || []]).filter(([, all]) => all.length);
+    const leaves = held.flatMap(it => it.leaving);
+    const all = [...inSets.flatMap(([, these]) => these), ...leaves].sort((a, b) => a - b);
+    if (all.length === 0) return null;
+    const part = made('section', 'core', made('h2', '', coreName(core)), registersOf(core, held),
+        tableOfSets(core, inSets));
+    if (leaves.length) part.append(leavingOf(core, leaves));
+    const blocks = all.map(line => copyAt(now, core, line)).filter(it => it.block);
+    if (blocks.length) part.append(blocksOf(blocks));
+    part.dataset.core = core;
+    return part;
+}
+
+// the replies that aren't handed out, and what each slice would deliver next
+function restOf() {
+    const replies = Array.from({ length: shape.cores }, (_, core) => partsOf(core).flatMap(it => it.replies)
+        .map(it => `core ${core} tag ${it.tag} reply ${it.number}`)).flat();
+    const next = slices.map(slice => [slice, nexts.at(slice, now)]).filter(([, it]) => it)
+        .map(([slice, it]) => `slice ${slice} next ${channelOf(it.line, it)}`);
+    return [...replies, ...next];
+}
+
+// the messages that can be delivered now, in the order of `waiting`
+const COULD = 40;
+function couldOf() {
+    return slices.flatMap(slice => givenAt(now).filter(line => sliceOf(line) === slice))
+        .flatMap(line => lineAt(now, line).messages.filter(it => it.fate === 'moves')
+            .map(it => `${channelOf(line, it)}   ${nameOf(it)}`));
+}
+function showCould() {
+    const all = couldOf();
+    const more = all.length > COULD ? [made('p', '', `.. and ${all.length - COULD} more`)] : [];
+    const head = made('h2', '', all.length ? 'What can be delivered now' : 'Nothing can be delivered now');
+    at('could').replaceChildren(head, ...all.slice(0, COULD).map(it => made('div', 'rest', it)), ...more);
+}
+
 function showCores() {
-    const { copies: all, rest } = heldAt(now);
-    const parts = [];
-    for (let core = 0; core < shape.cores; core++) {
-        const copies = all.filter(it => Number(it.core) === core);
-        if (copies.length === 0) continue;
-        const part = made('section', 'core', made('h2', '', coreName(core)), registersOf(copies), setsOf(core, copies));
-        if (copies.some(it => LEAVING.includes(it.state))) part.append(leavingOf(copies));
-        if (copies.some(it => it.block !== '')) part.append(blocksOf(copies));
-        part.dataset.core = core;
-        parts.push(part);
-    }
+    const parts = Array.from({ length: shape.cores }, (_, core) => tableOfCore(core)).filter(it => it);
     const idle = shape.cores - parts.length;
     if (idle > 0) parts.push(made('p', 'idle', idle === 1 ? 'One core holds nothing.' : idle + ' cores hold nothing.'));
-    if (rest.length) parts.push(made('h2', '', 'Replies to hand out, and the lines at which the next delivery looks'));
+    const rest = restOf();
+    if (rest.length) parts.push(made('h2', '', 'Replies to hand out, and what a pump would deliver next'));
     at('cores').replaceChildren(...parts, ...rest.map(it => made('div', 'rest', it)));
 }
 
@@ -271,20 +296,21 @@ function showCores() {
 // Of many lines those in view alone are drawn.
 const LINE = 27;
 function showMany() {
-    const lines = [...linesAt(now).values()].sort((a, b) => a.line - b.line);
-    at('many').hidden = named.length < 2;
+    const given = givenAt(now);
+    at('many').hidden = ascending.length < 2;
     if (at('many').hidden) return;
     const view = at('lines');
     const first = Math.max(0, Math.floor(view.scrollTop / LINE) - 2);
-    const rows = lines.slice(first, first + 14).map(it => {
-        const row = made('tr', it.line === followed() ? 'followed' : '', made('th', '', 'line ' + it.line), cellOf(it.dir),
-            ...it.cores.slice(0, 16).map(cellOf));
-        row.onclick = () => follow(it.line);
+    const few = Array.from({ length: Math.min(shape.cores, 16) }, (_, core) => core);
+    const rows = given.slice(first, first + 14).map(line => {
+        const row = made('tr', line === followed() ? 'followed' : '', made('th', '', 'line ' + line),
+            cellOf(lineAt(now, line).dir), ...few.map(core => cellOf(copyAt(now, core, line).state)));
+        row.onclick = () => follow(line);
         return row;
     });
     const table = made('table', '', ...rows);
     table.style.marginTop = first * LINE + 'px';
-    table.style.marginBottom = Math.max(0, lines.length - first - rows.length) * LINE + 'px';
+    table.style.marginBottom = Math.max(0, given.length - first - rows.length) * LINE + 'px';
     view.replaceChildren(table);
 }
 "#;

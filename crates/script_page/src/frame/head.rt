@@ -137,6 +137,7 @@ same run as text: <code>lockup script --beside --explain FILE</code>.</noscript>
 <div><h2>The row of the table</h2><div id="met" class="tables"></div></div>
 <details id="tables"><summary>the whole tables</summary><div class="tables"></div></details>
 <div id="line"></div>
+<div id="could"></div>
 <div id="many"><h2>All lines</h2><div id="lines"></div></div>
 <div id="cores"></div>
 <details id="script"><summary>the script</summary><div class="script"></div></details>

@@ -1,197 +1,107 @@
 //! The page's code: what happened when.
 
-/// The rows of time, the messages from their sending to their delivery, and what was performed.
+/// The rows of time, and the messages from their sending to their delivery.
 pub const TIME: &str = r#"
 // ---- time
 
 const DIRECTORY = 'directory';
 const coreName = number => 'core ' + number;
+const whoOf = end => end === DIRECTORY ? DIRECTORY : coreName(end);
 
-// what an explanation says: who met which case, and what was done
-function eventOf(text, line) {
-    const found = /^(core|dir) (\d+) \(([^,]+), (.*?)\): (.*)$/.exec(text || '');
-    if (!found) return null;
-    const [, kind, number, state, name, done] = found;
-    const who = kind === 'dir' ? DIRECTORY : coreName(number);
-    return { kind, who, number: Number(number), state, name, line, done: done.split('; ') };
+// Who met which case at a step: in which state it was, and what came to it.
+function eventOf(step, { call, line, plan }, told) {
+    if (!told || !line || !['issue', 'evict', 'deliver'].includes(call.name)) return null;
+    const end = call.name === 'deliver' ? call.to : call.core;
+    const before = lineAt(step - 1, call.line);
+    const state = end === DIRECTORY ? before.dir : copyAt(step - 1, end, call.line).state;
+    const event = { end, who: whoOf(end), kind: end === DIRECTORY ? 'dir' : 'core', state, line: call.line };
+    if (call.name === 'issue') return { ...event, name: call.op === 'load' ? 'load' : 'write' };
+    if (call.name === 'evict') return { ...event, name: 'eviction', next: copyAt(step, end, call.line).state };
+    const message = before.messages.find(it => channelOf(call.line, it) === channelOf(call.line, call));
+    return message ? { ...event, name: nameOf(message), kindOf: message.kind, next: plan.next } : null;
 }
 
-// The rows of time: one for each command, and behind a pump's one for each of its deliveries.
+// A row for each step. What an answer says stands before what is told of it; a refused access met no case.
 const rows = [];
-const firstRow = [0];
-const lastRow = [-1];
-function rowOf(step, text, within, said, told) {
-    const line = namedBy(text);
-    const row = { step, text: text.trim(), within, said, line, event: eventOf(told, line) };
-    row.number = rows.push(row) - 1;
+function rowOf(it, before) {
+    const step = before + 1;
+    const [said, ...rest] = it.answer.trimEnd().split('   ');
+    const told = rest.join('   ');
+    const isMade = it.call.name === 'deliver' && said.startsWith('deliver ');
+    const event = said.startsWith('refused') ? null : eventOf(step, it, told);
+    return { step, text: it.command.trim(), within: isMade, said: isMade ? 'moved' : said, told, event,
+        line: it.call.line, call: it.call, plan: it.plan, done: event ? told.slice(told.indexOf('): ') + 3).split('; ') : [],
+        performed: it.performed ? performedBy(it.performed) : [] };
+}
+
+// what was performed, with its number in the slice's log and its reply
+function performedBy({ slice, first, entries }) {
+    return entries.map((it, place) => ({ slice, number: first + place, access: accessOf(it, it.word), op: it.op,
+        reply: it.reply }));
+}
+const textOf = it => it.op === 'store' ? it.access : it.access + ' → ' + it.reply;
+
+// Every message, from the step of its sending to that of its delivery. The channels keep their order.
+const messages = [];
+const channels = new Map();
+const waits = new Map();
+function send(row, line, message, from) {
+    const channel = channelOf(line, message);
+    const sent = { order: messages.length, name: nameOf(message), channel, kind: message.class, line, from,
+        to: whoOf(message.to), sent: row, delivered: null };
+    messages.push(sent);
+    for (const all of [channels, waits]) {
+        if (!all.has(channel)) all.set(channel, []);
+        all.get(channel).push(sent);
+    }
+}
+function readDelivery(row) {
+    row.message = (waits.get(channelOf(row.line, row.call)) || []).shift();
+    if (row.message) row.message.delivered = row;
+}
+// What the directory forwards is told by the plan, since it can stand behind another message. In all other channels one
+// message is at most, so what is new in front of one was sent at the step.
+function readSends(row, { line, victim, plan }) {
+    for (const it of [line, victim]) {
+        for (const message of it ? it.messages : []) {
+            const isSent = message.class === 'fwd' || (waits.get(channelOf(it.line, message)) || []).length > 0;
+            if (!isSent) send(row, it.line, message, message.from === undefined ? row.event.who : whoOf(message.from));
+        }
+    }
+    const forwards = plan && plan.forwards;
+    for (const to of forwards ? forwards.to : []) send(row, row.line, { ...forwards, class: 'fwd', to }, DIRECTORY);
 }
 function readRows() {
-    steps.forEach(({ command, answer }, before) => {
-        const step = before + 1;
-        firstRow[step] = rows.length;
-        const texts = linesOf(answer);
-        if (wordsOf(command)[0] === 'pump') {
-            rowOf(step, command, false, texts[texts.length - 1], '');
-            for (const text of texts.slice(0, -1)) {
-                const [delivery, told] = text.split('   ');
-                rowOf(step, delivery, true, 'moved', told);
-            }
-        } else {
-            const [said, ...told] = (texts[0] || '').split('   ');
-            rowOf(step, command, false, said, told.join('   '));
-        }
-        lastRow[step] = rows.length - 1;
+    steps.forEach((it, before) => {
+        const row = rowOf(it, before);
+        row.number = rows.push(row) - 1;
+        if (it.plan && it.plan.fate === 'moves') readDelivery(row);
+        readSends(row, it);
     });
 }
 
-// the state in which an event leaves whoever met it
-function stateAfter(event) {
-    const ends = event.done.map(it => /^to ([A-Z_]+)/.exec(it) || /^hit; to ([A-Z_]+)/.exec(it)).filter(it => it);
-    return ends.length ? ends[ends.length - 1][1] : event.state;
-}
-
-// the channel of a message, by the name of the command that delivers it
-function channelOf(name, line, from, to) {
-    if (/^(Get|Put)[SM]$/.test(name)) return `deliver req ${line} ${from.number}`;
-    if (name === 'Inv-Ack') return `deliver ack ${line} ${to} ${from.number}`;
-    if (name === 'Data home') return `deliver home ${line}`;
-    return `deliver ${name.startsWith('Data') ? 'data' : 'fwd'} ${line} ${to}`;
-}
-
-// Every message, from the row of its sending to that of its delivery. The channels keep their order.
-const messages = [];
-const channels = new Map();
-function send(row, name, line, from, kind, to, requester) {
-    const channel = channelOf(name, line, from, to);
-    const shown = requester !== undefined ? name + ' for core ' + requester : name;
-    const message = { order: messages.length, name: shown, channel, kind: channel.split(' ')[1], line, from: from.who,
-        to: kind === 'dir' ? DIRECTORY : coreName(to), sent: row, delivered: null };
-    messages.push(message);
-    if (!channels.has(channel)) channels.set(channel, []);
-    channels.get(channel).push(message);
-}
-function readSends(row) {
-    const { event } = row;
-    for (const part of event.done) {
-        const leaves = /^line (\d+) to (\w+)$/.exec(part);
-        if (leaves) send(row, leaves[2] === 'MI_A' ? 'PutM' : 'PutS', leaves[1], event, 'dir', 0);
-        if (!part.startsWith('sends ')) continue;
-        for (const one of part.slice(6).split(', ')) {
-            const [, name, kind, to] = /^(.+) to (core|dir) (\d+)$/.exec(one);
-            // a forwarded message names the core whose request the directory took
-            const names = /^(Fwd-Get[SM]|Inv)$/.test(name);
-            send(row, name, event.line, event, kind, to, names ? Number(wordsOf(row.text)[3]) : undefined);
-        }
-    }
-}
-function readMessages() {
-    for (const row of rows) {
-        const isDelivery = row.text.startsWith('deliver');
-        if (isDelivery && row.said === 'moved') {
-            const waits = channels.get(wordsOf(row.text).map(it => /^\d+$/.test(it) ? Number(it) : it).join(' '));
-            row.message = waits.shift();
-            row.message.delivered = row;
-        }
-        if (row.event) readSends(row);
-    }
-}
-
-// What was performed at each row, with its number in the slice's log and its reply: the word's value before it, and 0 for
-// a store. The accesses of a core to a line are performed in the order in which they were accepted.
-function performed(access, values) {
-    const [kind, word, first, second] = access.split(' ');
-    const was = values.get(Number(word)) || 0n;
-    if (kind === 'store') values.set(Number(word), BigInt(first));
-    if (kind === 'add') values.set(Number(word), BigInt.asUintN(64, was + BigInt(first)));
-    if (kind === 'cas' && was === BigInt(first)) values.set(Number(word), BigInt(second));
-    return kind === 'store' ? 0n : was;
-}
-function readPerformed() {
-    const values = new Map(initial);
-    const waits = new Map();
-    for (const row of rows) {
-        row.performed = [];
-        const words = wordsOf(row.text);
-        const core = words[0] === 'issue' ? String(Number(words[1])) : row.event ? String(row.event.number) : '';
-        const key = core + ' ' + row.line;
-        const access = words[0] === 'issue' ? [words[3], ...words.slice(4).map(BigInt)].join(' ') : '';
-        if (row.said.startsWith('pending')) waits.set(key, [...(waits.get(key) || []), access]);
-        const hit = /^done (\d+) /.exec(row.said);
-        if (hit) row.performed.push({ number: Number(hit[1]), access, reply: performed(access, values) });
-        for (const part of row.event ? row.event.done : []) {
-            const found = /^performs numbers? (\d+)(?: to (\d+))?$/.exec(part);
-            if (!found) continue;
-            for (let number = Number(found[1]); number <= Number(found[2] || found[1]); number++) {
-                const next = waits.get(key).shift();
-                row.performed.push({ number, access: next, reply: performed(next, values) });
-            }
-        }
-    }
-}
-const textOf = it => it.access.startsWith('store') ? it.access : it.access + ' → ' + it.reply;
-
-// In which order a core's lines would leave each of its sets, behind each row that changed it: a line comes in last, and
-// under LRU a use takes it there again.
-const orders = new Map();
-function orderAt(key, row) {
-    const all = orders.get(key) || [];
-    let found = [];
-    for (const it of all) {
-        if (it.row > row) break;
-        found = it.lines;
-    }
-    return found;
-}
-function noteOrder(core, line, row, change) {
-    const key = [core, sliceOf(line), setOf(line)].join(' ');
-    if (!orders.has(key)) orders.set(key, []);
-    const all = orders.get(key);
-    const last = all.length ? all[all.length - 1].lines : [];
-    all.push({ row, lines: change(last.filter(it => it !== line)) });
-}
-function readOrders() {
-    for (const row of rows) {
-        const { event, line } = row;
-        if (!event || event.kind !== 'core') continue;
-        for (const part of event.done) {
-            const leaves = /^line (\d+) to \w+$/.exec(part);
-            if (leaves) noteOrder(event.number, leaves[1], row.number, others => others);
-        }
-        const state = stateAfter(event);
-        const comesIn = event.state === 'I' && MISSING.includes(state);
-        const isUsed = chosen.policy === 'lru' && row.performed.length > 0;
-        if (comesIn || isUsed) noteOrder(event.number, line, row.number, others => [...others, line]);
-        if (state === 'I' || LEAVING.includes(state)) noteOrder(event.number, line, row.number, others => others);
-    }
-}
-
-// The states of a line on each lifeline: where each begins. Behind a step they are those that `state` prints; between the
-// deliveries of a pump, those that its answer tells.
+// The states of a line on each lifeline: where each begins.
 const histories = new Map();
 function historyOf(line) {
     if (!histories.has(line)) histories.set(line, readHistory(line));
     return histories.get(line);
 }
+function changesOf(versions, stateOf) {
+    const found = [{ row: -1, state: 'I' }];
+    for (const { step, value } of versions) {
+        const state = stateOf(value);
+        if (found[found.length - 1].state !== state) found.push({ row: step - 1, state });
+    }
+    return found;
+}
 function readHistory(line) {
-    const found = new Map([[DIRECTORY, [{ row: -1, state: 'I' }]]]);
-    for (let core = 0; core < shape.cores; core++) found.set(coreName(core), [{ row: -1, state: 'I' }]);
-    const note = (who, row, state) => {
-        const all = found.get(who);
-        if (all[all.length - 1].state !== state) all.push({ row, state });
-    };
-    for (const row of rows) {
-        if (row.within && row.line === line && row.event) note(row.event.who, row.number, stateAfter(row.event));
-        if (row.number !== lastRow[row.step]) continue;
-        const now = lineAt(row.step, line);
-        note(DIRECTORY, row.number, now.dir);
-        now.cores.forEach((state, core) => note(coreName(core), row.number, state));
+    const found = new Map([[DIRECTORY, changesOf(lines.of(line), it => it.dir)]]);
+    for (let core = 0; core < shape.cores; core++) {
+        found.set(coreName(core), changesOf(copies.of(keyOf(core, line)), it => it.state));
     }
     return found;
 }
 const stateIn = (history, row) => history.findLast(it => it.row <= row).state;
 
 readRows();
-readMessages();
-readPerformed();
-readOrders();
 "#;

@@ -1,20 +1,14 @@
-use Rattle.std.proofs.Common.{refl}
-use Rattle.std.proofs.Output.{writes_in_calls_append, writes_in_calls_single}
 use Rattle.std.proofs.lemmas.Result.{on_ok_weaker}
-use Rattle.script_page.proofs.StepsLemmas.{on_ok_from}
 use Rattle.script_page.proofs.step.write_step.Goals as goal
 
-pub returns : goal.returns
-returns g c =
-    let took = g.W.Write.write_str_gives in
-    let then = writes_in_calls_append took in
-    let one = writes_in_calls_single took in
-    on_ok_weaker c.write_str-6.result
-    (λ last.
-    then _ _ _ _ _ (one _ _ _ (c.in_ok-write_str.ensures.ok refl)) (then _ _ _ _ _ c.in_ok-write_json.ensures
-    (then _ _ _ _ _ (one _ _ _ (c.in_ok-write_str-2.ensures.ok refl)) (then _ _ _ _ _ c.in_ok-write_json-2.ensures
-    (then _ _ _ _ _ (one _ _ _ (c.in_ok-write_str-3.ensures.ok refl)) (then _ _ _ _ _ c.in_ok-write_json-3.ensures
-    (then _ _ _ _ _ (one _ _ _ (c.in_ok-write_str-4.ensures.ok refl)) (then _ _ _ _ _ c.in_ok-write_json-4.ensures
-    (then _ _ _ _ _ (one _ _ _ (c.in_ok-write_str-5.ensures.ok refl)) (then _ _ _ _ _ c.in_ok-write_json-5.ensures
-    (one _ _ _ last)))))))))))
-    (on_ok_from c.write_str-6.result c.write_str-6.ensures.ok)
+pub returns-clause-written : goal.returns-clause-written
+returns-clause-written g c =
+    let contents = g.W.Write.contents in
+    on_ok_weaker c.end.result
+    (λ ended. record {
+      first = contents c.begin.new.out;
+      begun = rw c.scope_of-scope.ensures at c.in_ok-begin.ensures.begun;
+      last = contents c.tell.new.out;
+      core = rw (c.as_slice.ensures.value, c.in_ok-core.ensures.text, c.scope_of-scope.ensures) at c.in_ok-tell.ensures.told;
+      ended = ended;
+    }) c.end.ensures.ended

@@ -2,7 +2,7 @@ use Rattle.std.proofs.Common.{[], Some, ap, rules, subst, sym, ◌∙◌}
 use Rattle.std.proofs.KnownBytes.{Appends-of_writes}
 use Rattle.litmus_script.proofs.WriteLemmas.{on_written}
 use Rattle.litmus_script.specs.Prints.{IsPrinted}
-use Rattle.script_page.specs.Step.{Names, line_named}
+use Rattle.script_waves.specs.Named.{Names, line_named}
 use Rattle.script_waves.specs.Waves.{next}
 use Rattle.script_waves.proofs.player.WavedPlayer.play.Goals as goal
 

@@ -1,0 +1,21 @@
+use Rattle.std.proofs.Common.{rules}
+use Rattle.std.proofs.KnownBytes.{Appends-of_writes}
+use Rattle.litmus_script.proofs.WriteLemmas.{on_written}
+use Rattle.script_page.proofs.core_part.write_core.Goals as goal
+
+pub returns-clause-written : goal.returns-clause-written
+returns-clause-written g c =
+    let contents = g.W.Write.contents in
+    on_written c.write_with.result c.written.result c.written.ensures.fine
+    (λ wrote.
+    let (name, bytes) = Appends-of_writes (λ s. s.out.ghost_name) (λ s. contents s.out.now) _ _ _ wrote in
+    search rules)
+    (rw (
+      c.victim_of-victim.ensures,
+      c.as_slice.ensures.value,
+      c.as_slice-2.ensures.value,
+      c.as_slice-3.ensures.value,
+      c.in_ok-registers.ensures,
+      c.in_ok-leaving.ensures,
+      c.in_ok-set.ensures,
+    ) at c.write_with.ensures)

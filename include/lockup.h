@@ -25,8 +25,9 @@
  *
  * Ownership. A handle begins as {0}: it has nothing. lockup_make gives it a machine, and lockup_free takes it away
  * again and leaves {0}. A handle may be moved, but never copied: of two copies both would own the machine. Its field is
- * the library's. A pointer that is passed is never NULL, points to memory that was initialised and that no other
- * argument shares, and is used during the call alone.
+ * the library's. A pointer that is passed points to memory that was initialised and that no other argument shares, and
+ * is used during the call alone. In C and C++ one that is NULL is caught in front of the library, by lockup_null.h: the
+ * call returns LOCKUP_NULL, and has changed and written nothing. A list of none may be NULL.
  *
  * Threads. A handle takes part in one call at a time; it may go from one thread to another between calls. Different
  * handles have nothing in common. No call may come from a signal handler, nor from a child of fork in a process with
@@ -56,6 +57,7 @@ enum {
     LOCKUP_OUT_OF_RANGE = 2, /* the machine has no such core, slice, line, .., or there is no such number */
     LOCKUP_NO_MEMORY = 3,
     LOCKUP_IN_USE = 4,       /* the handle has one already */
+    LOCKUP_NULL = 5,         /* a pointer is NULL */
     /* the configuration isn't allowed: the first field at fault */
     LOCKUP_CONFIG_CORES = 101,
     LOCKUP_CONFIG_SLICES = 102,
@@ -115,6 +117,22 @@ enum {
     LOCKUP_BROKEN_EARLY = 5
 };
 
+/* messages, by their names in docs/PROTOCOL.md */
+enum {
+    LOCKUP_MSG_GETS = 0,
+    LOCKUP_MSG_GETM = 1,
+    LOCKUP_MSG_PUTS = 2,
+    LOCKUP_MSG_PUTM = 3,
+    LOCKUP_MSG_FWD_GETS = 4,
+    LOCKUP_MSG_FWD_GETM = 5,
+    LOCKUP_MSG_INV = 6,
+    LOCKUP_MSG_PUT_ACK = 7,
+    LOCKUP_MSG_DATA = 8,
+    LOCKUP_MSG_DATA_E = 9,
+    LOCKUP_MSG_INV_ACK = 10,
+    LOCKUP_MSG_HOME = 11 /* a block on its way home to the directory */
+};
+
 /* states of a core's copy */
 enum {
     LOCKUP_I = 0,
@@ -140,6 +158,9 @@ enum { LOCKUP_EXPLICIT = 0, LOCKUP_INVERTED = 1 };
 
 /* where a core is named, and there is none */
 enum { LOCKUP_NO_CORE = 64 };
+
+/* how many acknowledgements a miss needs, where its data haven't said so yet */
+enum { LOCKUP_UNKNOWN = 64 };
 
 /* verdicts on a trace: legal, or why its first wrong entry is wrong */
 enum { LOCKUP_LEGAL = 0, LOCKUP_WRONG_REPLY = 1, LOCKUP_WRONG_ORDER = 2, LOCKUP_WRONG_SINCE = 3 };
@@ -265,6 +286,38 @@ typedef struct {
     uint64_t since; /* the log's length when it was accepted */
 } lockup_entry;
 
+/* a miss register: one line that a core waits for */
+typedef struct {
+    uint64_t line;
+    uint64_t kind;    /* what it asked for: LOCKUP_MSG_GETS or LOCKUP_MSG_GETM */
+    uint64_t needed;  /* acknowledgements that it needs, or LOCKUP_UNKNOWN before its data */
+    uint64_t counted; /* acknowledgements that have come */
+    uint64_t targets; /* accesses that wait in it */
+} lockup_register;
+
+/* a target of a miss register: an access that waits */
+typedef struct {
+    uint64_t tag;
+    uint64_t op; /* LOCKUP_LOAD, .. */
+    uint64_t word;
+    uint64_t operand;
+    uint64_t replacement;
+    uint64_t seq;   /* number among the core's requests of the slice */
+    uint64_t since; /* the log's length when it was accepted */
+} lockup_target;
+
+/* a message in front of its channel */
+typedef struct {
+    uint64_t channel; /* its channel, as it is named for lockup_deliver */
+    uint64_t line;
+    uint64_t core;
+    uint64_t from;
+    uint64_t kind;      /* LOCKUP_MSG_GETS, .. */
+    uint64_t requester; /* of what is forwarded, but LOCKUP_MSG_PUT_ACK: whom it is answered to; else LOCKUP_NO_CORE */
+    uint64_t acks;      /* LOCKUP_MSG_DATA: how many acknowledgements its receiver needs; else 0 */
+    uint64_t block[8];  /* the block that it carries, or zeros */
+} lockup_message;
+
 /* what the entries of a trace come to so far */
 typedef struct {
     uint64_t verdict; /* LOCKUP_LEGAL, or why the first wrong entry is wrong */
@@ -287,9 +340,14 @@ uint32_t lockup_defaults(lockup_config *config);
 uint32_t lockup_make(lockup_machine *machine, const lockup_config *config);
 
 /* .. in which these words begin with values of their own, and these are counters, which are never stored to: both
- * strictly ascending, and at most 8 counters. A pointer isn't NULL, even for none. */
+ * strictly ascending, and at most 8 counters. */
 uint32_t lockup_make_with(lockup_machine *machine, const lockup_config *config, const lockup_initial *initial,
                           size_t initial_count, const uint64_t *counters, size_t counter_count);
+
+/* Gives `copy`, which has nothing, the same machine once more: what is tried with one of them leaves the other as it
+ * is. It costs as much memory as the machine has touched. LOCKUP_IN_USE where `copy` has a machine already;
+ * LOCKUP_NO_MEMORY. The two are different handles. */
+uint32_t lockup_clone(lockup_machine *machine, lockup_machine *copy);
 
 /* Frees the machine, and leaves {0}. LOCKUP_NO_MACHINE where the handle has nothing. */
 uint32_t lockup_free(lockup_machine *machine);
@@ -337,6 +395,29 @@ uint32_t lockup_copy_at(lockup_machine *machine, uint64_t core, uint64_t line, l
 /* The directory's entry of a line. */
 uint32_t lockup_directory_at(lockup_machine *machine, uint64_t line, lockup_directory *directory);
 
+/* How many miss registers a core holds in a slice, and one of them, in their order. LOCKUP_NO_MEMORY. */
+uint32_t lockup_registers(lockup_machine *machine, uint64_t core, uint64_t slice, uint64_t *count);
+uint32_t lockup_register_at(lockup_machine *machine, uint64_t core, uint64_t slice, uint64_t nth,
+                            lockup_register *found);
+
+/* How many accesses of a core wait for a line, and one of them, the oldest first. */
+uint32_t lockup_targets(lockup_machine *machine, uint64_t core, uint64_t line, uint64_t *count);
+uint32_t lockup_target_at(lockup_machine *machine, uint64_t core, uint64_t line, uint64_t nth, lockup_target *target);
+
+/* How many lines a core is writing back in a slice, and one of them, the latest last. LOCKUP_NO_MEMORY. */
+uint32_t lockup_writebacks(lockup_machine *machine, uint64_t core, uint64_t slice, uint64_t *count);
+uint32_t lockup_writeback_at(lockup_machine *machine, uint64_t core, uint64_t slice, uint64_t nth, uint64_t *line);
+
+/* How many lines a core has in the set of a line, and one of them, in the order of the policy: the line that was used
+ * last is last under LOCKUP_LRU, else the one that came last. LOCKUP_NO_MEMORY. */
+uint32_t lockup_ways(lockup_machine *machine, uint64_t core, uint64_t line, uint64_t *count);
+uint32_t lockup_way_at(lockup_machine *machine, uint64_t core, uint64_t line, uint64_t nth, uint64_t *found);
+
+/* How many channels of a line have a message, and the message in front of one of them: the block that comes home, data,
+ * acknowledgements, what is forwarded, requests, and those of a kind by their cores. */
+uint32_t lockup_messages(lockup_machine *machine, uint64_t line, uint64_t *count);
+uint32_t lockup_message_at(lockup_machine *machine, uint64_t line, uint64_t nth, lockup_message *message);
+
 /* Whether the machine is quiet: 1 where no message waits, no miss register is held, no write-back is pending, and each
  * reply was handed out. */
 uint32_t lockup_quiet(lockup_machine *machine, uint64_t *quiet);
@@ -375,6 +456,10 @@ uint32_t lockup_check_free(lockup_check *check);
 
 #ifdef __cplusplus
 }
+#endif
+
+#ifndef LOCKUP_UNCHECKED
+#include "lockup_null.h"
 #endif
 
 #endif

@@ -8,10 +8,12 @@ from .judge import Judge
 from .library import library as _library
 from .machine import Config, Log, Machine
 from .names import (
-    Answer, Channel, CopyState, Delivered, DirectoryState, Evicted, Kind, Misses, Op, Policy, Refused, Stall, Verdict,
+    Answer, Channel, CopyState, Delivered, DirectoryState, Evicted, Kind, MessageKind, Misses, Op, Policy, Refused, Stall,
+    Verdict,
 )
 from .values import (
-    Copy, CoreCounts, Decision, Delivery, Directory, Entry, Issued, Judged, MessageCounts, Planned, Receipt,
+    Copy, CoreCounts, Decision, Delivery, Directory, Entry, Issued, Judged, Message, MessageCounts, Planned, Receipt,
+    Register, Target,
 )
 
 __version__ = "0.3.0"
@@ -19,8 +21,8 @@ __version__ = "0.3.0"
 __all__ = [
     "Answer", "Channel", "Config", "Copy", "CopyState", "CoreCounts", "Decision", "Delivered", "Delivery", "Directory",
     "DirectoryState", "Entry", "Evicted", "InUse", "Issued", "Judge", "Judged", "Kind", "LockupError", "Log", "Machine",
-    "MessageCounts", "Misses", "NoMachine", "NoMemory", "NotAllowed", "Op", "OutOfRange", "Planned", "Policy", "Receipt",
-    "Refused", "Stall", "Verdict", "library_version",
+    "Message", "MessageCounts", "MessageKind", "Misses", "NoMachine", "NoMemory", "NotAllowed", "Op", "OutOfRange",
+    "Planned", "Policy", "Receipt", "Refused", "Register", "Stall", "Target", "Verdict", "library_version",
 ]
 
 

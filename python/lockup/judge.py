@@ -29,13 +29,13 @@ class Judge:
         self._at = ctypes.byref(self._handle)
         self._library = library()
         self._buffer = (c_uint64 * 9)()
-        self._out = c_void_p(ctypes.addressof(self._buffer))
+        self._out = ctypes.byref(self._buffer)
         self._call("check_new")
         for word, value in sorted((init or {}).items()):
             self._call("check_begin", WORDS[word], WORDS[value])
 
     def _call(self, name: str, *words: object) -> None:
-        code = getattr(self._library, name)(self._at, *words)
+        code = self._library.bare[name](self._at, *words)
         if code:
             raise error_of(code)
 

@@ -35,6 +35,7 @@ PROTOTYPES = {
     "defaults": [BUFFER],
     "make": [HANDLE, BUFFER],
     "make_with": [HANDLE, BUFFER, BUFFER, c_size_t, BUFFER, c_size_t],
+    "clone": [HANDLE, HANDLE],
     "free": [HANDLE],
     "issue": [HANDLE, WORD, WORD, WORD, WORD, WORD, WORD, BUFFER],
     "evict": [HANDLE, WORD, WORD, BUFFER],
@@ -46,6 +47,16 @@ PROTOTYPES = {
     "next": [HANDLE, WORD, WORD, BUFFER],
     "copy_at": [HANDLE, WORD, WORD, BUFFER],
     "directory_at": [HANDLE, WORD, BUFFER],
+    "registers": [HANDLE, WORD, WORD, BUFFER],
+    "register_at": [HANDLE, WORD, WORD, WORD, BUFFER],
+    "targets": [HANDLE, WORD, WORD, BUFFER],
+    "target_at": [HANDLE, WORD, WORD, WORD, BUFFER],
+    "writebacks": [HANDLE, WORD, WORD, BUFFER],
+    "writeback_at": [HANDLE, WORD, WORD, WORD, BUFFER],
+    "ways": [HANDLE, WORD, WORD, BUFFER],
+    "way_at": [HANDLE, WORD, WORD, WORD, BUFFER],
+    "messages": [HANDLE, WORD, BUFFER],
+    "message_at": [HANDLE, WORD, WORD, BUFFER],
     "quiet": [HANDLE, BUFFER],
     "word_at": [HANDLE, WORD, BUFFER],
     "counts_of_core": [HANDLE, WORD, WORD, BUFFER],
@@ -60,16 +71,36 @@ PROTOTYPES = {
 }
 
 
-class Words(Dict[int, c_uint64]):
-    """Numbers as the library takes them, the small ones made once: to make one costs more than to find it."""
-
-    def __missing__(self, number: int) -> c_uint64:
-        if not 0 <= number < 1 << 64:
-            raise OverflowError(f"a number is from 0 to 2^64 - 1, and not {number}")
-        return c_uint64(number)
+def number(value: int) -> int:
+    """Returns a number that the library can be given."""
+    if not 0 <= value < 1 << 64:
+        raise OverflowError(f"a number is from 0 to 2^64 - 1, and not {value}")
+    return value
 
 
-WORDS = Words((number, c_uint64(number)) for number in range(1024))
+class Words(Dict[int, object]):
+    """Numbers as ctypes passes them, the small ones made once: to make one costs more than to find it."""
+
+    def __missing__(self, value: int) -> object:
+        return WORD.from_param(number(value))
+
+
+WORDS = Words((value, WORD.from_param(value)) for value in range(1024))
+
+
+class Bare(Dict[str, Callable[..., int]]):
+    """The functions by their names without `lockup_`, to be called with WORDS and what `byref` makes: ctypes converts
+    nothing then."""
+
+    def __init__(self, loaded: ctypes.PyDLL) -> None:
+        super().__init__()
+        self.loaded = loaded
+
+    def __missing__(self, name: str) -> Callable[..., int]:
+        function = self.loaded[f"lockup_{name}"]
+        function.restype = c_uint32
+        self[name] = function
+        return function
 
 
 class Library:
@@ -79,9 +110,7 @@ class Library:
         self.path = path
         # one that holds the interpreter during a call, which costs less, and lets no two threads into it
         self.loaded = ctypes.PyDLL(path)
-        # an access is asked for most: its numbers are WORDS, which aren't converted again
-        self.issue_words = self.loaded["lockup_issue"]
-        self.issue_words.restype = c_uint32
+        self.bare = Bare(self.loaded)
 
     def __getattr__(self, name: str) -> Callable[..., int]:
         if name not in PROTOTYPES:

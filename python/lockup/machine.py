@@ -6,10 +6,11 @@ from types import TracebackType
 from typing import Iterator, Mapping, NoReturn, Optional, Sequence, Tuple, Type
 
 from .errors import OutOfRange, error_of
-from .library import WORDS, library
+from .library import WORDS, library, number
 from .names import Channel, CopyState, Delivered, Evicted, Misses, Policy
 from .values import (
-    ANSWERS, Copy, CoreCounts, Decision, Delivery, Directory, Entry, Issued, MessageCounts, Planned, Receipt,
+    ANSWERS, Copy, CoreCounts, Decision, Delivery, Directory, Entry, Issued, Message, MessageCounts, Planned, Receipt,
+    Register, Target,
 )
 
 FIELDS = "cores slices lines sets ways mshrs targets writebacks policy seed misses exclusive".split()
@@ -34,7 +35,7 @@ class Config:
         for name, value in fields.items():
             if name not in FIELDS:
                 raise TypeError(f"a machine has no {name}: {', '.join(FIELDS)}")
-            self._values[FIELDS.index(name)] = WORDS[int(value)]
+            self._values[FIELDS.index(name)] = number(int(value))
 
     def __getattr__(self, name: str) -> int:
         if name not in FIELDS:
@@ -72,28 +73,46 @@ class Machine:
                  counters: Sequence[int] = (), **fields: int) -> None:
         """Makes a machine of a configuration, or of some fields of one. `init` maps words to the values with which they
         begin; `counters` are words that are never stored to."""
-        self._handle = c_void_p()
-        self._at = ctypes.byref(self._handle)
         if config is not None and fields:
             raise TypeError("a configuration, or fields of one")
-        self.config = config or Config(**fields)
-        self._buffer = (c_uint64 * MOST_WORDS)()
-        self._out = c_void_p(ctypes.addressof(self._buffer))
-        # what each access needs, found once
-        self._library = library()
-        self._issue = self._library.issue_words
-        self._address = c_void_p(ctypes.addressof(self._handle))
+        self._begin(config or Config(**fields))
         self._make(dict(init or {}), counters)
 
+    def _begin(self, config: Config) -> None:
+        """Begins with a handle that has nothing."""
+        self.config = config
+        self._handle = c_void_p()
+        self._at = ctypes.byref(self._handle)
+        # outputs are read out of bytes, which costs less than out of an array of ctypes
+        self._buffer = bytearray(8 * MOST_WORDS)
+        self._out = ctypes.byref((c_uint64 * MOST_WORDS).from_buffer(self._buffer))
+        self._library = library()
+        # what an access needs, found once: it is asked for most
+        self._calls, self._issue = self._library.bare, self._library.bare["issue"]
+
     def _make(self, init: Mapping[int, int], counters: Sequence[int]) -> None:
-        pairs = [WORDS[it] for pair in sorted(init.items()) for it in pair]
+        pairs = [number(it) for pair in sorted(init.items()) for it in pair]
         # an array of none still has an address
         first = (c_uint64 * max(len(pairs), 1))(*pairs)
-        second = (c_uint64 * max(len(counters), 1))(*(WORDS[it] for it in counters))
+        second = (c_uint64 * max(len(counters), 1))(*map(number, counters))
         config, initial, counted = (ctypes.addressof(it) for it in (self.config._values, first, second))
         code = self._library.make_with(self._at, config, initial, len(pairs) // 2, counted, len(counters))
         if code:
             raise error_of(code)
+
+    def clone(self) -> "Machine":
+        """Returns the same machine once more: what is tried with one of them leaves the other as it is.
+
+        >>> with Machine() as machine, machine.clone() as other:
+        ...     other.load(0, tag=0, word=0), machine.quiet, other.quiet
+        (<pending 0>, True, False)
+        """
+        other = object.__new__(type(self))
+        other._begin(self.config)
+        code = self._library.clone(self._at, other._at)
+        if code:
+            raise error_of(code)
+        return other
 
     def close(self) -> None:
         """Frees the machine. Every other call then raises NoMachine."""
@@ -111,14 +130,13 @@ class Machine:
         if getattr(self, "_handle", None):
             self.close()
 
-    def __copy__(self) -> NoReturn:
-        raise TypeError("a machine is never copied")
+    __copy__ = clone
 
-    def __deepcopy__(self, memo: object) -> NoReturn:
-        raise TypeError("a machine is never copied")
+    def __deepcopy__(self, memo: object) -> "Machine":
+        return self.clone()
 
     def __reduce__(self) -> NoReturn:
-        raise TypeError("a machine is never copied")
+        raise TypeError("a machine is no text")
 
     def __repr__(self) -> str:
         if not self._handle:
@@ -128,13 +146,17 @@ class Machine:
 
     def _ask(self, name: str, count: int, *words: int) -> Tuple[int, ...]:
         """Calls a function, and returns the words of its output."""
-        code = getattr(self._library, name)(self._at, *[WORDS[it] for it in words], self._out)
+        code = self._calls[name](self._at, *[WORDS[it] for it in words], self._out)
         if code:
             raise error_of(code)
         return _words[count](self._buffer)
 
     def _count(self, name: str, *words: int) -> int:
         return self._ask(name, 1, *words)[0]
+
+    def _each(self, count: str, at: str, width: int, *words: int) -> Iterator[Tuple[int, ...]]:
+        """Returns the words of each of a list, whose functions these two are."""
+        return (self._ask(at, width, *words, nth) for nth in range(self._count(count, *words)))
 
     # ---- steps
 
@@ -143,7 +165,7 @@ class Machine:
 
         `operand` is what is stored or added, or what CAS expects; `replacement` is what CAS then writes.
         """
-        code = self._issue(self._address, WORDS[core], WORDS[tag], WORDS[op], WORDS[word], WORDS[operand],
+        code = self._issue(self._at, WORDS[core], WORDS[tag], WORDS[op], WORDS[word], WORDS[operand],
                            WORDS[replacement], self._out)
         if code:
             raise error_of(code)
@@ -153,7 +175,7 @@ class Machine:
     def load(self, core: int, tag: int, word: int) -> Issued:
         """The core asks for the value of a word."""
         # as issue does, without a call in between: it is what is asked for most
-        code = self._issue(self._address, WORDS[core], WORDS[tag], _NONE, WORDS[word], _NONE, _NONE, self._out)
+        code = self._issue(self._at, WORDS[core], WORDS[tag], _NONE, WORDS[word], _NONE, _NONE, self._out)
         if code:
             raise error_of(code)
         answer, number, reply = _three(self._buffer)
@@ -230,6 +252,28 @@ class Machine:
     def directory(self, line: int) -> Directory:
         """Returns the directory's entry of a line."""
         return Directory.of(self._ask("directory_at", 11, line))
+
+    def registers(self, core: int, slice: int = 0) -> Tuple[Register, ...]:
+        """Returns the miss registers that a core holds in a slice, in their order."""
+        return tuple(map(Register.of, self._each("registers", "register_at", 5, core, slice)))
+
+    def targets(self, core: int, line: int) -> Tuple[Target, ...]:
+        """Returns the accesses of a core that wait for a line, the oldest first."""
+        return tuple(map(Target.of, self._each("targets", "target_at", 7, core, line)))
+
+    def writebacks(self, core: int, slice: int = 0) -> Tuple[int, ...]:
+        """Returns the lines that a core is writing back in a slice, the latest last."""
+        return tuple(line for line, in self._each("writebacks", "writeback_at", 1, core, slice))
+
+    def ways(self, core: int, line: int) -> Tuple[int, ...]:
+        """Returns the lines that a core has in the set of a line, in the order of the policy: last is the line that was
+        used last under LRU, else the one that came last."""
+        return tuple(found for found, in self._each("ways", "way_at", 1, core, line))
+
+    def messages(self, line: Optional[int] = None) -> Tuple[Message, ...]:
+        """Returns the messages in front of a line's channels, or of all lines'."""
+        lines = range(self.config.lines) if line is None else (line,)
+        return tuple(Message.of(words) for it in lines for words in self._each("messages", "message_at", 15, it))
 
     @property
     def quiet(self) -> bool:

@@ -2,6 +2,7 @@
 from enum import IntEnum
 
 NO_CORE = 64
+UNKNOWN = 64
 
 
 class Op(IntEnum):
@@ -80,6 +81,23 @@ class Delivered(IntEnum):
     BROKEN_ENTRY = 3
     BROKEN_FULL = 4
     BROKEN_EARLY = 5
+
+
+class MessageKind(IntEnum):
+    """Messages, by their names in docs/PROTOCOL.md; HOME is a block on its way home to the directory."""
+
+    GETS = 0
+    GETM = 1
+    PUTS = 2
+    PUTM = 3
+    FWD_GETS = 4
+    FWD_GETM = 5
+    INV = 6
+    PUT_ACK = 7
+    DATA = 8
+    DATA_E = 9
+    INV_ACK = 10
+    HOME = 11
 
 
 class CopyState(IntEnum):

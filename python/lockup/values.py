@@ -5,12 +5,15 @@ Each reads the words that the library wrote for its struct of lockup.h.
 from typing import NamedTuple, Optional, Sequence, Tuple, Union
 
 from .names import (
-    NO_CORE, Answer, Channel, CopyState, Delivered, DirectoryState, Kind, Op, Refused, Stall, Verdict,
+    NO_CORE, UNKNOWN, Answer, Channel, CopyState, Delivered, DirectoryState, Kind, MessageKind, Op, Refused, Stall,
+    Verdict,
 )
 
 Block = Tuple[int, ...]
 Reason = Union[Stall, Refused, None]
 
+# messages with a block
+CARRIERS = (MessageKind.PUTM, MessageKind.DATA, MessageKind.DATA_E, MessageKind.HOME)
 ANSWERS, CHANNELS, DELIVERED, KINDS, OPS = (tuple(it) for it in (Answer, Channel, Delivered, sorted(Kind), Op))
 
 
@@ -144,6 +147,79 @@ def place_of(channel: int, line: int, core: int, sender: int) -> str:
     if channel != Channel.HOME:
         named.append(str(core))
     return " ".join(named + [str(sender)] * (channel == Channel.ACK))
+
+
+class Register(NamedTuple):
+    """A miss register: a line that a core waits for, and what it asked for (GETS or GETM).
+
+    `needed` is how many acknowledgements it needs, or None before its data have said so; `counted` have come. `targets`
+    is how many accesses wait in it.
+    """
+
+    line: int
+    kind: MessageKind
+    needed: Optional[int]
+    counted: int
+    targets: int
+
+    @classmethod
+    def of(cls, words: Sequence[int]) -> "Register":
+        line, kind, needed, counted, targets = words
+        return cls(line, MessageKind(kind), None if needed == UNKNOWN else needed, counted, targets)
+
+    def __repr__(self) -> str:
+        needed = "?" if self.needed is None else self.needed
+        return f"<line {self.line}: {self.kind.name}, acks {self.counted} of {needed}, targets {self.targets}>"
+
+
+class Target(NamedTuple):
+    """A target of a miss register: an access that waits, its number among the core's requests of the slice, and the
+    log's length when it was accepted."""
+
+    tag: int
+    op: Op
+    word: int
+    operand: int
+    replacement: int
+    seq: int
+    since: int
+
+    @classmethod
+    def of(cls, words: Sequence[int]) -> "Target":
+        tag, op, *rest = words
+        return cls(tag, OPS[op], *rest)
+
+    def __repr__(self) -> str:
+        operands = [str(self.operand)] * (self.op != Op.LOAD) + [str(self.replacement)] * (self.op == Op.CAS)
+        return f"<tag {self.tag}: {' '.join([self.op.name.lower(), str(self.word), *operands])}>"
+
+
+class Message(NamedTuple):
+    """A message in front of its channel, which is named as for `deliver`.
+
+    `requester` is whom a forwarded message is answered to, `acks` how many acknowledgements the receiver of DATA needs,
+    and `block` what a message carries: None where it names nobody or carries none.
+    """
+
+    channel: Channel
+    line: int
+    core: int
+    sender: int
+    kind: MessageKind
+    requester: Optional[int]
+    acks: int
+    block: Optional[Block]
+
+    @classmethod
+    def of(cls, words: Sequence[int]) -> "Message":
+        channel, line, core, sender, kind, requester, acks, *block = words
+        return cls(CHANNELS[channel], line, core, sender, MessageKind(kind), owner_of(requester), acks,
+                   tuple(block) if kind in CARRIERS else None)
+
+    def __repr__(self) -> str:
+        more = f" for core {self.requester}" if self.requester is not None else ""
+        more += f" acks {self.acks}" if self.kind == MessageKind.DATA else ""
+        return f"<{place_of(self.channel, self.line, self.core, self.sender)}: {self.kind.name}{more}>"
 
 
 class CoreCounts(NamedTuple):

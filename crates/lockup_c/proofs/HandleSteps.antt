@@ -9,11 +9,11 @@ use mir.Raw.{raw as bare}
 use mir.Syntax.{impl, tnil, dnil}
 use mir.Val.{Val, vnull, vstruct, vcons, vnil, of_list, has_ty, WT}
 use base.Fml.{Fml}
-use base.Logic.{SProp, ent, guard, guard_i, snd∗, via}
+use base.Logic.{ent, guard, guard_i, snd∗, via}
 use base.Fraction.{full_share}
 use contract.Monad.{fact_use}
 use types.Logic.{Logic, sem}
-use types.Kit.{Item, Goal, Seq, Step, step, ‵, given, ◌$◌, ◌∵◌, !, move, drop, learn, use1, fsplit, fjoin, fpick, fpack, feq_i, feq_l}
+use types.Kit.{Item, Goal, Seq, Step, step, ‵, given, ◌$◌, move, drop, learn, use1, fsplit, fjoin, fpick, fpack, feq_i, feq_l}
 use denote.RattleType.{RattleType, Valss}
 use denote.Memory.{lone}
 use denote.RawPtr.{Ptr, null_ptr, block_ptr, ptr_val, lies_at, Testable}
@@ -21,7 +21,7 @@ use denote.Signature.{Slot, plain}
 use denote.Steps.{nothing}
 use denote.Struct.Owning.{shape, fields, to}
 use denote.Struct.Struct.{within}
-use Rattle.std.proofs.BoxSteps.Form.{Bx, X, P, R, B}
+use Rattle.std.proofs.BoxSteps.Form.{Bx, X, P}
 use Rattle.std.proofs.alloc.Calls.{α, Fits, handle_tells, token}
 use Rattle.std.proofs.GlobalToken.{dealloc_token-Testable}
 use Rattle.std.proofs.ResultValues.{and_tt}

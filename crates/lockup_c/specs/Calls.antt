@@ -1,5 +1,5 @@
 -- What each export does to what a handle has, by the code that it returns.
-use Rattle.std.specs.Prelude.{◌≡◌, ◌⊎◌, ℕ, ◌%◌, ◌/◌, Option, None, Some, Err}
+use Rattle.std.specs.Prelude.{◌≡◌, ◌⊎◌, ℕ, ◌%◌, Option, None, Some}
 use Rattle.address_map.specs.Place.{line_of as line_of_word}
 use Rattle.address_map.specs.declared.address.CoreId.{CoreId}
 use Rattle.address_map.specs.declared.address.LineAddr.{LineAddr}
@@ -8,7 +8,7 @@ use Rattle.address_map.specs.declared.request.Request.{Request}
 use Rattle.litmus_script.specs.Issued.{IsIssued, IsOutOfMemory}
 use Rattle.litmus_script.specs.Machine.{HasAt, IsAnswered}
 use Rattle.litmus_script.specs.declared.answers.Issued.{Issued}
-use Rattle.lockup_c.specs.Named.{class_named, copy_named, file_named, pick_named, request_named, slice_named, turn_named}
+use Rattle.lockup_c.specs.Named.{copy_named, file_named, pick_named, request_named, turn_named}
 use Rattle.lockup_c.specs.Number.{delivered_number, evicted_number}
 use Rattle.lockup_c.specs.Numbers.{decision_numbers, issued_numbers, next_numbers, no_decision, no_issue, no_next, no_plan}
 use Rattle.lockup_c.specs.Numbers.{no_receipt, planned_numbers, receipt_numbers}
@@ -52,6 +52,15 @@ AtMachine Seen Nothing held = Nothing
 abbrev pub IfNamed : {X : Type 0} → Option X → (X → Type 0) → Type 0 → Type 0
 IfNamed None Named Nothing = Nothing
 IfNamed (Some x) Named Nothing = Named x
+
+-- one of a list is shown by its numbers, or there is none at its place
+abbrev pub SaysFound : {X N : Type 0} → Option X → (X → N) → N → ℕ → N → Type 0
+SaysFound found number none code numbers =
+    IfNamed found (λ x. (code ≡ 0) × (numbers ≡ number x)) ((code ≡ 2) × (numbers ≡ none))
+
+-- this, or there was no memory for it
+abbrev pub OrNoMemory : ℕ → Type 0 → Type 0 → Type 0
+OrNoMemory code Seen Nothing = Seen ⊎ ((code ≡ 3) × Nothing)
 
 -- ---- steps
 

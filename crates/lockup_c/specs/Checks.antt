@@ -1,12 +1,14 @@
 -- What the exports do that judge a trace as it comes. Where an allocation fails the trace ends: the handle has nothing.
-use Rattle.std.specs.Prelude.{◌≡◌, ◌&&◌, ℕ, nat_lt, if◌then◌else◌, List, [], ◌∷◌, ◌++◌, Option, None, Some, option_map}
+use Rattle.std.specs.Prelude.{◌≡◌, ◌<◌, ◌&&◌, ℕ, nat_lt, if◌then◌else◌, List, [], ◌∷◌, ◌++◌, Option, None, Some}
+use Rattle.std.specs.Prelude.{option_map}
 use Rattle.address_map.specs.declared.address.WordAddr.{WordAddr}
+use Rattle.lockup_c.specs.Made.{word_of}
 use Rattle.lockup_c.specs.Named.{op_named}
 use Rattle.lockup_c.specs.declared.held.Held.{Held}
 use Rattle.lockup_c.specs.declared.held.Held.TheVariants as helds
 use Rattle.lockup_c.specs.declared.structs.EntryNumbers.{EntryNumbers}
 use Rattle.lockup_c.specs.declared.structs.VerdictNumbers.{VerdictNumbers}
-use Rattle.simulator.specs.Judge.{Stands}
+use Rattle.simulator.specs.Judge.{MayBegin, Stands}
 use Rattle.simulator.specs.declared.judge.TraceJudge.{TraceJudge}
 use Rattle.slice_log.specs.Log.{initially}
 use Rattle.slice_log.specs.declared.entry.Entry.{Entry}
@@ -24,12 +26,26 @@ pub record HasNewTrace (held : Option Held) : Type 0 where
   pub stands : Stands judge [] []
 
 -- the word begins as the value
+abbrev pub AddsWord : ℕ → ℕ → TraceJudge → TraceJudge → Type 0
+AddsWord word value was is =
+    (init : List (WordAddr × ℕ)) → Stands was init [] → Stands is (init ++ (word_of word, value) ∷ []) []
+
 pub record NamesWord (word value : ℕ) (old new : Option Held) : Type 0 where
   pub was : TraceJudge
   pub is : TraceJudge
   pub before : old ≡ Some (helds.Trace was)
   pub after : new ≡ Some (helds.Trace is)
-  pub stands : (init : List (WordAddr × ℕ)) → Stands was init [] → Stands is (init ++ (record { 0 = word }, value) ∷ []) []
+  pub adds : AddsWord word value was is
+
+-- a word that a trace can have, and that may be given a value next
+pub record CanBegin (word : ℕ) (judge : TraceJudge) : Type 0 where
+  pub small : word < MOST_WORDS
+  pub may : MayBegin judge (word_of word)
+
+-- the trace can't be given a value for the word
+abbrev pub IsNoBeginning : ℕ → Option Held → Type 0
+IsNoBeginning word (Some (helds.Trace judge)) = CanBegin word judge → ⊥
+IsNoBeginning word held = ⊥
 
 -- an entry that a trace can have
 abbrev pub entry_named : EntryNumbers → Option Entry
@@ -46,16 +62,24 @@ entry_named numbers =
     }) (op_named numbers.op numbers.operand numbers.replacement)
     else None
 
+-- the trace isn't given an entry that it can have
+abbrev pub IsNoEntry : EntryNumbers → Option Held → Type 0
+IsNoEntry numbers (Some (helds.Trace judge)) = entry_named numbers ≡ None
+IsNoEntry numbers held = ⊥
+
 -- one more entry is judged
+pub record AddsEntry (numbers : EntryNumbers) (was is : TraceJudge) : Type 0 where
+  pub entry : Entry
+  pub named : entry_named numbers ≡ Some entry
+  pub stands : (init : List (WordAddr × ℕ)) (entries : List Entry) → Stands was init entries
+      → Stands is init (entries ++ entry ∷ [])
+
 pub record TakesEntry (numbers : EntryNumbers) (old new : Option Held) : Type 0 where
   pub was : TraceJudge
   pub is : TraceJudge
-  pub entry : Entry
-  pub named : entry_named numbers ≡ Some entry
   pub before : old ≡ Some (helds.Trace was)
   pub after : new ≡ Some (helds.Trace is)
-  pub stands : (init : List (WordAddr × ℕ)) (entries : List Entry) → Stands was init entries
-      → Stands is init (entries ++ entry ∷ [])
+  pub adds : AddsEntry numbers was is
 
 abbrev pub reason_number : Reason → ℕ
 reason_number reasons.Reply = 1

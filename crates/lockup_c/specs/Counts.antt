@@ -1,13 +1,10 @@
--- What the exports show of what slices have counted, of targets and of messages in flight.
-use Rattle.std.specs.Prelude.{◌≡◌, ℕ, ◌*◌, ◌+◌, ◌%◌, List, Option, None, Some, replicate, slice_get}
-use Rattle.address_map.specs.Locator.{local_at}
+-- What the exports show of what slices have counted.
+use Rattle.std.specs.Prelude.{◌≡◌, ℕ, Option, None, Some, replicate, slice_get}
 use Rattle.address_map.specs.declared.address.CoreId.{CoreId}
-use Rattle.address_map.specs.declared.address.LineAddr.{LineAddr}
 use Rattle.address_map.specs.declared.address.SliceId.{SliceId}
 use Rattle.litmus_script.specs.Machine.{HasAt}
 use Rattle.lockup_c.specs.Calls.{AtMachine, IfNamed}
-use Rattle.lockup_c.specs.Named.{copy_named, file_named, slice_named}
-use Rattle.lockup_c.specs.Number.{op_number, operand_of, replacement_of}
+use Rattle.lockup_c.specs.Named.{file_named, slice_named}
 use Rattle.lockup_c.specs.declared.held.Held.{Held}
 use Rattle.lockup_c.specs.declared.structs.CoreCounts.{CoreCounts}
 use Rattle.lockup_c.specs.declared.structs.SliceCounts.{SliceCounts}

@@ -1,9 +1,12 @@
 pub mod Calls
 pub mod Checks
 pub mod Counts
+pub mod Lines
 pub mod Looks
 pub mod Made
+pub mod Messages
 pub mod Named
 pub mod Number
 pub mod Numbers
 pub mod Owner
+pub mod Registers

@@ -13,7 +13,7 @@ use Rattle.lockup_c.specs.declared.structs.Config.{Config as Numbers}
 use Rattle.lockup_c.specs.declared.structs.Initial.{Initial}
 use Rattle.mshr_file.specs.declared.kind.MissKind.{MissKind}
 use Rattle.mshr_file.specs.declared.kind.MissKind.TheVariants as miss_kinds
-use Rattle.simulator.specs.Simulator.{IsNewSimulator, IsNotBuilt}
+use Rattle.simulator.specs.Simulator.{IsCopyOf, IsNewSimulator, IsNotBuilt}
 use Rattle.simulator.specs.declared.simulator.Simulator.{Simulator}
 
 abbrev pub policy_named : ℕ → ℕ → Option PolicyKind
@@ -82,6 +82,22 @@ Makes numbers initial counters code None new =
     IfNamed (kinds_named numbers)
     (λ kinds. MakesBy code (settings_with numbers initial counters kinds.0 kinds.1 kinds.2) new)
     ((code ≡ 2) × (new ≡ None))
+
+-- the handle has the same machine once more
+pub record HasCopy (simulator : Simulator) (held : Option Held) : Type 0 where
+  pub copy : Simulator
+  pub is : held ≡ Some (helds.Machine copy)
+  pub same : IsCopyOf simulator copy
+
+-- a handle that has nothing is given a copy of what another one has, or stays as it is
+abbrev pub Copies : ℕ → Held → Option Held → Type 0
+Copies code (helds.Machine simulator) new = ((code ≡ 0) × HasCopy simulator new) ⊎ ((code ≡ 3) × (new ≡ None))
+Copies code (helds.Trace judge) new = (code ≡ 1) × (new ≡ None)
+
+abbrev pub Clones : ℕ → Option Held → Option Held → Option Held → Type 0
+Clones code held (Some other) new = (code ≡ 4) × (new ≡ Some other)
+Clones code None None new = (code ≡ 1) × (new ≡ None)
+Clones code (Some held) None new = Copies code held new
 
 -- what the handle has is freed
 abbrev pub Frees : ℕ → Option Held → Option Held → Type 0

@@ -1,5 +1,5 @@
 -- What numbers of C name on a machine, where they name anything.
-use Rattle.std.specs.Prelude.{ℕ, ◌/◌, ◌&&◌, ◌==◌, nat_lt, Bool, true, List, [], ◌∷◌, slice_get, if◌then◌else◌, Option, None, Some, option_map}
+use Rattle.std.specs.Prelude.{ℕ, ◌/◌, ◌&&◌, ◌==◌, nat_lt, [], ◌∷◌, slice_get, if◌then◌else◌, Option, None, Some, option_map}
 use Rattle.address_map.specs.declared.address.CoreId.{CoreId}
 use Rattle.address_map.specs.declared.address.LineAddr.{LineAddr}
 use Rattle.address_map.specs.declared.address.SliceId.{SliceId}

@@ -1,10 +1,8 @@
 -- What the structs of `lockup.h` say of answers.
-use Rattle.std.specs.Prelude.{◌≡◌, ℕ, Option, None, Some, replicate}
-use Rattle.address_map.specs.declared.request.Op.{Op}
-use Rattle.directory_table.specs.declared.row.DirStep.{DirStep}
+use Rattle.std.specs.Prelude.{ℕ, Option, None, Some}
 use Rattle.litmus_script.specs.declared.answers.Issued.{Issued}
 use Rattle.litmus_script.specs.declared.answers.Issued.TheVariants as issued_kinds
-use Rattle.lockup_c.specs.Number.{cell_number, channel_number, copy_number, core_number, core_of_pick, dir_number, flag}
+use Rattle.lockup_c.specs.Number.{cell_number, channel_number, copy_number, core_number, core_of_pick, dir_number}
 use Rattle.lockup_c.specs.Number.{refusal_number, sender_of_pick, stall_number}
 use Rattle.lockup_c.specs.declared.structs.DecisionNumbers.{DecisionNumbers}
 use Rattle.lockup_c.specs.declared.structs.IssuedNumbers.{IssuedNumbers}

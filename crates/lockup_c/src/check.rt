@@ -1,7 +1,7 @@
 //! A trace that is judged as it comes.
-ghost use Rattle.std.specs.Prelude.{◌≡◌, ◌≢◌, IfSome, None, Some};
-ghost use Rattle.lockup_c.specs.Checks.{HasNewTrace, NamesWord, ShowsVerdict, TakesEntry, entry_named};
-ghost use Rattle.lockup_c.specs.Checks.{reason_number, verdict_numbers};
+ghost use Rattle.std.specs.Prelude.{◌≡◌, ◌≢◌, ◌↔◌, IfSome, IsTrue, None, Some};
+ghost use Rattle.lockup_c.specs.Checks.{AddsEntry, AddsWord, CanBegin, HasNewTrace, IsNoBeginning, IsNoEntry};
+ghost use Rattle.lockup_c.specs.Checks.{NamesWord, ShowsVerdict, TakesEntry, entry_named, reason_number, verdict_numbers};
 ghost use Rattle.lockup_c.specs.Made.{Frees};
 ghost use Rattle.trace_check.specs.Judge.{IsNameable};
 
@@ -52,6 +52,7 @@ pub extern "C" fn lockup_check_begin(
     value: u64,
 ) -> u32
     ensures named { result ≡ 0 → NamesWord word value handle.old.value handle.new.value }
+    ensures refused { result ≡ 2 ↔ IsNoBeginning word handle.old.value }
     ensures ended { result ≡ 3 → handle.new.value ≡ None }
     ensures kept { result ≢ 0 → result ≢ 3 → handle.new.value ≡ handle.old.value }
 {
@@ -67,18 +68,33 @@ pub extern "C" fn lockup_check_begin(
 
 fn name_word(held: &mut Held, word: u64, value: u64) -> u32
     ensures named { result ≡ 0 → NamesWord word value (Some held.old) (Some held.new) }
+    ensures refused { result ≡ 2 ↔ IsNoBeginning word (Some held.old) }
     ensures kept { result ≢ 0 → result ≢ 3 → held.new ≡ held.old }
 {
-    let Held::Trace(judge) = held else {
-        return NO_MACHINE;
-    };
-    if word >= MOST_WORDS || !judge.may_begin(WordAddr(word)) {
+    match held {
+        Held::Trace(judge) => add_word(judge, word, value),
+        Held::Machine(_) => NO_MACHINE,
+    }
+}
+
+fn add_word(judge: &mut TraceJudge, word: u64, value: u64) -> u32
+    ensures named { result ≡ 0 → AddsWord word value judge.old judge.new }
+    ensures refused { result ≡ 2 ↔ (CanBegin word judge.old → ⊥) }
+    ensures kept { result ≢ 0 → result ≢ 3 → judge.new ≡ judge.old }
+{
+    if !can_begin(judge, word) {
         return OUT_OF_RANGE;
     }
     match judge.begin(WordAddr(word), value) {
         Ok(()) => DONE,
         Err(_) => NO_MEMORY,
     }
+}
+
+fn can_begin(judge: &TraceJudge, word: u64) -> bool
+    ensures { IsTrue result ↔ CanBegin word judge.now }
+{
+    word < MOST_WORDS && judge.may_begin(WordAddr(word))
 }
 
 /// Judges one more entry.
@@ -89,6 +105,7 @@ pub extern "C" fn lockup_check_entry(
     entry: &EntryNumbers,
 ) -> u32
     ensures taken { result ≡ 0 → TakesEntry entry.now handle.old.value handle.new.value }
+    ensures refused { result ≡ 2 ↔ IsNoEntry entry.now handle.old.value }
     ensures ended { result ≡ 3 → handle.new.value ≡ None }
     ensures kept { result ≢ 0 → result ≢ 3 → handle.new.value ≡ handle.old.value }
 {
@@ -104,11 +121,20 @@ pub extern "C" fn lockup_check_entry(
 
 fn take_entry(held: &mut Held, numbers: &EntryNumbers) -> u32
     ensures taken { result ≡ 0 → TakesEntry numbers.now (Some held.old) (Some held.new) }
+    ensures refused { result ≡ 2 ↔ IsNoEntry numbers.now (Some held.old) }
     ensures kept { result ≢ 0 → result ≢ 3 → held.new ≡ held.old }
 {
-    let Held::Trace(judge) = held else {
-        return NO_MACHINE;
-    };
+    match held {
+        Held::Trace(judge) => add_entry(judge, numbers),
+        Held::Machine(_) => NO_MACHINE,
+    }
+}
+
+fn add_entry(judge: &mut TraceJudge, numbers: &EntryNumbers) -> u32
+    ensures taken { result ≡ 0 → AddsEntry numbers.now judge.old judge.new }
+    ensures refused { result ≡ 2 ↔ (entry_named numbers.now ≡ None) }
+    ensures kept { result ≢ 0 → result ≢ 3 → judge.new ≡ judge.old }
+{
     let Some(entry) = entry_named(numbers) else {
         return OUT_OF_RANGE;
     };

@@ -338,7 +338,7 @@ fn entry_numbers(entry: &Entry) -> EntryNumbers
     }
 }
 
-const fn op_number(op: Op) -> u64
+pub(crate) const fn op_number(op: Op) -> u64
     ensures { result ≡ op_number op }
 {
     match op {
@@ -349,7 +349,7 @@ const fn op_number(op: Op) -> u64
     }
 }
 
-const fn operand_of(op: Op) -> u64
+pub(crate) const fn operand_of(op: Op) -> u64
     ensures { result ≡ operand_of op }
 {
     match op {
@@ -360,7 +360,7 @@ const fn operand_of(op: Op) -> u64
     }
 }
 
-const fn replacement_of(op: Op) -> u64
+pub(crate) const fn replacement_of(op: Op) -> u64
     ensures { result ≡ replacement_of op }
 {
     match op {

@@ -1,6 +1,6 @@
 //! How a machine is made and freed.
 ghost use Rattle.std.specs.Prelude.{◌≡◌, ◌++◌, [], IfErr, IfOk, List, None, OnErr, OnOk, Some, map};
-ghost use Rattle.lockup_c.specs.Made.{Frees, Makes, default_numbers, flag_named, initial_of, kinds_named};
+ghost use Rattle.lockup_c.specs.Made.{Clones, Copies, Frees, HasCopy, Makes, default_numbers, flag_named, initial_of, kinds_named};
 ghost use Rattle.lockup_c.specs.Made.{misses_named, policy_named, settings_with, word_of};
 ghost use Rattle.lockup_c.specs.Number.{config_code, fault_code};
 ghost use Rattle.lockup_c.specs.declared.held.Held.TheVariants as helds;
@@ -232,6 +232,50 @@ const fn config_code(error: ConfigError) -> u32
         ConfigError::Init => 109,
         ConfigError::Counters => 110,
     }
+}
+
+/// Gives a handle that has nothing the same machine once more, which goes on by itself.
+#[unsafe(no_mangle)]
+pub extern "C" fn lockup_clone(alloc: Global, handle: &mut Handle, copy: &mut Handle) -> u32
+    ensures copy { Clones result handle.old.value copy.old.value copy.new.value }
+    ensures kept { handle.new.value ≡ handle.old.value }
+{
+    if let Some(held) = take(copy, alloc) {
+        put(copy, held);
+        return IN_USE;
+    }
+    match take(handle, alloc) {
+        Some(held) => {
+            let code = give_copy(&held, copy, alloc);
+            put(handle, held);
+            code
+        }
+        None => NO_MACHINE,
+    }
+}
+
+// The handle has nothing.
+fn give_copy(held: &Held, copy: &mut Handle, alloc: Global) -> u32
+    requires { copy.old.value ≡ None }
+    ensures { Copies result held.now copy.new.value }
+{
+    let Held::Machine(simulator) = held else {
+        return NO_MACHINE;
+    };
+    match copied(simulator, alloc) {
+        Ok(same) => {
+            put(copy, same);
+            DONE
+        }
+        Err(_) => NO_MEMORY,
+    }
+}
+
+fn copied(simulator: &Simulator, alloc: Global) -> Result<Box<Held, Global>, AllocError>
+    ensures { IfOk result (λ held. HasCopy simulator.now (Some held.value)) }
+{
+    let copy = simulator.try_clone()?;
+    Ok(Box::new(alloc, Held::Machine(copy))?)
 }
 
 /// Frees what a handle has.

@@ -11,6 +11,7 @@ use slice_core::{Class, Pick};
 pub(crate) fn copy_named(config: &Checked, core: u64, line: u64) -> Option<(CoreId, LineAddr)>
     ensures named { result ≡ copy_named config.now core line }
     ensures known { IfSome result (λ named. HasCore config.now named.0 × HasLine config.now named.1) }
+    ensures small { IfSome result (λ named. named.1.0 < 65536) }
 {
     if core < config.cores() as u64 && line < config.lines() as u64 {
         Some((CoreId(core as u8), LineAddr(line)))

@@ -149,7 +149,7 @@ pub(crate) const fn core_number(core: Option<CoreId>) -> u64
     }
 }
 
-const fn channel_number(pick: Pick) -> u64
+pub(crate) const fn channel_number(pick: Pick) -> u64
     ensures { result ≡ channel_number pick }
 {
     match pick {
@@ -161,7 +161,7 @@ const fn channel_number(pick: Pick) -> u64
     }
 }
 
-const fn core_of_pick(pick: Pick) -> u64
+pub(crate) const fn core_of_pick(pick: Pick) -> u64
     ensures { result ≡ core_of_pick pick }
 {
     match pick {
@@ -173,7 +173,7 @@ const fn core_of_pick(pick: Pick) -> u64
     }
 }
 
-const fn sender_of_pick(pick: Pick) -> u64
+pub(crate) const fn sender_of_pick(pick: Pick) -> u64
     ensures { result ≡ sender_of_pick pick }
 {
     match pick {

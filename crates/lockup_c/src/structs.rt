@@ -110,6 +110,41 @@ pub struct EntryNumbers {
 
 #[repr(C)]
 #[derive(Clone, Copy)]
+pub struct RegisterNumbers {
+    pub line: u64,
+    pub kind: u64,
+    pub needed: u64,
+    pub counted: u64,
+    pub targets: u64,
+}
+
+#[repr(C)]
+#[derive(Clone, Copy)]
+pub struct TargetNumbers {
+    pub tag: u64,
+    pub op: u64,
+    pub word: u64,
+    pub operand: u64,
+    pub replacement: u64,
+    pub seq: u64,
+    pub since: u64,
+}
+
+#[repr(C)]
+#[derive(Clone, Copy)]
+pub struct MessageNumbers {
+    pub channel: u64,
+    pub line: u64,
+    pub core: u64,
+    pub from: u64,
+    pub kind: u64,
+    pub requester: u64,
+    pub acks: u64,
+    pub block: [u64; 8],
+}
+
+#[repr(C)]
+#[derive(Clone, Copy)]
 pub struct VerdictNumbers {
     pub verdict: u64,
     pub entry: u64,

@@ -1,10 +1,8 @@
 -- What a simulator has, and what it is built from.
-use Rattle.std.specs.Prelude.{◌≡◌, ℕ, List, Ok, Err}
+use Rattle.std.specs.Prelude.{◌≡◌, List, Ok, Err}
 use Rattle.address_map.specs.Config.{checked_of}
-use Rattle.address_map.specs.declared.address.CoreId.{CoreId}
 use Rattle.address_map.specs.declared.config.Config.{Config}
-use Rattle.address_map.specs.declared.request.Request.{Request}
-use Rattle.litmus_script.specs.Machine.{HasAt, IsNewMachine, bound_of}
+use Rattle.litmus_script.specs.Machine.{IsNewMachine, bound_of}
 use Rattle.litmus_text.specs.declared.fault.TextFault.{TextFault}
 use Rattle.litmus_text.specs.declared.fault.TextFault.TheVariants as text_faults
 use Rattle.litmus_text.specs.declared.settings.Settings.{Settings}
@@ -26,6 +24,14 @@ slices_of (simulators.Inverted machine) = machine.slices.items
 pub record IsNewSimulator (settings : Settings) (simulator : Simulator) : Type 0 where
   pub allowed : checked_of settings.config ≡ Ok (config_of simulator)
   pub fresh : IsNewMachine (config_of simulator) (bound_of settings.misses (config_of simulator)) (slices_of simulator)
+
+-- the same machine once more
+abbrev pub IsCopyOf : Simulator → Simulator → Type 0
+IsCopyOf (simulators.Explicit machine) (simulators.Explicit copy) =
+    (copy.config ≡ machine.config) × (copy.slices.items ≡ machine.slices.items)
+IsCopyOf (simulators.Inverted machine) (simulators.Inverted copy) =
+    (copy.config ≡ machine.config) × (copy.slices.items ≡ machine.slices.items)
+IsCopyOf simulator copy = ⊥
 
 -- why there is none: a field isn't allowed, or an allocation failed
 abbrev pub IsNotBuilt : Config → TextFault → Type 0

@@ -5,12 +5,15 @@
 //!   and what there is. [`Simulator::build`] takes what the lines of a script configure.
 //! - [`TraceJudge`] judges a trace entry by entry, as it comes.
 //!
-//! Only [`Simulator::build`], [`Simulator::issue`], [`Simulator::waited_lines`] and the calls of [`TraceJudge`] allocate.
+//! Only these allocate: [`Simulator::build`], [`Simulator::issue`], [`Simulator::register_at`], [`Simulator::core_lines`],
+//! [`Simulator::set_lines`], and the calls of [`TraceJudge`].
 #![tactic(auto)]
 
 pub use judge::TraceJudge;
+pub use looks::MissRegister;
 pub use simulator::Simulator;
 
 mod judge;
+mod looks;
 mod simulator;
 mod slices;

@@ -2,9 +2,10 @@ ghost use Rattle.std.specs.Prelude.{◌≡◌, ◌/◌, ◌%◌, ◌<◌, ◌↔
 ghost use Rattle.address_map.specs.Locator.{local_at};
 ghost use Rattle.address_map.specs.Place.{line_of as line_of_word};
 ghost use Rattle.litmus_script.specs.Issued.{IsIssued, IsOutOfMemory};
-ghost use Rattle.litmus_script.specs.Machine.{HasAt, IsAnswered, IsFront, IsLineView, IsShownWord, log_at};
+ghost use Rattle.litmus_script.specs.Machine.{HasAt, IsAnswered, IsLineView, IsShownWord, log_at};
 ghost use Rattle.litmus_text.specs.Command.{HasCore};
-ghost use Rattle.simulator.specs.Simulator.{IsNewSimulator, IsNotBuilt, config_of, slices_of};
+ghost use Rattle.simulator.specs.Looks.{IsCountOf, message_at, register_at, waiting_at};
+ghost use Rattle.simulator.specs.Simulator.{IsCopyOf, IsNewSimulator, IsNotBuilt, config_of, slices_of};
 ghost use Rattle.slice_core.specs.Facts.{copy_at, targets_at};
 ghost use Rattle.slice_core.specs.declared.run.Call.TheVariants as slice_calls;
 ghost use Rattle.slice_core.specs.declared.run.CallAnswer.TheVariants as call_answers;
@@ -14,9 +15,9 @@ ghost use Rattle.slice_core_plan.specs.Plan.{planned_at};
 ghost use Rattle.slice_core_plan.specs.View.{IsQuiet};
 ghost use Rattle.slice_core_steps.specs.CoreLines.{lines_of_core};
 ghost use Rattle.slice_core_steps.specs.declared.core_lines.CoreLines.TheVariants as core_lines;
-ghost use Rattle.slice_queues.specs.Waiting.{lines_waiting};
 ghost use Rattle.slice_queues_message.specs.Pick.{line_of};
 
+use super::looks::MissRegister;
 use super::slices;
 use address_map::{Checked, CoreId, LineAddr, Request, SliceId, WordAddr};
 use arrayvec::ArrayVec;
@@ -24,8 +25,8 @@ use litmus_script::{Issued, Machine};
 use litmus_text::{Settings, TextFault};
 use mshr_file::{ExplicitFile, InvertedFile, MissKind, Target};
 use slice_core::{
-    CacheCopy, Class, Decision, Delivered, DeliveredNext, Entry, Evicted, LineView, Message,
-    Numbered, Pick, Picks, Plan, Stats,
+    CacheCopy, Class, CoreLines, Decision, Delivered, DeliveredNext, Entry, Evicted, LineView,
+    Message, Numbered, Pick, Plan, Stats,
 };
 use std::alloc::{AllocError, Global};
 
@@ -50,6 +51,16 @@ impl Simulator {
         }
     }
 
+    /// The same machine, in memory of its own: it goes on by itself.
+    pub fn try_clone(&self) -> Result<Self, AllocError>
+        ensures { IfOk result (IsCopyOf self.now) }
+    {
+        match self {
+            Simulator::Explicit(machine) => Ok(Simulator::Explicit(machine.try_clone()?)),
+            Simulator::Inverted(machine) => Ok(Simulator::Inverted(machine.try_clone()?)),
+        }
+    }
+
     pub fn config(&self) -> &Checked
         ensures { result.now ≡ config_of self.now }
     {
@@ -70,8 +81,8 @@ impl Simulator {
             core request (slices_of self.old) (slices_of self.new)) }
     {
         match self {
-            Simulator::Explicit(machine) => machine.issue(core, request),
-            Simulator::Inverted(machine) => machine.issue(core, request),
+            Simulator::Explicit(machine) => slices::issue(machine, core, request),
+            Simulator::Inverted(machine) => slices::issue(machine, core, request),
         }
     }
 
@@ -93,8 +104,8 @@ impl Simulator {
             (slice_calls.Deliver pick) (call_answers.Deliver result) (slices_of self.old) (slices_of self.new) }
     {
         match self {
-            Simulator::Explicit(machine) => machine.deliver(pick),
-            Simulator::Inverted(machine) => machine.deliver(pick),
+            Simulator::Explicit(machine) => slices::deliver(machine, pick),
+            Simulator::Inverted(machine) => slices::deliver(machine, pick),
         }
     }
 
@@ -192,43 +203,80 @@ impl Simulator {
         }
     }
 
-    /// The lines for which a core holds a miss register in a slice.
-    pub fn waited_lines(
+    /// The core's miss register at a place of their order in a slice.
+    pub fn register_at(
         &self,
         alloc: Global,
         core: CoreId,
         slice: SliceId,
+        nth: usize,
+    ) -> Result<Option<MissRegister>, AllocError>
+        requires core { HasCore (config_of self.now) core }
+        requires slice { slice.0 < (config_of self.now).slices }
+        ensures { IfOk result (λ register. HasAt (slices_of self.now) slice.0
+            (λ state. register ≡ register_at state.view core nth)) }
+    {
+        match self {
+            Simulator::Explicit(machine) => slices::register_at(alloc, machine, core, slice, nth),
+            Simulator::Inverted(machine) => slices::register_at(alloc, machine, core, slice, nth),
+        }
+    }
+
+    /// The lines of a slice for which a core holds a miss register, or those that it is writing back, the latest last.
+    pub fn core_lines(
+        &self,
+        alloc: Global,
+        core: CoreId,
+        slice: SliceId,
+        which: CoreLines,
     ) -> Result<Vec<LineAddr>, AllocError>
         requires core { HasCore (config_of self.now) core }
         requires slice { slice.0 < (config_of self.now).slices }
         ensures { IfOk result (λ lines. HasAt (slices_of self.now) slice.0
-            (λ state. lines.items ≡ lines_of_core state.view core core_lines.Waiting)) }
+            (λ state. lines.items ≡ lines_of_core state.view core which)) }
     {
         match self {
-            Simulator::Explicit(machine) => slices::waited_lines(alloc, machine, core, slice),
-            Simulator::Inverted(machine) => slices::waited_lines(alloc, machine, core, slice),
+            Simulator::Explicit(machine) => slices::core_lines(alloc, machine, core, slice, which),
+            Simulator::Inverted(machine) => slices::core_lines(alloc, machine, core, slice, which),
         }
     }
 
-    /// The channels of a slice in which a message waits.
-    pub fn waiting(&self, slice: SliceId) -> Picks<'_>
-        requires { slice.0 < (config_of self.now).slices }
-        ensures { HasAt (slices_of self.now) slice.0 (λ state. result ≡ lines_waiting
-            state.view.lines.slice state.view.lines.slices 0 state.view.channels) }
+    /// The lines in the set of a line, in the order of their slots.
+    pub fn set_lines(
+        &self,
+        alloc: Global,
+        core: CoreId,
+        line: LineAddr,
+    ) -> Result<Vec<LineAddr>, AllocError>
+        requires { HasCore (config_of self.now) core }
+        ensures { IfOk result (λ lines. HasAt (slices_of self.now) (line.0 % (config_of self.now).slices)
+            (λ state. lines.items ≡ lines_of_core state.view core (core_lines.InSetOf line))) }
     {
         match self {
-            Simulator::Explicit(machine) => slices::waiting(machine, slice),
-            Simulator::Inverted(machine) => slices::waiting(machine, slice),
+            Simulator::Explicit(machine) => slices::set_lines(alloc, machine, core, line),
+            Simulator::Inverted(machine) => slices::set_lines(alloc, machine, core, line),
         }
     }
 
-    /// The message that a delivery at the pick would take.
-    pub fn front(&self, pick: Pick) -> Option<Message>
-        ensures { IsFront (slices_of self.now) ((line_of pick).0 % (config_of self.now).slices) pick result }
+    /// How many channels of a line have a message.
+    pub fn count_waiting(&self, line: LineAddr) -> u64
+        ensures { HasAt (slices_of self.now) (line.0 % (config_of self.now).slices)
+            (λ state. IsCountOf result (waiting_at state.view line)) }
     {
         match self {
-            Simulator::Explicit(machine) => machine.front(pick),
-            Simulator::Inverted(machine) => machine.front(pick),
+            Simulator::Explicit(machine) => slices::count_waiting(machine, line),
+            Simulator::Inverted(machine) => slices::count_waiting(machine, line),
+        }
+    }
+
+    /// The message in front of one of a line's channels, at a place of their order, and its channel.
+    pub fn message_at(&self, line: LineAddr, nth: u64) -> Option<(Pick, Message)>
+        ensures { HasAt (slices_of self.now) (line.0 % (config_of self.now).slices)
+            (λ state. result ≡ message_at state.view line nth) }
+    {
+        match self {
+            Simulator::Explicit(machine) => slices::message_at(machine, line, nth),
+            Simulator::Inverted(machine) => slices::message_at(machine, line, nth),
         }
     }
 

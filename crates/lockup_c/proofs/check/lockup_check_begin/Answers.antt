@@ -9,5 +9,5 @@ returns-then-code-ne-NO_MEMORY-clause-named c = λ done.
           let had = c.in-Some.ensures.some in let lent = c.deref_mut.ensures.value in let was = made.before in cc;
       after =
           let put = c.put.ensures in let back = c.deref_mut.ensures.writes_back in let is = made.after in cc;
-      stands = made.stands;
+      adds = made.adds;
     }

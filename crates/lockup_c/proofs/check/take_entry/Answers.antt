@@ -1,13 +1,11 @@
-use Rattle.std.proofs.Common.{Some, ap, refl, sym, ◌∙◌}
+use Rattle.std.proofs.Common.{Some, ap, refl}
 use Rattle.lockup_c.proofs.check.take_entry.Goals as goal
 
-pub returns-in-Ok-clause-taken : goal.returns-in-Ok-clause-taken
-returns-in-Ok-clause-taken c = λ done. record {
+pub returns-in-Trace-clause-taken : goal.returns-in-Trace-clause-taken
+returns-in-Trace-clause-taken c = λ done. record {
   was = c.in-Trace.judge;
-  is = c.take.new.self;
-  entry = c.in-Some.entry;
-  named = sym c.entry_named.ensures.named ∙ c.in-Some.is;
+  is = c.add_entry.new.judge;
   before = ap Some c.in-Trace.is;
   after = refl;
-  stands = c.in-Ok.ensures;
+  adds = c.add_entry.ensures.taken done;
 }

@@ -1,7 +1,6 @@
 -- A null pointer beside the allocator's handle owns nothing.
-use mathlib.Core.Path.{◌≡◌, refl, sym, subst}
+use mathlib.Core.Path.{refl, sym, subst}
 use mathlib.Core.List.{List, [], ◌∷◌, ◌++◌}
-use lib.Dec.{lit<}
 use seplogic.Ra.Ura.{Ura}
 use mir.Val.{Val, vnull}
 use base.Logic.{SProp, ent, emp}
@@ -19,13 +18,12 @@ use types.Run.{lit, no_more, and_then, returns, enter}
 use types.ByLocal.{alloc_all, pass_all, free_all, look_at, get, sets}
 use denote.Exit.{yes}
 use denote.RawPtr.{null_ptr}
-use denote.Signature.{type_at}
 use denote.Steps.{nothing}
 use denote.Triple.Spec.{triple_of}
 use denote.Triple.Table.{entered}
 use denote.Triple.Walked.{says, Stays, stay_dropped, walk_of, ends_at, Goes-dropped, walk_Meets}
 use Rattle.std.proofs.alloc.Calls.{handle_tells}
-use Rattle.std.proofs.BoxSteps.Form.{P, box_typed}
+use Rattle.std.proofs.BoxSteps.Form.{P}
 use Rattle.std.specs.Prelude.{None}
 use Rattle.lockup_c.proofs.HandleSteps.{null_typed, E, FromGlobal as From, Handle, both, handle_in}
 use Rattle.lockup_c.specs.contracts.handle.Handle.empty as F

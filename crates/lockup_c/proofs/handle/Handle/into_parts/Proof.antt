@@ -1,7 +1,6 @@
 -- At null the handle owns nothing; else the parts own what it owned.
-use mathlib.Core.Path.{◌≡◌, refl, sym, ap, subst, ◌∙◌}
+use mathlib.Core.Path.{refl, sym, ap, subst, ◌∙◌}
 use mathlib.Core.List.{List, [], ◌∷◌, ◌++◌}
-use Prim.Native.Nat.{ℕ}
 use lib.Dec.{T, lit<}
 use seplogic.Ra.Ura.{Ura}
 use mir.Syntax.{Body, place, copy, assign, rv_opd, seq, return}
@@ -22,14 +21,14 @@ use types.Run.{stop, fld, lit, bin, no_more, and_then, of_opd, first, branches, 
 use types.ByLocal.{alloc_all, pass_all, free_all, look_at, get, get_in, sets, sets_last, env}
 use denote.Exit.{yes}
 use denote.Param.{layout}
-use denote.RawPtr.{block_ptr, null_ptr, ptr_val, tests_null}
+use denote.RawPtr.{block_ptr, ptr_val, tests_null}
 use denote.RattleType.{RattleType}
 use denote.Signature.{type_at}
 use denote.Steps.{nothing}
 use denote.Triple.Spec.{triple_of}
 use denote.Triple.Table.{entered}
 use denote.Triple.Walked.{says, Stays, stay_dropped, walk_of, ends_at, Goes-dropped, walk_Meets}
-use Rattle.std.proofs.BoxSteps.Form.{B, D, P, X, word, box_typed}
+use Rattle.std.proofs.BoxSteps.Form.{D, P, word, box_typed}
 use Rattle.std.proofs.BoxSteps.Steps.{box_in}
 use Rattle.std.proofs.option.Made.{Some-of, none_of}
 use Rattle.std.proofs.ResultValues.{and_tt}

@@ -1,0 +1,18 @@
+use Rattle.std.proofs.Common.{inl, inr, refl}
+use Rattle.lockup_c.specs.Named.{copy_named}
+use Rattle.lockup_c.proofs.CallLemmas.{at_machine, if_named}
+use Rattle.lockup_c.proofs.lines.way_at.Goals as goal
+
+pub returns-in-Ok : goal.returns-in-Ok
+returns-in-Ok c =
+    at_machine _ _ _ c.in-Machine.simulator c.in-Machine.is
+    (if_named (λ config. copy_named config c.args.core c.args.line) c.config.result.now _ c.copy_named.result
+    (c.in-Some.core, c.in-Some.line) _ _ c.config.ensures c.copy_named.ensures.named c.in-Some.is
+    (inl (record { lines = c.in-Ok.lines.items; are = c.in-Ok.ensures; said = c.show_line.ensures })))
+
+pub returns-in-Err : goal.returns-in-Err
+returns-in-Err c =
+    at_machine _ _ _ c.in-Machine.simulator c.in-Machine.is
+    (if_named (λ config. copy_named config c.args.core c.args.line) c.config.result.now _ c.copy_named.result
+    (c.in-Some.core, c.in-Some.line) _ _ c.config.ensures c.copy_named.ensures.named c.in-Some.is
+    (inr (refl, refl)))

@@ -1,5 +1,5 @@
-/* Plays a script from standard input through the C library, and prints what `lockup script` prints of it. It knows all
- * commands but `show` and `waiting`. A call that lacks memory is made once more, and counted.
+/* Plays a script from standard input through the C library, and prints what `lockup script` prints of it, but of `show`
+ * neither replies nor the ring: the library doesn't show them. A call that lacks memory is made once more, and counted.
  *
  *     player [THREADS]     THREADS plays it in so many threads at once, each on a machine of its own (default: 1)
  *
@@ -25,6 +25,8 @@ static const char *const REFUSALS[] = {"", "OutOfRange", "TagRange", "TagBusy", 
 static const char *const EVICTED[] = {"evicting", "not held", "busy", "buffer full"};
 static const char *const DELIVERED[] = {"moved", "blocked", "nothing", "broken entry", "broken full", "broken early"};
 static const char *const ENTRIES[] = {"I", "S", "M", "S_D"};
+static const char *const MESSAGES[] = {"GetS", "GetM", "PutS", "PutM", "Fwd-GetS", "Fwd-GetM", "Inv", "Put-Ack", "Data",
+                                       "Data-E", "Inv-Ack", "Data home"};
 static const char *const COPIES[] = {"I", "IS_D", "IM_AD", "IM_A", "S", "SM_AD", "SM_A", "M", "MI_A", "SI_A", "II_A", "E"};
 
 static char text[MOST_TEXT];
@@ -240,6 +242,152 @@ static void show_log(player *it) {
     }
 }
 
+/* What a delivery of the message would do, and for which state it has to wait. */
+static void show_plan(player *it, const lockup_message *message) {
+    lockup_planned planned = {0};
+    lockup_directory entry = {0};
+    lockup_copy copy = {0};
+    CALL(it, lockup_plan(&it->machine, message->channel, message->line, message->core, message->from, &planned));
+    CALL(it, lockup_directory_at(&it->machine, message->line, &entry));
+    CALL(it, lockup_copy_at(&it->machine, message->core, message->line, &copy));
+    const int to_directory = message->channel == LOCKUP_REQ || message->channel == LOCKUP_HOME;
+    if (planned.answer == LOCKUP_BLOCKED)
+        say(it, "blocked: %s\n", to_directory ? ENTRIES[entry.state] : COPIES[copy.state]);
+    else
+        say(it, "%s\n", planned.answer == LOCKUP_MOVED ? "moves" : DELIVERED[planned.answer]);
+}
+
+static void show_message(player *it, uint64_t line, uint64_t nth) {
+    lockup_message message = {0};
+    CALL(it, lockup_message_at(&it->machine, line, nth, &message));
+    say(it, "deliver %s %" PRIu64, CHANNELS[message.channel], message.line);
+    if (message.channel != LOCKUP_HOME) say(it, " %" PRIu64, message.core);
+    if (message.channel == LOCKUP_ACK) say(it, " %" PRIu64, message.from);
+    say(it, "   %s", MESSAGES[message.kind]);
+    if (message.requester != LOCKUP_NO_CORE) say(it, " for core %" PRIu64, message.requester);
+    if (message.kind == LOCKUP_MSG_DATA) say(it, "(%" PRIu64 ")", message.acks);
+    say(it, "   ");
+    show_plan(it, &message);
+}
+
+static void show_waiting(player *it) {
+    uint64_t all = 0, count = 0;
+    for (uint64_t slice = 0; slice < it->config.slices; slice++)
+        for (uint64_t line = slice; line < it->config.lines; line += it->config.slices) {
+            CALL(it, lockup_messages(&it->machine, line, &count));
+            for (uint64_t nth = 0; nth < count; nth++) show_message(it, line, nth);
+            all += count;
+        }
+    if (all == 0) say(it, "none\n");
+}
+
+static void show_targets(player *it, uint64_t core, uint64_t line) {
+    uint64_t count = 0;
+    CALL(it, lockup_targets(&it->machine, core, line, &count));
+    for (uint64_t nth = 0; nth < count; nth++) {
+        lockup_target target = {0};
+        CALL(it, lockup_target_at(&it->machine, core, line, nth, &target));
+        say(it, "core %" PRIu64 " tag %" PRIu64 " awaits %s %" PRIu64, core, target.tag, OPS[target.op], target.word);
+        if (target.op != LOCKUP_LOAD) say(it, " %" PRIu64, target.operand);
+        if (target.op == LOCKUP_CAS) say(it, " %" PRIu64, target.replacement);
+        say(it, " seq %" PRIu64 " since %" PRIu64 "\n", target.seq, target.since);
+    }
+}
+
+/* A line that some core has, or that the directory has in another state than I. */
+static void show_line(player *it, uint64_t line) {
+    lockup_directory entry = {0};
+    lockup_copy copies[64] = {0};
+    int rests;
+    CALL(it, lockup_directory_at(&it->machine, line, &entry));
+    rests = entry.state == LOCKUP_DIR_I;
+    for (uint64_t core = 0; core < it->config.cores; core++) {
+        CALL(it, lockup_copy_at(&it->machine, core, line, &copies[core]));
+        rests = rests && copies[core].state == LOCKUP_I;
+    }
+    if (rests) return;
+    show_state(it, line);
+    for (uint64_t core = 0; core < it->config.cores; core++) {
+        const lockup_copy *const copy = &copies[core];
+        if (copy->state == LOCKUP_I) continue;
+        say(it, "core %" PRIu64 " line %" PRIu64 " %s", core, line, COPIES[copy->state]);
+        if (copy->counted || copy->wants) say(it, " acks %" PRIu64 " of %" PRIu64, copy->counted, copy->wants);
+        say(it, " block");
+        for (int at = 0; at < 8; at++) say(it, " %" PRIu64, copy->block[at]);
+        say(it, "\n");
+        show_targets(it, core, line);
+    }
+}
+
+/* Whether a copy is being written back. */
+static int leaves(const lockup_copy *copy) {
+    return copy->state == LOCKUP_MI_A || copy->state == LOCKUP_SI_A || copy->state == LOCKUP_II_A;
+}
+
+/* A register is that of a copy which waits. */
+static void check_register(player *it, uint64_t core, uint64_t slice, uint64_t nth) {
+    lockup_register found = {0};
+    lockup_copy copy = {0};
+    uint64_t targets = 0;
+    CALL(it, lockup_register_at(&it->machine, core, slice, nth, &found));
+    CALL(it, lockup_copy_at(&it->machine, core, found.line, &copy));
+    CALL(it, lockup_targets(&it->machine, core, found.line, &targets));
+    const int has_data = copy.state == LOCKUP_IM_A || copy.state == LOCKUP_SM_A;
+    const int reads = copy.state == LOCKUP_IS_D, awaits_data = copy.state == LOCKUP_IM_AD || copy.state == LOCKUP_SM_AD;
+    if (!has_data && !reads && !awaits_data) fail("a register of state", copy.state);
+    if (found.kind != (reads ? LOCKUP_MSG_GETS : LOCKUP_MSG_GETM)) fail("a register is of kind", found.kind);
+    if (found.needed != (has_data ? copy.wants : reads ? 0 : LOCKUP_UNKNOWN)) fail("a register needs", found.needed);
+    if (found.counted != copy.counted) fail("a register counts", found.counted);
+    if (found.targets != targets || targets == 0) fail("a register has targets:", found.targets);
+}
+
+/* A line that is written back isn't in its set, and one in the set is no other's. */
+static void check_lines(player *it, uint64_t core, uint64_t slice, uint64_t held) {
+    uint64_t count = 0, line = 0, found = 0;
+    CALL(it, lockup_writebacks(&it->machine, core, slice, &count));
+    for (uint64_t nth = 0; nth < count; nth++) {
+        lockup_copy copy = {0};
+        CALL(it, lockup_writeback_at(&it->machine, core, slice, nth, &line));
+        CALL(it, lockup_copy_at(&it->machine, core, line, &copy));
+        if (!leaves(&copy)) fail("written back:", line);
+    }
+    for (uint64_t set = 0, most = it->config.lines / it->config.slices; set < it->config.sets && set < most; set++) {
+        const uint64_t first = set * it->config.slices + slice;
+        CALL(it, lockup_ways(&it->machine, core, first, &count));
+        if (count > it->config.ways) fail("more lines than ways:", count);
+        for (uint64_t nth = 0; nth < count; nth++) {
+            CALL(it, lockup_way_at(&it->machine, core, first, nth, &found));
+            if (found % it->config.slices != slice || found / it->config.slices % it->config.sets != set)
+                fail("of another set:", found);
+        }
+        held -= count;
+    }
+    if (held != 0) fail("lines in no set:", held);
+}
+
+/* How many lines of a slice the core has in its array. */
+static uint64_t lines_held(player *it, uint64_t core, uint64_t slice) {
+    uint64_t held = 0;
+    for (uint64_t line = slice; line < it->config.lines; line += it->config.slices) {
+        lockup_copy copy = {0};
+        CALL(it, lockup_copy_at(&it->machine, core, line, &copy));
+        held += copy.state != LOCKUP_I && !leaves(&copy);
+    }
+    return held;
+}
+
+static void show_all(player *it) {
+    for (uint64_t slice = 0; slice < it->config.slices; slice++) {
+        for (uint64_t line = slice; line < it->config.lines; line += it->config.slices) show_line(it, line);
+        for (uint64_t core = 0; core < it->config.cores; core++) {
+            uint64_t count = 0;
+            CALL(it, lockup_registers(&it->machine, core, slice, &count));
+            for (uint64_t nth = 0; nth < count; nth++) check_register(it, core, slice, nth);
+            check_lines(it, core, slice, lines_held(it, core, slice));
+        }
+    }
+}
+
 static void evict(player *it) {
     uint64_t answer = 0;
     CALL(it, lockup_evict(&it->machine, number(it, 1), number(it, 2), &answer));
@@ -257,6 +405,8 @@ static void command(player *it) {
     else if (strcmp(verb, "state") == 0) show_state(it, number(it, 1));
     else if (strcmp(verb, "stats") == 0) show_counts(it);
     else if (strcmp(verb, "log") == 0) show_log(it);
+    else if (strcmp(verb, "waiting") == 0) show_waiting(it);
+    else if (strcmp(verb, "show") == 0) show_all(it);
     else fail("not a command of this player, of words:", (uint64_t)it->words);
 }
 

@@ -2,16 +2,18 @@
 nothing with it (tests/harness/account.py): each decision (hit, primary and secondary miss, each
 stall and refusal), each reply with its number, each delivery moved or blocked and which comes next,
 each reply handed out; now and then before the call, as `decide`, `plan` and `next` tell it; and what
-can be seen of the machine: states, blocks, entries, counts, logs, words
-at rest. Over settings with both miss files, each policy, one to four
-ways, with and without E, 1, 2 and 4 slices, 1 to 64 cores. In each setting the account sees that
-each line is coherent. Together the settings meet each stall, each refusal, each answer."""
+can be seen of the machine: states, blocks, entries, miss registers with their targets, lines that
+are written back, sets in the order of the policy, messages, counts, logs, words at rest. Over
+settings with both miss files, each policy, one to four ways, with and without E, 1, 2 and 4 slices,
+1 to 64 cores. In each setting the account sees that each line is coherent. Together the settings
+meet each stall, each refusal, each answer."""
 import random
 from collections import Counter
 from types import ModuleType
 
 from harness import each, same, seconds, want
-from harness.account import CLASSES, LEAVES_AS, TAGS, WORDS, Access, Account, Entry, Setting
+from harness.account import CLASSES, LEAVES_AS, TAGS, WORDS, Access, Account, Copy, Entry, Message, Setting
+from harness.generator import MASK
 from harness.library import module
 
 CALLS = 12_000
@@ -24,6 +26,16 @@ CHANNELS = ("req", "fwd", "data", "ack", "home")
 REFUSED = {"OutOfRange": "OUT_OF_RANGE", "TagRange": "TAG_RANGE", "TagBusy": "TAG_BUSY",
            "CounterStore": "COUNTER_STORE"}
 SEEN = 300
+
+
+def of_eight_cores(ways: int, **fields: object) -> Setting:
+    """Returns a machine so small that everything collides, with words that begin with values of their own, and
+    counters."""
+    init = [(word, (word + 1) * 0x9E3779B97F4A7C15 & MASK) for word in range(0, 32 * ways, 4)]
+    return Setting(cores=8, slices=2, lines=4 * ways, sets=1, ways=ways, mshrs=2, writebacks=ways, init=init,
+                   counters=[7, 15, 23, 31], **fields)
+
+
 SETTINGS = {
     "defaults": Setting(),
     "one core": Setting(cores=1, lines=8, sets=2, mshrs=2, targets=2, writebacks=1),
@@ -39,6 +51,10 @@ SETTINGS = {
     "four slices": Setting(cores=2, slices=4, lines=16, sets=2, ways=2, mshrs=1, targets=1, exclusive=True),
     "counters": Setting(cores=2, lines=4, sets=1, ways=2, counters=[0, 9, 31], init=[(0, 5), (9, (1 << 64) - 2)]),
     "eight cores, one line": Setting(cores=8, lines=1, sets=1, ways=1, mshrs=1, targets=4, writebacks=1),
+    "eight cores": of_eight_cores(1, targets=2),
+    "eight cores, exclusive": of_eight_cores(2, targets=3, policy="random", seed=5, exclusive=True),
+    "eight cores, inverted": of_eight_cores(2, policy="fifo", misses="inverted"),
+    "eight cores, inverted, exclusive": of_eight_cores(1, misses="inverted", exclusive=True),
     "64 cores": Setting(cores=64, lines=2, sets=1, ways=1, mshrs=2, targets=2, writebacks=1),
 }
 
@@ -64,6 +80,8 @@ class Run:
         self.lockup, self.setting, self.account = lockup, setting, Account(setting)
         self.machine = lockup.Machine(init=dict(setting.init), counters=setting.counters, **fields)
         self.random, self.met, self.call = random.Random(name), Counter(), 0
+        # the line that was touched last, and what each counter comes to once all accepted adds are performed
+        self.line, self.totals = 0, {word: dict(setting.init).get(word, 0) for word in setting.counters}
 
     def agree(self, what: str, wanted: object, got: object) -> None:
         if wanted != got:
@@ -89,15 +107,22 @@ class Run:
         core, tag = draw(self.setting.cores), draw(TAGS) if draw(100) else 64 + draw(192)
         kind = KINDS[draw(4)]
         word = draw(self.setting.lines * 8) if draw(100) else self.setting.lines * 8 + draw(1 << 40)
-        access = Access(kind, word, draw(4) if kind != "load" else 0, draw(4) if kind == "cas" else 0)
+        access = Access(kind, word, self.operand() if kind != "load" else 0, self.operand() if kind == "cas" else 0)
         words = core, tag, KINDS.index(kind), word, access.one, access.two
         told = self.decide(core, tag, access, words) if not draw(4) else None
         wanted = self.account.issue(core, tag, access)
         self.met[wanted[:1] if wanted[0] in ("done", "pending") else wanted] += 1
+        self.line = word // WORDS % self.setting.lines
+        if word in self.totals and kind == "add" and wanted[0] in ("done", "pending"):
+            self.totals[word] = (self.totals[word] + access.one) & MASK
         self.agree(f"issue {core} {tag} {access}", wanted, issued_of(self.machine.issue(*words)))
         if told and told.next is not None:
             state = self.account.of_word(word).cores[core].copy(word // WORDS).state
             self.agree("the next state by decide", state, told.next.name)
+
+    def operand(self) -> int:
+        """Draws a number: most often a small one, so that compare-exchanges match."""
+        return self.random.randrange(4) if self.random.randrange(8) else self.random.randrange(1 << 64)
 
     def decide(self, core: int, tag: int, access: Access, words: tuple) -> tuple:
         """Compares what `decide` tells, and returns it."""
@@ -118,6 +143,7 @@ class Run:
         core, line = self.random.randrange(self.setting.cores), self.random.randrange(self.setting.lines)
         wanted = self.account.evict(core, line)
         self.met[wanted] += 1
+        self.line = line
         self.agree(f"evict {core} {line}", wanted, EVICTED[self.machine.evict(core, line)])
 
     def channel(self) -> tuple[int, tuple]:
@@ -138,6 +164,7 @@ class Run:
             self.agree("plan", self.account.plan(line, channel), DELIVERED[told.answer])
         wanted = self.account.deliver(line, channel)
         self.met[channel[0], wanted] += 1
+        self.line = line
         self.agree(f"deliver {channel} {line}", wanted, DELIVERED[self.machine.deliver(*words)])
         if told and wanted == "moved":
             self.look_back(line, channel, told)
@@ -162,6 +189,7 @@ class Run:
             self.agree(f"next {number} {name}", self.moved(wanted), self.told(self.machine.next(number, kind)))
         wanted = self.account.slices[number].deliver_next(name)
         self.met["next", wanted[0]] += 1
+        self.line = wanted[1] if wanted[0] == "moved" else self.line
         self.agree(f"deliver_next {number} {name}", self.moved(wanted),
                    self.told(self.machine.deliver_next(number, kind)))
 
@@ -185,8 +213,10 @@ class Run:
     # ---- looks
 
     def look(self) -> None:
-        line = self.random.randrange(self.setting.lines)
-        self.look_at_line(line)
+        for line in range(self.setting.lines):
+            self.look_at_line(line)
+        for number in range(self.setting.slices):
+            self.look_at_misses(number)
         word = self.random.randrange(self.setting.lines * 8)
         self.agree(f"word {word}", self.account.word(word), self.machine.word(word))
         self.agree("quiet", all(it.is_quiet() for it in self.account.slices), self.machine.quiet)
@@ -203,6 +233,36 @@ class Run:
                 self.agree(f"block {core} {line}", copy.block, told.block)
             if copy.state in ("IM_A", "SM_A"):
                 self.agree(f"wants {core} {line}", (copy.wanted, copy.counted), (told.wants, told.counted))
+        waiting = [self.message_of(line, it, place.lines[line].front(it)) for it in place.lines[line].waiting()]
+        told = [(it.channel.name.lower(), *it[1:4], it.kind.name, *it[5:]) for it in self.machine.messages(line)]
+        self.agree(f"messages {line}", waiting, told)
+
+    @staticmethod
+    def message_of(line: int, channel: tuple, message: Message) -> tuple:
+        core, sender = (*channel[1:], 0, 0)[:2]
+        kind = "HOME" if message.name == "Data home" else message.name.upper().replace("-", "_")
+        requester = message.core if kind in ("FWD_GETS", "FWD_GETM", "INV") else None
+        return channel[0], line, core, sender, kind, requester, message.acks, message.block or None
+
+    def look_at_misses(self, number: int) -> None:
+        """Compares what each core waits for and writes back, and its sets. Registers are in no certain order."""
+        sets = range(min(self.setting.sets, self.setting.lines // self.setting.slices))
+        for core, cache in enumerate(self.account.slices[number].cores):
+            registers = [(line, *self.needs(cache.copy(line)), len(it)) for line, it in cache.registers.items()]
+            told = [(it.line, it.kind.name, *it[2:]) for it in self.machine.registers(core, number)]
+            self.agree(f"registers {core} {number}", sorted(registers), sorted(told))
+            for line, targets in cache.registers.items():
+                wanted = [(it.tag, KINDS.index(it.access.kind), *it.access[1:], it.seq, it.since) for it in targets]
+                self.agree(f"targets {core} {line}", wanted, [tuple(it) for it in self.machine.targets(core, line)])
+            self.agree(f"written back {core} {number}", tuple(cache.buffer), self.machine.writebacks(core, number))
+            ways = [self.machine.ways(core, it * self.setting.slices + number) for it in sets]
+            self.agree(f"sets {core} {number}", [tuple(it) for it in cache.sets[:len(sets)]], ways)
+
+    @staticmethod
+    def needs(copy: Copy) -> tuple[str, int | None, int]:
+        """Returns what a waiting copy asked for, and its acknowledgements: needed, if that is known, and counted."""
+        needed = None if copy.state in ("IM_AD", "SM_AD") else copy.wanted
+        return "GETS" if copy.state == "IS_D" else "GETM", needed, copy.counted
 
     def look_at_all(self) -> None:
         """Compares the logs and all counts."""
@@ -230,6 +290,7 @@ class Run:
         self.agree("quiet at the end", True, self.machine.quiet)
         words = range(self.setting.lines * 8)
         self.agree("words", [self.account.word(it) for it in words], [self.machine.word(it) for it in words])
+        self.agree("counters", self.totals, {it: self.machine.word(it) for it in self.totals})
 
 
 @seconds(20)
@@ -239,6 +300,7 @@ def test_account(name: str) -> None:
     with run.machine:
         for run.call in range(CALLS):
             run.step()
+            run.look_at_line(run.line)
             if run.call % LOOKS == 0:
                 run.look()
         run.look_at_all()

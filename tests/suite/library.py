@@ -3,9 +3,11 @@
 - The first page of lockup.h compiles with one command, over the archive alone, as C and as C++.
 - Each example script is played through C calls (tests/harness/player.c) to the answers that stand
   beside it, which were worked out by hand; 100,000 random calls, with both miss files and with E, to
-  those of `lockup script`; valgrind finds no error, and two threads with a machine each the same.
+  those of `lockup script`, `waiting` and `show` among them; valgrind finds no error, and two threads
+  with a machine each the same.
 - With each allocation refused in turn the call says so once, and made again all goes on as before.
-- Each code is met, changes nothing, and leaves zeros; a configuration is refused for its first field.
+- Each code is met, changes nothing, and leaves zeros; a configuration is refused for its first field;
+  each pointer of each function that is NULL is caught.
 - The Python module: its own examples, errors, what it refuses, the judge of traces beside `check`,
   and `pip install` without the network.
 - The prototypes of the Python module and of the SystemVerilog package are those of lockup.h, and so
@@ -52,9 +54,9 @@ def test_first_page(language: str) -> None:
         same("output", (0, FIRST_SAYS, ""), tuple(run([f"{room}/first"])))
 
 
-def without_show(script: str) -> str:
-    """Returns a script without the commands that the player doesn't know."""
-    return "".join(f"{row}\n" for row in script.split("\n") if not row.startswith(("show", "waiting")))
+def without_rings(answers: str) -> str:
+    """Returns answers without what the player doesn't print of `show`: replies that wait, and rings."""
+    return re.sub(r"^(core \d+ tag \d+ reply \d+|slice \d+ ring.*)\n", "", answers, flags=re.M)
 
 
 def scripts() -> list[str]:
@@ -63,12 +65,8 @@ def scripts() -> list[str]:
 
 @each(scripts)
 def test_worked(name: str) -> None:
-    script = example(name)
-    wanted = read(ROOT / f"examples/{name}.out")
-    if script != without_show(script):
-        script = without_show(script)
-        wanted = lockup("script", "-", text=script).out
-    same("answers", (0, wanted, ""), tuple(played(script)))
+    wanted = without_rings(read(ROOT / f"examples/{name}.out"))
+    same("answers", (0, wanted, ""), tuple(played(example(name))))
 
 
 def access_of(draw: random.Random, words: int) -> str:
@@ -91,6 +89,8 @@ def command_of(draw: random.Random, cores: int, slices: int, lines: int) -> str:
         f"word {draw.randrange(lines * 8)}": 2,
         f"state {line}": 2,
         "stats": 1,
+        "waiting": 1,
+        "show": 1,
     }
     return draw.choices([*kinds], [*kinds.values()])[0]
 
@@ -107,14 +107,20 @@ def random_script(seed: int, count: int) -> str:
     return "".join(f"{row}\n" for row in [*rows, *(f"log {it}" for it in range(slices))])
 
 
+def answers_of(script: str) -> tuple[int, str, str]:
+    ran = lockup("script", "-", text=script)
+    return ran.status, without_rings(ran.out), ran.err
+
+
 @seconds(30)
 @each(lambda: [(f"seed {seed}", seed) for seed in range(4)])
 def test_random_calls(_: str, seed: int) -> None:
     script = random_script(seed, CALLS // 4)
     ran = played(script)
-    same("answers", tuple(lockup("script", "-", text=script)), tuple(ran))
+    same("answers", answers_of(script), tuple(ran))
     # enough came of them
-    for answer in ("done", "pending", "stall", "moved", "blocked", "receipt", "refused 3", "left"):
+    for answer in ("done", "pending", "stall", "moved", "blocked", "receipt", "refused 3", "left",
+                   r"deliver .*   moves", r"deliver .*   blocked: ", r"core \d+ tag \d+ awaits "):
         want(len(re.findall(f"^{answer}", ran.out, re.M)) > 5, f"few answers are {answer}")
 
 
@@ -130,7 +136,7 @@ def test_valgrind() -> None:
     script = random_script(6, 3_000)
     valgrind = ("valgrind", "-q", "--error-exitcode=9", "--leak-check=full", "--show-leak-kinds=all",
                 "--main-stacksize=16777216")
-    same("answers under valgrind", tuple(lockup("script", "-", text=script)), tuple(played(script, under=valgrind)))
+    same("answers under valgrind", answers_of(script), tuple(played(script, under=valgrind)))
 
 
 @seconds(20)
@@ -176,7 +182,10 @@ OK, NO_MACHINE, OUT_OF_RANGE, NO_MEMORY, IN_USE = range(5)
 FUNCTIONS = {
     "issue": ([0, 0, 0, 0, 0, 0], 3), "evict": ([0, 0], 1), "deliver": ([0, 0, 0, 0], 1), "deliver_next": ([0, 5], 5),
     "hand": ([0, 0], 4), "decide": ([0, 0, 0, 0, 0, 0], 4), "plan": ([0, 0, 0, 0], 4), "next": ([0, 5], 5),
-    "copy_at": ([0, 0], 11), "directory_at": ([0], 11), "quiet": ([], 1),
+    "copy_at": ([0, 0], 11), "directory_at": ([0], 11), "quiet": ([], 1), "registers": ([0, 0], 1),
+    "register_at": ([0, 0, 0], 5), "targets": ([0, 1], 1), "target_at": ([0, 1, 0], 7), "writebacks": ([0, 0], 1),
+    "writeback_at": ([0, 0, 0], 1), "ways": ([0, 0], 1), "way_at": ([0, 0, 0], 1), "messages": ([1], 1),
+    "message_at": ([1, 0], 15),
     "word_at": ([0], 2), "counts_of_core": ([0, 0], 10), "counts_of_messages": ([0], 5), "entries": ([0], 1),
     "entry_at": ([0, 0], 9),
 }
@@ -188,12 +197,20 @@ PAST = [
     ("next", 0, 1), ("next", 1, 6), ("copy_at", 0, 2), ("copy_at", 1, 16), ("directory_at", 0, 16),
     ("word_at", 0, 128), ("counts_of_core", 0, 2), ("counts_of_core", 1, 1), ("counts_of_messages", 0, 1),
     ("entries", 0, 1), ("entry_at", 0, 1), ("entry_at", 1, 1),
+    *((name, place, least) for name in ("registers", "register_at", "writebacks", "writeback_at")
+      for place, least in ((0, 2), (1, 1))),
+    *((name, place, least) for name in ("targets", "target_at", "ways", "way_at")
+      for place, least in ((0, 2), (1, 16))),
+    ("messages", 0, 16), ("message_at", 0, 16), ("register_at", 2, 1), ("target_at", 2, 1), ("writeback_at", 2, 0),
+    ("way_at", 2, 1), ("message_at", 1, 1),
 ]
 
 
 def seen(raw: Raw) -> list:
     """Returns what can be seen of a machine of 2 cores."""
-    looks = [("entries", 0), ("entry_at", 0, 0), ("copy_at", 1, 0), ("next", 0, 5), ("counts_of_core", 0, 0), ("counts_of_messages", 0), ("copy_at", 0, 0), ("directory_at", 0), ("quiet",)]
+    looks = [("entries", 0), ("entry_at", 0, 0), ("copy_at", 1, 0), ("next", 0, 5), ("counts_of_core", 0, 0),
+             ("counts_of_messages", 0), ("copy_at", 0, 0), ("directory_at", 0), ("quiet",), ("register_at", 0, 0, 0),
+             ("target_at", 0, 1, 0), ("writebacks", 0, 0), ("way_at", 0, 0, 0), ("message_at", 1, 0)]
     return [raw(name, *words, out=FUNCTIONS[name][1]) for name, *words in looks]
 
 
@@ -225,6 +242,48 @@ def test_out_of_range() -> None:
     same("free", (OK, []), raw("free"))
 
 
+def null_calls() -> Iterator[str]:
+    """Returns a call for each pointer of each function, in which it is NULL and all others are fine."""
+    places = {"lockup_machine": "&machine", "lockup_check": "&check", "lockup_config": "&config"}
+    for name, rows in header_parameters().items():
+        fine = [f"({it.rpartition('*')[0]}*)buffer" if "*" in it else "0" for it in rows]
+        fine = [places.get(it.replace("const ", "").split()[0], value) for it, value in zip(rows, fine)]
+        # a list has one element, and so has to be there
+        fine = ["1" if it.startswith("size_t") else value for it, value in zip(rows, fine)]
+        for place in (it for it, row in enumerate(rows) if "*" in row):
+            yield f"lockup_{name}({', '.join([*fine[:place], 'NULL', *fine[place + 1:]])})"
+
+
+@each(lambda: ["c", "c++"])
+def test_null(language: str) -> None:
+    """.. is caught, where any pointer is NULL, and nothing is changed or written."""
+    needs("cc")
+    calls = [*null_calls()]
+    want(len(calls) > 60, f"{len(calls)} calls alone")
+    tries = "".join(f"    if ({call} != LOCKUP_NULL) bad += puts(\"{call}\") >= 0;\n" for call in calls)
+    source = f"""#include <lockup.h>
+#include <stdio.h>
+static uint64_t buffer[16];
+int main(void) {{
+    lockup_machine machine = {{0}};
+    lockup_check check = {{0}};
+    lockup_config config;
+    uint64_t entries = 77;
+    int bad = 0;
+    lockup_defaults(&config);
+    if (lockup_make_with(&machine, &config, NULL, 0, NULL, 0) || lockup_check_new(&check)) return 3;
+    for (int at = 0; at < 16; at++) buffer[at] = 77;
+{tries}    for (int at = 0; at < 16; at++) bad += buffer[at] != 77;
+    if (lockup_entries(&machine, 0, &entries) || entries != 0) return 4;
+    return lockup_free(&machine) || lockup_check_free(&check) ? 5 : bad;
+}}
+"""
+    with tempfile.TemporaryDirectory() as room:
+        words = ["cc", "-x", language, "-", "-x", "none", f"-I{INCLUDE}", archive(), "-o", f"{room}/null"]
+        same("the compiler", (0, "", ""), tuple(run([*words, "-Wall", "-Wextra", "-Wpedantic", "-Werror"], source)))
+        same("output", (0, "", ""), tuple(run([f"{room}/null"])))
+
+
 def test_in_use() -> None:
     raw = Raw()
     same("make", OK, raw.make(cores=3))
@@ -237,6 +296,76 @@ def test_in_use() -> None:
     same("the handle is empty", None, raw.handle.value)
     same("made anew", OK, raw.make())
     raw("free")
+
+
+def test_codes_of_copies() -> None:
+    raw, other = Raw(), Raw()
+    to = ctypes.byref(other.handle)
+    same("of nothing", (NO_MACHINE, []), raw("clone", to))
+    same("no copy", None, other.handle.value)
+    same("make", OK, raw.make())
+    held = raw.handle.value
+    same("clone", (OK, []), raw("clone", to))
+    want(other.handle.value not in (None, held), "it has the same machine")
+    given = other.handle.value
+    same("clone again", (IN_USE, []), raw("clone", to))
+    same("the handles", (held, given), (raw.handle.value, other.handle.value))
+    same("the first is freed", (OK, []), raw("free"))
+    same("the other is there", (OK, [1]), other("quiet", out=1))
+    same("of nothing, to one in use", (IN_USE, []), raw("clone", to))
+    same("free", (OK, []), other("free"))
+
+
+def shown(machine) -> list:
+    """Returns all that a machine shows."""
+    cores, lines, slices = (range(getattr(machine.config, it)) for it in ("cores", "lines", "slices"))
+    of_lines = [machine.directory, machine.messages]
+    of_copies = [machine.copy, machine.targets, machine.ways]
+    of_cores = [machine.registers, machine.writebacks, machine.counts]
+    of_slices = [machine.next, machine.message_counts, lambda slice: list(machine.log(slice))]
+    return [
+        *(look(line) for look in of_lines for line in lines), *(look(slice) for look in of_slices for slice in slices),
+        *(look(core, line) for look in of_copies for core in cores for line in lines),
+        *(look(core, slice) for look in of_cores for core in cores for slice in slices),
+    ]
+
+
+def stirred(machine, draw: random.Random, count: int) -> list:
+    """Makes random calls, and returns their answers."""
+    config, told = machine.config, []
+    for _ in range(count):
+        core, word = draw.randrange(config.cores), draw.randrange(8 * config.lines)
+        kind, slice = draw.randrange(8), draw.randrange(config.slices)
+        if kind < 3:
+            told.append(machine.issue(core, draw.randrange(16), draw.randrange(4), word, draw.randrange(3), 5))
+        elif kind == 3:
+            told.append(machine.evict(core, word // 8))
+        elif kind == 4:
+            told.append(machine.hand(core, slice))
+        elif kind == 5:
+            told.append(machine.deliver(draw.randrange(5), word // 8, core, draw.randrange(config.cores)))
+        else:
+            told.append(machine.deliver_next(slice))
+    return told
+
+
+@each(lambda: ["explicit", "inverted"])
+def test_copies(misses: str) -> None:
+    """A copy answers as the machine does, with random victims too, and neither changes the other."""
+    fields = {"cores": 4, "slices": 2, "sets": 2, "mshrs": 2, "targets": 2, "writebacks": 1, "policy": 2, "seed": 9}
+    fields |= {"exclusive": 1, "misses": int(misses == "inverted")}
+    with module().Machine(init={3: 7}, counters=[40], **fields) as machine:
+        stirred(machine, random.Random(misses), 3000)
+        with machine.clone() as other:
+            before = shown(machine)
+            same("the copy", before, shown(other))
+            answers = stirred(other, random.Random(1), 3000)
+            want(shown(other) != before, "nothing happened")
+            same("the machine meanwhile", before, shown(machine))
+            same("the same calls", answers, stirred(machine, random.Random(1), 3000))
+            after = shown(other)
+            same("the machine and its copy", after, shown(machine))
+        same("the machine behind its copy", after, shown(machine))
 
 
 # fields that aren't allowed, the first of which is told, as docs/TEXTS.md has them
@@ -411,7 +540,7 @@ def test_errors_of_the_module() -> None:
         (lambda: closed.load(0, 0, 0), library.NoMachine, 1), (lambda: machine.load(2, 0, 0), library.OutOfRange, 2),
         (lambda: machine.log()[0], IndexError, 2), (lambda: machine.log(1), None, None),
         (lambda: library.Machine(ways=99), library.NotAllowed, 105),
-        (lambda: library.Machine(ways=99), ValueError, 105), (lambda: copy.copy(machine), TypeError, None),
+        (lambda: library.Machine(ways=99), ValueError, 105), (lambda: copy.copy(closed), library.NoMachine, 1),
         (lambda: library.Machine(way=1), TypeError, None), (lambda: machine.load(1 << 64, 0, 0), OverflowError, None),
         (lambda: machine.store(0, 0, 0, -1), OverflowError, None), (lambda: machine.evict(-1, 0), OverflowError, None),
         (lambda: library.Machine(cores=-1), OverflowError, None), (lambda: pickle.dumps(machine), TypeError, None),
@@ -440,10 +569,20 @@ def test_texts_of_the_module() -> None:
     with library.Machine(cores=2) as machine:
         said = [repr(machine.load(0, 0, 0)), repr(machine.store(0, 0, 0, 1)),
                 repr(machine.next()), repr(machine), repr(machine.log())]
+        machine.cas(0, 1, 3, 5, 6)
+        said += [repr(it) for it in (machine.registers(0), machine.targets(0, 0), machine.messages())]
+        machine.deliver_next()
+        machine.store(1, 0, 0, 7)
+        machine.deliver_next(channel=0)
+        looks = machine.registers(1), machine.messages(0), machine.ways(1, 4), machine.writebacks(0)
+        said += map(repr, looks)
     said.append(repr(machine))
     same("texts", ["<pending 0>", "<refused TAG_BUSY>", "<moved req 0 0>",
-                   "<lockup.Machine: 2 cores, 1 slices of 16 lines>",
-                   "<lockup.Log of slice 0: 0 entries>", "<lockup.Machine: closed>"], said)
+                   "<lockup.Machine: 2 cores, 1 slices of 16 lines>", "<lockup.Log of slice 0: 0 entries>",
+                   "(<line 0: GETS, acks 0 of 0, targets 2>,)", "(<tag 0: load 0>, <tag 1: cas 3 5 6>)",
+                   "(<req 0 0: GETS>,)", "(<line 0: GETM, acks 0 of ?, targets 1>,)",
+                   "(<data 0 0: DATA acks 0>, <data 0 1: DATA acks 1>, <fwd 0 0: INV for core 1>)", "(0,)", "()",
+                   "<lockup.Machine: closed>"], said)
 
 
 @seconds(20)
@@ -493,6 +632,8 @@ RENAMED = {
     "REFUSED_OUT_OF_RANGE": "NO_WORD",
     "VERDICT_REPLY": "WRONG_REPLY", "VERDICT_ORDER": "WRONG_ORDER", "VERDICT_SINCE": "WRONG_SINCE",
     **{f"DIRECTORYSTATE_{it}": f"DIR_{it}" for it in ("I", "S", "M", "S_D")},
+    **{f"MESSAGEKIND_{it}": f"MSG_{it}" for it in ("GETS", "GETM", "PUTS", "PUTM", "FWD_GETS", "FWD_GETM", "INV",
+                                                  "PUT_ACK", "DATA", "DATA_E", "INV_ACK", "HOME")},
 }
 
 
@@ -504,22 +645,40 @@ def test_numbers_of_python() -> None:
             name = RENAMED.get(f"{kind.__name__.upper()}_{member.name}", member.name)
             same(f"{kind.__name__}.{member.name}", numbers.get(f"LOCKUP_{name}"), int(member))
     named = {f"LOCKUP_{RENAMED.get(f'{kind.__name__.upper()}_{it.name}', it.name)}" for kind in kinds for it in kind}
-    codes = re.compile(r"LOCKUP_(OK|NO_MACHINE|OUT_OF_RANGE|NO_MEMORY|IN_USE|CONFIG_\w+|NO_CORE)$")
+    codes = re.compile(r"LOCKUP_(OK|NO_MACHINE|OUT_OF_RANGE|NO_MEMORY|IN_USE|NULL|CONFIG_\w+|NO_CORE|UNKNOWN)$")
     same("numbers without a name in Python", [], [it for it in numbers if it not in named and not codes.match(it)])
 
 
-def header_functions() -> dict[str, list[str]]:
-    """Returns the functions of lockup.h, each with the kinds of its parameters: a handle, a number, an output."""
+def header_parameters() -> dict[str, list[str]]:
+    """Returns the functions of lockup.h, each with its parameters."""
     text = re.sub(r"/\*.*?\*/", "", read(HEADER), flags=re.S)
     found = {}
     for name, body in re.findall(r"uint32_t lockup_(\w+)\((.*?)\);", text, re.S):
         rows = [" ".join(it.split()) for it in body.split(",")]
-        found[name] = [kind_of(it) for it in rows if it != "void"]
+        found[name] = [it for it in rows if it != "void"]
+    return found
+
+
+def header_functions() -> dict[str, list[str]]:
+    """Returns the same with the kinds of the parameters: a handle, a number, an output."""
+    return {name: [kind_of(it) for it in rows] for name, rows in header_parameters().items()}
+
+
+HANDLES = ("lockup_machine", "lockup_check")
+
+
+def header_words() -> dict[str, int]:
+    """Returns of how many numbers each struct of lockup.h is."""
+    text = re.sub(r"/\*.*?\*/", "", read(HEADER), flags=re.S)
+    found = {"uint64_t": 1}
+    for body, name in re.findall(r"typedef struct \{([^}]*)\} (\w+);", text):
+        fields = re.findall(r"(\w+)(?:\[(\d+)\])?\s*[,;]", body)
+        found[name] = sum(int(count or 1) for _, count in fields)
     return found
 
 
 def kind_of(parameter: str) -> str:
-    if re.match(r"lockup_(machine|check) \*", parameter):
+    if parameter.startswith(HANDLES):
         return "handle"
     return "buffer" if "*" in parameter else "number"
 
@@ -540,7 +699,11 @@ def test_functions_of_systemverilog() -> None:
         found[name] = ["handle" if "chandle" in it else "buffer" if it.startswith("output") or "[" in it else "number"
                        for it in rows]
     same("functions", header_functions(), found)
-    sizes = {name: int(size) for name, size in re.findall(r"output longint unsigned (\w+)\[(\d+)\]", text)}
-    want(sizes["issued"] == 3 and sizes["performed"] == 9, f"sizes of outputs: {sizes}")
+    outputs = {name: [int(it or 1) for it in re.findall(r"output longint unsigned \w+(?:\[(\d+)\])?", body)]
+               for name, body in re.findall(r"function int unsigned lockup_(\w+)\((.*?)\);", text)}
+    words = header_words()
+    wanted = {name: [words[it.split()[0]] for it in rows if "*" in it and not it.startswith(("const", *HANDLES))]
+              for name, rows in header_parameters().items()}
+    same("words of outputs", wanted, outputs)
 
 

@@ -4,13 +4,16 @@ program prints.
 For each script the page of `lockup page` is looked at as JSON, and then opened in chromium without
 a window, where every step is shown of every line, and what stands there is read:
 
+- the value's data are at each step what `state`, `waiting` and `show` print, also at each delivery
+  of a pump, which are delivered one by one for it;
 - the states on each lifeline, at its head and in its bar at the cursor, are those of `state`, each
   in its own colour;
 - the arrows are those of `lockup chart`, from the same sender to the same receiver, and at each
   step those in flight are the ones that `waiting` prints: so each begins and ends at the steps of
-  its sending and delivery, where it is drawn too. Rings are the chart's crosses;
-- what was performed is what `log` prints; copies, targets and replies are those of `show`; and who
-  leaves a set is the first of it that can;
+  its sending and delivery, where it is drawn too. Rings are the chart's crosses, and no label of one
+  is cut;
+- what was performed is what `log` prints; copies, targets and replies are those of `show`; who
+  leaves a set is the first of it that can; and what a slice would deliver next a pump delivers;
 - one row of the tables is lit, and it is that of the explained answer.
 
 Lines that differ in nothing but their blanks are shown as they are written. A script with an
@@ -25,7 +28,7 @@ import tempfile
 from functools import cache
 from typing import Any
 
-from harness import Different, Skipped, each, lockup, needs, same, seconds, want, write
+from harness import Different, Skipped, each, each_refused, is_plain, lockup, needs, program, same, seconds, want, write
 from harness.scripts import split
 from harness.states import States, shown_scripts, states_of
 
@@ -47,6 +50,12 @@ function readArrows() {
         return { ...it.dataset, way: ['x1', 'y1', 'x2', 'y2'].map(name => number(line, name)) };
     });
 }
+// how far a label is from the commands, and from the right edge
+function readEdges(it) {
+    const { x, width } = it.getBBox();
+    const place = placed();
+    return [it.textContent, x - place.label, place.width - x - width];
+}
 function readLine() {
     const cursor = document.querySelector('#cursor line');
     return { line: at('line').querySelector('h2').textContent, who: texts('#line .who')[0], home: texts('#line .word'),
@@ -60,7 +69,7 @@ function readStep() {
         blocks: all('.copy', it).map(row => texts('td', row)) }));
     const met = all('#met tr').map(row => texts('th, td', row));
     return { now: texts('#now .command')[0], answer: texts('#now .answer')[0], cores, met, lit: texts('#met .lit'),
-        rest: texts('.rest') };
+        rest: texts('#cores .rest'), could: texts('#could .rest') };
 }
 function tell(read) {
     document.body.replaceChildren(document.createElement('pre'));
@@ -83,10 +92,10 @@ document.body.style.height = '12000px';
 const drawing = names.map(line => {
     at('follow').value = line;
     show(steps.length);
-    return { line, arrows: readArrows(), rings: all('.ring').length, marks: texts('.performed, .mark'),
+    return { line, arrows: readArrows(), rings: all('.ring').length, edges: all('.mark').map(readEdges),
         rows: all('.row').map(it => [number(it, 'data-step'), number(it.querySelector('line'), 'y1')]) };
 });
-const performedAt = row => row.performed.map(it => [Number(sliceOf(row.line)), it.number, it.access, String(it.reply)]);
+const performedAt = row => row.performed.map(it => [it.slice, it.number, it.access, it.reply]);
 tell({ read, drawing, performed: rows.flatMap(performedAt) });
 </script>
 """
@@ -116,21 +125,224 @@ def lines_of(text: str) -> list[str]:
     return text.split("\n")[:-1]
 
 
+# ---- the value
+
+def steps_of(run: dict[str, Any]) -> list[dict[str, Any]]:
+    want(run["steps"][-1] is None, "the steps don't end with null")
+    return run["steps"][:-1]
+
+
+def step_by_step(script: str, steps: list[dict[str, Any]]) -> str:
+    """Returns the script with a command for each step: a pump's deliveries one by one, and `waiting`
+    where the pump itself says what is left."""
+    config, _ = split(script)
+    return "\n".join([*config, *("waiting" if it["call"]["name"] == "pump" else it["command"] for it in steps)]) + "\n"
+
+
+class Read:
+    """What a page's value says of a machine: what each step gave last."""
+
+    def __init__(self, script: str) -> None:
+        self.cores, self.slices = shape_of(script)["cores"], shape_of(script)["slices"]
+        self.lines, self.copies, self.parts, self.next, self.logs = {}, {}, {}, {}, {}
+
+    def take(self, step: dict[str, Any]) -> None:
+        for line in (step["line"], step["victim"]):
+            if line:
+                self.lines[line["line"]] = line
+        core, done = step["core"], step["performed"]
+        if core:
+            for copy in (core["copy"], core["victim"]):
+                if copy:
+                    self.copies[copy["line"], copy["core"]] = copy
+            slice_ = step["call"].get("slice", step["call"].get("line", 0) % self.slices)
+            self.parts[slice_, core["core"]] = core
+        if done:
+            log = self.logs.setdefault(done["slice"], [])
+            same("the first entry that a step gives", len(log), done["first"])
+            log += done["entries"]
+            self.next[done["slice"]] = step["next"]
+
+    def states(self) -> list[str]:
+        """The lines that `state` prints of what was given, in the order in which it was first."""
+        found = []
+        for line, it in self.lines.items():
+            owner = "-" if it["owner"] is None else it["owner"]
+            sharers = ",".join(map(str, it["sharers"])) or "-"
+            copies = [self.copies.get((line, core), {"state": "I"})["state"] for core in range(self.cores)]
+            found.append(f"line {line} dir {it['dir']} owner {owner} sharers {sharers} home {' '.join(it['home'])} "
+                         f"cores {' '.join(copies)}")
+        return found
+
+    def in_order(self) -> list[int]:
+        """The lines as `waiting` and `show` go through them: slice by slice, ascending."""
+        return sorted(self.lines, key=lambda line: (line % self.slices, line))
+
+    def messages(self) -> list[str]:
+        """The lines that `waiting` prints."""
+        found = []
+        for line in self.in_order():
+            for it in self.lines[line]["messages"]:
+                fate = it["fate"]
+                if fate == "blocked":
+                    fate = f"blocked: {self.lines[line]['dir'] if it['to'] == 'directory' else self.copies[line, it['to']]['state']}"
+                found.append(f"deliver {channel_of(it, line)}   {name_of(it)}   {fate}")
+        return found
+
+    def held(self) -> list[str]:
+        """The lines that `show` prints of copies, accesses and replies, as `without_rings` has them."""
+        found = []
+        for slice_ in range(self.slices):
+            for line in (it for it in self.in_order() if it % self.slices == slice_):
+                for core in range(self.cores):
+                    copy = self.copies.get((line, core))
+                    if not copy or copy["state"] == "I":
+                        continue
+                    needed = "?" if copy["needed"] is None else copy["needed"]
+                    acks = f" acks {copy['got']} of {needed}" if copy["got"] or copy["needed"] else ""
+                    block = " ".join(copy["block"]) if copy["block"] else ""
+                    found.append(f"core {core} line {line} {copy['state']}{acks} block {block}")
+                    found += [f"core {core} tag {it['tag']} awaits {access_of(it, 8 * line + it['offset'])} "
+                              f"seq {it['seq']} since {it['since']}" for it in copy["targets"]]
+            for core in range(self.cores):
+                for it in self.parts.get((slice_, core), {"replies": []})["replies"]:
+                    found.append(f"core {core} tag {it['tag']} reply {it['number']}")
+        return found
+
+    def places(self) -> dict[tuple[int, int], tuple[list[int], list[int]]]:
+        """The lines that wait and those that leave, by slice and core."""
+        return {at: (sorted(it["registers"]), sorted(it["leaving"])) for at, it in self.parts.items()
+                if it["registers"] or it["leaving"]}
+
+
+def channel_of(message: dict[str, Any], line: int) -> str:
+    """Returns a channel as `deliver` names it."""
+    ends = {"req": ["from"], "ack": ["to", "from"], "home": []}.get(message["class"], ["to"])
+    return " ".join(map(str, [message["class"], line, *(message[it] for it in ends)]))
+
+
+def name_of(message: dict[str, Any]) -> str:
+    """Returns the name of a message as `waiting` prints it."""
+    if "acks" in message:
+        return f"{message['kind']}({message['acks']})"
+    return f"{message['kind']} for core {message['for']}" if "for" in message else message["kind"]
+
+
+def access_of(it: dict[str, Any], word: int) -> str:
+    operands = [it[name] for name in ("expect", "value") if name in it]
+    return " ".join(map(str, [it["op"], word, *operands]))
+
+
+def without_rings(shown: list[str]) -> list[str]:
+    """Returns what `show` prints of copies, accesses and replies. A copy without a block has none to
+    show, nor one that hasn't been told it the number of acknowledgements."""
+    found = []
+    for text in shown:
+        if text.startswith(("line ", "slice ")):
+            continue
+        copy = re.fullmatch(r"(core \d+ line \d+ (\S+))( acks \d+ of )?(\d+)?( block )(.*)", text)
+        if copy:
+            who, state, acks, number, block, words = copy.groups()
+            number = "?" if state in ("IM_AD", "SM_AD") else number
+            words = "" if state in ("IS_D", "IM_AD", "II_A") else words
+            text = who + (f"{acks}{number}" if acks else "") + block + words
+        found.append(text)
+    return found
+
+
+def places_of(script: str, shown: list[str]) -> dict[tuple[int, int], tuple[list[int], list[int]]]:
+    """Returns the lines that wait and those that leave, by slice and core, from what `show` prints."""
+    found, slices = {}, shape_of(script)["slices"]
+    for text in shown:
+        copy = re.match(r"core (\d+) line (\d+) (\S+)", text)
+        for place, states in enumerate((MISSING, LEAVING)):
+            if copy and copy[3] in states:
+                at = int(copy[2]) % slices, int(copy[1])
+                found.setdefault(at, ([], []))[place].append(int(copy[2]))
+    return {at: (sorted(waits), sorted(leaves)) for at, (waits, leaves) in found.items()}
+
+
 @each(shown_scripts)
 def test_value(name: str) -> None:
-    """The page's value has the script, and the states and messages that the program prints."""
+    """What the page's value gives of the machine is at each step what the program prints: `state` of
+    each line, `waiting`, `show` and at last `log`; and what a slice would deliver next is what a pump
+    delivers."""
     script = shown_scripts()[name]
     ran = lockup("page", "-", text=script)
     same("status and error", (0, ""), (ran.status, ran.err))
     run = json.loads(value_of(ran.out))
-    commands, wanted = states_of(script)
-    steps = run["steps"][:-1]
+    steps, read = steps_of(run), Read(script)
     same("script", script, run["script"])
-    same("commands", commands, [step["command"] for step in steps])
+    same("commands", split(script)[1], [it["command"] for it in steps if not is_in_pump(it)])
+    commands, wanted = states_of(step_by_step(script, steps))
+    same("steps", len(commands), len(steps))
     for at, (step, states) in enumerate(zip(steps, wanted), 1):
-        same(f"states at step {at}", states.lines, lines_of(step["states"]))
-        same(f"messages at step {at}", states.messages, [it for it in lines_of(step["waiting"]) if it != "none"])
-        same(f"copies, accesses and replies at step {at}", states.held, lines_of(step["shown"]))
+        if is_in_pump(step):
+            line = step["call"]["line"]
+            same(f"what slice {line % read.slices} delivers at step {at}", without(step["call"], "name"),
+                 read.next.get(line % read.slices))
+        text = script.split("\n")[step["at"] - 1].rstrip("\r")
+        same(f"the line of the script at step {at}", is_in_pump(step) or step["command"],
+             text.split()[0] == "pump" if is_in_pump(step) else text)
+        read.take(step)
+        same(f"states at step {at}", states.lines, read.states())
+        same(f"messages at step {at}", states.messages, read.messages())
+        same(f"copies, accesses and replies at step {at}", without_rings(states.held), read.held())
+        same(f"registers and write-backs at step {at}", places_of(script, states.held), read.places())
+    check_performed(script, [[slice_, number, access_of(it, it["word"]), it["reply"]]
+                             for slice_, log in read.logs.items() for number, it in enumerate(log)])
+
+
+def is_in_pump(step: dict[str, Any]) -> bool:
+    """Whether a step is a delivery of a pump."""
+    return step["call"]["name"] == "deliver" and step["answer"].startswith("deliver ")
+
+
+def without(it: dict[str, Any], key: str) -> dict[str, Any]:
+    return {name: value for name, value in it.items() if name != key}
+
+
+def test_a_pump() -> None:
+    """A pump is a step for each of its deliveries, with the row that was met, and one that says what
+    is left."""
+    script = "issue 0 0 add 0 5\npump 9\n"
+    steps = steps_of(json.loads(value_of(lockup("page", "-", text=script).out)))
+    wanted = [
+        (1, "issue 0 0 add 0 5", "pending 0   core 0 (I, write): primary miss; to IM_AD; sends GetM to dir 0\n"),
+        (2, "deliver req 0 0", "deliver req 0 0   dir 0 (I, GetM): to M, owner 0; sends Data(0) to core 0\n"),
+        (2, "deliver data 0 0", "deliver data 0 0   core 0 (IM_AD, Data(0)): to M; performs number 0\n"),
+        (2, "pump 9", "empty\n"),
+    ]
+    same("steps", wanted, [(it["at"], it["command"], it["answer"]) for it in steps])
+    zeros = ["0"] * 8
+    same("the first delivery", {
+        "at": 2, "command": "deliver req 0 0", "answer": wanted[1][2],
+        "call": {"name": "deliver", "line": 0, "class": "req", "from": 0, "to": "directory"},
+        "plan": {"fate": "moves", "next": "M", "forwards": None},
+        "line": {"line": 0, "dir": "M", "owner": 0, "sharers": [], "home": zeros, "messages": [
+            {"class": "data", "to": 0, "kind": "Data", "acks": 0, "block": zeros, "fate": "moves"}]},
+        "victim": None, "performed": {"slice": 0, "first": 0, "entries": []},
+        "next": {"line": 0, "class": "data", "to": 0}, "core": None}, steps[1])
+    same("the second one", {
+        "at": 2, "command": "deliver data 0 0", "answer": wanted[2][2],
+        "call": {"name": "deliver", "line": 0, "class": "data", "to": 0}, "plan": {"fate": "moves", "next": "M"},
+        "line": {"line": 0, "dir": "M", "owner": 0, "sharers": [], "home": zeros, "messages": []}, "victim": None,
+        "performed": {"slice": 0, "first": 0, "entries": [
+            {"core": 0, "tag": 0, "word": 0, "op": "add", "value": "5", "reply": "0"}]},
+        "next": None, "core": {
+            "core": 0, "copy": {"core": 0, "line": 0, "state": "M", "got": 0, "needed": 0,
+                                "block": ["5", *zeros[1:]], "targets": []},
+            "victim": None, "registers": [], "leaving": [], "set": [0], "replies": [{"tag": 0, "number": 0}]}}, steps[2])
+
+
+def test_its_size() -> None:
+    """A page stays small whatever lines its commands name: 10,000 commands on as many lines."""
+    script = "lines 16384\n" + "".join(
+        f"issue 0 0 load {8 * line}\ndeliver req {line} 0\ndeliver data {line} 0\nhand 0 0\n" for line in range(2500))
+    few = len(lockup("page", "-", text=script).out)
+    script = "lines 16384\n" + "".join(f"state {line}\n" for line in range(10000))
+    many = len(lockup("page", "-", text=script).out)
+    want(few < 20_000_000 and many < 20_000_000, f"the pages have {few} and {many} bytes")
 
 
 def test_an_invalid_line() -> None:
@@ -140,6 +352,24 @@ def test_an_invalid_line() -> None:
     told = (page.status, page.err, run["fault"], run["script"], [it and it["command"] for it in run["steps"]])
     wanted = (2, "lockup: line 4: not a command\n", "line 4: not a command", script, ["issue 0 0 add 0 5", None])
     same("the page of a script with an invalid line", wanted, told)
+
+
+@seconds(20)
+def test_without_memory() -> None:
+    """Where an allocation is refused, the steps before it stand there, and the error."""
+    is_plain()
+    script, wanted = "issue 0 0 add 0 5\npump 9\nhand 0 0\n", None
+    for refused, ran in each_refused([program(), "page", "-"], script):
+        if ran.status == 0:
+            wanted = wanted or ran.out
+            same(f"the page with allocation {refused} refused", wanted, ran.out)
+            continue
+        same(f"status and error with allocation {refused} refused", (3, "lockup: no memory\n"), (ran.status, ran.err))
+        if ran.out:
+            run = json.loads(value_of(ran.out))
+            same(f"the error with allocation {refused} refused", "no memory", run["fault"])
+            whole, steps = steps_of(json.loads(value_of(wanted))), steps_of(run)
+            same(f"steps with allocation {refused} refused", whole[:len(steps)], steps)
 
 
 def opened(file: str, room: str, *more: str) -> str:
@@ -251,17 +481,17 @@ def check_cores(script: str, at: str, shown: list[str], step: dict[str, Any]) ->
         rows = [[f"line {it['line']}", it["state"], it["acks"],
                  "; ".join(it["waits"]) + ("" if inverted else f" ({len(it['waits'])} of {shape['targets']})")]
                 for it in missing]
-        same(f"registers of core {core} at {at}", rows, got[core]["registers"])
+        same(f"registers of core {core} at {at}", sorted(rows), sorted(got[core]["registers"]))
         bound = "an entry for each tag" if inverted else f"{len(missing)} of {shape['mshrs'] * shape['slices']} used"
         same(f"registers in use at {at}", f"miss registers: {bound}", got[core]["used"])
-        same(f"blocks of core {core} at {at}", [[f"line {it['line']}", it["block"]] for it in copies if it["block"]],
-             got[core]["blocks"])
+        same(f"blocks of core {core} at {at}", sorted([f"line {it['line']}", it["block"]] for it in copies if it["block"]),
+             sorted(got[core]["blocks"]))
         leaving = [[f"line {it['line']}", it["state"]] for it in copies if it["state"] in LEAVING]
-        same(f"what core {core} writes back at {at}", leaving, got[core]["leaving"])
+        same(f"what core {core} writes back at {at}", sorted(leaving), sorted(got[core]["leaving"]))
         stay = [it for it in copies if it["state"] not in LEAVING]
         check_sets(shape, f"core {core} at {at}", stay, got[core]["sets"])
-    rest = [it for it in shown if re.match(r"core \d+ tag \d+ reply |slice \d+ ring .", it)]
-    same(f"replies and order at {at}", rest, step["rest"])
+    replies = [it for it in shown if re.match(r"core \d+ tag \d+ reply ", it)]
+    same(f"replies at {at}", sorted(replies), sorted(it for it in step["rest"] if it.startswith("core ")))
 
 
 def check_sets(shape: dict[str, int], what: str, copies: list[dict[str, Any]], shown: list[list[str]]) -> None:
@@ -322,7 +552,7 @@ def check_row(script: str, at: str, step: dict[str, Any], answer: str, before: l
     """Compares the row that is lit with the case of the explained answer."""
     case = re.match(r"[^\n]*?   (core|dir) \d+ \((\S+), (.*?)\): (?:to (\w+))?", answer)
     words = step["now"].split()
-    if not case or words[0] == "pump":
+    if not case:
         return same(f"no row at {at}", [], step["lit"])
     who, state, event, to = case.groups()
     if who == "dir":
@@ -371,6 +601,8 @@ def check_drawing(script: str, drawing: list[dict[str, Any]], wanted: list[State
         same(f"arrows of line {line}", [arrow[:3] for arrow in arrows if arrow[3] == line],
              [(arrow["from"], arrow["to"], arrow["name"]) for arrow in made])
         same(f"rings of line {line}", blocked.get(line, 0), it["rings"])
+        for label, left, right in it["edges"]:
+            want(left >= 0 and right >= 0, f"'{label}' of line {line} is cut: {left} and {right}")
         for arrow in it["arrows"]:
             check_ends(arrow, rows)
         for step, states in enumerate(wanted, 1):
@@ -411,15 +643,17 @@ def check_performed(script: str, got: list[list[Any]]) -> None:
 def test_in_a_browser(name: str) -> None:
     script = shown_scripts()[name]
     found = read_in_a_browser(script, READ_ALL, "--window-size=1400,900")
-    commands, wanted = states_of(script)
-    run = json.loads(value_of(lockup("page", "-", text=script).out))
+    steps = steps_of(json.loads(value_of(lockup("page", "-", text=script).out)))
+    _, wanted = states_of(step_by_step(script, steps))
     read = found["read"]
-    same("steps", len(commands) + 1, len(read))
-    for step, command, states, told in zip(read[1:], commands, wanted, run["steps"]):
+    same("steps", len(steps) + 1, len(read))
+    for step, states, told in zip(read[1:], wanted, steps):
         at, before = f"step {step['step']}", read[step["step"] - 1]
-        same(f"command at {at}", command, step["now"])
-        want(told["answer"].startswith(step["answer"]), f"{at} doesn't show its answer")
+        same(f"command at {at}", told["command"], step["now"])
+        want(("moved" if is_in_pump(told) else told["answer"]).startswith(step["answer"]), f"{at} doesn't show its answer")
         check_cores(script, at, states.held, step)
+        same(f"what can be delivered at {at}", [it.rsplit("   ", 1)[0] for it in states.messages if it.endswith("moves")],
+             step["could"])
         check_victim(script, at, step, before, told["answer"])
         check_row(script, at, step, told["answer"], wanted[step["step"] - 2].lines if step["step"] > 1 else [])
         for shown in step["lines"]:
@@ -567,8 +801,8 @@ LONG = READERS + """
 <script>
 const timed = work => { const began = performance.now(); work(); return performance.now() - began; };
 const read = { steps: steps.length, opened: performance.now() };
-read.slowest = Math.max(...[1, 9000, 9001, 9002, 5000, 5001, 10002, 3].map(it => timed(() => show(it))));
-read.drawn = [1, 5000, 10002].map(it => { show(it); return all('#diagram *').length; });
+read.slowest = Math.max(...[1, 9000, 9001, 9002, 5000, 5001, steps.length, 3].map(it => timed(() => show(it))));
+read.drawn = [1, 5000, steps.length].map(it => { show(it); return all('#diagram *').length; });
 read.rows = all('.row').map(it => number(it, 'data-step'));
 tell(read);
 </script>
@@ -577,16 +811,20 @@ tell(read);
 
 @seconds(60)
 def test_a_long_run() -> None:
-    """10,002 commands are opened in time and stepped without a wait, and what isn't in view isn't
+    """10,002 commands are opened in two seconds and stepped without a wait, and what isn't in view isn't
     drawn."""
     script = "".join(f"issue {at % 2} 0 add 0 1\npump 99\nhand {at % 2} 0\n" for at in range(3334))
-    read = read_in_a_browser(script, LONG, "--window-size=1280,900")
-    same("steps", 10002, read["steps"])
-    want(all(0 < it < 600 for it in read["drawn"]), f"{read['drawn']} elements are drawn")
-    same("the last row", 10002, read["rows"][-1])
-    want(len(read["rows"]) < 40, f"{len(read['rows'])} rows are drawn")
-    # ten times what it takes here, for a browser that has a hundredth of a busy machine
-    want(read["opened"] < 20000 and read["slowest"] < 2000, f"it takes {read['opened']} and {read['slowest']} ms")
+    told = lockup("script", "--explain", "-", text=script).out.split("\n")
+    count = 10002 + sum(it.startswith("deliver ") for it in told)
+    # the best of some, since other tests run beside it
+    reads = [read_in_a_browser(script, LONG, "--window-size=1280,900") for _ in range(3)]
+    for read in reads:
+        same("steps", count, read["steps"])
+        want(all(0 < it < 600 for it in read["drawn"]), f"{read['drawn']} elements are drawn")
+        same("the last row", count, read["rows"][-1])
+        want(len(read["rows"]) < 40, f"{len(read['rows'])} rows are drawn")
+    opened, slowest = (min(read[name] for read in reads) for name in ("opened", "slowest"))
+    want(opened < 2000 and slowest < 200, f"it takes {opened} and {slowest} ms")
 
 
 WIDE = READERS + """

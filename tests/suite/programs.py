@@ -4,7 +4,10 @@ same sums, which the last row has; requests are hits and misses; and misses are 
 causes.
 
 A core with several accesses under way has as many stalls for want of a miss register as a small
-simulation counts, which is written here."""
+simulation counts, which is written here. What `run --script` prints is run by `lockup script`: its
+answers come to the counts of the report, and what waits behind each of its moves to the most and the
+mean of registers and targets."""
+import json
 import tempfile
 from collections import Counter
 
@@ -25,7 +28,9 @@ def check_sums(report: str) -> None:
         # as in awk, fields count from 1
         fields = ["", *row.split()]
         if fields[1:2] in (["core"], ["line"]):
-            part = "further" if "primary" in fields else fields[1]
+            part = "further" if "primary" in fields else "usage" if "regs-most" in fields else fields[1]
+        elif part == "usage":
+            want(all(float(fields[at + 1]) <= int(fields[at]) for at in (2, 4)), f"row {row}: means")
         elif part == "further":
             want(int(fields[4]) == sum(map(int, fields[5:])), f"row {row}: stalls")
         elif fields[1:2] != ["seed"]:
@@ -86,9 +91,9 @@ def ran_on(text: str, *words: str) -> list[list[str]]:
 def test_stalls(_: str, registers: int, most: int) -> None:
     for seed in range(1, 6):
         wanted = str(stalls(registers, most, 16, seed))
-        last = ran_on(parallel(registers, most, 16), "--seed", str(seed))[-1]
+        row = ran_on(parallel(registers, most, 16), "--seed", str(seed))[-3]
         same(f"seed {seed}: misses, secondary ones, stalls and their reason",
-             ["16", "0", wanted, wanted, "0", "0", "0", "0"], last[1:])
+             ["16", "0", wanted, wanted, "0", "0", "0", "0"], row[1:])
 
 
 def test_more_registers_stall_less() -> None:
@@ -102,3 +107,94 @@ def test_the_option_and_the_line() -> None:
     same("report", ran_on(line), ran_on(option, "--outstanding", "5"))
     same("report", ran_on(line), ran_on(parallel(2, 7, 16), "--outstanding", "5"))
     want(all("primary" not in row for row in ran_on(option)), "counted where no number is given")
+
+
+def played(*words: object) -> list[tuple[list[str], list[str]]]:
+    """The script of a run: each command with its answer, both as words."""
+    script = lockup("run", *words, "--script")
+    same("status and error", (0, ""), (script.status, script.err))
+    with tempfile.TemporaryDirectory() as room:
+        file = write(f"{room}/script.txt", script.out)
+        ran = lockup("script", file)
+        same("status and error of the script", (0, ""), (ran.status, ran.err))
+        for form in ("chart", "page"):
+            same(f"status of its {form}", 0, lockup(form, file).status)
+    commands = [line.split() for line in script.out.splitlines()]
+    commands = [command for command in commands if command[0] in ("issue", "deliver", "hand")]
+    return list(zip(commands, [answer.split() for answer in ran.out.splitlines()], strict=True))
+
+
+def report_of(*words: object) -> dict:
+    return json.loads(lockup("run", *words, "--json").out)
+
+
+@each(names)
+def test_schedule(name: str) -> None:
+    for words in ((), ("--seed", "7"), ("--outstanding", "4")):
+        counts, count = report_of(FOLDER / f"{name}.txt", *words)["all"], Counter()
+        for command, answer in played(FOLDER / f"{name}.txt", *words):
+            count[command[1] if command[0] == "deliver" else command[0], answer[0]] += 1
+        wanted = {(kind, "moved"): counts[kind] for kind in ("req", "fwd", "data", "ack", "home")}
+        wanted["issue", "done"] = counts["hits"]
+        wanted["issue", "pending"] = wanted["hand", "receipt"] = counts["misses"] + counts.get("secondary", 0)
+        wanted["issue", "stall"] = counts.get("stalls", 0)
+        same("answers", Counter(wanted), +count)
+
+
+@each(lambda: ["--json", "--csv", "--seeds 1..2", "--set ways=1"])
+def test_a_schedule_is_printed_alone(words: str) -> None:
+    ran = lockup("run", FOLDER / "ping_pong.txt", "--script", *words.split())
+    same("status and output", (2, ""), (ran.status, ran.out))
+    want("cannot be used with" in ran.err, ran.err)
+
+
+def in_use(calls: list[tuple[list[str], list[str]]], cores: int, slices: int) -> list[dict[str, int]]:
+    """What waits behind each move of a script: an access, or a delivery with the replies that it brings."""
+    lines, usages = {}, [Counter() for _ in range(cores)]
+    for at, (command, answer) in enumerate(calls):
+        core = int(command[1]) if command[0] != "deliver" else None
+        if answer[0] == "pending":
+            line = int(command[4]) // 8
+            lines[core, line % slices, int(command[2])] = line
+        elif command[0] == "hand":
+            del lines[core, int(command[2]), int(answer[3])]
+        if at + 1 < len(calls) and calls[at + 1][0][0] == "hand":
+            continue
+        for core, usage in enumerate(usages):
+            waiting = [line for (of, _, _), line in lines.items() if of == core]
+            for name, now in ("registers", len(set(waiting))), ("targets", len(waiting)):
+                usage[f"{name}_most"] = max(usage[f"{name}_most"], now)
+                usage[f"{name}_sum"] += now
+            usage["moves"] += 1
+    return [dict(usage) for usage in usages]
+
+
+def mean(total: int, moves: int) -> str:
+    return f"{total // moves}.{total % moves * 100 // moves:02}"
+
+
+# One core loads the words of a line, so they share its register; two cores of two slices, where lines leave.
+USES = {
+    "an example": (read(FOLDER / "parallel_misses.txt"), 1, 1),
+    "targets of a line": ("cores 1\nlines 2\noutstanding 8\ncore 0\nload 0..15\n", 1, 1),
+    "two slices": ("cores 2\nslices 2\nlines 16\nsets 2\nways 1\noutstanding 5\ncore 0\nrepeat 9\nadd 0..127 1\nend\n"
+                   "core 1\nrepeat 9\nload 3..90\nend\n", 2, 2),
+    "few targets": ("cores 2\nlines 4\nmshrs 2\ntargets 2\noutstanding 6\ncore 0\nrepeat 20\nadd 0..31 1\nend\n"
+                    "core 1\nrepeat 20\nstore 0..31 2\nend\n", 2, 1),
+    "inverted": ("cores 2\nlines 4\nmisses inverted\noutstanding 64\ncore 1\nload 0..31\ncore 0\nadd 0..31 7\n", 2, 1),
+}
+
+
+@each(lambda: list(USES))
+def test_what_is_in_use(what: str) -> None:
+    text, cores, slices = USES[what]
+    with tempfile.TemporaryDirectory() as room:
+        file = write(f"{room}/text.txt", text)
+        for seed in ("1", "2", "3"):
+            usages = in_use(played(file, "--seed", seed), cores, slices)
+            told = report_of(file, "--seed", seed)["cores"]
+            same(f"seed {seed}", usages, [{name: core[name] for name in usage} for core, usage in zip(told, usages)])
+            rows = [[str(core), str(usage["registers_most"]), mean(usage["registers_sum"], usage["moves"]),
+                     str(usage["targets_most"]), mean(usage["targets_sum"], usage["moves"])]
+                    for core, usage in enumerate(usages)]
+            same(f"rows of seed {seed}", rows, ran_on(text, "--seed", seed)[-cores:])

@@ -15,8 +15,8 @@ looked for:
 - a core's requests of a line are performed in the order in which they were asked for;
 - `stats` counts what was answered; no answer is `broken`; `lockup check` finds each log legal.
 
-The crate slice_tester does the like on slices themselves. This one sees the program as a user does,
-and shares no code with it.
+It sees the program as a user does, and shares no code with it; `account` predicts each call through
+the library.
 """
 import itertools
 import random

@@ -35,6 +35,9 @@ class Picture:
         self.bars = sorted(self.bar(it) for it in root.iter(f"{SVG}rect"))
         self.rings = [(self.names[int(it.get("cx"))], self.heights[int(it.get("cy"))])
                       for it in root.iter(f"{SVG}circle")]
+        self.reasons = [(int(it.get("x")), it.text) for it in root.iter(f"{SVG}text")
+                        if it.get("class").split()[0] == "wait"]
+        self.width = int(root.get("width"))
 
     def near(self, x: int) -> str:
         return next(name for at, name in self.names.items() if abs(at - x) == 10)
@@ -163,6 +166,10 @@ def check(script: str) -> None:
     same("arrows", account.arrows, picture.arrows)
     same("bars", account.bars, picture.bars)
     same("rings", account.rings, picture.rings)
+    # a reason stands right of its ring, where no command stands, and within the picture
+    for at, reason in picture.reasons:
+        want(any(0 < at - life < 20 for life in picture.names), f"'{reason}' doesn't stand right of a lifeline")
+        want(at + 7 * len(reason) < picture.width, f"'{reason}' is cut")
 
 
 def scripts() -> list[str]:

@@ -19,6 +19,9 @@ REFUSED = {
     "--set ways=1,two": "--set ways: two is none of its values",
     "--set ways=1,": "--set ways:  is none of its values",
     "--set ways=1 --set ways=2": "--set ways: given twice",
+    "--set outstanding=1,65": "--set outstanding: 65 is none of its values",
+    "--set outstanding=0": "--set outstanding: 0 is none of its values",
+    "--set outstanding=2 --outstanding 3": "--set outstanding: given twice",
     "--set counter=8": "--set counter: its lines add up, so none replaces another",
     "--set mshrs=1 --set ways=1,17 --seeds 3..4": "mshrs=1 ways=17 seed 3: config 5 Ways",
     "--set cores=1": "cores=1 seed 1: line 11: out of range",
@@ -55,6 +58,20 @@ def test_rows() -> None:
             same(f"row {settings} {row['seed']}", report, counts)
             same("columns", [*settings, "seed", *report], list(row))
             same("row of JSON", {"ways": int(row["ways"]), "policy": row["policy"], "seed": int(row["seed"]), **report}, other)
+
+
+def test_accesses_under_way() -> None:
+    """The setting is the option, whatever the text says, and stands beside others."""
+    with tempfile.TemporaryDirectory() as room:
+        for line in "", "outstanding 3\n":
+            text = str(write(f"{room}/text", TEXT.replace("\ncore 0", f"\n{line}core 0", 1)))
+            rows = rows_of(text, "--set", "outstanding=1,8", "--set", "ways=1,2", "--csv")
+            same("order", [("1", "1"), ("1", "2"), ("8", "1"), ("8", "2")], [(row["outstanding"], row["ways"]) for row in rows])
+            for row in rows:
+                alone = str(write(f"{room}/alone", with_settings({"ways": row["ways"]})))
+                report = json.loads(lockup("run", alone, "--outstanding", row["outstanding"], "--json").out)["all"]
+                same(f"row {row}", report, {name: int(row[name]) for name in report})
+            same("the first row", ["outstanding", "ways", "seed", *report], list(rows[0]))
 
 
 def test_rows_by_hand() -> None:

@@ -3,11 +3,13 @@
 
 The output of `lockup script --vcd` is taken apart into its signals and their values at each time.
 Lines that differ in nothing but their blanks are shown as they are written. A script with an
-invalid line has no waves, and its error is reported.
+invalid line has no waves, and its error is reported. What tools/gtkw writes for GTKWave names all
+signals.
 """
 import re
+import tempfile
 
-from harness import each, lockup, same, want
+from harness import ROOT, each, lockup, read, run, same, want, write
 from harness.states import States, shown_scripts, states_of
 
 Times = list[tuple[int, list[tuple[str, str]]]]
@@ -84,3 +86,19 @@ def test_waves(name: str) -> None:
 def test_an_invalid_line() -> None:
     ran = lockup("script", "--vcd", "-", text="cores 1\nissue 0 0 add 0 5\nissue 0 ad\n")
     same("a script with an invalid line", (2, "", "lockup: line 3: not a command\n"), tuple(ran))
+
+
+def test_settings_for_gtkwave() -> None:
+    """tools/gtkw names all signals in their order, each line's under its name."""
+    waves = lockup("script", "--vcd", "-", text=shown_scripts()["two_upgrades_at_once"]).out
+    with tempfile.TemporaryDirectory() as room:
+        file = write(f"{room}/run.vcd", waves)
+        ran = run([ROOT / "tools/gtkw", file], None)
+        same("what is told", (0, f"gtkwave {room}/run.gtkw\n", ""), (ran.status, ran.out, ran.err))
+        lines = read(f"{room}/run.gtkw").splitlines()
+    same("the file of waves", f'[dumpfile] "{room}/run.vcd"', lines[0])
+    # the longest value is deliver_data_0_0: 16 characters need more than half of a unit's 200 pixels
+    want(any(it.startswith("*-0.000000 ") for it in lines), f"{lines[3]} is another zoom")
+    shown = [it for it in lines if it.startswith(("run.", "-"))]
+    same("signals", ["run.command", "-line0", "run.line0.directory", "run.line0.core0", "run.line0.core1",
+                     "run.line0.in_flight"], shown)

@@ -1,0 +1,53 @@
+"""Validates values of JSON against the part of JSON Schema (draft 2020-12) that docs/schema uses."""
+from harness import Different
+
+TYPES = {"object": dict, "array": list, "string": str, "integer": int, "boolean": bool}
+KNOWN = {"$schema", "title", "type", "properties", "required", "items", "enum", "additionalProperties", "minimum",
+         "oneOf"}
+
+
+def is_of(value: object, name: str) -> bool:
+    # True is an int in Python, and no integer in JSON
+    return isinstance(value, TYPES[name]) and (name == "boolean" or not isinstance(value, bool))
+
+
+def faults(value: object, schema: dict, at: str = "$") -> list[str]:
+    """Returns what is wrong with the value, each with where it stands."""
+    unknown = set(schema) - KNOWN
+    found = [f"{at}: the validator doesn't know {name}" for name in sorted(unknown)]
+    types = schema.get("type", [])
+    types = [types] if isinstance(types, str) else types
+    if types and not any(is_of(value, name) for name in types):
+        return [*found, f"{at}: {value!r} is no {' or '.join(types)}"]
+    if "enum" in schema and not any(value is other or (value == other and type(value) is type(other))
+                                    for other in schema["enum"]):
+        found.append(f"{at}: {value!r} is none of {schema['enum']}")
+    if "minimum" in schema and value < schema["minimum"]:
+        found.append(f"{at}: {value!r} is below {schema['minimum']}")
+    if isinstance(value, dict):
+        found += faults_of_object(value, schema, at)
+    if isinstance(value, list):
+        for place, item in enumerate(value):
+            found += faults(item, schema.get("items", {}), f"{at}[{place}]")
+    if "oneOf" in schema:
+        fit = [other for other in schema["oneOf"] if not faults(value, other, at)]
+        if len(fit) != 1:
+            found.append(f"{at}: fits {len(fit)} of {len(schema['oneOf'])} schemas")
+    return found
+
+
+def faults_of_object(value: dict, schema: dict, at: str) -> list[str]:
+    properties = schema.get("properties", {})
+    found = [f"{at}: lacks {name}" for name in schema.get("required", []) if name not in value]
+    for name, item in value.items():
+        if name in properties:
+            found += faults(item, properties[name], f"{at}.{name}")
+        elif schema.get("additionalProperties", True) is False:
+            found.append(f"{at}: {name} isn't expected")
+    return found
+
+
+def fits(value: object, schema: dict) -> None:
+    found = faults(value, schema)
+    if found:
+        raise Different("\n".join(found))

@@ -1,0 +1,167 @@
+"""Compares what `--json` prints with what is printed without it, for each example, and validates it
+against docs/schema. The validator refuses values that don't fit."""
+import json
+import tempfile
+from pathlib import Path
+
+from harness import ROOT, Different, each, lockup, read, same, want, write
+from harness.schema import faults, fits
+from harness.scripts import COMMANDS
+
+EXAMPLES = ROOT / "examples"
+
+
+def schema(name: str) -> dict:
+    return json.loads(read(ROOT / f"docs/schema/{name}.json"))
+
+
+def value_of(name: str, *words: object, status: int = 0) -> object:
+    """What the command prints, which is one line of JSON and fits the schema of this name."""
+    ran = lockup(*words, "--json")
+    same("status and error", (status, ""), (ran.status, ran.err))
+    value = json.loads(ran.out)
+    fits(value, schema(name))
+    return value
+
+
+def names(folder: Path) -> list[str]:
+    return sorted(path.stem for path in folder.glob("*.txt"))
+
+
+def scripts() -> list[str]:
+    return [name for name in names(EXAMPLES) if name != "illegal_trace"]
+
+
+@each(scripts)
+def test_script(name: str) -> None:
+    file, fitting = EXAMPLES / f"{name}.txt", schema("script")
+    ran, told = lockup("script", file, "--json"), lockup("script", file, "--explain")
+    same("status and error", (told.status, told.err), (ran.status, ran.err))
+    values = [json.loads(line) for line in ran.out.splitlines()]
+    lines = dict(enumerate(read(file).splitlines(), 1))
+    wanted = [number for number, line in lines.items() if line.split()[:1] and line.split()[0] in COMMANDS]
+    same("lines", wanted, [value["line"] for value in values])
+    answers = []
+    for value in values:
+        fits(value, fitting)
+        same("command", lines[value["line"]], value["command"])
+        for line in value["answer"]:
+            words = " ".join(map(str, line["words"]))
+            answers.append(f"{words}   {line['happened']}" if "happened" in line else words)
+    same("answers", told.out.splitlines(), answers)
+
+
+def test_script_with_a_fault() -> None:
+    """The values before the fault are printed."""
+    with tempfile.TemporaryDirectory() as room:
+        file = write(f"{room}/script.txt", "\tword\t 0 \nword 1\nload 2\n")
+        ran = lockup("script", "--json", file)
+        same("status and error", (2, "lockup: line 3: not a command\n"), (ran.status, ran.err))
+        first, second = map(json.loads, ran.out.splitlines())
+        same("the first", {"line": 1, "command": "\tword\t 0 ", "answer": [{"words": [0]}]}, first)
+        same("the second", {"line": 2, "command": "word 1", "answer": [{"words": [0]}]}, second)
+
+
+@each(lambda: ["script first_add.txt --explain", "script first_add.txt --vcd", "walk litmus/sb.txt --script"])
+def test_json_alone(words: str) -> None:
+    command, file, option = words.split()
+    ran = lockup(command, EXAMPLES / file, option, "--json")
+    same("status and output", (2, ""), (ran.status, ran.out))
+    want("cannot be used with" in ran.err, ran.err)
+
+
+def rows_of(value: dict) -> list[str]:
+    """The lines of the table that has these outcomes."""
+    labels = [*value["names"], *(f"[{word}]" for word in value["counters"])]
+    rows = []
+    for row in value["outcomes"]:
+        cells = [f"{label}={told}" for label, told in zip(labels, row["values"], strict=True)]
+        seed = [f"seed {row['seed']}"] if "seed" in row else []
+        rows.append(" ".join([f"{row['rounds']:>8}", *cells, *seed]))
+    return [*rows, f"forbidden {value['forbidden']}"]
+
+
+@each(lambda: names(EXAMPLES / "litmus"))
+def test_walk(name: str) -> None:
+    words = ("walk", EXAMPLES / f"litmus/{name}.txt", "--rounds", "50", "--seed", "3")
+    same("outcomes", lockup(*words).out.splitlines(), rows_of(value_of("walk", *words)))
+
+
+def test_walk_with_counters() -> None:
+    with tempfile.TemporaryDirectory() as room:
+        text = write(f"{room}/test.txt", "lockup-litmus 1\ncores 2\ncounter 0\nthread 0\nadd 0 3 x\nthread 1\nadd 0 4 y\n"
+                                         "forbid x=4\n")
+        words = ("walk", text, "--rounds", "30")
+        value = value_of("walk", *words, status=1)
+        same("names and counters", (["x", "y"], [0]), (value["names"], value["counters"]))
+        same("outcomes", lockup(*words).out.splitlines(), rows_of(value))
+
+
+@each(lambda: ["sb", "mp", "iriw"])
+def test_litmus(name: str) -> None:
+    value = value_of("litmus", "litmus", EXAMPLES / f"litmus/{name}.txt")
+    table = lockup("litmus", EXAMPLES / f"litmus/{name}.txt").out.splitlines()
+    same("rounds", sum(int(row.split()[0]) for row in table[:-1]), sum(row["rounds"] for row in value["outcomes"]))
+    same("names", [cell.split("=")[0] for cell in table[0].split()[1:]], value["names"])
+    same("forbidden", table[-1], f"forbidden {value['forbidden']}")
+
+
+def test_stuck() -> None:
+    """A thread that may take one turn alone is stuck."""
+    file = EXAMPLES / "litmus/mp.txt"
+    same("text", (1, "stuck round 0\n"), (lockup("litmus", file, "--limit", "1").status,
+                                         lockup("litmus", file, "--limit", "1").out))
+    same("value", {"stuck_round": 0}, value_of("litmus", "litmus", file, "--limit", "1", status=1))
+
+
+@each(lambda: [(f"{table}, {option}", table, option) for table in ("cache", "directory") for option in ("", "--exclusive")])
+def test_table(_: str, table: str, option: str) -> None:
+    words = ("table", table, *option.split())
+    rows = [line.strip("|").split("|") for line in lockup(*words).out.splitlines() if line.startswith("| ")]
+    ran = lockup(*words, "--json")
+    same("status and error", (0, ""), (ran.status, ran.err))
+    values = [json.loads(line) for line in ran.out.splitlines()]
+    for value in values:
+        fits(value, schema("table"))
+    same("cells", [[cell.strip() for cell in row] for row in rows], values)
+    want(len(values) > 6, "rows")
+
+
+def test_check() -> None:
+    same("illegal", {"legal": False, "entry": 1, "reason": "reply"},
+         value_of("check", "check", EXAMPLES / "illegal_trace.txt", status=1))
+    with tempfile.TemporaryDirectory() as room:
+        trace = write(f"{room}/trace.txt", "lockup-trace 1\nentry 0 0 0 add 0 5 0 0\nentry 0 1 0 load 0 5 1\n")
+        same("legal", {"legal": True, "entries": 2}, value_of("check", "check", trace))
+
+
+@each(lambda: names(EXAMPLES / "programs"))
+def test_run(name: str) -> None:
+    file = EXAMPLES / f"programs/{name}.txt"
+    for words in ((), ("--outstanding", "4")):
+        value_of("run", "run", file, *words)
+        value_of("run_rows", "run", file, *words, "--seeds", "1..2", "--set", "ways=1,2", "--set", "policy=random 7")
+    value_of("run_rows", "run", file, "--set", "outstanding=1,2")
+
+
+@each(lambda: sorted(path.stem for path in (ROOT / "docs/schema").glob("*.json")))
+def test_schema(name: str) -> None:
+    """Each is named by the document of formats, and refuses what it is no schema of."""
+    want(f"schema/{name}.json" in read(ROOT / "docs/TEXTS.md"), "docs/TEXTS.md doesn't name it")
+    for value in ({}, {"seed": "1"}, 5, {"legal": 1, "entries": 2}, {"legal": True, "entries": 2, "more": 1}, [{}]):
+        want(faults(value, schema(name)), f"it fits {value}")
+
+
+def test_validator() -> None:
+    for value, other in ((1, "integer"), ("x", "string"), (True, "boolean"), ({}, "object"), ([], "array")):
+        fits(value, {"type": other})
+        for wrong in {"integer", "string", "boolean", "object", "array"} - {other}:
+            want(faults(value, {"type": wrong}), f"{value} is taken as {wrong}")
+    for value, other in (({"a": 1}, {"required": ["b"]}), ({"a": 1}, {"properties": {}, "additionalProperties": False}),
+                         ([1, "x"], {"items": {"type": "integer"}}), (1, {"enum": [True, 2]}), (-1, {"minimum": 0}),
+                         (1, {"oneOf": [{}, {"type": "integer"}]}), (1, {"pattern": "1"})):
+        try:
+            fits(value, other)
+        except Different:
+            continue
+        raise Different(f"{value} fits {other}")

@@ -1,7 +1,12 @@
 pub mod AskLemmas
+pub mod FrontCalls
+pub mod FrontIssue
+pub mod FrontLemmas
+pub mod KeptLemmas
 pub mod MoveLemmas
 pub mod Names
 pub mod PerformedLemmas
+pub mod RegisterLemmas
 pub mod RunLemmas
 pub mod Seen
 pub mod TidyLemmas

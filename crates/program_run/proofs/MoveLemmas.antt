@@ -1,10 +1,18 @@
 -- Moves that are listed one by one.
 use Rattle.std.proofs.Common.{◌≡◌, ℕ, zero, suc, ◌+◌, ◌<◌, Bool, true, false, List, [], ◌∷◌, ◌++◌, length, map, take}
 use Rattle.std.proofs.Common.{get_or, refl, sym, ap, ◌∙◌, append_assoc, append-nil, arith, add-one}
-use Rattle.std.specs.Prelude.{filter}
+use Rattle.std.proofs.Common.{Option, Some, subst}
+use Rattle.std.specs.Prelude.{IfSome, filter, slice_get}
 use Rattle.std.specs.List.{flat_map, range_with_len}
 use Rattle.std.proofs.lemmas.List.{flat_map_more, map-append, take_more}
 use Rattle.std.proofs.lemmas.List.Elements.{filter-append}
+use Rattle.std.proofs.lemmas.Option.{get_or_from_slice_get}
+use Rattle.slice_core_plan.specs.Calls.{PartsView, next_pick}
+use Rattle.slice_queues_message.specs.declared.channel.Class.TheVariants as classes
+use Rattle.slice_queues_message.specs.declared.channel.Pick.{Pick}
+use Rattle.program_run.specs.Front.{delivery_if}
+use Rattle.program_run.specs.Run.{deliveries_of, delivery_of}
+use Rattle.program_run.specs.declared.moves.Move.{Move}
 
 -- one number more at the end of those from 0 on
 range-suc : (a n j : ℕ) → a + n ≡ j → range_with_len a (suc n) ≡ range_with_len a n ++ j ∷ []
@@ -45,3 +53,25 @@ pub each_more : {X Y : Type 0} (f : X → List Y) (before now new : List Y) (xs 
 each_more f before now new xs i d within so_far grown =
     grown ∙ ap (λ all. all ++ f (get_or xs i d)) so_far ∙ flat_map_more f before (take i xs) (get_or xs i d)
     ∙ ap (λ these. before ++ flat_map f these) (sym (take_more xs i d within))
+
+-- what stands at a place of a list
+at-place : {X : Type 0} (xs : List X) (i : ℕ) → i < length xs → (x : X) × (slice_get xs i ≡ Some x)
+at-place [] i below = absurd (omega (arith, below))
+at-place (x ∷ xs) zero below = (x, refl)
+at-place (x ∷ xs) (suc i) below = at-place xs i (omega (arith, below))
+
+-- the next delivery of one slice more is listed
+pub next_listed : (before now new : List Move) (slices : List PartsView) (slice : ℕ) (next : Option Pick)
+    → slice < length slices → now ≡ before ++ deliveries_of (take slice slices) → new ≡ now ++ delivery_if next
+    → IfSome (slice_get slices slice) (λ state. delivery_of (next_pick state classes.Any) ≡ delivery_if next)
+    → new ≡ before ++ deliveries_of (take (slice + 1) slices)
+next_listed before now new slices slice next below so_far pushed is =
+    let (state, at) = at-place slices slice below in
+    let here : delivery_of (next_pick state classes.Any) ≡ delivery_if next =
+    subst (λ (found : Option PartsView). IfSome found
+    (λ state. delivery_of (next_pick state classes.Any) ≡ delivery_if next)) at is in
+    each_more (λ (state : PartsView). delivery_of (next_pick state classes.Any)) before now new slices slice state below
+    so_far
+    (pushed ∙ ap (λ (moves : List Move). now ++ moves) (sym here
+    ∙ ap (λ (p : PartsView). delivery_of (next_pick p classes.Any))
+    (sym (get_or_from_slice_get slices slice state state at))))

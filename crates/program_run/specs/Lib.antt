@@ -1,7 +1,10 @@
 pub mod Calls
 pub mod Column
+pub mod Front
 pub mod History
 pub mod Json
+pub mod Kept
+pub mod Register
 pub mod Report
 pub mod Run
 pub mod Tally

@@ -8,7 +8,9 @@
 //!
 //! - src/runner.rt: the machine, where each program stands, and what a move does (`Makes` of specs/Run.antt);
 //!   src/performed.rt: the accesses that a delivery performs.
-//! - src/moves.rt: what may come next (`moves_of`).
+//! - src/moves.rt: what may come next (`moves_of`); src/kept.rt: what was decided of the cores' next accesses, as long
+//!   as it holds (specs/Kept.antt); src/front.rt: the next delivery of a slice, without a look at lines that were seen to
+//!   be idle (specs/Front.antt).
 //! - src/observer.rt: what is seen of each call: what becomes of the cores' copies, and what is counted
 //!   (specs/History.antt). A miss is counted under its cause (`miss_cause`).
 //! - src/tally.rt: the counts, for each core and for each line (specs/Tally.antt).
@@ -28,14 +30,18 @@ pub use script::write_schedule;
 
 mod calls;
 mod column;
+mod front;
 mod json;
+mod kept;
 mod moves;
 mod observer;
 mod performed;
+mod register;
 mod report;
 mod run;
 mod runner;
 mod script;
+mod slice;
 mod tally;
 mod tidy;
 mod usage;

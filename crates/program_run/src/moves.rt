@@ -1,5 +1,6 @@
 ghost use Rattle.std.specs.Prelude.{◌≡◌, ◌++◌, ◌<◌, IfSome, OnOk, Some, slice_get};
 ghost use Rattle.litmus_text.specs.Command.{HasCore};
+ghost use Rattle.program_run.specs.Kept.{Knows};
 ghost use Rattle.program_run.specs.Run.{
   asks_of,
   decision_on,
@@ -10,7 +11,6 @@ ghost use Rattle.program_run.specs.Run.{
   may_stall,
   may_step,
   may_turn,
-  measured_place,
   most_of,
   next_by,
   next_of,
@@ -18,12 +18,15 @@ ghost use Rattle.program_run.specs.Run.{
   turn_of,
 };
 
+use super::front::push_delivery;
+use super::kept::Kept;
+use super::slice::slice_of;
 use super::usage::Usage;
 use address_map::{CoreId, Request};
 use litmus_script::Machine;
 use mshr_file::MissFile;
 use program_text::{Access, CoreProgram, Programs, Step};
-use slice_core::{AccessKind, Class, Decision, DeliveredNext, Pick, SliceState};
+use slice_core::{AccessKind, Decision, Pick};
 use std::alloc::AllocError;
 
 /// What may come next.
@@ -62,16 +65,6 @@ impl Place {
             usage: Usage::none(),
         }
     }
-
-    /// Its usage is measured.
-    pub fn measured(self) -> Self
-        ensures { result ≡ measured_place self }
-    {
-        Place {
-            usage: self.usage.measured(self.registers, self.waiting),
-            ..self
-        }
-    }
 }
 
 /// What an access takes up until it is performed.
@@ -98,27 +91,33 @@ pub(crate) fn list_moves<F: MissFile>(
     machine: &Machine<F>,
     programs: &Programs,
     places: &[Place],
+    kept: &mut Kept,
     moves: &mut Vec<Move>,
 ) -> Result<(), AllocError>
-    ensures { OnOk result (moves.new.items ≡ moves.old.items
+    requires { Knows machine.now.config machine.now.slices.items kept.old }
+    ensures moves { OnOk result (moves.new.items ≡ moves.old.items
         ++ asks_of machine.now.config programs.now machine.now.slices.items places.now
         ++ deliveries_of machine.now.slices.items) }
+    ensures kept { OnOk result (Knows machine.now.config machine.now.slices.items kept.new) }
 {
-    list_asks(machine, programs, places, moves)?;
-    list_deliveries(machine.slices.as_slice(), moves)
+    list_asks(machine, programs, places, kept, moves)?;
+    list_deliveries(machine, kept, moves)
 }
 
 fn list_asks<F: MissFile>(
     machine: &Machine<F>,
     programs: &Programs,
     places: &[Place],
+    kept: &mut Kept,
     moves: &mut Vec<Move>,
 ) -> Result<(), AllocError>
-    ensures { OnOk result (moves.new.items
+    requires { Knows machine.now.config machine.now.slices.items kept.old }
+    ensures moves { OnOk result (moves.new.items
         ≡ moves.old.items ++ asks_of machine.now.config programs.now machine.now.slices.items places.now) }
+    ensures kept { OnOk result (Knows machine.now.config machine.now.slices.items kept.new) }
 {
     for number in 0..programs.cores.len() {
-        if !may_ask(machine, programs, places, number) {
+        if !may_ask(machine, programs, places, kept, number) {
             continue;
         }
         moves.push(Move::Ask(number))?;
@@ -127,16 +126,17 @@ fn list_asks<F: MissFile>(
 }
 
 fn list_deliveries<F: MissFile>(
-    slices: &[SliceState<F>],
+    machine: &Machine<F>,
+    kept: &mut Kept,
     moves: &mut Vec<Move>,
 ) -> Result<(), AllocError>
-    ensures { OnOk result (moves.new.items ≡ moves.old.items ++ deliveries_of slices.now) }
+    requires { Knows machine.now.config machine.now.slices.items kept.old }
+    ensures moves { OnOk result (moves.new.items ≡ moves.old.items ++ deliveries_of machine.now.slices.items) }
+    ensures kept { OnOk result (Knows machine.now.config machine.now.slices.items kept.new) }
 {
-    for slice in slices {
-        let DeliveredNext::Moved(pick) = slice.next(Class::Any) else {
-            continue;
-        };
-        moves.push(Move::Deliver(pick))?;
+    for slice in 0..machine.slices.len() {
+        let next = kept.next(machine, slice);
+        push_delivery(next, moves)?;
     }
     Ok(())
 }
@@ -146,13 +146,16 @@ fn may_ask<F: MissFile>(
     machine: &Machine<F>,
     programs: &Programs,
     places: &[Place],
+    kept: &mut Kept,
     number: usize,
 ) -> bool
-    ensures { result ≡ may_ask machine.now.config programs.now machine.now.slices.items places.now number }
+    requires { Knows machine.now.config machine.now.slices.items kept.old }
+    ensures may { result ≡ may_ask machine.now.config programs.now machine.now.slices.items places.now number }
+    ensures kept { Knows machine.now.config machine.now.slices.items kept.new }
 {
     let stalls = may_stall(programs.outstanding, places, number);
     match next_turn(machine.config.cores(), programs, places, number) {
-        Some((core, turn)) => may_turn(machine, stalls, core, turn),
+        Some((core, turn)) => may_turn(machine, kept, stalls, core, turn),
         None => false,
     }
 }
@@ -167,12 +170,20 @@ fn may_stall(most: Option<u64>, places: &[Place], number: usize) -> bool
     }
 }
 
-fn may_turn<F: MissFile>(machine: &Machine<F>, stalls: bool, core: CoreId, turn: Turn) -> bool
-    requires { HasCore machine.now.config core }
-    ensures { result ≡ may_turn machine.now.config machine.now.slices.items stalls core turn }
+fn may_turn<F: MissFile>(
+    machine: &Machine<F>,
+    kept: &mut Kept,
+    stalls: bool,
+    core: CoreId,
+    turn: Turn,
+) -> bool
+    requires core { HasCore machine.now.config core }
+    requires kept { Knows machine.now.config machine.now.slices.items kept.old }
+    ensures may { result ≡ may_turn machine.now.config machine.now.slices.items stalls core turn }
+    ensures kept { Knows machine.now.config machine.now.slices.items kept.new }
 {
     match turn {
-        Turn::Ask(request) => is_tried(stalls, decide(machine, core, request)),
+        Turn::Ask(request) => is_tried(stalls, kept.decide(machine, core, request)),
         Turn::Settled => true,
     }
 }
@@ -260,7 +271,7 @@ pub(crate) fn decide<F: MissFile>(machine: &Machine<F>, core: CoreId, request: R
     requires { HasCore machine.now.config core }
     ensures { decision_on machine.now.config machine.now.slices.items core request ≡ Some result }
 {
-    let slice = machine.slice_of(request.word.line());
+    let slice = slice_of(machine, request.word.line());
     machine.slices[slice].decide(core, request)
 }
 

@@ -1,7 +1,9 @@
 ghost use Rattle.std.specs.Prelude.{◌≡◌, ◌<◌, OnOk, drop, true};
 ghost use Rattle.litmus_script.specs.Machine.{log_at};
+ghost use Rattle.program_run.specs.Kept.{Knows};
 ghost use Rattle.program_run.specs.Run.{Leads, PerformsAll};
 
+use super::kept::Kept;
 use super::runner::Runner;
 use address_map::SliceId;
 use litmus_script::Machine;
@@ -39,15 +41,18 @@ pub(crate) fn hand_out_all<F: MissFile>(
     runner: &mut Runner<F>,
     programs: &Programs,
     slice: SliceId,
+    kept: &mut Kept,
     entries: &[Entry],
 ) -> Result<(), AllocError>
-    requires { slice.0 < runner.old.config.slices }
-    ensures { OnOk result
+    requires slice { slice.0 < runner.old.config.slices }
+    requires kept { Knows runner.old.config runner.old.slices kept.old }
+    ensures leads { OnOk result
         (Leads (PerformsAll runner.old.config programs.now slice.0 true entries.now) runner.old runner.new) }
+    ensures kept { OnOk result (Knows runner.old.config runner.new.slices kept.new) }
 {
     let mut is_first = true;
     for entry in entries {
-        runner.hand_out(programs, slice, *entry, is_first)?;
+        runner.hand_out(programs, slice, *entry, is_first, kept)?;
         is_first = false;
     }
     Ok(())

@@ -1,4 +1,4 @@
-ghost use Rattle.std.specs.Prelude.{◌≡◌, [], IfErr, IfNone, IfOk, IfSome, OnOk, Some};
+ghost use Rattle.std.specs.Prelude.{◌≡◌, ◌<◌, ◌%◌, [], IfErr, IfNone, IfOk, IfSome, OnOk, Some};
 ghost use Rattle.std.specs.Fmt.{WritesInCalls};
 ghost use Rattle.std.specs.Io.KnownBytes.{Appends};
 ghost use Rattle.litmus_script.specs.Machine.{bound_of};
@@ -11,6 +11,7 @@ ghost use Rattle.program_run.specs.Run.{IsProgramNotRun, IsProgramsRun, Leads, R
 ghost use Rattle.program_run.specs.Run.{text_of_stuck};
 
 use super::json::write_json;
+use super::kept::Kept;
 use super::moves::Move;
 use super::report::write_report;
 use super::runner::Runner;
@@ -129,16 +130,17 @@ pub(crate) fn run<F: MissFile>(
     ensures { OnOk result (Leads (Runs runner.old.config programs.now seed) runner.old runner.new) }
 {
     let mut generator = Xoshiro256PlusPlus::seed_from_u64(seed);
+    let mut kept = Kept::new(alloc, programs.config.cores(), programs.config.slices())?;
     let mut moves = Vec::new(alloc);
     let mut performed = Vec::new(alloc);
     for made in 0..u64::MAX {
-        runner.list_moves(programs, &mut moves)?;
+        runner.list_moves(programs, &mut kept, &mut moves)?;
         let Some(to) = draw(&mut generator, moves.as_slice()) else {
             return Ok(());
         };
-        runner.go(programs, to, &mut performed)?;
+        runner.go(programs, to, &mut kept, &mut performed)?;
         runner.measure();
-        runner.tidy(made);
+        runner.tidy(made, &mut kept);
     }
     Ok(())
 }
@@ -152,8 +154,23 @@ fn draw(generator: &mut Xoshiro256PlusPlus, moves: &[Move]) -> Option<Move>
     if moves.is_empty() {
         return None;
     }
-    let place = (generator.next_word() % moves.len() as u64) as usize;
-    Some(moves[place])
+    Some(moves[place_of(generator.next_word(), moves.len())])
+}
+
+// The place that a word draws out of so many. No division is made where these are few.
+fn place_of(word: u64, count: usize) -> usize
+    requires { 0 < count }
+    ensures place { result ≡ word % count }
+    ensures below { result < count }
+{
+    match count {
+        1 => 0,
+        2 => (word % 2) as usize,
+        3 => (word % 3) as usize,
+        4 => (word % 4) as usize,
+        5 => (word % 5) as usize,
+        _ => (word % count as u64) as usize,
+    }
 }
 
 fn print_report<W: Write>(

@@ -7,6 +7,7 @@ ghost use Rattle.slice_core.specs.Facts.{front_at};
 ghost use Rattle.slice_core_plan.specs.View.{IsQuiet};
 ghost use Rattle.slice_queues_message.specs.Pick.{channel_of, line_of};
 ghost use Rattle.program_run.specs.History.{History, HasSeen};
+ghost use Rattle.program_run.specs.Kept.{Knows};
 ghost use Rattle.program_run.specs.Tidy.{Tidies};
 ghost use Rattle.program_run.specs.Run.{
   Accesses,
@@ -25,7 +26,6 @@ ghost use Rattle.program_run.specs.Run.{
   deliveries_of,
   fewer_registers,
   gone_on,
-  is_closed,
   left_in,
   makes_room,
   measured_place,
@@ -40,9 +40,12 @@ ghost use Rattle.program_run.specs.Run.{
 };
 
 use super::calls::Calls;
-use super::moves::{Move, Place, Takes, Turn, decide, list_moves, next_turn};
+use super::kept::Kept;
+use super::moves::{Move, Place, Takes, Turn, list_moves, next_turn};
 use super::observer::Observer;
 use super::performed::{hand_out_all, list_performed};
+use super::register::is_closed;
+use super::slice::slice_of;
 use super::tally::Tally;
 use super::tidy::tidy;
 use super::usage::Usage;
@@ -135,21 +138,30 @@ impl<F: MissFile> Runner<F> {
     }
 
     /// Keeps the rings of the slices short, behind a move that so many others came before.
-    pub fn tidy(&mut self, made: u64)
+    pub fn tidy(&mut self, made: u64, kept: &mut Kept)
+        requires { Knows self.old.config self.old.slices kept.old }
         ensures tidied { Tidies self.old.config.slices made self.old.slices self.new.slices }
         ensures rest { self.new ≡ record self.old { slices = self.new.slices } }
+        ensures kept { Knows self.old.config self.new.slices kept.new }
     {
-        tidy(&mut self.machine, made);
+        tidy(&mut self.machine, made, kept);
     }
 
     /// Lists what may come next.
-    pub fn list_moves(&self, programs: &Programs, moves: &mut Vec<Move>) -> Result<(), AllocError>
-        ensures { OnOk result (moves.new.items
+    pub fn list_moves(
+        &self,
+        programs: &Programs,
+        kept: &mut Kept,
+        moves: &mut Vec<Move>,
+    ) -> Result<(), AllocError>
+        requires { Knows self.now.config self.now.slices kept.old }
+        ensures moves { OnOk result (moves.new.items
             ≡ asks_of self.now.config programs.now self.now.slices self.now.places
             ++ deliveries_of self.now.slices) }
+        ensures kept { OnOk result (Knows self.now.config self.now.slices kept.new) }
     {
         moves.clear();
-        list_moves(&self.machine, programs, self.places.as_slice(), moves)
+        list_moves(&self.machine, programs, self.places.as_slice(), kept, moves)
     }
 
     /// Makes the move. What a delivery performs is listed for that.
@@ -157,32 +169,46 @@ impl<F: MissFile> Runner<F> {
         &mut self,
         programs: &Programs,
         to: Move,
+        kept: &mut Kept,
         performed: &mut Vec<Entry>,
     ) -> Result<(), AllocError>
-        ensures { OnOk result (Leads (Makes self.old.config programs.now to) self.old self.new) }
+        requires { Knows self.old.config self.old.slices kept.old }
+        ensures leads { OnOk result (Leads (Makes self.old.config programs.now to) self.old self.new) }
+        ensures kept { OnOk result (Knows self.old.config self.new.slices kept.new) }
     {
         match to {
-            Move::Ask(number) => self.ask(programs, number),
-            Move::Deliver(pick) => self.deliver(programs, pick, performed),
+            Move::Ask(number) => self.ask(programs, number, kept),
+            Move::Deliver(pick) => self.deliver(programs, pick, kept, performed),
         }
     }
 
-    fn ask(&mut self, programs: &Programs, number: usize) -> Result<(), AllocError>
-        ensures { OnOk result (Leads (Makes self.old.config programs.now (Move.Ask number)) self.old self.new) }
+    fn ask(&mut self, programs: &Programs, number: usize, kept: &mut Kept) -> Result<(), AllocError>
+        requires { Knows self.old.config self.old.slices kept.old }
+        ensures leads { OnOk result
+            (Leads (Makes self.old.config programs.now (Move.Ask number)) self.old self.new) }
+        ensures kept { OnOk result (Knows self.old.config self.new.slices kept.new) }
     {
         let cores = self.machine.config.cores();
         match next_turn(cores, programs, self.places.as_slice(), number) {
-            Some((core, turn)) => self.take_turn(number, core, turn),
+            Some((core, turn)) => self.take_turn(number, core, turn, kept),
             None => Ok(()),
         }
     }
 
-    fn take_turn(&mut self, number: usize, core: CoreId, turn: Turn) -> Result<(), AllocError>
-        requires { HasCore self.old.config core }
-        ensures { OnOk result (Leads (Turns self.old.config number core turn) self.old self.new) }
+    fn take_turn(
+        &mut self,
+        number: usize,
+        core: CoreId,
+        turn: Turn,
+        kept: &mut Kept,
+    ) -> Result<(), AllocError>
+        requires core { HasCore self.old.config core }
+        requires kept { Knows self.old.config self.old.slices kept.old }
+        ensures leads { OnOk result (Leads (Turns self.old.config number core turn) self.old self.new) }
+        ensures kept { OnOk result (Knows self.old.config self.new.slices kept.new) }
     {
         match turn {
-            Turn::Ask(request) => self.access(number, core, request),
+            Turn::Ask(request) => self.access(number, core, request, kept),
             Turn::Settled => {
                 go_on(&mut self.places, number, Takes::Nothing);
                 Ok(())
@@ -190,15 +216,21 @@ impl<F: MissFile> Runner<F> {
         }
     }
 
-    fn access(&mut self, number: usize, core: CoreId, request: Request) -> Result<(), AllocError>
-        requires { HasCore self.old.config core }
-        ensures { OnOk result (Leads (Accesses self.old.config number core request) self.old self.new) }
+    fn access(
+        &mut self,
+        number: usize,
+        core: CoreId,
+        request: Request,
+        kept: &mut Kept,
+    ) -> Result<(), AllocError>
+        requires core { HasCore self.old.config core }
+        requires kept { Knows self.old.config self.old.slices kept.old }
+        ensures leads { OnOk result (Leads (Accesses self.old.config number core request) self.old self.new) }
+        ensures kept { OnOk result (Knows self.old.config self.new.slices kept.new) }
     {
-        let decision = decide(&self.machine, core, request);
+        let decision = kept.decide(&self.machine, core, request);
         self.calls.push(Command::Issue { core, request })?;
-        let Ok(issued) = self.machine.issue(core, request) else {
-            return Err(AllocError);
-        };
+        let issued = kept.issue(&mut self.machine, core, request)?;
         match issued {
             Issued::Done { reply, .. } => {
                 self.observer.hit(core, request.word, request.op, reply);
@@ -225,18 +257,22 @@ impl<F: MissFile> Runner<F> {
         &mut self,
         programs: &Programs,
         pick: Pick,
+        kept: &mut Kept,
         performed: &mut Vec<Entry>,
     ) -> Result<(), AllocError>
-        ensures { OnOk result (Leads (Makes self.old.config programs.now (Move.Deliver pick)) self.old self.new) }
+        requires { Knows self.old.config self.old.slices kept.old }
+        ensures leads { OnOk result
+            (Leads (Makes self.old.config programs.now (Move.Deliver pick)) self.old self.new) }
+        ensures kept { OnOk result (Knows self.old.config self.new.slices kept.new) }
     {
-        let slice = SliceId(self.machine.slice_of(pick.line()) as u8);
+        let slice = SliceId(slice_of(&self.machine, pick.line()) as u8);
         let front = front_of(&self.machine, pick);
         let before = self.machine.log_of(slice).len();
         self.calls.push(Command::Deliver(pick))?;
-        match self.machine.deliver(pick) {
+        match kept.deliver(&mut self.machine, pick) {
             Delivered::Moved => {
                 self.observer.deliver(pick, front);
-                self.perform(programs, slice, before, performed)?;
+                self.perform(programs, slice, before, kept, performed)?;
                 Ok(())
             }
             Delivered::Blocked | Delivered::Nothing | Delivered::Broken(_) => Ok(()),
@@ -249,15 +285,18 @@ impl<F: MissFile> Runner<F> {
         programs: &Programs,
         slice: SliceId,
         before: usize,
+        kept: &mut Kept,
         performed: &mut Vec<Entry>,
     ) -> Result<(), AllocError>
-        requires { slice.0 < self.old.config.slices }
-        ensures { OnOk result (Leads
+        requires slice { slice.0 < self.old.config.slices }
+        requires kept { Knows self.old.config self.old.slices kept.old }
+        ensures leads { OnOk result (Leads
             (PerformsAll self.old.config programs.now slice.0 true (drop before (log_at self.old.slices slice.0)))
             self.old self.new) }
+        ensures kept { OnOk result (Knows self.old.config self.new.slices kept.new) }
     {
         list_performed(&self.machine, slice, before, performed)?;
-        hand_out_all(self, programs, slice, performed.as_slice())
+        hand_out_all(self, programs, slice, kept, performed.as_slice())
     }
 
     /// An access that waited is performed, as the first of its delivery or behind others: its reply is handed out, and
@@ -268,10 +307,13 @@ impl<F: MissFile> Runner<F> {
         slice: SliceId,
         entry: Entry,
         is_first: bool,
+        kept: &mut Kept,
     ) -> Result<(), AllocError>
-        requires { slice.0 < self.old.config.slices }
-        ensures { OnOk result
+        requires slice { slice.0 < self.old.config.slices }
+        requires kept { Knows self.old.config self.old.slices kept.old }
+        ensures leads { OnOk result
             (Leads (Performs self.old.config programs.now slice.0 is_first entry) self.old self.new) }
+        ensures kept { OnOk result (Knows self.old.config self.new.slices kept.new) }
     {
         let core = entry.core;
         if core.0 as usize >= self.machine.config.cores() {
@@ -279,7 +321,7 @@ impl<F: MissFile> Runner<F> {
         }
         let closes = is_closed(is_first, &self.machine, core, entry.word.line());
         self.calls.push(Command::Hand { core, slice })?;
-        let _ = self.machine.hand(core, slice);
+        let _ = kept.hand(&mut self.machine, core, slice);
         self.observer.perform(entry, is_first);
         wake(
             &mut self.places,
@@ -350,27 +392,8 @@ fn left_in<F: MissFile>(machine: &Machine<F>, core: CoreId, line: LineAddr) -> O
     requires { HasCore machine.now.config core }
     ensures { result ≡ left_in (slice_get machine.now.slices.items (line.0 % machine.now.config.slices)) core }
 {
-    let slice = machine.slice_of(line);
+    let slice = slice_of(machine, line);
     machine.slices[slice].last_written_back(core)
-}
-
-// Whether the delivery has closed the register of a core's line: it performs its first access, and none of the core
-// waits for the line any more.
-fn is_closed<F: MissFile>(
-    is_first: bool,
-    machine: &Machine<F>,
-    core: CoreId,
-    line: LineAddr,
-) -> bool
-    requires { HasCore machine.now.config core }
-    ensures { result ≡ is_closed is_first
-        (slice_get machine.now.slices.items (line.0 % machine.now.config.slices)) core line }
-{
-    if !is_first {
-        return false;
-    }
-    let slice = machine.slice_of(line);
-    machine.slices[slice].targets(core, line).is_empty()
 }
 
 // The program of this number has taken one more step, and what this takes up.
@@ -445,7 +468,8 @@ fn measure_all(places: &mut Vec<Place>)
     ensures { places.new.items ≡ map measured_place places.old.items }
 {
     for number in 0..places.len() {
-        places[number] = places[number].measured();
+        let place = &mut places[number];
+        place.usage = place.usage.measured(place.registers, place.waiting);
     }
 }
 
@@ -501,7 +525,7 @@ fn front_of<F: MissFile>(machine: &Machine<F>, pick: Pick) -> Option<Message>
     ensures { HasAt machine.now.slices.items ((line_of pick).0 % machine.now.config.slices)
         (λ state. result ≡ front_at state.view (local_at state.view.lines (line_of pick).0) (channel_of pick)) }
 {
-    let slice = machine.slice_of(pick.line());
+    let slice = slice_of(machine, pick.line());
     machine.slices[slice].front(pick)
 }
 

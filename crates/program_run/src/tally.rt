@@ -78,6 +78,7 @@ impl Counted {
 }
 
 /// What was counted of a core, or of a line. A count stops at 2^64 - 1.
+// What most lines count stands together, so that fewer cache lines are written.
 #[derive(Clone, Copy, Debug, PartialEq, Eq)]
 pub(crate) struct Counts {
     pub hits: u64,
@@ -86,14 +87,14 @@ pub(crate) struct Counts {
     pub upgrade: u64,
     pub true_sharing: u64,
     pub false_sharing: u64,
+    pub evictions: u64,
+    pub messages: MessageCounts,
     pub secondary: u64,
     pub no_register: u64,
     pub no_target: u64,
     pub no_way: u64,
     pub write_back_full: u64,
     pub write_back_busy: u64,
-    pub evictions: u64,
-    pub messages: MessageCounts,
 }
 
 impl Counts {

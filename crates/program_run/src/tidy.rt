@@ -5,8 +5,10 @@ ghost use Rattle.std.specs.List.{range_with_len};
 ghost use Rattle.litmus_script.specs.Machine.{IsAnswered, IsMade};
 ghost use Rattle.slice_core.specs.declared.run.Call.TheVariants as slice_calls;
 ghost use Rattle.slice_core.specs.declared.run.CallAnswer.TheVariants as call_answers;
+ghost use Rattle.program_run.specs.Kept.{Knows};
 ghost use Rattle.program_run.specs.Tidy.{Tidies, TidiesAll, TidiesSlice, idle_class, is_moved, tidied_by};
 
+use super::kept::Kept;
 use litmus_script::Machine;
 use mshr_file::MissFile;
 use slice_core::{Class, DeliveredNext, SliceState};
@@ -18,12 +20,15 @@ const PERIOD: u64 = 32;
 const LONG: usize = 32;
 
 /// Behind every 32nd move the lines without messages leave long rings.
-pub(crate) fn tidy<F: MissFile>(machine: &mut Machine<F>, made: u64)
+pub(crate) fn tidy<F: MissFile>(machine: &mut Machine<F>, made: u64, kept: &mut Kept)
+    requires { Knows machine.old.config machine.old.slices.items kept.old }
     ensures config { machine.new.config ≡ machine.old.config }
     ensures tidied { Tidies machine.old.config.slices made machine.old.slices.items machine.new.slices.items }
+    ensures kept { Knows machine.old.config machine.new.slices.items kept.new }
 {
     if made % PERIOD == PERIOD - 1 {
         tidy_all(machine);
+        kept.forget_all();
     }
 }
 

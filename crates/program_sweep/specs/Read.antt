@@ -1,8 +1,11 @@
 -- The settings and the seeds that a command line says, and the rows that they make.
-use Rattle.std.specs.Prelude.{◌≡◌, ◌⊎◌, ℕ, ◌+◌, ◌-◌, ◌*◌, ◌≤◌, ◌==◌, true, List, [], ◌∷◌, ◌++◌, Option, codes, length, map}
+use Rattle.std.specs.Prelude.{◌≡◌, ◌≢◌, ◌⊎◌, ℕ, ◌+◌, ◌-◌, ◌*◌, ◌^◌, ◌<◌, ◌≤◌, ◌==◌, true, List, [], ◌∷◌, ◌++◌, Option}
+use Rattle.std.specs.Prelude.{None, Some, codes, length, map}
 use Rattle.std.specs.List.{after_first, before_first, slice_split}
 use Rattle.std.specs.Str.Parse.{digits_value}
 use Rattle.litmus_text.specs.Number.{IsNumber}
+use Rattle.program_sweep.specs.declared.fault.SweepFault.{SweepFault}
+use Rattle.program_sweep.specs.declared.fault.SweepFault.TheVariants as faults
 use Rattle.program_sweep.specs.declared.seeds.Seeds.{Seeds}
 use Rattle.program_sweep.specs.declared.setting.Setting.{Setting}
 use Rattle.program_sweep.specs.declared.sweep.Sweep.{Sweep}
@@ -47,6 +50,37 @@ pub record IsRange (text : List ℕ) (seeds : Seeds) : Type 0 where
 -- the text says these seeds: as a range, or one alone
 abbrev pub IsSeeds : List ℕ → Seeds → Type 0
 IsSeeds text seeds = IsRange text seeds ⊎ (IsNumeralOf seeds.first text × (seeds.count ≡ 1))
+
+-- the text is a range of these numbers
+pub record IsRangeOf (text : List ℕ) (from to : ℕ) : Type 0 where
+  pub first : List ℕ
+  pub last : List ℕ
+  pub whole : text ≡ first ++ (codes ".." ++ last)
+  pub begins : IsNumeralOf from first
+  pub ends : IsNumeralOf to last
+
+-- the text is no range of numbers, and no number alone
+abbrev pub IsNoSeeds : List ℕ → Type 0
+IsNoSeeds text =
+    ((first : List ℕ) × (last : List ℕ) × (text ≡ first ++ (codes ".." ++ last))
+    × ((¬ IsNumber first) ⊎ (¬ IsNumber last)))
+    ⊎ (((first last : List ℕ) → text ≢ first ++ (codes ".." ++ last)) × (¬ IsNumber text))
+
+-- Why a text says no seeds: it is none of both; or a range that runs backwards; or one of more seeds than can be counted.
+abbrev pub IsSeedsFault : List ℕ → SweepFault → Type 0
+IsSeedsFault text (faults.BadSeeds said) = (said.now ≡ text) × IsNoSeeds text
+IsSeedsFault text (faults.Backwards said) =
+    (said.now ≡ text) × (from : ℕ) × (to : ℕ) × IsRangeOf text from to × (to < from)
+IsSeedsFault text faults.TooManyRows = IsRangeOf text 0 (2 ^ 64 - 1)
+IsSeedsFault text fault = ⊥
+
+-- the same of the first and the last as they were read
+abbrev pub IsBoundsFault : List ℕ → Option ℕ → Option ℕ → SweepFault → Type 0
+IsBoundsFault text first last (faults.BadSeeds said) = (said.now ≡ text) × ((first ≡ None) ⊎ (last ≡ None))
+IsBoundsFault text first last (faults.Backwards said) =
+    (said.now ≡ text) × (from : ℕ) × (to : ℕ) × (first ≡ Some from) × (last ≡ Some to) × (to < from)
+IsBoundsFault text first last faults.TooManyRows = (first ≡ Some 0) × (last ≡ Some (2 ^ 64 - 1))
+IsBoundsFault text first last fault = ⊥
 
 -- ---- rows
 

@@ -1,4 +1,4 @@
-ghost use Rattle.std.specs.Prelude.{◌≡◌, ◌+◌, ◌-◌, ◌<◌, ◌≤◌, ◌^◌, IfOk, Some};
+ghost use Rattle.std.specs.Prelude.{◌≡◌, ◌+◌, ◌-◌, ◌<◌, ◌≤◌, ◌^◌, IfErr, IfOk, Some};
 
 use super::fault::SweepFault;
 use litmus_text::parse_number;
@@ -13,7 +13,7 @@ pub struct Seeds {
 }
 
 impl Seeds {
-    ghost use Rattle.program_sweep.specs.Read.{IsSeeds};
+    ghost use Rattle.program_sweep.specs.Read.{IsBoundsFault, IsSeeds, IsSeedsFault};
 
     /// This seed alone.
     pub fn one(seed: u64) -> Seeds
@@ -28,42 +28,47 @@ impl Seeds {
 
     /// Reads FIRST..LAST, or one seed.
     pub fn read<'a>(text: &'a str) -> Result<Seeds, SweepFault<'a>>
-        ensures { IfOk result (IsSeeds text.entry.now) }
+        ensures seeds { IfOk result (IsSeeds text.entry.now) }
+        ensures fault { IfErr result (IsSeedsFault text.entry.now) }
     {
         match text.split_once("..") {
             Some((first, last)) => {
                 let first = parse_number(first.as_bytes());
                 let last = parse_number(last.as_bytes());
-                between(text, first, last)
+                Seeds::between(text, first, last)
             }
             None => {
                 let seed = parse_number(text.as_bytes());
-                between(text, seed, seed)
+                Seeds::between(text, seed, seed)
             }
         }
     }
-}
 
-// The seeds from the first to the last, which the text was to say.
-fn between<'a>(
-    text: &'a str,
-    first: Option<u64>,
-    last: Option<u64>,
-) -> Result<Seeds, SweepFault<'a>>
-    ensures { IfOk result
-        (λ seeds. (first ≡ Some seeds.first) × (last ≡ Some (seeds.first + (seeds.count - 1)))) }
-{
-    let (Some(first), Some(last)) = (first, last) else {
-        return Err(SweepFault::BadSeeds(text));
-    };
-    if last < first {
-        return Err(SweepFault::Backwards(text));
+    // The seeds from the first to the last, which the text was to say.
+    fn between<'a>(
+        text: &'a str,
+        first: Option<u64>,
+        last: Option<u64>,
+    ) -> Result<Seeds, SweepFault<'a>>
+        ensures seeds { IfOk result
+            (λ seeds. (first ≡ Some seeds.first) × (last ≡ Some (seeds.first + (seeds.count - 1)))) }
+        ensures fault { IfErr result (IsBoundsFault text.entry.now first last) }
+    {
+        let Some(from) = first else {
+            return Err(SweepFault::BadSeeds(text));
+        };
+        let Some(to) = last else {
+            return Err(SweepFault::BadSeeds(text));
+        };
+        if to < from {
+            return Err(SweepFault::Backwards(text));
+        }
+        if to - from == u64::MAX {
+            return Err(SweepFault::TooManyRows);
+        }
+        Ok(Seeds {
+            first: from,
+            count: to - from + 1,
+        })
     }
-    if last - first == u64::MAX {
-        return Err(SweepFault::TooManyRows);
-    }
-    Ok(Seeds {
-        first,
-        count: last - first + 1,
-    })
 }

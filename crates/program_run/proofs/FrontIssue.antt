@@ -1,0 +1,223 @@
+-- What an access leaves of the lines in front of a ring in which nothing waits: those to which nothing was sent.
+use Rattle.std.proofs.Common.{◌≡◌, ◌≢◌, ℕ, ◌<◌, ◌≤◌, ◌⊎◌, Bool, true, false, if◌then◌else◌, List, [], ◌∷◌, ◌++◌, length}
+use Rattle.std.proofs.Common.{get_or, Option, Some, None, Result, Ok, Err, refl, sym, ap, ◌∙◌, subst, ⊎_elim, inl, inr}
+use Rattle.std.proofs.Common.{append-nil, append_assoc, arith}
+use Rattle.std.specs.Prelude.{◌&&◌, nat_lt, not, slice_get, slice_set}
+use Rattle.std.proofs.lemmas.List.{get_or-set_other}
+use Rattle.address_map.specs.Locator.{is_past, line_at, local_at}
+use Rattle.address_map.specs.Place.{line_of}
+use Rattle.address_map.specs.declared.address.CoreId.{CoreId}
+use Rattle.address_map.specs.declared.address.LineAddr.{LineAddr}
+use Rattle.address_map.specs.declared.address.Local.{Local}
+use Rattle.address_map.specs.declared.request.Request.{Request}
+use Rattle.cache_table.specs.declared.state.CopyState.{CopyState}
+use Rattle.slice_answer.specs.declared.answer.Issue.{Issue}
+use Rattle.slice_answer.specs.declared.answer.Issue.TheVariants as issues
+use Rattle.slice_answer.specs.declared.answer.Refused.{Refused}
+use Rattle.slice_answer.specs.declared.answer.Refused.TheVariants as refusals
+use Rattle.slice_core.proofs.Victim.{leaves_victim}
+use Rattle.slice_core.specs.Facts.{LeavesVictim}
+use Rattle.slice_core_cache.specs.Access.{access_of}
+use Rattle.slice_core_cache.specs.CoreCache.{tag_at}
+use Rattle.slice_core_cache.specs.Steps.{victim_for}
+use Rattle.slice_core_cache.specs.Tags.{is_free}
+use Rattle.slice_core_cache.specs.declared.access.AccessKind.{AccessKind}
+use Rattle.slice_core_cache.specs.declared.access.AccessKind.TheVariants as access_kinds
+use Rattle.slice_core_cache.specs.declared.access.Ask.{Ask}
+use Rattle.slice_core_cache.specs.declared.access.Placement.{Placement}
+use Rattle.slice_core_cache.specs.declared.access.Placement.TheVariants as placements
+use Rattle.slice_core_plan.specs.Calls.{PartsView, AfterAccepting, AfterAccess, AfterIssue, IsAccepted, LacksMemory}
+use Rattle.slice_core_plan.specs.PrimaryMiss.{AfterPrimaryMiss}
+use Rattle.slice_core_plan.specs.Decision.{decision_at, decision_of, is_counter, overwrites}
+use Rattle.slice_core_plan.specs.View.{View, cache_at, channels_at}
+use Rattle.slice_core_plan.specs.declared.decision.Decision.{Decision}
+use Rattle.slice_core_plan.specs.declared.decision.Decision.TheVariants as decisions
+use Rattle.slice_core_steps.specs.CoreLines.{last_written_back}
+use Rattle.slice_queues.specs.Line.{LineChannels, empty_line}
+use Rattle.slice_queues.specs.Ring.{with_listed}
+use Rattle.program_run.proofs.FrontCalls.{front-kept, listed}
+use Rattle.program_run.proofs.FrontLemmas.{line-named}
+use Rattle.program_run.specs.Front.{HasIdleFront, IsIdle}
+
+-- lines came into the ring behind the others, and only to lines at these places something was sent
+record SendsTo (At : ℕ → Type 0) (old new : PartsView) : Type 0 where
+  more : List ℕ
+  grows : new.ring ≡ old.ring ++ more
+  same : (l : ℕ) → (At l → ⊥) → channels_at new.view (record { 0 = l }) ≡ channels_at old.view (record { 0 = l })
+
+sends-nothing : (At : ℕ → Type 0) (old new : PartsView) → new.ring ≡ old.ring
+    → new.view.channels ≡ old.view.channels → SendsTo At old new
+sends-nothing At old new ring channels = record {
+  more = [];
+  grows = ring ∙ sym (append-nil old.ring);
+  same = λ l apart. ap (λ (all : List LineChannels). get_or all l (empty_line 0)) channels;
+}
+
+-- the place of an access that was decided is that of its line
+module _ (v : View) (core : CoreId) (request : Request) (local : Local) (access : AccessKind) where
+  decided-line : (here : Local) → local_at v.lines (line_of request.word).0 ≡ Some here → (range busy counter : Bool)
+      → (if range then decisions.Refuse refusals.TagRange else if busy then decisions.Refuse refusals.TagBusy
+      else if counter then decisions.Refuse refusals.CounterStore
+      else decisions.Access here (access_of (cache_at v core) here request.tag request.op))
+      ≡ decisions.Access local access → local_at v.lines (line_of request.word).0 ≡ Some local
+  decided-line here found true busy counter is = absurd (cc is)
+  decided-line here found false true counter is = absurd (cc is)
+  decided-line here found false false true is = absurd (cc is)
+  decided-line here found false false false is =
+      let same : here ≡ local = cc is in found ∙ ap (λ (l : Local). Some l) same
+
+  abbrev by_place : Option Local → Decision
+  by_place None = decisions.Refuse refusals.WrongSlice
+  by_place (Some here) = decision_at v core request here
+
+  decided-place : (past : Bool) (place : Option Local) → local_at v.lines (line_of request.word).0 ≡ place
+      → (if past then decisions.Refuse refusals.OutOfRange else by_place place) ≡ decisions.Access local access
+      → local_at v.lines (line_of request.word).0 ≡ Some local
+  decided-place true place found is = absurd (cc is)
+  decided-place false None found is = absurd (cc is)
+  decided-place false (Some here) found is =
+      decided-line here found (not (nat_lt request.tag 64))
+      (not (is_free (tag_at (cache_at v core) request.tag))) (overwrites request.op && is_counter v request.word) is
+
+  decided-at : decision_of v core request ≡ decisions.Access local access
+      → local_at v.lines (line_of request.word).0 ≡ Some local
+  decided-at is =
+      decided-place (is_past v.lines request.word) (local_at v.lines (line_of request.word).0) refl is
+
+module _ (old : PartsView) (core : CoreId) (request : Request) (answer : Result Issue Refused) (new : PartsView)
+    (known : core.0 < length old.view.caches) (made : AfterIssue old core request answer new) where
+  -- the places of the line that was asked for, and of the one that left last
+  abbrev pub SentAt : ℕ → Type 0
+  SentAt l =
+      ((line_of request.word).0 ≡ (line_at old.view.lines (record { 0 = l })).0)
+      ⊎ (last_written_back new.view core ≡ Some (line_at old.view.lines (record { 0 = l })))
+
+  abbrev Sends : Type 0
+  Sends = SendsTo SentAt old new
+
+  is-line : (local : Local) (access : AccessKind) → decision_of old.view core request ≡ decisions.Access local access
+      → (line_of request.word).0 ≡ (line_at old.view.lines local).0
+  is-line local access is =
+      line-named old.view.lines (line_of request.word) local (decided-at old.view core request local access is)
+
+  is-last : (local : Local) (next : CopyState) (ask : Ask) (seq : ℕ)
+      → decision_of old.view core request ≡ decisions.Access local (access_kinds.PrimaryMiss next ask placements.Victim)
+      → answer ≡ Ok (issues.Pending seq)
+      → last_written_back new.view core ≡ Some (line_at old.view.lines (victim_for (cache_at old.view core) local))
+  is-last local next ask seq is says =
+      subst (λ (a : Result Issue Refused). LeavesVictim
+      (decisions.Access local (access_kinds.PrimaryMiss next ask placements.Victim)) old.view core a new.view) says
+      (subst (λ (d : Decision). LeavesVictim d old.view core answer new.view) is
+      (leaves_victim old core request answer new known made))
+
+  opened : (local : Local) (next : CopyState) (ask : Ask) (placement : Placement) (issue : Issue) (room : ℕ)
+      → decision_of old.view core request ≡ decisions.Access local (access_kinds.PrimaryMiss next ask placement)
+      → answer ≡ Ok issue
+      → AfterPrimaryMiss (record old { room = room }) core request local placement next ask issue new → Sends
+  opened local next ask placements.Held issue room is says after =
+      let (more, grows) = listed old.ring local.0 in record {
+        more = more;
+        grows = ap (λ (p : PartsView). p.ring) after.3.1 ∙ grows;
+        same = λ l apart. ap (λ (p : PartsView). channels_at p.view (record { 0 = l })) after.3.1
+            ∙ get_or-set_other old.view.channels local.0 l _ (empty_line 0)
+            (λ here. apart (inl (is-line local _ is ∙ ap (λ n. (line_at old.view.lines (record { 0 = n })).0) (sym here))));
+      }
+  opened local next ask placements.Free issue room is says after =
+      let (more, grows) = listed old.ring local.0 in record {
+        more = more;
+        grows = ap (λ (p : PartsView). p.ring) after.3.1 ∙ grows;
+        same = λ l apart. ap (λ (p : PartsView). channels_at p.view (record { 0 = l })) after.3.1
+            ∙ get_or-set_other old.view.channels local.0 l _ (empty_line 0)
+            (λ here. apart (inl (is-line local _ is ∙ ap (λ n. (line_at old.view.lines (record { 0 = n })).0) (sym here))));
+      }
+  opened local next ask placements.Victim issue room is says after =
+      let gone = victim_for (cache_at old.view core) local in
+      let (first, one) = listed old.ring gone.0 in
+      let (second, two) = listed (old.ring ++ first) local.0 in
+      let last = is-last local next ask _ is (says ∙ ap (λ (i : Issue). Ok i) after.3.0) in record {
+        more = first ++ second;
+        grows = ap (λ (p : PartsView). p.ring) after.3.1
+            ∙ (subst (λ (ring : List ℕ). with_listed ring local.0 ≡ old.ring ++ (first ++ second)) (sym one)
+            (two ∙ append_assoc old.ring first second));
+        same = λ l apart. ap (λ (p : PartsView). channels_at p.view (record { 0 = l })) after.3.1
+            ∙ get_or-set_other (slice_set old.view.channels gone.0 _) local.0 l _ (empty_line 0)
+            (λ here. apart (inl (is-line local _ is ∙ ap (λ n. (line_at old.view.lines (record { 0 = n })).0) (sym here))))
+            ∙ get_or-set_other old.view.channels gone.0 l _ (empty_line 0)
+            (λ here. apart (inr (last ∙ ap (λ n. Some (line_at old.view.lines (record { 0 = n }))) (sym here))));
+      }
+
+-- an access leaves what it leaves of lines where it opens a register
+module _ (old : PartsView) (core : CoreId) (request : Request) (answer : Result Issue Refused) (new : PartsView)
+    (At : ℕ → Type 0)
+    (opens : (local : Local) (next : CopyState) (ask : Ask) (placement : Placement) (issue : Issue) (room : ℕ)
+    → decision_of old.view core request ≡ decisions.Access local (access_kinds.PrimaryMiss next ask placement)
+    → answer ≡ Ok issue
+    → AfterPrimaryMiss (record old { room = room }) core request local placement next ask issue new
+    → SendsTo At old new) where
+  accepted : (local : Local) (access : AccessKind) → decision_of old.view core request ≡ decisions.Access local access
+      → (room : ℕ) (issue : Issue) → answer ≡ Ok issue
+      → AfterAccepting access (record old { room = room }) core request local issue new → SendsTo At old new
+  accepted local (access_kinds.Stall stall) is room issue says after =
+      sends-nothing At old new (ap (λ (p : PartsView). p.ring) after.1)
+      (ap (λ (p : PartsView). p.view.channels) after.1)
+  accepted local (access_kinds.Hit way next silent) is room issue says after =
+      sends-nothing At old new (ap (λ (p : PartsView). p.ring) after.1)
+      (ap (λ (p : PartsView). p.view.channels) after.1)
+  accepted local access_kinds.SecondaryMiss is room issue says after =
+      sends-nothing At old new (ap (λ (p : PartsView). p.ring) after.3.1)
+      (ap (λ (p : PartsView). p.view.channels) after.3.1)
+  accepted local (access_kinds.PrimaryMiss next ask placement) is room issue says after =
+      opens local next ask placement issue room is says after
+
+  let_in : (local : Local) (access : AccessKind) → decision_of old.view core request ≡ decisions.Access local access
+      → LacksMemory old answer new ⊎ IsAccepted access old core request local answer new → SendsTo At old new
+  let_in local access is after =
+      ⊎_elim
+      (λ lacks. sends-nothing At old new (ap (λ (p : PartsView). p.ring) lacks.unchanged)
+      (ap (λ (p : PartsView). p.view.channels) lacks.unchanged))
+      (λ all. accepted local access is all.0 all.1 all.4 all.5) after
+
+  accessed : (local : Local) (access : AccessKind) → decision_of old.view core request ≡ decisions.Access local access
+      → AfterAccess access old core request local answer new → SendsTo At old new
+  accessed local (access_kinds.Stall stall) is after =
+      sends-nothing At old new (ap (λ (p : PartsView). p.ring) after.1)
+      (ap (λ (p : PartsView). p.view.channels) after.1)
+  accessed local (access_kinds.Hit way next silent) is after =
+      let_in local (access_kinds.Hit way next silent) is after
+  accessed local access_kinds.SecondaryMiss is after = let_in local access_kinds.SecondaryMiss is after
+  accessed local (access_kinds.PrimaryMiss next ask placement) is after =
+      let_in local (access_kinds.PrimaryMiss next ask placement) is after
+
+  abbrev by_decision : Decision → Type 0
+  by_decision (decisions.Refuse refused) = (answer ≡ Err refused) × (new ≡ old)
+  by_decision (decisions.Access local access) = AfterAccess access old core request local answer new
+
+  issued : (decision : Decision) → decision_of old.view core request ≡ decision → by_decision decision
+      → SendsTo At old new
+  issued (decisions.Refuse refused) is after =
+      sends-nothing At old new (ap (λ (p : PartsView). p.ring) after.1)
+      (ap (λ (p : PartsView). p.view.channels) after.1)
+  issued (decisions.Access local access) is after = accessed local access is after
+
+module _ (old : PartsView) (core : CoreId) (request : Request) (answer : Result Issue Refused) (new : PartsView)
+    (made : AfterIssue old core request answer new) where
+  -- lines to which nothing was sent stay idle
+  pub issue-front : (known : core.0 < length old.view.caches) (count less : ℕ) → HasIdleFront count old → less ≤ count
+      → ((place l : ℕ) → place < less → slice_get new.ring place ≡ Some l
+      → SentAt old core request answer new known made l → ⊥) → HasIdleFront less new
+  issue-front known count less front few apart =
+      let sends = issued old core request answer new (SentAt old core request answer new known made)
+      (opened old core request answer new known made) (decision_of old.view core request) refl made in
+      front-kept count less old new sends.more few sends.grows
+      (λ place local below stands idle. sends.same local (apart place local below stands)) front
+
+  -- .. and all where no access waits
+  pub same-front : (count : ℕ) → ((seq : ℕ) → answer ≡ Ok (issues.Pending seq) → ⊥) → HasIdleFront count old
+      → HasIdleFront count new
+  same-front count done front =
+      let sends = issued old core request answer new (λ l. ⊥)
+      (λ local next ask placement issue room is says after.
+      absurd (done _ (says ∙ ap (λ (i : Issue). Ok i) after.3.0)))
+      (decision_of old.view core request) refl made in
+      front-kept count count old new sends.more (omega arith) sends.grows
+      (λ place local below stands idle. sends.same local (λ no. no)) front

@@ -1,0 +1,126 @@
+//! The next delivery of a slice. Its ring may begin with lines in which nothing waits: they are looked at once, and
+//! then passed over.
+ghost use Rattle.std.specs.Prelude.{◌≡◌, ◌≢◌, ◌≤◌, ◌++◌, OnOk, Some, false};
+ghost use Rattle.address_map.specs.Locator.{local_at};
+ghost use Rattle.slice_core_plan.specs.Calls.{next_pick};
+ghost use Rattle.slice_queues_message.specs.declared.channel.Class.TheVariants as classes;
+ghost use Rattle.program_run.specs.Front.{HasIdleFront, IsApart, IsFront, IsLineFront, IsNextFrom, delivery_if};
+ghost use Rattle.program_run.specs.Run.{delivery_of};
+
+use super::moves::Move;
+use address_map::LineAddr;
+use mshr_file::MissFile;
+use slice_core::{Class, DeliveredNext, Delivery, Pick, SliceState};
+use std::alloc::AllocError;
+
+/// What a look at a line finds.
+#[derive(Clone, Copy, Debug, PartialEq, Eq)]
+pub(crate) enum Front {
+    /// Nothing waits.
+    Idle,
+    /// The first of the line's messages.
+    Waits(Pick),
+    /// The slice hasn't the line.
+    Unknown,
+}
+
+/// The next delivery of the slice, if one can be made. Nothing waits in so many lines in front of its ring.
+pub(crate) fn next_delivery<F: MissFile>(state: &SliceState<F>, idle: &mut usize) -> Option<Pick>
+    requires { HasIdleFront idle.old state.now }
+    ensures next { delivery_of (next_pick state.now classes.Any) ≡ delivery_if result }
+    ensures idle { HasIdleFront idle.new state.now }
+{
+    match first_front(state, idle) {
+        Front::Idle => None,
+        Front::Waits(pick) => next_from(state, pick),
+        Front::Unknown => moved(state.next(Class::Any)),
+    }
+}
+
+// The next delivery where the pick is of the first message: that one, if it can be made.
+fn next_from<F: MissFile>(state: &SliceState<F>, pick: Pick) -> Option<Pick>
+    ensures { IsNextFrom state.now pick result }
+{
+    match state.plan(pick) {
+        Delivery::Moved(_) => Some(pick),
+        _ => moved(state.next(Class::Any)),
+    }
+}
+
+/// The pick of a delivery that can be made.
+pub(crate) fn moved(next: DeliveredNext) -> Option<Pick>
+    ensures { delivery_of next ≡ delivery_if result }
+{
+    match next {
+        DeliveredNext::Moved(pick) => Some(pick),
+        _ => None,
+    }
+}
+
+/// Lists the delivery, if there is one.
+pub(crate) fn push_delivery(next: Option<Pick>, moves: &mut Vec<Move>) -> Result<(), AllocError>
+    ensures { OnOk result (moves.new.items ≡ moves.old.items ++ delivery_if next) }
+{
+    match next {
+        Some(pick) => {
+            moves.push(Move::Deliver(pick))?;
+            Ok(())
+        }
+        None => Ok(()),
+    }
+}
+
+// The first line of the ring that isn't idle.
+fn first_front<F: MissFile>(state: &SliceState<F>, idle: &mut usize) -> Front
+    requires { HasIdleFront idle.old state.now }
+    ensures front { IsFront state.now idle.new result }
+    ensures idle { HasIdleFront idle.new state.now }
+{
+    let _ = state.log();
+    while let Some(line) = state.ring_line(*idle) {
+        match front_of(state, line) {
+            Front::Waits(pick) => return Front::Waits(pick),
+            Front::Unknown => return Front::Unknown,
+            Front::Idle if *idle == usize::MAX => return Front::Unknown,
+            Front::Idle => *idle += 1,
+        }
+    }
+    Front::Idle
+}
+
+fn front_of<F: MissFile>(state: &SliceState<F>, line: LineAddr) -> Front
+    ensures { IsLineFront state.now.view line (local_at state.now.view.lines line.0) result }
+{
+    let Some(mut waiting) = state.waiting_at(line) else {
+        return Front::Unknown;
+    };
+    match waiting.next() {
+        Some(channel) => Front::Waits(channel.at(line)),
+        None => Front::Idle,
+    }
+}
+
+/// How many of so many lines in front of the ring stand before these two.
+pub(crate) fn lines_before<F: MissFile>(
+    state: &SliceState<F>,
+    count: usize,
+    line: LineAddr,
+    left: Option<LineAddr>,
+) -> usize
+    ensures few { result ≤ count }
+    ensures apart { IsApart state.now result line left }
+{
+    for place in 0..count {
+        if is_one_of(state.ring_line(place), line, left) {
+            return place;
+        }
+    }
+    count
+}
+
+// Whether the line is one of these two.
+fn is_one_of(here: Option<LineAddr>, line: LineAddr, left: Option<LineAddr>) -> bool
+    ensures { result ≡ false → (here ≢ Some line) × (here ≢ left) }
+{
+    here == Some(line) || here == left
+}

@@ -3,17 +3,18 @@
 //! - [`read_line`] reads what the program's own words ask for.
 //! - [`run_script`] runs a script, [`run_explained`] tells what happened behind each answer, [`run_beside`] prints each
 //!   answer beside its command, [`run_json`] each command as a value of JSON, [`run_chart`] draws the run as a sequence diagram, [`run_svg`] one line of it over
-//!   time, and [`run_page`] writes it as a page for a browser, [`run_waves`] as waves for a wave viewer. [`expected`]
+//!   time, and [`run_page`] writes it as a page for a browser, which with [`run_page_with`] can be played, [`run_waves`] as waves for a wave viewer. [`expected`]
 //!   tells what a line at fault was to say.
 //! - [`run_trace`] writes a model checker's trace as a script.
 //! - [`run_prompt`] answers a script's lines one by one, and gives a [`Saver`] the script so far.
 //! - [`run_test`] tests a script against the answers that it wants.
 //! - [`run_litmus`] runs a litmus test over threads, and [`run_walk`] on random schedules without any; each counts the
 //!   outcomes, and tells a [`Progress`] how far it is, which with [`Silent`] nobody sees. [`write_walk`] prints a round
-//!   of such a schedule as a script.
+//!   of such a schedule as a script, and [`page_walk`] as that script's page.
 //! - [`run_programs`] runs programs on a random schedule, and reports what each core and each line met.
-//!   [`write_schedule`] prints that schedule as a script. [`run_sweep`] runs them once for each row of a [`Sweep`], side
-//!   by side, and prints the rows. [`write_workload`] prints the programs of a workload.
+//!   [`write_schedule`] prints that schedule as a script, and [`page_schedule`] as that script's page. [`run_sweep`] runs
+//!   them once for each row of a [`Sweep`], side by side, and prints the rows. [`write_workload`] prints the programs of
+//!   a workload.
 //! - [`check_trace`] judges a trace, and answers its [`Verdict`]; [`run_check`] writes what that comes to.
 //! - [`run_table`] prints a table of the protocol with its legend, [`run_table_rows`] its rows as values of JSON, and [`run_export`] the protocol of one line as a
 //!   model.
@@ -33,13 +34,14 @@ pub use litmus_test::{Progress, Silent};
 pub use litmus_text::TextFault;
 pub use murphi_trace::run_trace;
 pub use outcomes_json::OutcomeForm;
+pub use pages::{page_schedule, page_walk};
 pub use program_generate::{GenerateFault, Size, Workload, write_workload};
 pub use program_run::{Form, run_programs, write_schedule};
 pub use program_sweep::{RowFault, RowForm, Seeds, Sweep, SweepFault, run_sweep};
 pub use script_beside::run_beside;
 pub use script_explained::{expected, run_explained};
 pub use script_json::run_json;
-pub use script_page::run_page;
+pub use script_page::{PageExtras, run_page, run_page_with};
 pub use script_prompt::{Saver, run_prompt};
 pub use script_test::run_test;
 pub use script_waves::run_waves;
@@ -50,5 +52,6 @@ pub use trace_check::{Reason, Verdict, check_trace};
 mod check;
 mod export;
 mod legend;
+mod pages;
 mod table;
 mod tests;

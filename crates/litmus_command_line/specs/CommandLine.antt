@@ -69,11 +69,17 @@ chart_app =
     with_rule (with_rule (with_rule (new_app (codes "chart")) file_rule) (flag_rule (codes "svg")))
     (number_rule (codes "line"))
 
+-- .. from 1 to 4
+abbrev pub depth_rule : Text → Rule
+depth_rule name = record (number_rule name) { parser = Some (value_parsers.Unsigned 1 4) }
+
 -- the subcommand that writes it as a page
 abbrev pub page_app : App
-page_app = with_rule (new_app (codes "page")) file_rule
+page_app =
+    with_rule (with_rule (with_rule (new_app (codes "page")) file_rule) (depth_rule (codes "branches")))
+    (flag_rule (codes "guess"))
 
--- .. from 1 on
+-- an option `--name` that takes a number from 1 on
 abbrev pub positive_rule : Text → Rule
 positive_rule name = record (number_rule name) { parser = Some (value_parsers.Unsigned 1 18446744073709551615) }
 
@@ -94,16 +100,18 @@ litmus_app =
     (number_rule_or (codes "limit") (codes "1000000")))
     (flag_rule (codes "json"))
 
--- the subcommand that runs one on random schedules
-abbrev pub walk_app : App
-walk_app =
+-- the subcommand that runs one on random schedules, or prints a schedule
+abbrev pub walking_app : App
+walking_app =
     with_rule
-    (with_rule
     (with_rule
     (with_rule (with_rule (new_app (codes "walk")) file_rule) (positive_rule (codes "rounds")))
     (number_rule_or (codes "seed") (codes "1")))
-    (flag_rule (codes "script")))
-    (lone_rule (codes "json"))
+    (flag_rule (codes "script"))
+
+-- .. in these forms too
+abbrev pub walk_app : App
+walk_app = with_rule (with_rule walking_app (lone_rule (codes "page"))) (lone_rule (codes "json"))
 
 -- an option `--name` that takes a text
 abbrev pub text_rule : Text → Rule
@@ -126,14 +134,16 @@ reporting_app =
     (number_rule_or (codes "seed") (codes "1")))
     (flag_rule (codes "json"))
 
--- .. and with those of many, and that of a script
+-- .. and with those of many, and those of a script and its page
 abbrev pub run_app : App
 run_app =
     with_rule
     (with_rule
+    (with_rule
     (with_rule (with_rule reporting_app (settings_rule (codes "set"))) (lone_text_rule (codes "seeds")))
     (lone_rule (codes "csv")))
-    (lone_rule (codes "script"))
+    (lone_rule (codes "script")))
+    (lone_rule (codes "page"))
 
 -- the argument that names a workload, which has to be there
 abbrev pub name_rule : Rule
@@ -324,19 +334,23 @@ IsLine name rows (command_lines.Try file) =
 IsLine name rows (command_lines.Chart file svg line) =
     (name ≡ codes "chart") × (first_of (codes "FILE") rows ≡ Some file.now)
     × (svg ≡ is_given (codes "svg") rows) × IsNumberIfGiven (codes "line") rows line
-IsLine name rows (command_lines.Page file) = (name ≡ codes "page") × (first_of (codes "FILE") rows ≡ Some file.now)
+IsLine name rows (command_lines.Page file branches guess) =
+    (name ≡ codes "page") × (first_of (codes "FILE") rows ≡ Some file.now)
+    × IsNumberIfGiven (codes "branches") rows branches × (guess ≡ is_given (codes "guess") rows)
 IsLine name rows (command_lines.Litmus file seed limit json) =
     (name ≡ codes "litmus") × (first_of (codes "FILE") rows ≡ Some file.now)
     × IsNumberOf (codes "seed") rows seed × IsNumberOf (codes "limit") rows limit
     × (json ≡ is_given (codes "json") rows)
-IsLine name rows (command_lines.Walk file rounds seed script json) =
+IsLine name rows (command_lines.Walk file rounds seed script page json) =
     (name ≡ codes "walk") × (first_of (codes "FILE") rows ≡ Some file.now)
     × IsNumberIfGiven (codes "rounds") rows rounds × IsNumberOf (codes "seed") rows seed
-    × (script ≡ is_given (codes "script") rows) × (json ≡ is_given (codes "json") rows)
-IsLine name rows (command_lines.Run file outstanding seed json script) =
+    × (script ≡ is_given (codes "script") rows) × (page ≡ is_given (codes "page") rows)
+    × (json ≡ is_given (codes "json") rows)
+IsLine name rows (command_lines.Run file outstanding seed json script page) =
     (name ≡ codes "run") × (first_of (codes "FILE") rows ≡ Some file.now)
     × IsNumberIfGiven (codes "outstanding") rows outstanding × IsNumberOf (codes "seed") rows seed
-    × (json ≡ is_given (codes "json") rows) × (script ≡ is_given (codes "script") rows) × (is_swept rows ≡ false)
+    × (json ≡ is_given (codes "json") rows) × (script ≡ is_given (codes "script") rows)
+    × (page ≡ is_given (codes "page") rows) × (is_swept rows ≡ false)
 IsLine name rows (command_lines.Sweep file outstanding seed seeds json) =
     (name ≡ codes "run") × (first_of (codes "FILE") rows ≡ Some file.now)
     × IsNumberIfGiven (codes "outstanding") rows outstanding × IsNumberOf (codes "seed") rows seed

@@ -32,9 +32,12 @@ pub enum CommandLine<'a> {
         svg: bool,
         line: Option<u64>,
     },
-    /// Write the run of the script in this file as a page for a browser.
+    /// Write the run of the script in this file as a page for a browser: with branches, so many deliveries deep, if a
+    /// number is given, and with `guess` so that answers are asked for before they are shown.
     Page {
         file: &'a str,
+        branches: Option<u64>,
+        guess: bool,
     },
     /// Run the litmus test in this file over threads. The seed is that of the cores' extra turns, and no run takes more
     /// turns than `limit`. With `json`, print its outcomes as a value of JSON.
@@ -46,23 +49,25 @@ pub enum CommandLine<'a> {
     },
     /// Run the litmus test in this file on random schedules: so many rounds, or as many as it says, of which the first
     /// has this seed. With `json`, print its outcomes as a value of JSON. With `script`, print the round of this seed as a
-    /// script.
+    /// script, and with `page` as that script's page.
     Walk {
         file: &'a str,
         rounds: Option<u64>,
         seed: u64,
         script: bool,
+        page: bool,
         json: bool,
     },
     /// Run the programs in this file in the order that the seed draws, with so many accesses of a core under way, if a
     /// number is given, and not as many as the text says. With `json`, report as a value of JSON. With `script`, print
-    /// what was asked of the machine as a script, and no report.
+    /// what was asked of the machine as a script, and with `page` as that script's page, and no report.
     Run {
         file: &'a str,
         outstanding: Option<u64>,
         seed: u64,
         json: bool,
         script: bool,
+        page: bool,
     },
     /// Run the programs in this file once for each combination of the settings that `read_settings` reads, and for each
     /// of the seeds, or for the one seed where none are given. With `json`, print the rows as a value of JSON.
@@ -224,7 +229,13 @@ fn page_line<'a>(given: &ArgMatches<'a>) -> Option<CommandLine<'a>>
     ensures { IfSome result (IsLine (codes "page") (rows_of (found_of given.now))) }
 {
     let file = file_of(given)?;
-    Some(CommandLine::Page { file })
+    let branches = number_if_given(given, "branches")?;
+    let guess = is_given(given, "guess");
+    Some(CommandLine::Page {
+        file,
+        branches,
+        guess,
+    })
 }
 
 fn litmus_line<'a>(given: &ArgMatches<'a>) -> Option<CommandLine<'a>>
@@ -249,12 +260,14 @@ fn walk_line<'a>(given: &ArgMatches<'a>) -> Option<CommandLine<'a>>
     let rounds = number_if_given(given, "rounds")?;
     let seed = number_of(given, "seed")?;
     let script = is_given(given, "script");
+    let page = is_given(given, "page");
     let json = is_given(given, "json");
     Some(CommandLine::Walk {
         file,
         rounds,
         seed,
         script,
+        page,
         json,
     })
 }
@@ -268,12 +281,14 @@ fn run_line<'a>(given: &ArgMatches<'a>) -> Option<CommandLine<'a>>
     let json = is_given(given, "json");
     if !is_swept(given) {
         let script = is_given(given, "script");
+        let page = is_given(given, "page");
         return Some(CommandLine::Run {
             file,
             outstanding,
             seed,
             json,
             script,
+            page,
         });
     }
     let seeds = text_if_given(given, "seeds");

@@ -6,7 +6,7 @@ ghost use Rattle.litmus_command_line.specs.CommandLine.{file_rule, flag_rule, lo
 ghost use Rattle.litmus_command_line.specs.CommandLine.{top_app, litmus_app, number_rule, IsExport, IsOpenExport};
 ghost use Rattle.litmus_command_line.specs.CommandLine.{number_rule_or, run_app, try_app, few_rule, positive_rule, walk_app};
 ghost use Rattle.litmus_command_line.specs.CommandLine.{generate_app, lone_text_rule, reporting_app, settings_rule};
-ghost use Rattle.litmus_command_line.specs.CommandLine.{text_rule};
+ghost use Rattle.litmus_command_line.specs.CommandLine.{depth_rule, text_rule, walking_app};
 ghost use Rattle.clap.specs.Words.{app_of, rule_of};
 
 use clap::builder::ValueParser;
@@ -146,8 +146,14 @@ fn page<'a>(alloc: Global) -> Result<Command<'a>, AllocError>
 {
     Command::new(alloc, "page")
         .about("Writes the run of a script as a page for a browser, which is stepped through there")
-        .after_help("Example: lockup page examples/shared_line.txt > run.html")
-        .arg(file(alloc, "The script: one command a line; - is standard input"))
+        .after_help(help::PAGE)
+        .arg(file(alloc, "The script: one command a line; - is standard input"))?
+        .arg(depth(
+            alloc,
+            "branches",
+            "Give at each step what each delivery leads to, N deliveries deep",
+        ))?
+        .arg(flag(alloc, "guess", "Ask for each answer before it is shown"))
 }
 
 fn litmus<'a>(alloc: Global) -> Result<Command<'a>, AllocError>
@@ -172,6 +178,27 @@ fn walk<'a>(alloc: Global) -> Result<Command<'a>, AllocError>
     ensures reads { IfOk result (λ c. app_of c ≡ walk_app) }
     ensures plain { IfOk result (λ c. (fields_of c).has_globals ≡ false) }
 {
+    let walking = walking(alloc)?;
+    walking
+        .arg(lone_flag(
+            alloc,
+            "page",
+            "Print the round of this seed, as a page for a browser",
+            &["script"],
+        )?)?
+        .arg(lone_flag(
+            alloc,
+            "json",
+            "Print the outcomes as one value of JSON",
+            &["script", "page"],
+        )?)
+}
+
+/// The same with the options that stand by themselves alone.
+fn walking<'a>(alloc: Global) -> Result<Command<'a>, AllocError>
+    ensures reads { IfOk result (λ c. app_of c ≡ walking_app) }
+    ensures plain { IfOk result (λ c. (fields_of c).has_globals ≡ false) }
+{
     Command::new(alloc, "walk")
         .about("Runs a litmus test on random schedules, without threads, and counts its outcomes")
         .after_help(help::WALK)
@@ -187,13 +214,7 @@ fn walk<'a>(alloc: Global) -> Result<Command<'a>, AllocError>
             "The first round's seed; each later one's is one more",
             "1",
         ))?
-        .arg(flag(alloc, "script", "Print the round of this seed, as a script"))?
-        .arg(lone_flag(
-            alloc,
-            "json",
-            "Print the outcomes as one value of JSON",
-            &["script"],
-        )?)
+        .arg(flag(alloc, "script", "Print the round of this seed, as a script"))
 }
 
 fn run<'a>(alloc: Global) -> Result<Command<'a>, AllocError>
@@ -226,6 +247,12 @@ fn run<'a>(alloc: Global) -> Result<Command<'a>, AllocError>
             "script",
             "Print what was asked of the machine, as a script, and no report",
             &["json", "set", "seeds", "csv"],
+        )?)?
+        .arg(lone_flag(
+            alloc,
+            "page",
+            "Print the same as a page for a browser",
+            &["json", "set", "seeds", "csv", "script"],
         )?)
 }
 
@@ -385,6 +412,14 @@ fn few<'a>(alloc: Global, name: &'a str, help: &'a str) -> Arg<'a>
     ensures plain { result.global ≡ false }
 {
     number(alloc, name, help).value_parser(ValueParser::unsigned(1, 64))
+}
+
+/// An option with a number from 1 to 4.
+fn depth<'a>(alloc: Global, name: &'a str, help: &'a str) -> Arg<'a>
+    ensures rule { rule_of result ≡ depth_rule name.entry.now }
+    ensures plain { result.global ≡ false }
+{
+    number(alloc, name, help).value_parser(ValueParser::unsigned(1, 4))
 }
 
 /// An option with a number, which is this one where none is given.

@@ -8,11 +8,12 @@
 
 use clap::Error;
 use clap::error::ErrorKind;
+use head::head_of;
 use litmus::{
-    CommandLine, Form, OutcomeForm, ScriptForm, Seeds, Size, SweepFault, expected, read_line,
-    run_beside, run_chart, run_check, run_explained, run_export, run_json, run_litmus, run_page,
-    run_programs, run_script, run_svg, run_table, run_table_rows, run_test, run_trace, run_walk,
-    run_waves, write_schedule, write_walk,
+    CommandLine, Form, OutcomeForm, PageExtras, ScriptForm, Seeds, Size, SweepFault, expected,
+    page_schedule, page_walk, read_line, run_beside, run_chart, run_check, run_explained,
+    run_export, run_json, run_litmus, run_page_with, run_programs, run_script, run_svg, run_table,
+    run_table_rows, run_test, run_trace, run_walk, run_waves, write_schedule, write_walk,
 };
 use litmus_text::TextFault;
 use painted::Painted;
@@ -27,11 +28,14 @@ use std::rt::{Env, Files};
 use std::sync::Wait;
 use std::thread::Threads;
 use std::{env, fs, io};
+use unused::tell_unused;
 
+mod head;
 mod painted;
 mod progress;
 mod prompt;
 mod rows;
+mod unused;
 mod workload;
 
 /// The exit status where the command line or the file is refused.
@@ -145,7 +149,12 @@ where
         }
     }
     match print_answers(rt, line, &input, people) {
-        Ok(status) => status,
+        Ok(status) => {
+            if let CommandLine::Run { outstanding, .. } = line {
+                tell_unused(rt, people, &input, outstanding);
+            }
+            status
+        }
         Err(fault) => {
             complain_of(rt, people, line, &input, fault);
             fault.status()
@@ -183,7 +192,7 @@ fn file_of<'a>(line: CommandLine<'a>) -> Option<&'a str> {
     match line {
         CommandLine::Script { file, .. }
         | CommandLine::Chart { file, .. }
-        | CommandLine::Page { file }
+        | CommandLine::Page { file, .. }
         | CommandLine::Test { file }
         | CommandLine::Litmus { file, .. }
         | CommandLine::Walk { file, .. }
@@ -250,7 +259,11 @@ where
             ..
         } => run_chart(alloc, input, out),
         CommandLine::Chart { line, .. } => run_svg(alloc, input, line, out),
-        CommandLine::Page { .. } => run_page(alloc, input, out),
+        CommandLine::Page {
+            branches,
+            guess,
+            ..
+        } => run_page_with(alloc, input, extras_of(branches, guess), out),
         CommandLine::Test { .. } => run_test(alloc, input, out),
         CommandLine::Litmus {
             seed,
@@ -267,6 +280,12 @@ where
             ..
         } => write_walk(alloc, input, seed, out),
         CommandLine::Walk {
+            file,
+            seed,
+            page: true,
+            ..
+        } => page_walk(alloc, head_of(alloc, file, seed)?, input, seed, out),
+        CommandLine::Walk {
             rounds,
             seed,
             json,
@@ -278,6 +297,16 @@ where
             script: true,
             ..
         } => write_schedule(alloc, input, outstanding, seed, out),
+        CommandLine::Run {
+            file,
+            outstanding,
+            seed,
+            page: true,
+            ..
+        } => {
+            let head = head_of(alloc, file, seed)?;
+            page_schedule(alloc, head, input, outstanding, seed, out)
+        }
         CommandLine::Run {
             outstanding,
             seed,
@@ -302,6 +331,14 @@ where
             exclusive,
             closed,
         } => run_export(cores, exclusive, closed, out),
+    }
+}
+
+/// What a page has besides the run.
+fn extras_of(branches: Option<u64>, guess: bool) -> PageExtras {
+    PageExtras {
+        depth: branches.unwrap_or(0),
+        guess,
     }
 }
 

@@ -1,5 +1,7 @@
+mod BranchLemmas
 mod Commas
 mod LineLemmas
+mod PumpLemmas
 mod RestCalls
 mod RestLemmas
 mod RestSteps

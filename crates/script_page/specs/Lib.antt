@@ -1,4 +1,5 @@
 pub mod Access
+pub mod Branch
 pub mod Call
 pub mod Copy
 pub mod Core
@@ -9,3 +10,4 @@ pub mod Page
 pub mod Rest
 pub mod Scope
 pub mod Step
+pub mod Steps

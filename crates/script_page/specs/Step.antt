@@ -1,15 +1,10 @@
 -- A step of a page: a command with its answer, and as data what it can have changed of the machine, as that is then.
-use Rattle.std.specs.Prelude.{◌≡◌, ℕ, ◌%◌, List, [], ◌++◌, codes, decimal, length, Option, Some, None}
+use Rattle.std.specs.Prelude.{ℕ, ◌%◌, List, ◌++◌, codes, decimal, length, Option, Some, None}
 use Rattle.std.specs.Io.KnownBytes.{Appends}
 use Rattle.std.specs.List.{slice_get}
 use Rattle.address_map.specs.declared.config.Config.{Config}
-use Rattle.litmus_script.specs.Answer.{text_of_pumped}
-use Rattle.litmus_script.specs.Pump.{Pumps}
-use Rattle.litmus_script.specs.declared.answers.Pumped.{Pumped}
-use Rattle.litmus_text.specs.Command.{parts_of}
 use Rattle.litmus_text.specs.declared.command.Command.{Command}
 use Rattle.litmus_text.specs.declared.command.Command.TheVariants as commands
-use Rattle.script_explained.specs.Explains.{IsExplained, TellsNext}
 use Rattle.script_page.specs.Access.{text_of_log}
 use Rattle.script_page.specs.Call as calls
 use Rattle.script_page.specs.Core.{text_of_core_in, victim_of}
@@ -19,8 +14,6 @@ use Rattle.script_page.specs.Scope.{scope_of}
 use Rattle.script_page.specs.declared.call.Planned.{Planned}
 use Rattle.script_page.specs.declared.scope.Scope.{Scope}
 use Rattle.script_page.specs.declared.step.Before.{Before}
-use Rattle.script_text.specs.Line.{text_of_parts}
-use Rattle.slice_answer.specs.declared.answer.Delivery.TheVariants as deliveries
 use Rattle.slice_answer.specs.declared.answer.Delivery.{Delivery}
 use Rattle.slice_core_plan.specs.Calls.{PartsView, next_pick}
 use Rattle.slice_core_plan.specs.Plan.{planned_at}
@@ -93,7 +86,7 @@ abbrev pub text_of_changes : Option Scope → ℕ → List PartsView → List �
 text_of_changes None first slices = no_changes
 text_of_changes (Some scope) first slices = lines_in scope first (slice_get slices scope.slice)
 
--- all of a step but what the core has
+-- the data of a step but what the core has
 abbrev pub text_of_front : ℕ → List ℕ → List ℕ → Command → Before → Option Scope → List PartsView → List ℕ
 text_of_front number line answer command before scope slices =
     text_of_begin number ++ (json_of line ++ (codes ",\"answer\":" ++ (json_of answer
@@ -108,72 +101,31 @@ abbrev pub text_of_core_by : Option Scope → List PartsView → List ℕ
 text_of_core_by None slices = codes "null"
 text_of_core_by (Some scope) slices = core_in scope (slice_get slices scope.slice)
 
--- A step is written: the command at this place of the script with its answer and what was seen of it before, and what
--- it can have changed, as the slices have it.
-pub record WritesStep (config : Config) (number : ℕ) (line answer : List ℕ) (command : Command) (seen : Before)
+-- What stands of a step before its branches: the command at this place of the script with its answer and what was seen of
+-- it before, and what it can have changed, as the slices have it.
+pub record WritesData (config : Config) (number : ℕ) (line answer : List ℕ) (command : Command) (seen : Before)
     (slices : List PartsView) (before after : Option (List ℕ)) : Type 0 where
   pub first : Option (List ℕ)
   pub begun : Appends before first
       (text_of_front number line answer command seen (scope_of config command) slices)
+  pub core : Appends first after (text_of_core_by (scope_of config command) slices)
+
+-- A step is written: its data, behind them this text, and its end.
+pub record WritesWith (config : Config) (number : ℕ) (line answer : List ℕ) (command : Command) (seen : Before)
+    (slices : List PartsView) (text : List ℕ) (before after : Option (List ℕ)) : Type 0 where
+  pub middle : Option (List ℕ)
+  pub given : WritesData config number line answer command seen slices before middle
   pub last : Option (List ℕ)
-  pub core : Appends first last (text_of_core_by (scope_of config command) slices)
+  pub more : Appends middle last text
   pub ended : Appends last after (codes "},\n")
 
--- ---- what a command does to a machine, and what is written of it
+-- the text behind the data of a step at this place of the script, after which the slices are these
+abbrev pub Behind : Type 1
+Behind = Config → ℕ → List PartsView → List ℕ → Type 0
 
--- The command is played, and its step is written: its answer told with what happened, and the slices as they are then.
--- Its place in the script isn't said here.
-pub record IsStep (config : Config) (line : List ℕ) (command : Command) (old new : List PartsView)
-    (before after : Option (List ℕ)) : Type 0 where
-  pub number : ℕ
-  pub answer : List ℕ
-  pub played : IsExplained config command old new (Some []) (Some answer)
-  pub written : WritesStep config number line answer command (before_of config command old) new before after
-
--- a delivery of a pump is a step of its own, as if the command that makes it stood there
-abbrev pub WritesNext : Config → ℕ → List PartsView → Delivery Pick → List ℕ → List PartsView → Option (List ℕ)
-    → Option (List ℕ) → Type 0
-WritesNext config number old (deliveries.Moved pick) told new before after =
-    let command = commands.Deliver pick in
-    WritesStep config number (text_of_parts (parts_of command)) told command (before_of config command old) new before
-    after
-WritesNext config number old answer told new before after = after ≡ before
-
-pub record IsNextStep (config : Config) (number : ℕ) (old : List PartsView) (slice : ℕ) (answer : Delivery Pick)
-    (before after : Option (List ℕ)) (new : List PartsView) : Type 0 where
-  pub told : List ℕ
-  pub made : TellsNext old slice answer (Some []) (Some told) new
-  pub written : WritesNext config number old answer told new before after
-
--- what is seen of a slice's next delivery before it is made
-abbrev pub seen_by : Config → List PartsView → Delivery Pick → Option Before
-seen_by config slices (deliveries.Moved pick) = Some (before_of config (commands.Deliver pick) slices)
-seen_by config slices answer = None
-
-abbrev pub next_in : Config → List PartsView → Option PartsView → Option Before
-next_in config slices None = None
-next_in config slices (Some state) = seen_by config slices (next_pick state classes.Any)
-
--- .. and the step that is written of it, where this was seen
-abbrev pub WritesSeen : Config → ℕ → Delivery Pick → Option Before → List ℕ → List PartsView → Option (List ℕ)
-    → Option (List ℕ) → Type 0
-WritesSeen config number (deliveries.Moved pick) (Some seen) told slices before after =
-    let command = commands.Deliver pick in
-    WritesStep config number (text_of_parts (parts_of command)) told command seen slices before after
-WritesSeen config number answer seen told slices before after = after ≡ before
-
--- A pump: a step for each of its deliveries, and behind them one that says what is left.
-pub record ArePumpSteps (config : Config) (line : List ℕ) (calls : ℕ) (old new : List PartsView)
-    (before after : Option (List ℕ)) : Type 0 where
-  pub number : ℕ
-  pub pumped : Pumped
-  pub middle : Option (List ℕ)
-  pub pumps : Pumps (IsNextStep config number) config.slices calls pumped old new before middle
-  pub said : WritesStep config number line (text_of_pumped pumped ++ codes "\n") (commands.Pump calls)
-      (before_of config (commands.Pump calls) new) new middle after
-
--- the steps of a command
-abbrev pub Steps : Config → List PartsView → List ℕ → Command → Option (List ℕ) → Option (List ℕ) → List PartsView
-    → Type 0
-Steps config old line (commands.Pump calls) before after new = ArePumpSteps config line calls old new before after
-Steps config old line command before after new = IsStep config line command old new before after
+-- A step is written, and behind its data such a text.
+pub record WritesStep (behind : Behind) (config : Config) (number : ℕ) (line answer : List ℕ) (command : Command)
+    (seen : Before) (slices : List PartsView) (before after : Option (List ℕ)) : Type 0 where
+  pub text : List ℕ
+  pub is : behind config number slices text
+  pub written : WritesWith config number line answer command seen slices text before after

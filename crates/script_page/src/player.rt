@@ -1,28 +1,21 @@
 //! What plays a script's commands for a page.
-ghost use Rattle.std.specs.Prelude.{◌≡◌, ◌++◌, ◌<◌, [], IfErr, IfOk, OnOk, Some, codes};
-ghost use Rattle.std.specs.Fmt.{WritesInCalls};
-ghost use Rattle.std.specs.Io.KnownBytes.{Appends};
+ghost use Rattle.std.specs.Prelude.{◌≡◌, ◌<◌, [], IfErr, IfOk, OnOk, Some};
 ghost use Rattle.std.specs.List.{slice_get};
-ghost use Rattle.litmus_script.specs.Answer.{text_of_pumped};
 ghost use Rattle.litmus_script.specs.Play.{IsOfRun};
-ghost use Rattle.litmus_text.specs.Command.{IsInRange, parts_of};
-ghost use Rattle.litmus_text.specs.declared.command.Command.TheVariants as commands;
-ghost use Rattle.script_explained.specs.Explains.{IsExplained, TellsNext};
-ghost use Rattle.script_page.specs.Step.{ArePumpSteps, IsStep, WritesSeen, next_in};
-ghost use Rattle.script_text.specs.Line.{text_of_parts};
+ghost use Rattle.litmus_text.specs.Command.{IsInRange};
+ghost use Rattle.script_explained.specs.Explains.{TellsNext};
+ghost use Rattle.script_page.specs.Steps.{ArePumpSteps, IsStep, WritesSeen, next_in};
 
-use super::step::{Before, Step, write_step};
+use super::answer::{answer_of, delivery_text, pumped_text};
+use super::branch::write_step;
+use super::step::{Before, Step};
 use address_map::Checked;
-use litmus_script::{
-    Deliverer, Machine, Player, Pumped, TextWriter, pump_slices, write_pumped, written,
-};
+use litmus_script::{Deliverer, Machine, Player, pump_slices};
 use litmus_text::{Command, Statement, TextFault};
 use mshr_file::MissFile;
 use script_explained::Explained;
-use script_text::Delivery;
-use slice_core::{Class, DeliveredNext, Pick};
+use slice_core::{Class, DeliveredNext};
 use std::alloc::Global;
-use std::fmt;
 use std::io::Write;
 
 /// A player that writes a step of a page for each command, and for each delivery of a pump.
@@ -31,16 +24,19 @@ pub(crate) struct Paged<F: MissFile> {
     pub(crate) explained: Explained<F>,
     /// The place in the script of the command that is played.
     number: usize,
+    /// How deep the branches of each step go.
+    depth: u64,
 }
 
 impl<F: MissFile> Player for Paged<F> {
     ghost use Rattle.std.specs.Prelude.{◌≡◌};
-    ghost use Rattle.script_page.specs.Step.{Steps};
+    ghost use Rattle.script_page.specs.Steps.{Steps};
 
     ghost config_of = { λ player. player.explained.machine.config };
 
     ghost plays = { λ old line command before after new. (new.explained.machine.config ≡ old.explained.machine.config)
-        × Steps old.explained.machine.config old.explained.machine.slices.items line command before after
+        × (new.depth ≡ old.depth)
+        × Steps old.depth old.explained.machine.config old.explained.machine.slices.items line command before after
         new.explained.machine.slices.items };
 
     fn config(&self) -> &Checked {
@@ -64,13 +60,13 @@ impl<F: MissFile> Player for Paged<F> {
 /// Each delivery that a pump makes is a step.
 impl<F: MissFile> Deliverer for Paged<F> {
     ghost use Rattle.std.specs.Prelude.{◌≡◌};
-    ghost use Rattle.script_page.specs.Step.{IsNextStep};
+    ghost use Rattle.script_page.specs.Steps.{IsNextStep};
 
     ghost config_of = { λ player. player.explained.machine.config };
 
     ghost delivers = { λ old slice answer before after new. (new.explained.machine.config ≡ old.explained.machine.config)
-        × (new.number ≡ old.number)
-        × IsNextStep old.explained.machine.config old.number old.explained.machine.slices.items slice answer
+        × (new.number ≡ old.number) × (new.depth ≡ old.depth)
+        × IsNextStep old.depth old.explained.machine.config old.number old.explained.machine.slices.items slice answer
         before after new.explained.machine.slices.items };
 
     fn slices(&self) -> usize {
@@ -91,12 +87,14 @@ impl<F: MissFile> Deliverer for Paged<F> {
 }
 
 impl<F: MissFile> Paged<F> {
-    pub(crate) fn new(alloc: Global, machine: Machine<F>) -> Self
-        ensures { result.explained.machine ≡ machine }
+    pub(crate) fn new(alloc: Global, machine: Machine<F>, depth: u64) -> Self
+        ensures machine { result.explained.machine ≡ machine }
+        ensures depth { result.depth ≡ depth }
     {
         Paged {
             explained: Explained { machine, alloc },
             number: 0,
+            depth,
         }
     }
 
@@ -109,13 +107,14 @@ impl<F: MissFile> Paged<F> {
     ) -> Result<(), TextFault>
         requires { IsInRange self.old.explained.machine.config command }
         ensures config { self.new.explained.machine.config ≡ self.old.explained.machine.config }
-        ensures step { OnOk result (IsStep self.old.explained.machine.config statement.now.line.now command
-            self.old.explained.machine.slices.items self.new.explained.machine.slices.items
+        ensures depth { self.new.depth ≡ self.old.depth }
+        ensures step { OnOk result (IsStep self.old.depth self.old.explained.machine.config statement.now.line.now
+            command self.old.explained.machine.slices.items self.new.explained.machine.slices.items
             (W.contents out.old) (W.contents out.new)) }
         ensures fault { IfErr result IsOfRun }
     {
         let before = Before::of(&self.explained.machine, command);
-        let answer = self.answer(statement, command)?;
+        let answer = answer_of(&mut self.explained, statement, command)?;
         let step = Step {
             number: statement.number,
             line: statement.line,
@@ -123,35 +122,26 @@ impl<F: MissFile> Paged<F> {
             command,
             before,
         };
-        write_step(self.explained.alloc, &self.explained.machine, &step, out)
-    }
-
-    /// Plays a command. Returns its answer, with what happened.
-    fn answer(&mut self, statement: &Statement<'_>, command: Command) -> Result<Vec<u8>, TextFault>
-        requires { IsInRange self.old.explained.machine.config command }
-        ensures config { self.new.explained.machine.config ≡ self.old.explained.machine.config }
-        ensures played { IfOk result (λ answer. IsExplained self.old.explained.machine.config command
-            self.old.explained.machine.slices.items self.new.explained.machine.slices.items
-            (Some []) (Some answer.items)) }
-        ensures fault { IfErr result IsOfRun }
-    {
-        let mut answer = Vec::new(self.explained.alloc);
-        match self.explained.play(statement, command, &mut answer) {
-            Ok(()) => Ok(answer),
-            // writing to memory fails for want of it
-            Err(_) => Err(TextFault::NoMemory),
-        }
+        write_step(
+            self.explained.alloc,
+            &self.explained.machine,
+            &step,
+            self.depth,
+            out,
+        )
     }
 
     /// Pumps: writes a step for each delivery, and then one that says what is left.
     fn pump<W: Write>(&mut self, line: &[u8], calls: u64, out: &mut W) -> Result<(), TextFault>
         ensures config { self.new.explained.machine.config ≡ self.old.explained.machine.config }
-        ensures steps { OnOk result (ArePumpSteps self.old.explained.machine.config line.now calls
+        ensures steps { OnOk result ((self.new.depth ≡ self.old.depth)
+            × ArePumpSteps self.old.depth self.old.explained.machine.config line.now calls
             self.old.explained.machine.slices.items self.new.explained.machine.slices.items
             (W.contents out.old) (W.contents out.new)) }
         ensures fault { IfErr result IsOfRun }
     {
         let number = self.number;
+        let depth = self.depth;
         let pumped = pump_slices(self, calls, out)?;
         let answer = pumped_text(self.explained.alloc, pumped)?;
         let command = Command::Pump(calls);
@@ -163,7 +153,13 @@ impl<F: MissFile> Paged<F> {
             command,
             before,
         };
-        write_step(self.explained.alloc, &self.explained.machine, &step, out)
+        write_step(
+            self.explained.alloc,
+            &self.explained.machine,
+            &step,
+            depth,
+            out,
+        )
     }
 
     /// What is seen of a slice's next delivery before it is made.
@@ -185,6 +181,7 @@ impl<F: MissFile> Paged<F> {
         requires empty { told.old.items ≡ [] }
         ensures config { self.new.explained.machine.config ≡ self.old.explained.machine.config }
         ensures number { self.new.number ≡ self.old.number }
+        ensures depth { self.new.depth ≡ self.old.depth }
         ensures told { IfOk result (λ answer. TellsNext self.old.explained.machine.slices.items slice answer
             (Some []) (Some told.new.items) self.new.explained.machine.slices.items) }
         ensures fault { IfErr result IsOfRun }
@@ -204,8 +201,8 @@ impl<F: MissFile> Paged<F> {
         told: &[u8],
         out: &mut W,
     ) -> Result<(), TextFault>
-        ensures written { OnOk result (WritesSeen self.now.explained.machine.config self.now.number delivered before
-            told.now self.now.explained.machine.slices.items (W.contents out.old) (W.contents out.new)) }
+        ensures written { OnOk result (WritesSeen self.now.depth self.now.explained.machine.config self.now.number
+            delivered before told.now self.now.explained.machine.slices.items (W.contents out.old) (W.contents out.new)) }
         ensures fault { IfErr result IsOfRun }
     {
         let (DeliveredNext::Moved(pick), Some(before)) = (delivered, before) else {
@@ -219,53 +216,12 @@ impl<F: MissFile> Paged<F> {
             command: Command::Deliver(pick),
             before,
         };
-        write_step(self.explained.alloc, &self.explained.machine, &step, out)
+        write_step(
+            self.explained.alloc,
+            &self.explained.machine,
+            &step,
+            self.depth,
+            out,
+        )
     }
-}
-
-/// What a pump answers.
-fn pumped_text(alloc: Global, pumped: Pumped) -> Result<Vec<u8>, TextFault>
-    ensures text { IfOk result (λ text. text.items ≡ text_of_pumped pumped ++ codes "\n") }
-    ensures fault { IfErr result IsOfRun }
-{
-    let mut text = Vec::new(alloc);
-    match print_pumped(pumped, &mut text) {
-        Ok(()) => Ok(text),
-        Err(_) => Err(TextFault::NoMemory),
-    }
-}
-
-fn print_pumped<W: Write>(pumped: Pumped, out: &mut W) -> fmt::Result
-    ensures { OnOk result (Appends (W.contents out.old) (W.contents out.new) (text_of_pumped pumped ++ codes "\n")) }
-{
-    let mut answers = TextWriter { out };
-    write_pumped(pumped, &mut answers)
-}
-
-/// The command that makes a delivery.
-fn delivery_text(alloc: Global, pick: Pick) -> Result<Vec<u8>, TextFault>
-    ensures text { IfOk result (λ text. text.items ≡ text_of_parts (parts_of (commands.Deliver pick))) }
-    ensures fault { IfErr result IsOfRun }
-{
-    let mut text = Vec::new(alloc);
-    match print_delivery(pick, &mut text) {
-        Ok(()) => Ok(text),
-        Err(_) => Err(TextFault::NoMemory),
-    }
-}
-
-fn print_delivery<W: Write>(pick: Pick, out: &mut W) -> fmt::Result
-    ensures { OnOk result (Appends (W.contents out.old) (W.contents out.new)
-        (text_of_parts (parts_of (commands.Deliver pick)))) }
-{
-    let mut answers = TextWriter { out };
-    write_delivery(pick, &mut answers)
-}
-
-fn write_delivery<W: fmt::Write>(pick: Pick, out: &mut W) -> fmt::Result
-    ensures { OnOk result (WritesInCalls W.write_str_gives out.old
-        (text_of_parts (parts_of (commands.Deliver pick))) out.new) }
-{
-    let delivery = Delivery(pick);
-    write!(out, "{delivery}")
 }

@@ -59,6 +59,19 @@ Documents: docs/TEXTS.md (both diagrams)
 Examples: lockup chart examples/shared_line.txt
           lockup chart --svg examples/invalidation_before_data.txt > run.svg";
 
+/// What stands below the options of `page`.
+pub const PAGE: &str = "\
+With --branches each step also has what each delivery that can be made then leads to, on a copy of
+the machine: choose it in the page, and go back to the run from there. N is from 1 to 4, since a
+page grows with the number of choices to the power of N.
+
+With --guess the page asks for the answer of each command before it shows it.
+
+Documents: docs/TEXTS.md (pages, and the values in them)
+
+Examples: lockup page examples/shared_line.txt > run.html
+          lockup page --branches 2 examples/two_upgrades_at_once.txt > run.html";
+
 /// What stands below the options of `litmus`.
 pub const LITMUS: &str = "\
 Each round runs the test's programs on a new machine, in a thread for each core, beside threads
@@ -81,7 +94,8 @@ table, whose lines end with the seed of the first round that had the outcome:
 
        3 a=0 b=0 seed 5
 
-With '--seed 5 --script' that round is printed, as a script for 'lockup script' and 'lockup chart'.
+With '--seed 5 --script' that round is printed, as a script for 'lockup script' and 'lockup chart',
+and with '--seed 5 --page' as a page, which a browser steps through.
 
 Documents: docs/TEXTS.md (the lines of a litmus test), docs/EXAMPLES.md (tests to begin with)
 
@@ -115,7 +129,7 @@ text's. The last setting varies fastest, and the seeds faster still. Runs are si
 processors. With --json the rows are one value of JSON.
 
 With '--seed 5 --script' the run of that seed is printed, as a script for 'lockup script', 'lockup
-chart' and 'lockup page'.
+chart' and 'lockup page', and with '--seed 5 --page' as a page, which a browser steps through.
 
 Documents: docs/TEXTS.md (the lines of programs, the columns of the report and of rows)
 

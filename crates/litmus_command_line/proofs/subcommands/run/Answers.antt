@@ -11,9 +11,11 @@ returns-clause-reads c =
     ∙ ap₂ with_rule settings c.in_ok-lone_text.ensures.rule in
     let csv = c.in_ok-arg-3.ensures.shape c.in_ok-lone_flag.ensures.plain
     ∙ ap₂ with_rule seeds c.in_ok-lone_flag.ensures.rule in
-    IfOk-weaker c.arg-4.result _ _
-    (λ made adds. adds.shape c.in_ok-lone_flag-2.ensures.plain ∙ ap₂ with_rule csv c.in_ok-lone_flag-2.ensures.rule)
-    c.arg-4.ensures
+    let script = c.in_ok-arg-4.ensures.shape c.in_ok-lone_flag-2.ensures.plain
+    ∙ ap₂ with_rule csv c.in_ok-lone_flag-2.ensures.rule in
+    IfOk-weaker c.arg-5.result _ _
+    (λ made adds. adds.shape c.in_ok-lone_flag-3.ensures.plain ∙ ap₂ with_rule script c.in_ok-lone_flag-3.ensures.rule)
+    c.arg-5.ensures
 
 pub returns-clause-plain : goal.returns-clause-plain
 returns-clause-plain c =
@@ -22,6 +24,7 @@ returns-clause-plain c =
     let seeds = c.in_ok-arg-2.ensures.globals
     ∙ ap₂ (λ a b. a || b) settings c.in_ok-lone_text.ensures.plain in
     let csv = c.in_ok-arg-3.ensures.globals ∙ ap₂ (λ a b. a || b) seeds c.in_ok-lone_flag.ensures.plain in
-    IfOk-weaker c.arg-4.result _ _
-    (λ made adds. adds.globals ∙ ap₂ (λ a b. a || b) csv c.in_ok-lone_flag-2.ensures.plain)
-    c.arg-4.ensures
+    let script = c.in_ok-arg-4.ensures.globals ∙ ap₂ (λ a b. a || b) csv c.in_ok-lone_flag-2.ensures.plain in
+    IfOk-weaker c.arg-5.result _ _
+    (λ made adds. adds.globals ∙ ap₂ (λ a b. a || b) script c.in_ok-lone_flag-3.ensures.plain)
+    c.arg-5.ensures

@@ -1,29 +1,20 @@
-use Rattle.std.proofs.Common.{◌≡◌, ◌∙◌, ◌||◌, false, rules, ap₂, codes}
+use Rattle.std.proofs.Common.{◌∙◌, ◌||◌, ap₂}
 use Rattle.std.proofs.lemmas.Result.{IfOk-weaker}
-use Rattle.clap.specs.declared.builder.command.Command.TheViews.{out-Command as fields_of}
-use Rattle.clap.specs.Words.{app_of, new_app, with_rule}
+use Rattle.clap.specs.Words.{with_rule}
 use Rattle.litmus_command_line.proofs.subcommands.walk.Goals as goal
 
 pub returns-clause-reads : goal.returns-clause-reads
 returns-clause-reads c =
-    let named : app_of c.after_help.result ≡ new_app (codes "walk") = search rules in
-    let file = c.in_ok-arg.ensures.shape c.file.ensures.plain ∙ ap₂ with_rule named c.file.ensures.rule in
-    let rounds = c.in_ok-arg-2.ensures.shape c.positive_number.ensures.plain
-    ∙ ap₂ with_rule file c.positive_number.ensures.rule in
-    let seed = c.in_ok-arg-3.ensures.shape c.number_or.ensures.plain
-    ∙ ap₂ with_rule rounds c.number_or.ensures.rule in
-    let script = c.in_ok-arg-4.ensures.shape c.flag.ensures.plain ∙ ap₂ with_rule seed c.flag.ensures.rule in
-    IfOk-weaker c.arg-5.result _ _
-    (λ made adds. adds.shape c.in_ok-lone_flag.ensures.plain ∙ ap₂ with_rule script c.in_ok-lone_flag.ensures.rule)
-    c.arg-5.ensures
+    let page = c.in_ok-arg.ensures.shape c.in_ok-lone_flag.ensures.plain
+    ∙ ap₂ with_rule c.in_ok-walking.ensures.reads c.in_ok-lone_flag.ensures.rule in
+    IfOk-weaker c.arg-2.result _ _
+    (λ made adds. adds.shape c.in_ok-lone_flag-2.ensures.plain ∙ ap₂ with_rule page c.in_ok-lone_flag-2.ensures.rule)
+    c.arg-2.ensures
 
 pub returns-clause-plain : goal.returns-clause-plain
 returns-clause-plain c =
-    let none : (fields_of c.after_help.result).has_globals ≡ false = search rules in
-    let file = c.in_ok-arg.ensures.globals ∙ ap₂ (λ a b. a || b) none c.file.ensures.plain in
-    let rounds = c.in_ok-arg-2.ensures.globals ∙ ap₂ (λ a b. a || b) file c.positive_number.ensures.plain in
-    let seed = c.in_ok-arg-3.ensures.globals ∙ ap₂ (λ a b. a || b) rounds c.number_or.ensures.plain in
-    let script = c.in_ok-arg-4.ensures.globals ∙ ap₂ (λ a b. a || b) seed c.flag.ensures.plain in
-    IfOk-weaker c.arg-5.result _ _
-    (λ made adds. adds.globals ∙ ap₂ (λ a b. a || b) script c.in_ok-lone_flag.ensures.plain)
-    c.arg-5.ensures
+    let page = c.in_ok-arg.ensures.globals
+    ∙ ap₂ (λ a b. a || b) c.in_ok-walking.ensures.plain c.in_ok-lone_flag.ensures.plain in
+    IfOk-weaker c.arg-2.result _ _
+    (λ made adds. adds.globals ∙ ap₂ (λ a b. a || b) page c.in_ok-lone_flag-2.ensures.plain)
+    c.arg-2.ensures

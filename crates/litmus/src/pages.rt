@@ -1,0 +1,83 @@
+//! Pages of schedules: a schedule is printed as a script, and that is written as a page.
+ghost use Rattle.std.specs.Prelude.{◌≡◌, ◌⊎◌, ℕ, IfErr, IfOk};
+ghost use Rattle.litmus.specs.Pages.{HasPage, HasPageFault, IsPageCut, IsPageOfPrinted};
+ghost use Rattle.litmus.specs.Tests.{IsOfTest, IsTestNotRun};
+ghost use Rattle.litmus_script.specs.Machine.{bound_of};
+ghost use Rattle.litmus_walk.specs.Script.{PrintsWalk};
+ghost use Rattle.program_run.specs.Run.{IsProgramNotRun, PrintsSchedule, limited_to};
+ghost use Rattle.program_text.specs.Fault.{IsProgramText, programs_of, settings_of};
+ghost use Rattle.program_text.specs.declared.programs.Programs.{Programs};
+
+use super::tests::write_walk;
+use litmus_text::TextFault;
+use program_run::write_schedule;
+use script_page::run_page;
+use std::alloc::Global;
+use std::io::Write;
+
+/// Writes the page of the script that [`write_walk`] prints, behind the lines of `head`. Returns the exit status, which
+/// is 1 where the round is stuck.
+pub fn page_walk<W: Write>(
+    alloc: Global,
+    head: Vec<u8>,
+    input: &[u8],
+    seed: u64,
+    out: &mut W,
+) -> Result<u8, TextFault>
+    ensures done { IfOk result (λ status. IsOfTest input.now (λ test. IsPageOfPrinted head.items
+        (PrintsWalk test (bound_of test.misses test.config) seed status)
+        (W.contents out.old) (W.contents out.new))) }
+    ensures fault { IfErr result (λ fault. IsTestNotRun input.now fault
+        ⊎ ((status : ℕ) × IsOfTest input.now (λ test. IsPageCut head.items
+        (PrintsWalk test (bound_of test.misses test.config) seed status) fault))) }
+{
+    let mut script = head;
+    match write_walk(alloc, input, seed, &mut script) {
+        Ok(status) => page_of(alloc, script.as_slice(), status, out),
+        // writing to memory fails for want of it
+        Err(TextFault::CannotWrite) => Err(TextFault::NoMemory),
+        Err(fault) => Err(fault),
+    }
+}
+
+/// Writes the page of the script that [`write_schedule`] prints, behind the lines of `head`. Returns the exit status,
+/// which is 1 where nothing can move before the end.
+pub fn page_schedule<W: Write>(
+    alloc: Global,
+    head: Vec<u8>,
+    input: &[u8],
+    outstanding: Option<u64>,
+    seed: u64,
+    out: &mut W,
+) -> Result<u8, TextFault>
+    ensures done { IfOk result (λ status. (programs : Programs)
+        × IsProgramText input.now (settings_of programs) programs.outstanding (programs_of programs)
+        × IsPageOfPrinted head.items
+        (PrintsSchedule (bound_of programs.misses programs.config) (limited_to outstanding programs) seed status)
+        (W.contents out.old) (W.contents out.new)) }
+    ensures fault { IfErr result (λ fault. IsProgramNotRun input.now fault
+        ⊎ ((status : ℕ) × (programs : Programs)
+        × IsProgramText input.now (settings_of programs) programs.outstanding (programs_of programs)
+        × IsPageCut head.items
+        (PrintsSchedule (bound_of programs.misses programs.config) (limited_to outstanding programs) seed status)
+        fault)) }
+{
+    let mut script = head;
+    match write_schedule(alloc, input, outstanding, seed, &mut script) {
+        Ok(status) => page_of(alloc, script.as_slice(), status, out),
+        // writing to memory fails for want of it
+        Err(TextFault::CannotWrite) => Err(TextFault::NoMemory),
+        Err(fault) => Err(fault),
+    }
+}
+
+/// Writes the page of a script that was printed with this status, and returns that.
+fn page_of<W: Write>(alloc: Global, script: &[u8], status: u8, out: &mut W) -> Result<u8, TextFault>
+    ensures page { IfOk result (λ s. (s ≡ status) × HasPage script.now (W.contents out.old) (W.contents out.new)) }
+    ensures fault { IfErr result (HasPageFault script.now) }
+{
+    match run_page(alloc, script, out) {
+        Ok(_) => Ok(status),
+        Err(fault) => Err(fault),
+    }
+}

@@ -1,3 +1,5 @@
 pub mod Text
+pub mod Call
+pub mod Fields
 pub mod Object
 pub mod Listed

@@ -3,6 +3,9 @@ use Rattle.std.specs.Prelude.{ℕ, ◌+◌, ◌==◌, ◌&&◌, Bool, false, Lis
 use Rattle.std.specs.Prelude.{if◌then◌else◌, length, map, nat_lt, take}
 use Rattle.json_text.specs.List.{with_commas}
 use Rattle.litmus_text.specs.Text.{words_of_line}
+use Rattle.litmus_text.specs.declared.command.Command.{Command}
+use Rattle.script_json.specs.Call.{text_of_call}
+use Rattle.script_json.specs.Fields.{fields_if, is_told}
 use Rattle.script_json.specs.Text.{quoted, value_of}
 
 -- the text begins with three blanks
@@ -22,14 +25,22 @@ told_of happened = codes ",\"happened\":" ++ quoted happened
 abbrev pub happened_of : List ℕ → List ℕ
 happened_of told = if nat_lt (length told) 3 then [] else told_of (drop 3 told)
 
--- a line of an answer: its words, and what happened behind it
-abbrev pub answer_of : List ℕ → List ℕ
-answer_of line =
+-- a line of an answer: its words, where it is told what they say, and what happened behind it
+abbrev pub answer_of : Bool → List ℕ → List ℕ
+answer_of told line =
     codes "{\"words\":[" ++ with_commas (map value_of (words_of_line (take (gap_at line) line))) ++ codes "]"
+    ++ fields_if told (take (gap_at line) line) (words_of_line (take (gap_at line) line))
     ++ happened_of (drop (gap_at line) line) ++ codes "}"
 
--- the value of a command, in one line: the number of its line, the line, and the lines of its answer
-abbrev pub object_of : ℕ → List ℕ → List (List ℕ) → List ℕ
-object_of number command answer =
-    codes "{\"line\":" ++ decimal number ++ codes ",\"command\":" ++ quoted command
-    ++ codes ",\"answer\":[" ++ with_commas (map answer_of answer) ++ codes "]}\n"
+-- what stands before the command as data: the number of its line, and the line
+abbrev pub head_of : ℕ → List ℕ → List ℕ
+head_of number line =
+    codes "{\"line\":" ++ decimal number ++ codes ",\"command\":" ++ quoted line ++ codes ",\"call\":"
+
+-- .. and behind it: the lines of its answer
+abbrev pub tail_of : Bool → List (List ℕ) → List ℕ
+tail_of told answer = codes ",\"answer\":[" ++ with_commas (map (answer_of told) answer) ++ codes "]}\n"
+
+-- the value of a command, in one line
+abbrev pub object_of : ℕ → List ℕ → Command → List (List ℕ) → List ℕ
+object_of number line command answer = head_of number line ++ (text_of_call command ++ tail_of (is_told command) answer)

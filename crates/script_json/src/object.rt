@@ -3,30 +3,65 @@ ghost use Rattle.std.specs.Prelude.{◌≡◌, ◌≤◌, OnOk, decimal, length,
 ghost use Rattle.std.specs.Io.KnownBytes.{Appends};
 ghost use Rattle.std.specs.Str.Lines.{lines};
 ghost use Rattle.json_text.specs.List.{with_commas};
-ghost use Rattle.script_json.specs.Object.{answer_of, gap_at, happened_of, is_gap, object_of, told_of};
+ghost use Rattle.script_json.specs.Object.{answer_of, gap_at, happened_of, head_of, is_gap, object_of, tail_of, told_of};
 
+use super::call::write_call;
+use super::fields::{is_told, write_fields_if};
 use super::text::{write_before, write_quoted, write_words};
 use itoa::Buffer;
-use litmus_text::Lines;
+use litmus_text::{Command, Lines, TextFault};
 use stats_report::{Cut, write_text};
 use std::io::Write;
 
-/// Writes the value of a command: the number of its line, the line, and the lines of its answer.
+/// Writes the value of a command: the number of its line, the line, the command as data, and the lines of its answer.
 pub(crate) fn write_object<W: Write>(
     number: u64,
-    command: &[u8],
+    line: &[u8],
+    command: Command,
     answer: &[u8],
     out: &mut W,
-) -> Result<(), Cut>
+) -> Result<(), TextFault>
     ensures { OnOk result (Appends (W.contents out.old) (W.contents out.new)
-        (object_of number command.now (lines answer.now))) }
+        (object_of number line.now command (lines answer.now))) }
+{
+    begin(number, line, out)?;
+    write_call(command, out)?;
+    end(is_told(command), answer, out)
+}
+
+fn begin<W: Write>(number: u64, line: &[u8], out: &mut W) -> Result<(), TextFault>
+    ensures { OnOk result (Appends (W.contents out.old) (W.contents out.new) (head_of number line.now)) }
+{
+    match write_head(number, line, out) {
+        Ok(()) => Ok(()),
+        Err(_) => Err(TextFault::CannotWrite),
+    }
+}
+
+fn end<W: Write>(told: bool, answer: &[u8], out: &mut W) -> Result<(), TextFault>
+    ensures { OnOk result (Appends (W.contents out.old) (W.contents out.new) (tail_of told (lines answer.now))) }
+{
+    match write_tail(told, answer, out) {
+        Ok(()) => Ok(()),
+        Err(_) => Err(TextFault::CannotWrite),
+    }
+}
+
+fn write_head<W: Write>(number: u64, line: &[u8], out: &mut W) -> Result<(), Cut>
+    ensures { OnOk result (Appends (W.contents out.old) (W.contents out.new) (head_of number line.now)) }
 {
     write_text(out, b"{\"line\":")?;
     write_number(number, out)?;
     write_text(out, b",\"command\":")?;
-    write_quoted(command, out)?;
+    write_quoted(line, out)?;
+    write_text(out, b",\"call\":")
+}
+
+fn write_tail<W: Write>(told: bool, answer: &[u8], out: &mut W) -> Result<(), Cut>
+    ensures { OnOk result (Appends (W.contents out.old) (W.contents out.new) (tail_of told (lines answer.now))) }
+{
     write_text(out, b",\"answer\":[")?;
-    write_answers(Lines::of(answer), out)?;
+    write_answers(told, Lines::of(answer), out)?;
     write_text(out, b"]}\n")
 }
 
@@ -37,29 +72,30 @@ fn write_number<W: Write>(number: u64, out: &mut W) -> Result<(), Cut>
     write_text(out, buffer.format(number).as_bytes())
 }
 
-fn write_answers<W: Write>(answer: Lines<'_>, out: &mut W) -> Result<(), Cut>
+fn write_answers<W: Write>(told: bool, answer: Lines<'_>, out: &mut W) -> Result<(), Cut>
     ensures { OnOk result
-        (Appends (W.contents out.old) (W.contents out.new) (with_commas (map answer_of answer.entry))) }
+        (Appends (W.contents out.old) (W.contents out.new) (with_commas (map (answer_of told) answer.entry))) }
 {
     let mut is_first = true;
     for line in answer {
         write_before(is_first, out)?;
         is_first = false;
-        write_answer(line, out)?;
+        write_answer(told, line, out)?;
     }
     Ok(())
 }
 
-// A line of an answer: its words, and what happened behind it.
-fn write_answer<W: Write>(line: &[u8], out: &mut W) -> Result<(), Cut>
-    ensures { OnOk result (Appends (W.contents out.old) (W.contents out.new) (answer_of line.now)) }
+// A line of an answer: its words, where it is told what they say, and what happened behind it.
+fn write_answer<W: Write>(told: bool, line: &[u8], out: &mut W) -> Result<(), Cut>
+    ensures { OnOk result (Appends (W.contents out.old) (W.contents out.new) (answer_of told line.now)) }
 {
     let gap = gap_in(line);
-    let (words, told) = line.split_at(gap);
+    let (text, happened) = line.split_at(gap);
     write_text(out, b"{\"words\":[")?;
-    write_words(words, out)?;
+    write_words(text, out)?;
     write_text(out, b"]")?;
-    write_happened(told, out)?;
+    write_fields_if(told, text, out)?;
+    write_happened(happened, out)?;
     write_text(out, b"}")
 }
 

@@ -23,7 +23,7 @@ impl<P: Player> Player for Lister<P> {
 
     ghost plays = { λ old line command before after new. (answer : List ℕ) × (number : ℕ)
         × P.plays old.player line command (Some []) (Some answer) new.player
-        × Appends before after (object_of number line (lines answer)) };
+        × Appends before after (object_of number line command (lines answer)) };
 
     fn config(&self) -> &Checked {
         self.player.config()
@@ -45,7 +45,8 @@ impl<P: Player> Player for Lister<P> {
             return Err(TextFault::NoMemory);
         }
         let number = statement.number as u64;
-        match write_object(number, statement.line, self.answer.as_slice(), out) {
+        let answer = self.answer.as_slice();
+        match write_object(number, statement.line, command, answer, out) {
             Ok(()) => Ok(()),
             Err(_) => Err(TextFault::CannotWrite),
         }

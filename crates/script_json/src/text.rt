@@ -75,8 +75,8 @@ fn write_each<W: Write>(words: Words<'_>, out: &mut W) -> Result<(), Cut>
     Ok(())
 }
 
-// A number as it is, and any other word between quotes.
-fn write_value<W: Write>(word: &[u8], out: &mut W) -> Result<(), Cut>
+/// Writes a number as it is, and any other word between quotes.
+pub(crate) fn write_value<W: Write>(word: &[u8], out: &mut W) -> Result<(), Cut>
     ensures { OnOk result (Appends (W.contents out.old) (W.contents out.new) (value_of word.now)) }
 {
     if is_number(word) {
@@ -86,8 +86,8 @@ fn write_value<W: Write>(word: &[u8], out: &mut W) -> Result<(), Cut>
     }
 }
 
-// Whether a word is a number as JSON writes it.
-fn is_number(word: &[u8]) -> bool
+/// Whether a word is a number as JSON writes it.
+pub(crate) fn is_number(word: &[u8]) -> bool
     ensures { result ≡ is_number word.now }
 {
     match word {

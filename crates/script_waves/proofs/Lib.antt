@@ -1,2 +1,4 @@
+mod ChangesLemmas
+mod InUseLemmas
 mod PlacedLemmas
 mod WavesLemmas

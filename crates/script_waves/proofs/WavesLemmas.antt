@@ -1,7 +1,9 @@
 -- The names of channels and the values of lines, in the pieces in which they are written, and runs from the beginning.
 use Rattle.std.proofs.Common.{◌≡◌, ℕ, List, [], ◌∷◌, ◌++◌, Option, Some, None, Result, Ok, Err, IsOk, OnOk, codes, drop}
-use Rattle.std.proofs.Common.{map, refl, sym, subst, ap, ◌∙◌}
+use Rattle.std.proofs.Common.{map, refl, sym, subst, ap, ap₂, append_assoc, ◌∙◌}
+use Rattle.std.proofs.KnownBytes.{Appends-trans}
 use Rattle.std.proofs.Output.{writes_in_calls_append, writes_in_calls_single}
+use Rattle.std.specs.Io.KnownBytes.{Appends}
 use Rattle.std.specs.Fmt.{WritesInCalls}
 use Rattle.std.specs.List.{flat_map, slice_get}
 use Rattle.address_map.specs.declared.address.LineAddr.{LineAddr}
@@ -12,7 +14,7 @@ use Rattle.cache_table.specs.declared.state.CopyState.{CopyState}
 use Rattle.litmus_script.specs.Play.{PlaysAll, PlaysUpTo}
 use Rattle.litmus_text.specs.declared.fault.TextFault.{TextFault}
 use Rattle.script_waves.specs.Values.{name_of_channel, names_of, text_behind, text_of_entry, text_of_mail}
-use Rattle.script_waves.specs.Values.{text_of_place, text_of_states, text_of_waiting}
+use Rattle.script_waves.specs.Values.{text_of_place, text_of_states, text_of_total, text_of_waiting, total_of, waiting_of}
 use Rattle.script_waves.specs.Waves.{Shown, Ticks, shown_first}
 use Rattle.slice_core.specs.Facts.{AreWaitingAt, ShowsLine}
 use Rattle.slice_core_plan.specs.Calls.{PartsView}
@@ -73,13 +75,20 @@ shown_text v line (Some local) view (given, is, dir, owner, sharers, home, copie
     (rw (dir, copies) refl)
 
 -- .. and so is what waits for it
-pub mail_text : (v : View) (line : LineAddr) (local : Option Local) (waiting : List Channel)
-    → AreWaitingAt v local waiting
-    → text_of_waiting line waiting ≡ text_of_mail v line local
-mail_text v line None waiting waits = absurd waits
-mail_text v line (Some local) waiting waits = ap (text_of_waiting line) waits.0
+pub mail_text : (v : View) (line : LineAddr) (local : Option Local) (waiting : List Channel) (total : ℕ)
+    → total ≡ total_of (waiting_of v local) → AreWaitingAt v local waiting
+    → text_of_waiting line waiting ++ text_of_total line total ≡ text_of_mail v line local
+mail_text v line None waiting total counted waits = absurd waits
+mail_text v line (Some local) waiting total counted waits =
+    ap₂ (λ (all : List Channel) (n : ℕ). text_of_waiting line all ++ text_of_total line n) waits.0 counted
 
 -- ---- a run
+
+-- the time and the command, and then the values
+pub told_behind : (time command values : List ℕ) (a b c : Option (List ℕ)) → Appends a b (time ++ command)
+    → Appends b c values → Appends a c (time ++ (command ++ values))
+told_behind time command values a b c first rest =
+    subst (Appends a c) (append_assoc time command values) (Appends-trans a b c (time ++ command) _ first rest)
 
 module _ (config other : Config) (commands : List (ℕ × List (List ℕ))) (now : Shown) (start : List PartsView)
     (before after : Option (List ℕ)) (one : other ≡ config) (fresh : now ≡ shown_first start) where

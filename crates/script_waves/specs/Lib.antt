@@ -1,3 +1,5 @@
+pub mod Changes
+pub mod InUse
 pub mod Named
 pub mod Signals
 pub mod Values

@@ -1,6 +1,7 @@
 -- The values of a line's signals: what a slice has of the line.
 use Rattle.std.specs.Prelude.{ℕ, ◌+◌, ◌%◌, ◌&&◌, nat_le, nat_lt, if◌then◌else◌, List, [], ◌∷◌, ◌++◌, codes, decimal}
-use Rattle.std.specs.Prelude.{map, slice_get, Option, Some, None}
+use Rattle.std.specs.Prelude.{map, slice_get, Option, Some, None, ◌-◌, ◌^◌, false, length, min}
+use Rattle.std.specs.Fmt.{digits}
 use Rattle.std.specs.List.{flat_map}
 use Rattle.address_map.specs.Locator.{local_at}
 use Rattle.address_map.specs.declared.address.LineAddr.{LineAddr}
@@ -22,11 +23,11 @@ use Rattle.slice_queues_message.specs.declared.channel.Channel.TheVariants as ch
 -- ---- the channels in which a message waits, as one word
 
 abbrev pub name_of_channel : Channel → List ℕ
-name_of_channel (channels.Req core) = codes "req" ++ decimal core.0
-name_of_channel (channels.Fwd core) = codes "fwd" ++ decimal core.0
-name_of_channel (channels.Data core) = codes "data" ++ decimal core.0
-name_of_channel (channels.Ack to from) = codes "ack" ++ decimal to.0 ++ codes "." ++ decimal from.0
-name_of_channel channels.Home = codes "home"
+name_of_channel (channels.Req core) = codes "r" ++ decimal core.0
+name_of_channel (channels.Fwd core) = codes "f" ++ decimal core.0
+name_of_channel (channels.Data core) = codes "d" ++ decimal core.0
+name_of_channel (channels.Ack to from) = codes "a" ++ decimal to.0 ++ codes "." ++ decimal from.0
+name_of_channel channels.Home = codes "h"
 
 -- .. behind another
 abbrev pub text_behind : Channel → List ℕ
@@ -57,10 +58,23 @@ abbrev pub text_of_waiting : LineAddr → List Channel → List ℕ
 text_of_waiting line waiting =
     codes "s" ++ (names_of waiting ++ (codes " " ++ code_of line signals.Channels ++ codes "\n"))
 
+-- how many these are, as far as they can be counted
+abbrev pub total_of : List Channel → ℕ
+total_of waiting = min (length waiting) (2 ^ 64 - 1)
+
+abbrev pub text_of_total : LineAddr → ℕ → List ℕ
+text_of_total line total = codes "b" ++ digits 2 false total ++ codes " " ++ code_of line signals.Total ++ codes "\n"
+
+-- the channels of a line at this place of its slice in which a message waits
+abbrev pub waiting_of : View → Option Local → List Channel
+waiting_of v None = []
+waiting_of v (Some local) = line_waiting (channels_at v local)
+
 -- what waits for a line at this place of its slice
 abbrev pub text_of_mail : View → LineAddr → Option Local → List ℕ
 text_of_mail v line None = []
-text_of_mail v line (Some local) = text_of_waiting line (line_waiting (channels_at v local))
+text_of_mail v line (Some local) =
+    text_of_waiting line (waiting_of v (Some local)) ++ text_of_total line (total_of (waiting_of v (Some local)))
 
 -- a line at this place: the directory's entry, each core's copy, and the channels
 abbrev pub text_of_place : View → LineAddr → Option Local → List ℕ

@@ -1,6 +1,7 @@
--- A script's run as waves: what its lines' signals are behind each command.
+-- A script's run as waves: what the signals of its lines and of the cores are behind each command.
 use Rattle.std.specs.Prelude.{◌≡◌, ◌⊎◌, ℕ, ◌+◌, ◌%◌, ◌^◌, List, [], ◌++◌, Option, Some}
 use Rattle.std.specs.Io.KnownBytes.{Appends}
+use Rattle.std.specs.Str.Lines.{lines}
 use Rattle.address_map.specs.declared.address.LineAddr.{LineAddr}
 use Rattle.address_map.specs.declared.config.Config.{Config}
 use Rattle.litmus_script.specs.Machine.{IsNewMachine}
@@ -10,34 +11,43 @@ use Rattle.litmus_script.specs.Script.{IsNotConfigured, IsSetUp}
 use Rattle.litmus_text.specs.declared.command.Command.{Command}
 use Rattle.litmus_text.specs.declared.fault.TextFault.{TextFault}
 use Rattle.mshr_file.specs.Miss.{Bound}
+use Rattle.script_waves.specs.Changes.{changes}
+use Rattle.script_waves.specs.InUse.{text_of_uses}
 use Rattle.script_waves.specs.Named.{Names, line_named}
 use Rattle.script_waves.specs.Signals.{text_of_header}
 use Rattle.script_waves.specs.Values.{text_of_command, text_of_lines, text_of_time}
 use Rattle.slice_core_plan.specs.Calls.{PartsView}
 
--- what is known of a run: the machine's slices, the lines that were named, and how many commands were played
+-- what is known of a run: the machine's slices, the lines that were named, how many commands were played, and the values
+-- that stand behind the last
 pub record Shown : Type 0 where
   pub slices : List PartsView
   pub named : List LineAddr
   pub played : ℕ
+  pub values : List ℕ
 
 -- one more than a count of 64 bits
 abbrev pub next : ℕ → ℕ
 next count = (count + 1) % 2 ^ 64
 
--- behind a command on this line: the time, the command, and what the slices then have of each line named so far
-abbrev pub text_of_tick : Config → List ℕ → Shown → List ℕ
-text_of_tick config line shown =
-    text_of_time shown.played ++ (text_of_command line ++ text_of_lines config shown.slices shown.named)
+-- what each core has in use of each slice, and what the slices have of these lines
+abbrev pub text_of_values : Config → List PartsView → List LineAddr → List ℕ
+text_of_values config slices named = text_of_uses config.cores 0 slices ++ text_of_lines config slices named
 
--- The command is played, as it is where its answer is printed, and takes one unit of time.
+-- behind a command on this line: the time, the command, and which values it changed
+abbrev pub text_of_tick : List ℕ → ℕ → List ℕ → List ℕ → List ℕ
+text_of_tick line played before values =
+    text_of_time played ++ (text_of_command line ++ changes (lines before) (lines values))
+
+-- The command is played, as it is where its answer is printed, and takes one unit of time. What it changed is written.
 pub record IsTick (config : Config) (line : List ℕ) (command : Command) (old new : Shown)
     (before after : Option (List ℕ)) : Type 0 where
   pub answer : List ℕ
   pub made : IsPrinted config command old.slices new.slices (Some []) (Some answer)
   pub names : Names config (line_named command) old.named new.named
   pub counted : new.played ≡ next old.played
-  pub written : Appends before after (text_of_tick config line new)
+  pub values : new.values ≡ text_of_values config new.slices new.named
+  pub written : Appends before after (text_of_tick line new.played old.values new.values)
 
 -- .. as what a player does of it
 abbrev pub Ticks : Config → Shown → List ℕ → Command → Option (List ℕ) → Option (List ℕ) → Shown → Type 0
@@ -45,13 +55,14 @@ Ticks config old line command before after new = IsTick config line command old 
 
 -- nothing was played yet
 abbrev pub shown_first : List PartsView → Shown
-shown_first slices = record { slices = slices; named = []; played = 0 }
+shown_first slices = record { slices = slices; named = []; played = 0; values = [] }
 
--- the signals of these lines are written, then these values of them, and the time at which the last ones end
-pub record IsWritten (cores : ℕ) (named : List LineAddr) (ticks : List ℕ) (time : ℕ)
+-- the signals of these lines and of all cores are written, then these values of them, and the time at which the last
+-- ones end
+pub record IsWritten (cores slices : ℕ) (named : List LineAddr) (ticks : List ℕ) (time : ℕ)
     (before after : Option (List ℕ)) : Type 0 where
   pub first : Option (List ℕ)
-  pub header : Appends before first (text_of_header cores named)
+  pub header : Appends before first (text_of_header cores slices named)
   pub last : Option (List ℕ)
   pub told : Appends first last ticks
   pub ended : Appends last after (text_of_time time)
@@ -63,7 +74,7 @@ pub record HasWaves (config : Config) (commands : List (ℕ × List (List ℕ)))
   pub end : Shown
   pub ticks : List ℕ
   pub played : PlaysAll (Ticks config) config commands (shown_first start) end (Some []) (Some ticks)
-  pub written : IsWritten config.cores end.named ticks (next end.played) before after
+  pub written : IsWritten config.cores config.slices end.named ticks (next end.played) before after
 
 -- .. on a new machine
 pub record IsWavesOf (config : Config) (bound : Bound) (commands : List (ℕ × List (List ℕ)))

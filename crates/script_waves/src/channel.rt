@@ -10,7 +10,7 @@ use slice_queues_message::Channel;
 use std::fmt;
 use std::fmt::Write;
 
-/// A channel's name, which is one word.
+/// A channel's name in a few letters.
 #[derive(Clone, Copy)]
 pub(crate) struct ChannelName(pub(crate) Channel);
 
@@ -22,14 +22,14 @@ impl fmt::Display for ChannelName {
 
     fn fmt<W: fmt::Write>(&self, f: &mut fmt::Formatter<W>) -> fmt::Result {
         match self.0 {
-            Channel::Req(CoreId(core)) => write!(f, "req{core}"),
-            Channel::Fwd(CoreId(core)) => write!(f, "fwd{core}"),
-            Channel::Data(CoreId(core)) => write!(f, "data{core}"),
+            Channel::Req(CoreId(core)) => write!(f, "r{core}"),
+            Channel::Fwd(CoreId(core)) => write!(f, "f{core}"),
+            Channel::Data(CoreId(core)) => write!(f, "d{core}"),
             Channel::Ack {
                 to: CoreId(to),
                 from: CoreId(from),
-            } => write!(f, "ack{to}.{from}"),
-            Channel::Home => f.write_str("home"),
+            } => write!(f, "a{to}.{from}"),
+            Channel::Home => f.write_str("h"),
         }
     }
 }

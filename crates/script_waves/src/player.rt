@@ -1,13 +1,18 @@
 //! What plays a script's commands for waves.
-ghost use Rattle.std.specs.Prelude.{◌≡◌, ◌+◌, ◌%◌, ◌^◌, [], IfErr, IfOk, OnOk, Some};
+ghost use Rattle.std.specs.Prelude.{◌≡◌, ◌+◌, ◌++◌, ◌%◌, ◌^◌, [], IfErr, IfOk, OnOk, Some};
 ghost use Rattle.std.specs.Fmt.{WritesInCalls};
+ghost use Rattle.std.specs.Io.KnownBytes.{Appends};
+ghost use Rattle.std.specs.Str.Lines.{lines};
 ghost use Rattle.litmus_script.specs.Play.{IsOfRun};
 ghost use Rattle.litmus_script.specs.Prints.{IsPrinted};
 ghost use Rattle.litmus_text.specs.Command.{IsInRange};
 ghost use Rattle.script_waves.specs.Named.{Names, line_named};
-ghost use Rattle.script_waves.specs.Waves.{text_of_tick};
+ghost use Rattle.script_waves.specs.Values.{text_of_command, text_of_lines, text_of_time};
+ghost use Rattle.script_waves.specs.Waves.{text_of_tick, text_of_values};
 
+use super::changes::write_changes;
 use super::command::{write_command, write_time};
+use super::in_use::write_uses;
 use super::named::note_line;
 use super::values::write_lines;
 use address_map::{Checked, LineAddr};
@@ -18,7 +23,8 @@ use std::alloc::Global;
 use std::fmt;
 use std::io::Write;
 
-/// A player that writes, behind each command, what the slices have of each line named so far.
+/// A player that writes, behind each command, what it changed of what each core has in use, and of what the slices have of
+/// each line named so far.
 #[derive(Drop)]
 pub(crate) struct Waved<F: MissFile> {
     pub(crate) machine: Machine<F>,
@@ -26,8 +32,11 @@ pub(crate) struct Waved<F: MissFile> {
     pub(crate) named: Vec<LineAddr>,
     /// How many commands were played, modulo 2^64.
     pub(crate) played: u64,
+    /// The values behind the last command.
+    pub(crate) values: Vec<u8>,
     /// The room for an answer, which isn't shown.
     answer: Vec<u8>,
+    alloc: Global,
 }
 
 impl<F: MissFile> Player for Waved<F> {
@@ -38,8 +47,18 @@ impl<F: MissFile> Player for Waved<F> {
 
     ghost plays = { λ old line command before after new. (new.machine.config ≡ old.machine.config)
         × IsTick old.machine.config line command
-        (record { slices = old.machine.slices.items; named = old.named.items; played = old.played })
-        (record { slices = new.machine.slices.items; named = new.named.items; played = new.played }) before after };
+        (record {
+          slices = old.machine.slices.items;
+          named = old.named.items;
+          played = old.played;
+          values = old.values.items;
+        })
+        (record {
+          slices = new.machine.slices.items;
+          named = new.named.items;
+          played = new.played;
+          values = new.values.items;
+        }) before after };
 
     fn config(&self) -> &Checked {
         &self.machine.config
@@ -54,8 +73,10 @@ impl<F: MissFile> Player for Waved<F> {
         self.answer(command)?;
         self.name(command)?;
         self.played = self.played.wrapping_add(1);
-        let mut answers = TextWriter { out };
-        written(self.write_tick(statement.line, &mut answers))
+        let values = self.look()?;
+        self.tell(statement.line, values.as_slice(), out)?;
+        self.values = values;
+        Ok(())
     }
 }
 
@@ -64,12 +85,15 @@ impl<F: MissFile> Waved<F> {
         ensures machine { result.machine ≡ machine }
         ensures named { result.named.items ≡ [] }
         ensures played { result.played ≡ 0 }
+        ensures values { result.values.items ≡ [] }
     {
         Waved {
             machine,
             named: Vec::new(alloc),
             played: 0,
+            values: Vec::new(alloc),
             answer: Vec::new(alloc),
+            alloc,
         }
     }
 
@@ -79,6 +103,7 @@ impl<F: MissFile> Waved<F> {
         ensures config { self.new.machine.config ≡ self.old.machine.config }
         ensures named { self.new.named ≡ self.old.named }
         ensures count { self.new.played ≡ self.old.played }
+        ensures values { self.new.values ≡ self.old.values }
         ensures played { OnOk result (IsPrinted self.old.machine.config command
             self.old.machine.slices.items self.new.machine.slices.items (Some []) (Some self.new.answer.items)) }
         ensures fault { IfErr result IsOfRun }
@@ -95,6 +120,7 @@ impl<F: MissFile> Waved<F> {
     fn name(&mut self, command: Command) -> Result<(), TextFault>
         ensures machine { self.new.machine ≡ self.old.machine }
         ensures count { self.new.played ≡ self.old.played }
+        ensures values { self.new.values ≡ self.old.values }
         ensures names { OnOk result (Names self.old.machine.config (line_named command)
             self.old.named.items self.new.named.items) }
         ensures fault { IfErr result IsOfRun }
@@ -103,13 +129,62 @@ impl<F: MissFile> Waved<F> {
         note_line(&machine.config, command, named)
     }
 
-    fn write_tick<W: fmt::Write>(&self, line: &[u8], out: &mut W) -> fmt::Result
-        ensures { OnOk result (WritesInCalls W.write_str_gives out.old (text_of_tick self.now.machine.config line.now
-            (record { slices = self.now.machine.slices.items; named = self.now.named.items; played = self.now.played }))
-            out.new) }
+    /// The values that stand now.
+    fn look(&self) -> Result<Vec<u8>, TextFault>
+        ensures values { IfOk result (λ values. values.items
+            ≡ text_of_values self.now.machine.config self.now.machine.slices.items self.now.named.items) }
+        ensures fault { IfErr result IsOfRun }
+    {
+        let mut values = Vec::new(self.alloc);
+        match self.write_values(&mut values) {
+            Ok(()) => Ok(values),
+            // writing to memory fails for want of it
+            Err(_) => Err(TextFault::NoMemory),
+        }
+    }
+
+    fn write_values<W: Write>(&self, out: &mut W) -> Result<(), TextFault>
+        ensures written { OnOk result (Appends (W.contents out.old) (W.contents out.new)
+            (text_of_values self.now.machine.config self.now.machine.slices.items self.now.named.items)) }
+        ensures fault { IfErr result IsOfRun }
+    {
+        write_uses(self.alloc, &self.machine, out)?;
+        self.tell_lines(out)
+    }
+
+    /// Writes what there is behind a command on this line, where these values stand now.
+    fn tell<W: Write>(&self, line: &[u8], values: &[u8], out: &mut W) -> Result<(), TextFault>
+        ensures told { OnOk result (Appends (W.contents out.old) (W.contents out.new)
+            (text_of_tick line.now self.now.played self.now.values.items values.now)) }
+        ensures fault { IfErr result IsOfRun }
+    {
+        self.tell_command(line, out)?;
+        write_changes(self.values.as_slice(), values, out)
+    }
+
+    fn tell_command<W: Write>(&self, line: &[u8], out: &mut W) -> Result<(), TextFault>
+        ensures told { OnOk result (Appends (W.contents out.old) (W.contents out.new)
+            (text_of_time self.now.played ++ text_of_command line.now)) }
+        ensures fault { IfErr result IsOfRun }
+    {
+        let mut answers = TextWriter { out };
+        written(self.write_timed(line, &mut answers))
+    }
+
+    fn write_timed<W: fmt::Write>(&self, line: &[u8], out: &mut W) -> fmt::Result
+        ensures { OnOk result (WritesInCalls W.write_str_gives out.old
+            (text_of_time self.now.played ++ text_of_command line.now) out.new) }
     {
         write_time(self.played, out)?;
-        write_command(line, out)?;
-        write_lines(&self.machine, self.named.as_slice(), out)
+        write_command(line, out)
+    }
+
+    fn tell_lines<W: Write>(&self, out: &mut W) -> Result<(), TextFault>
+        ensures told { OnOk result (Appends (W.contents out.old) (W.contents out.new)
+            (text_of_lines self.now.machine.config self.now.machine.slices.items self.now.named.items)) }
+        ensures fault { IfErr result IsOfRun }
+    {
+        let mut answers = TextWriter { out };
+        written(write_lines(&self.machine, self.named.as_slice(), &mut answers))
     }
 }

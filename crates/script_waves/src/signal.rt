@@ -11,6 +11,8 @@ pub(crate) enum Signal {
     Copy(usize),
     /// The channels in which a message waits.
     Channels,
+    /// How many these are.
+    Total,
 }
 
 /// A signal's name, within its line.
@@ -25,6 +27,7 @@ impl fmt::Display for Signal {
             Signal::Directory => f.write_str("directory"),
             Signal::Copy(core) => write!(f, "core{core}"),
             Signal::Channels => f.write_str("in_flight"),
+            Signal::Total => f.write_str("messages"),
         }
     }
 }
@@ -48,6 +51,58 @@ impl fmt::Display for Code {
             Signal::Directory => write!(f, "{line}.d"),
             Signal::Copy(core) => write!(f, "{line}.{core}"),
             Signal::Channels => write!(f, "{line}.m"),
+            Signal::Total => write!(f, "{line}.n"),
+        }
+    }
+}
+
+/// What a core has in use of a slice.
+#[derive(Clone, Copy)]
+pub(crate) enum Use {
+    /// Miss registers.
+    Registers,
+    /// Targets of these: the accesses that wait.
+    Targets,
+    /// Entries of the write-back buffer.
+    WriteBacks,
+}
+
+/// Its name as a signal, within its core.
+impl fmt::Display for Use {
+    ghost use Rattle.std.specs.Prelude.{Some};
+    ghost use Rattle.script_waves.specs.Signals.{name_of_use};
+
+    ghost output = { λ of. Some (name_of_use of) };
+
+    fn fmt<W: fmt::Write>(&self, f: &mut fmt::Formatter<W>) -> fmt::Result {
+        match self {
+            Use::Registers => f.write_str("registers"),
+            Use::Targets => f.write_str("targets"),
+            Use::WriteBacks => f.write_str("writebacks"),
+        }
+    }
+}
+
+/// The code by which the file tells it from all others.
+#[derive(Clone, Copy)]
+pub(crate) struct UseCode {
+    pub(crate) slice: usize,
+    pub(crate) core: usize,
+    pub(crate) of: Use,
+}
+
+impl fmt::Display for UseCode {
+    ghost use Rattle.std.specs.Prelude.{Some};
+    ghost use Rattle.script_waves.specs.Signals.{code_of_use};
+
+    ghost output = { λ code. Some (code_of_use code.slice code.core code.of) };
+
+    fn fmt<W: fmt::Write>(&self, f: &mut fmt::Formatter<W>) -> fmt::Result {
+        let UseCode { slice, core, of } = *self;
+        match of {
+            Use::Registers => write!(f, "r{slice}.{core}"),
+            Use::Targets => write!(f, "t{slice}.{core}"),
+            Use::WriteBacks => write!(f, "w{slice}.{core}"),
         }
     }
 }

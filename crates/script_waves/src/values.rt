@@ -1,10 +1,10 @@
 //! The values of a line's signals.
-ghost use Rattle.std.specs.Prelude.{◌++◌, ◌%◌, OnOk, codes, slice_get};
+ghost use Rattle.std.specs.Prelude.{◌≡◌, ◌++◌, ◌%◌, [], IfNone, IfSome, OnOk, codes, slice_get};
 ghost use Rattle.std.specs.Fmt.{WritesInCalls};
 ghost use Rattle.address_map.specs.Locator.{local_at};
 ghost use Rattle.script_waves.specs.Signals.{code_of};
 ghost use Rattle.script_waves.specs.Values.{text_at, text_of_copy, text_of_entry, text_of_lines, text_of_mail};
-ghost use Rattle.script_waves.specs.Values.{text_of_states, text_of_waiting, text_in};
+ghost use Rattle.script_waves.specs.Values.{text_of_states, text_of_total, text_of_waiting, text_in, total_of, waiting_of};
 
 use super::channel::write_names;
 use super::signal::{Code, Signal};
@@ -64,10 +64,63 @@ fn write_mail<F: MissFile, W: Write>(
     ensures { OnOk result (WritesInCalls W.write_str_gives out.old
         (text_of_mail state.now.view line (local_at state.now.view.lines line.0)) out.new) }
 {
+    let total = total_at(state, line);
     match state.waiting_at(line) {
-        Some(waiting) => write_waiting(line, waiting, out),
+        Some(waiting) => write_channels(line, waiting, total, out),
         None => Ok(()),
     }
+}
+
+/// How many channels of a line have a message.
+fn total_at<F: MissFile>(state: &SliceState<F>, line: LineAddr) -> u64
+    ensures { result ≡ total_of (waiting_of state.now.view (local_at state.now.view.lines line.0)) }
+{
+    match waiting_at(state, line) {
+        Some(mut left) => count_left(&mut left),
+        None => 0,
+    }
+}
+
+/// The channels of a line that have a message; none for a line that isn't the slice's.
+fn waiting_at<F: MissFile>(state: &SliceState<F>, line: LineAddr) -> Option<LineWaiting<'_>>
+    ensures none { IfNone result (waiting_of state.now.view (local_at state.now.view.lines line.0) ≡ []) }
+    ensures some { IfSome result
+        (λ left. left ≡ waiting_of state.now.view (local_at state.now.view.lines line.0)) }
+{
+    state.waiting_at(line)
+}
+
+/// How many channels are left.
+fn count_left(left: &mut LineWaiting<'_>) -> u64
+    ensures { result ≡ total_of left.old }
+{
+    for count in 0..u64::MAX {
+        if left.next().is_none() {
+            return count;
+        }
+    }
+    u64::MAX
+}
+
+fn write_channels<W: Write>(
+    line: LineAddr,
+    waiting: LineWaiting<'_>,
+    total: u64,
+    out: &mut W,
+) -> fmt::Result
+    ensures { OnOk result (WritesInCalls W.write_str_gives out.old
+        (text_of_waiting line waiting.entry ++ text_of_total line total) out.new) }
+{
+    write_waiting(line, waiting, out)?;
+    write_total(line, total, out)
+}
+
+fn write_total<W: Write>(line: LineAddr, total: u64, out: &mut W) -> fmt::Result
+    ensures { OnOk result (WritesInCalls W.write_str_gives out.old (text_of_total line total) out.new) }
+{
+    let signal = Signal::Total;
+    let code = Code { line, signal };
+    writeln!(out, "b{total:b} {code}")
 }
 
 fn write_entry<W: Write>(line: LineAddr, state: DirState, out: &mut W) -> fmt::Result

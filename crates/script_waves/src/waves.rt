@@ -99,21 +99,23 @@ fn write_all<F: MissFile, W: Write>(
     ticks: &[u8],
     out: &mut W,
 ) -> Result<(), TextFault>
-    ensures written { OnOk result (IsWritten player.now.machine.config.cores player.now.named.items ticks.now
-        (next player.now.played) (W.contents out.old) (W.contents out.new)) }
+    ensures written { OnOk result (IsWritten player.now.machine.config.cores player.now.machine.config.slices
+        player.now.named.items ticks.now (next player.now.played) (W.contents out.old) (W.contents out.new)) }
     ensures fault { IfErr result IsOfRun }
 {
-    begin(player.machine.config.cores(), player.named.as_slice(), out)?;
+    begin(&player.machine.config, player.named.as_slice(), out)?;
     tell(ticks, out)?;
     end(player.played.wrapping_add(1), out)
 }
 
-fn begin<W: Write>(cores: usize, named: &[LineAddr], out: &mut W) -> Result<(), TextFault>
-    ensures header { OnOk result (Appends (W.contents out.old) (W.contents out.new) (text_of_header cores named.now)) }
+fn begin<W: Write>(config: &Checked, named: &[LineAddr], out: &mut W) -> Result<(), TextFault>
+    ensures header { OnOk result (Appends (W.contents out.old) (W.contents out.new)
+        (text_of_header config.now.cores config.now.slices named.now)) }
     ensures fault { IfErr result IsOfRun }
 {
+    let (cores, slices) = (config.cores(), config.slices());
     let mut answers = TextWriter { out };
-    written(write_header(cores, named, &mut answers))
+    written(write_header(cores, slices, named, &mut answers))
 }
 
 fn tell<W: Write>(ticks: &[u8], out: &mut W) -> Result<(), TextFault>

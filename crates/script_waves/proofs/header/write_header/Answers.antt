@@ -6,5 +6,6 @@ pub returns : goal.returns
 returns g c =
     let then = writes_in_calls_append g.W.Write.write_str_gives in
     on_ok_weaker c.write_end.result
-    (λ last. then _ _ _ _ _ c.in_ok-write_beginning.ensures (then _ _ _ _ _ c.in_ok-write_scopes.ensures last))
+    (λ last. then _ _ _ _ _ c.in_ok-write_beginning.ensures
+    (then _ _ _ _ _ c.in_ok-write_scopes.ensures (then _ _ _ _ _ c.in_ok-write_slices.ensures last)))
     c.write_end.ensures

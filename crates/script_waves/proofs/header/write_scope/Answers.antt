@@ -7,5 +7,6 @@ returns g c =
     let then = writes_in_calls_append g.W.Write.write_str_gives in
     on_ok_weaker c.writeln.result
     (λ last. then _ _ _ _ _ c.in_ok-write_opening.ensures (then _ _ _ _ _ c.in_ok-write_signal.ensures
-    (then _ _ _ _ _ c.in_ok-write_copies.ensures (then _ _ _ _ _ c.in_ok-write_signal-2.ensures last))))
+    (then _ _ _ _ _ c.in_ok-write_copies.ensures (then _ _ _ _ _ c.in_ok-write_signal-2.ensures
+    (then _ _ _ _ _ c.in_ok-write_total.ensures last)))))
     c.writeln.ensures.writes

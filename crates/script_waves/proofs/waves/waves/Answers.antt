@@ -18,9 +18,15 @@ returns-in-Ok-clause-waves g c =
       slices = c.new-player.result.machine.slices.items;
       named = c.new-player.result.named.items;
       played = c.new-player.result.played;
+      values = c.new-player.result.values.items;
     }
-    ≡ shown_first c.args.machine.slices.items = rw (new.machine, new.named, new.played) refl in
-    let played = all_shown (λ p. record { slices = p.machine.slices.items; named = p.named.items; played = p.played })
+    ≡ shown_first c.args.machine.slices.items = rw (new.machine, new.named, new.played, new.values) refl in
+    let played = all_shown (λ p. record {
+      slices = p.machine.slices.items;
+      named = p.named.items;
+      played = p.played;
+      values = p.values.items;
+    })
     (λ p. p.machine.config ≡ config) _ (Ticks config)
     (λ old new line command before after same made. (
       made.0 ∙ same,
@@ -28,13 +34,24 @@ returns-in-Ok-clause-waves g c =
         slices = old.machine.slices.items;
         named = old.named.items;
         played = old.played;
+        values = old.values.items;
       })
-          (record { slices = new.machine.slices.items; named = new.named.items; played = new.played }) before after)
+          (record {
+            slices = new.machine.slices.items;
+            named = new.named.items;
+            played = new.played;
+            values = new.values.items;
+          }) before after)
           same made.1,
     ))
     _ _ _ _ _ _ is c.in-Ok.ensures.played in
     let last = c.play.new.player in
-    let end : Shown = record { slices = last.machine.slices.items; named = last.named.items; played = last.played } in
+    let end : Shown = record {
+      slices = last.machine.slices.items;
+      named = last.named.items;
+      played = last.played;
+      values = last.values.items;
+    } in
     on_ok_weaker c.write_all.result (λ written. record {
       end = end;
       ticks = c.play.new.out.items;
@@ -44,10 +61,11 @@ returns-in-Ok-clause-waves g c =
           (played_from config _ (commands_of c.args.commands) _ c.args.machine.slices.items _
           (Some c.play.new.out.items)
           is fresh end played);
-      written = subst (λ (k : Config). IsWritten k.cores end.named c.play.new.out.items (next end.played)
+      written = subst (λ (k : Config). IsWritten k.cores k.slices end.named c.play.new.out.items (next end.played)
           (contents c.args.out.now) (contents c.write_all.new.out))
           (c.play.ensures.config ∙ is)
-          (subst (λ (ticks : List ℕ). IsWritten last.machine.config.cores end.named ticks (next end.played)
+          (subst (λ (ticks : List ℕ). IsWritten last.machine.config.cores last.machine.config.slices end.named ticks
+          (next end.played)
           (contents c.args.out.now) (contents c.write_all.new.out))
           c.as_slice.ensures.value written);
     }) c.write_all.ensures.written
@@ -62,12 +80,14 @@ returns-clause-fault g c =
       slices = c.new-player.result.machine.slices.items;
       named = c.new-player.result.named.items;
       played = c.new-player.result.played;
+      values = c.new-player.result.values.items;
     }
-    ≡ shown_first c.args.machine.slices.items = rw (new.machine, new.named, new.played) refl in
+    ≡ shown_first c.args.machine.slices.items = rw (new.machine, new.named, new.played, new.values) refl in
     let stopped = up_to_shown (λ p. record {
       slices = p.machine.slices.items;
       named = p.named.items;
       played = p.played;
+      values = p.values.items;
     })
     (λ p. p.machine.config ≡ config) _ (Ticks config)
     (λ old new line command before after same made. (
@@ -76,8 +96,14 @@ returns-clause-fault g c =
         slices = old.machine.slices.items;
         named = old.named.items;
         played = old.played;
+        values = old.values.items;
       })
-          (record { slices = new.machine.slices.items; named = new.named.items; played = new.played }) before after)
+          (record {
+            slices = new.machine.slices.items;
+            named = new.named.items;
+            played = new.played;
+            values = new.values.items;
+          }) before after)
           same made.1,
     ))
     _ _ _ _ _ c.in-Err.fault is c.in-Err.ensures.fault in

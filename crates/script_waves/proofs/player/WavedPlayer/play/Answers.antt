@@ -1,6 +1,4 @@
 use Rattle.std.proofs.Common.{[], Some, ap, rules, subst, sym, ◌∙◌}
-use Rattle.std.proofs.KnownBytes.{Appends-of_writes}
-use Rattle.litmus_script.proofs.WriteLemmas.{on_written}
 use Rattle.litmus_script.specs.Prints.{IsPrinted}
 use Rattle.script_waves.specs.Named.{Names, line_named}
 use Rattle.script_waves.specs.Waves.{next}
@@ -8,14 +6,10 @@ use Rattle.script_waves.proofs.player.WavedPlayer.play.Goals as goal
 
 pub returns-clause-plays : goal.returns-clause-plays
 returns-clause-plays g c =
-    let contents = g.W.Write.contents in
     let old = c.args.self.now in
     let told = c.in_ok-answer.ensures in
     let command = c.args.command in
-    let named = c.in_ok-name.ensures in
-    on_written c.write_tick.result c.written.result c.written.ensures.fine
-    (λ wrote.
-    let (name, bytes) = Appends-of_writes (λ s. s.out.ghost_name) (λ s. contents s.out.now) _ _ _ wrote in (
+    let named = c.in_ok-name.ensures in (
       ap (λ machine. machine.config) named.machine ∙ told.config,
       record {
         answer = c.answer.new.self.answer.items;
@@ -28,7 +22,7 @@ returns-clause-plays g c =
             c.name.new.self.named.items) told.named
             named.names);
         counted = ap next (named.count ∙ told.count);
+        values = search rules;
         written = search rules;
       },
-    ))
-    c.write_tick.ensures
+    )

@@ -1,0 +1,45 @@
+-- A command as data: its name, and what it names.
+use Rattle.std.specs.Prelude.{ℕ, List, ◌++◌, codes, decimal}
+use Rattle.address_map.specs.declared.request.Op.{Op}
+use Rattle.address_map.specs.declared.request.Op.TheVariants as ops
+use Rattle.litmus_text.specs.declared.command.Command.{Command}
+use Rattle.litmus_text.specs.declared.command.Command.TheVariants as commands
+use Rattle.slice_queues_message.specs.Pick.{channel_of, line_of}
+use Rattle.slice_queues_message.specs.declared.channel.Channel.{Channel}
+use Rattle.slice_queues_message.specs.declared.channel.Channel.TheVariants as channels
+
+-- what an access asks for, with its operands
+abbrev pub text_of_op : Op → List ℕ
+text_of_op ops.Load = codes "\"op\":\"load\""
+text_of_op (ops.Store value) = codes "\"op\":\"store\",\"value\":" ++ decimal value
+text_of_op (ops.Add value) = codes "\"op\":\"add\",\"value\":" ++ decimal value
+text_of_op (ops.Cas expect new) =
+    codes "\"op\":\"cas\",\"expect\":" ++ decimal expect ++ codes ",\"value\":" ++ decimal new
+
+-- a channel, by its class and the cores at it
+abbrev pub text_of_ends : Channel → List ℕ
+text_of_ends (channels.Req core) = codes "\"class\":\"req\",\"core\":" ++ decimal core.0
+text_of_ends (channels.Fwd core) = codes "\"class\":\"fwd\",\"core\":" ++ decimal core.0
+text_of_ends (channels.Data core) = codes "\"class\":\"data\",\"core\":" ++ decimal core.0
+text_of_ends (channels.Ack to from) =
+    codes "\"class\":\"ack\",\"to\":" ++ decimal to.0 ++ codes ",\"from\":" ++ decimal from.0
+text_of_ends channels.Home = codes "\"class\":\"home\""
+
+abbrev pub text_of_call : Command → List ℕ
+text_of_call (commands.Issue core request) =
+    codes "{\"name\":\"issue\",\"core\":" ++ decimal core.0 ++ codes ",\"tag\":" ++ decimal request.tag
+    ++ codes ",\"word\":" ++ decimal request.word.0 ++ codes "," ++ text_of_op request.op ++ codes "}"
+text_of_call (commands.Evict core line) =
+    codes "{\"name\":\"evict\",\"core\":" ++ decimal core.0 ++ codes ",\"line\":" ++ decimal line.0 ++ codes "}"
+text_of_call (commands.Deliver pick) =
+    codes "{\"name\":\"deliver\",\"line\":" ++ decimal (line_of pick).0 ++ codes "," ++ text_of_ends (channel_of pick)
+    ++ codes "}"
+text_of_call (commands.Hand core slice) =
+    codes "{\"name\":\"hand\",\"core\":" ++ (decimal core.0 ++ (codes ",\"slice\":" ++ (decimal slice.0 ++ codes "}")))
+text_of_call (commands.Word word) = codes "{\"name\":\"word\",\"word\":" ++ decimal word.0 ++ codes "}"
+text_of_call (commands.State line) = codes "{\"name\":\"state\",\"line\":" ++ decimal line.0 ++ codes "}"
+text_of_call (commands.Log slice) = codes "{\"name\":\"log\",\"slice\":" ++ decimal slice.0 ++ codes "}"
+text_of_call commands.Stats = codes "{\"name\":\"stats\"}"
+text_of_call commands.Waiting = codes "{\"name\":\"waiting\"}"
+text_of_call commands.Show = codes "{\"name\":\"show\"}"
+text_of_call (commands.Pump calls) = codes "{\"name\":\"pump\",\"calls\":" ++ decimal calls ++ codes "}"

@@ -1,0 +1,10 @@
+use Rattle.std.proofs.Output.{writes_in_calls_append}
+use Rattle.std.proofs.lemmas.Result.{on_ok_weaker}
+use Rattle.script_waves.proofs.values.write_channels.Goals as goal
+
+pub returns : goal.returns
+returns g c =
+    let then = writes_in_calls_append g.W.Write.write_str_gives in
+    on_ok_weaker c.write_total.result
+    (λ last. then _ _ _ _ _ c.in_ok-write_waiting.ensures last)
+    c.write_total.ensures

@@ -1,0 +1,18 @@
+-- Of the values behind a command, those that it changed.
+use Rattle.std.specs.Prelude.{ℕ, Bool, false, List, [], ◌∷◌, ◌++◌, codes, drop, if◌then◌else◌, slice_get}
+use Rattle.std.specs.Prelude.{Option, Some, None}
+use Rattle.std.specs.Str.{bytes_eq}
+
+-- the value stood there before
+abbrev pub is_told : Option (List ℕ) → List ℕ → Bool
+is_told None value = false
+is_told (Some before) value = bytes_eq before value
+
+abbrev pub change_of : Option (List ℕ) → List ℕ → List ℕ
+change_of before value = if is_told before value then [] else value ++ codes "\n"
+
+-- Lines of values that stood before, and those that stand now: each stands for the signal of the line at the same place,
+-- and those of signals that are new come last. What differs is written.
+abbrev pub changes : List (List ℕ) → List (List ℕ) → List ℕ
+changes before [] = []
+changes before (value ∷ more) = change_of (slice_get before 0) value ++ changes (drop 1 before) more

@@ -1,15 +1,20 @@
 """How ./build orders its work (tools/lanes.py), with tasks that only wait: the longest chain comes
 first, nothing begins before what it waits for, processors and memory are kept to, and after a
-failure nothing more begins."""
+failure nothing more begins. And which sources it proves (tools/room.py)."""
+import shutil
 import sys
+import tempfile
 import threading
 import time
+from pathlib import Path
 from typing import Any, Callable
 
-from harness import ROOT, same
+from harness import ROOT, Skipped, read, same, want, write
 
 sys.path.insert(0, str(ROOT / "tools"))
+import kit
 import lanes
+import room
 
 CHAIN = [("low", [], 5, 1), ("middle", ["low"], 5, 1), ("top", ["middle", "low"], 5, 1)]
 ALONE = [(f"alone{number}", [], 4, 1) for number in range(6)]
@@ -93,3 +98,34 @@ def test_a_failure() -> None:
     told = ran.failed.name, ran.failed.said, work.begun()
     same("a failure", ("second", "it is wrong", ["first", "second"]), told)
     same("no seconds of what failed", ["first"], sorted(ran.seconds))
+
+
+def test_sources() -> None:
+    """The folder has the crates below the program and the library, as they are here, and no others."""
+    if not shutil.which("rt"):
+        raise Skipped("rt isn't there")
+    needs = {}
+    for line in read(ROOT / "crates.txt").splitlines():
+        name, colon, below = line.partition("#")[0].partition(":")
+        if colon:
+            needs[name.split()[0]] = [it for it in below.split() if (ROOT / "crates" / it).is_dir()]
+    wanted, more = set(), ["lockup", "lockup_c"]
+    while more:
+        name = more.pop()
+        wanted.add(name)
+        more += [it for it in needs[name] if it not in wanted]
+    with tempfile.TemporaryDirectory() as folder:
+        stale = Path(folder, "crates/lockup/src/stale.rt")
+        for path in (Path(folder, "crates/gone/src/lib.rt"), stale):
+            path.parent.mkdir(parents=True)
+            write(path, "")
+        room.Room(kit.load_rt(), "test", folder).take_sources()
+        same("crates", sorted(wanted), sorted(path.name for path in Path(folder, "crates").iterdir()))
+        want(not stale.exists(), "a file that is no longer there")
+        for name in wanted:
+            for part in room.PARTS:
+                want(files_of(ROOT / "crates" / name / part) == files_of(Path(folder, "crates", name, part)), f"{name}/{part}")
+
+
+def files_of(folder: Path) -> dict[Path, bytes]:
+    return {path.relative_to(folder): path.read_bytes() for path in folder.rglob("*") if path.is_file()}

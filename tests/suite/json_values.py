@@ -1,12 +1,14 @@
 """Compares what `--json` prints with what is printed without it, for each example, and validates it
 against docs/schema. The validator refuses values that don't fit."""
 import json
+import re
 import tempfile
 from pathlib import Path
 
 from harness import ROOT, Different, each, lockup, read, same, want, write
 from harness.schema import faults, fits
 from harness.scripts import COMMANDS
+from suite.programs import unused
 
 EXAMPLES = ROOT / "examples"
 
@@ -15,10 +17,10 @@ def schema(name: str) -> dict:
     return json.loads(read(ROOT / f"docs/schema/{name}.json"))
 
 
-def value_of(name: str, *words: object, status: int = 0) -> object:
+def value_of(name: str, *words: object, status: int = 0, err: str = "") -> object:
     """What the command prints, which is one line of JSON and fits the schema of this name."""
     ran = lockup(*words, "--json")
-    same("status and error", (status, ""), (ran.status, ran.err))
+    same("status and error", (status, err), (ran.status, ran.err))
     value = json.loads(ran.out)
     fits(value, schema(name))
     return value
@@ -30,6 +32,47 @@ def names(folder: Path) -> list[str]:
 
 def scripts() -> list[str]:
     return [name for name in names(EXAMPLES) if name != "illegal_trace"]
+
+
+# what a command names, by the words of its line
+NAMES = {"evict": ("core", "line"), "pump": ("calls",), "hand": ("core", "slice"), "word": ("word",), "state": ("line",),
+         "log": ("slice",)}
+OPERANDS = {"load": (), "store": ("value",), "add": ("value",), "cas": ("expect", "value")}
+ENDS = {"ack": ("to", "from"), "home": ()}
+
+
+def call_of(line: str) -> dict:
+    """A command as data."""
+    name, *words = line.split()
+    if name == "issue":
+        core, tag, op, word, *operands = words
+        return {"name": name, "core": int(core), "tag": int(tag), "word": int(word), "op": op,
+                **dict(zip(OPERANDS[op], map(int, operands), strict=True))}
+    if name == "deliver":
+        kind, at, *cores = words
+        return {"name": name, "line": int(at), "class": kind,
+                **dict(zip(ENDS.get(kind, ("core",)), map(int, cores), strict=True))}
+    return {"name": name, **dict(zip(NAMES.get(name, ()), map(int, words), strict=True))}
+
+
+# the answers that docs/TEXTS.md lists, with the fields of each
+ANSWERS = [
+    (r"done (?P<number>\d+) reply (?P<reply>\d+)", "done"), (r"pending (?P<number>\d+)", "pending"),
+    (r"stall (?P<number>\d+) (?P<reason>\w+)", "stall"), (r"refused (?P<number>\d+) (?P<reason>\w+)", "refused"),
+    (r"receipt (?P<number>\d+) tag (?P<tag>\d+) reply (?P<reply>\d+)", "receipt"), (r"(?P<value>\d+)", None),
+    *((text, text) for text in ("evicting", "not held", "busy", "buffer full", "moved", "blocked", "nothing", "none",
+                                "not quiet")),
+]
+
+
+def fields_of(answer: str) -> dict:
+    """What an answer says."""
+    for form, status in ANSWERS:
+        found = re.fullmatch(form, answer)
+        if found:
+            fields = {name: told if name == "reason" else int(told) for name, told in found.groupdict().items()}
+            return fields if status is None else {"status": status, **fields}
+    raise Different(f"docs/TEXTS.md has no answer {answer}")
 
 
 @each(scripts)
@@ -45,10 +88,22 @@ def test_script(name: str) -> None:
     for value in values:
         fits(value, fitting)
         same("command", lines[value["line"]], value["command"])
+        same("call", call_of(value["command"]), value["call"])
         for line in value["answer"]:
             words = " ".join(map(str, line["words"]))
+            fields = fields_of(words) if value["call"]["name"] in ("issue", "evict", "deliver", "hand", "word") else {}
+            same("fields", fields, {name: it for name, it in line.items() if name not in ("words", "happened")})
             answers.append(f"{words}   {line['happened']}" if "happened" in line else words)
     same("answers", told.out.splitlines(), answers)
+
+
+@each(scripts)
+def test_page(name: str) -> None:
+    """The value in a page, also where a line can't be taken."""
+    for text in (read(EXAMPLES / f"{name}.txt"), read(EXAMPLES / f"{name}.txt") + "pump 99\nword\n"):
+        for words in ((), ("--branches", "2")):
+            page = lockup("page", *words, "-", text=text).out
+            fits(json.loads(re.search(r'id="run">\n(.*?)</script>', page, re.S).group(1)), schema("page"))
 
 
 def test_script_with_a_fault() -> None:
@@ -58,11 +113,15 @@ def test_script_with_a_fault() -> None:
         ran = lockup("script", "--json", file)
         same("status and error", (2, "lockup: line 3: not a command\n"), (ran.status, ran.err))
         first, second = map(json.loads, ran.out.splitlines())
-        same("the first", {"line": 1, "command": "\tword\t 0 ", "answer": [{"words": [0]}]}, first)
-        same("the second", {"line": 2, "command": "word 1", "answer": [{"words": [0]}]}, second)
+        call = {"name": "word", "word": 0}
+        answer = [{"words": [0], "value": 0}]
+        same("the first", {"line": 1, "command": "\tword\t 0 ", "call": call, "answer": answer}, first)
+        call = {"name": "word", "word": 1}
+        same("the second", {"line": 2, "command": "word 1", "call": call, "answer": answer}, second)
 
 
-@each(lambda: ["script first_add.txt --explain", "script first_add.txt --vcd", "walk litmus/sb.txt --script"])
+@each(lambda: ["script first_add.txt --explain", "script first_add.txt --vcd", "walk litmus/sb.txt --script",
+               "walk litmus/sb.txt --page"])
 def test_json_alone(words: str) -> None:
     command, file, option = words.split()
     ran = lockup(command, EXAMPLES / file, option, "--json")
@@ -139,7 +198,7 @@ def test_check() -> None:
 def test_run(name: str) -> None:
     file = EXAMPLES / f"programs/{name}.txt"
     for words in ((), ("--outstanding", "4")):
-        value_of("run", "run", file, *words)
+        value_of("run", "run", file, *words, err=unused(read(file), *words))
         value_of("run_rows", "run", file, *words, "--seeds", "1..2", "--set", "ways=1,2", "--set", "policy=random 7")
     value_of("run_rows", "run", file, "--set", "outstanding=1,2")
 
@@ -153,13 +212,14 @@ def test_schema(name: str) -> None:
 
 
 def test_validator() -> None:
-    for value, other in ((1, "integer"), ("x", "string"), (True, "boolean"), ({}, "object"), ([], "array")):
+    for value, other in ((1, "integer"), ("x", "string"), (True, "boolean"), ({}, "object"), ([], "array"), (None, "null")):
         fits(value, {"type": other})
-        for wrong in {"integer", "string", "boolean", "object", "array"} - {other}:
+        for wrong in {"integer", "string", "boolean", "object", "array", "null"} - {other}:
             want(faults(value, {"type": wrong}), f"{value} is taken as {wrong}")
     for value, other in (({"a": 1}, {"required": ["b"]}), ({"a": 1}, {"properties": {}, "additionalProperties": False}),
                          ([1, "x"], {"items": {"type": "integer"}}), (1, {"enum": [True, 2]}), (-1, {"minimum": 0}),
-                         (1, {"oneOf": [{}, {"type": "integer"}]}), (1, {"pattern": "1"})):
+                         (1, {"oneOf": [{}, {"type": "integer"}]}), (1, {"pattern": "1"}),
+                         (1, {"$ref": "#/$defs/a", "$defs": {"a": {"type": "string"}}})):
         try:
             fits(value, other)
         except Different:

@@ -141,6 +141,26 @@ def test_text(_: str, text: str, allowed: set[str], rounds: int, forbidden: int)
         same(f"rounds of {verb}, and forbidden ones", (rounds, forbidden), (rounds_of(rows), came))
 
 
+# the name that a page has by that of its file
+TITLES = {"mp.txt": "mp", "plain": "plain", "two.parts.txt": "two", "of two\nlines.txt": "of two"}
+
+
+@each(lambda: [(title, file, title) for file, title in TITLES.items()])
+def test_page(_: str, file: str, title: str) -> None:
+    """The page of a walk is that of its script, behind its name and seed."""
+    with tempfile.TemporaryDirectory() as room:
+        words = ("walk", write(f"{room}/{file}", read(FOLDER / "mp.txt")), "--seed", "10")
+        script, page = lockup(*words, "--script"), lockup(*words, "--page")
+    same("status and error", (0, ""), (page.status, page.err))
+    same("page", lockup("page", "-", text=f"# {title}, seed 10\n{script.out}").out, page.out)
+
+
+def test_page_of_standard_input() -> None:
+    text = read(FOLDER / "sb.txt")
+    script, page = lockup("walk", "-", "--script", text=text), lockup("walk", "-", "--page", text=text)
+    same("page", lockup("page", "-", text=f"# standard input, seed 1\n{script.out}").out, page.out)
+
+
 def test_what_the_tutorial_shows() -> None:
     tutorial = read(ROOT / "docs/TUTORIAL.md")
     script = lockup("walk", FOLDER / "mp.txt", "--seed", "10", "--script").out

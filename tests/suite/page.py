@@ -26,7 +26,7 @@ import shutil
 import subprocess
 import tempfile
 from functools import cache
-from typing import Any
+from typing import Any, Sequence
 
 from harness import Different, Skipped, each, each_refused, is_plain, lockup, needs, program, same, seconds, want, write
 from harness.scripts import split
@@ -354,12 +354,11 @@ def test_an_invalid_line() -> None:
     same("the page of a script with an invalid line", wanted, told)
 
 
-@seconds(20)
-def test_without_memory() -> None:
-    """Where an allocation is refused, the steps before it stand there, and the error."""
+def check_without_memory(script: str, *options: str) -> None:
+    """Has one allocation after another refused: the steps before it stand there, and the error."""
     is_plain()
-    script, wanted = "issue 0 0 add 0 5\npump 9\nhand 0 0\n", None
-    for refused, ran in each_refused([program(), "page", "-"], script):
+    wanted = None
+    for refused, ran in each_refused([program(), "page", *options, "-"], script):
         if ran.status == 0:
             wanted = wanted or ran.out
             same(f"the page with allocation {refused} refused", wanted, ran.out)
@@ -370,6 +369,11 @@ def test_without_memory() -> None:
             same(f"the error with allocation {refused} refused", "no memory", run["fault"])
             whole, steps = steps_of(json.loads(value_of(wanted))), steps_of(run)
             same(f"steps with allocation {refused} refused", whole[:len(steps)], steps)
+
+
+@seconds(20)
+def test_without_memory() -> None:
+    check_without_memory("issue 0 0 add 0 5\npump 9\nhand 0 0\n")
 
 
 def opened(file: str, room: str, *more: str) -> str:
@@ -396,10 +400,10 @@ def needs_a_browser() -> None:
         raise Skipped("'chromium' doesn't run here")
 
 
-def read_in_a_browser(script: str, reads: str, *more: str) -> Any:
-    """Returns what a reader finds on a script's page."""
+def read_in_a_browser(script: str, reads: str, *more: str, options: Sequence[str] = ()) -> Any:
+    """Returns what a reader finds on a script's page, written with these options."""
     needs_a_browser()
-    page = lockup("page", "-", text=script).out
+    page = lockup("page", *options, "-", text=script).out
     with tempfile.TemporaryDirectory(ignore_cleanup_errors=True) as room:
         file = write(f"{room}/page.html", page.replace("</body>", reads + "</body>"))
         found = re.search(r'<pre id="read">(.*?)</pre>', opened(str(file), room, *more), re.S)

@@ -6,10 +6,12 @@ causes.
 A core with several accesses under way has as many stalls for want of a miss register as a small
 simulation counts, which is written here. What `run --script` prints is run by `lockup script`: its
 answers come to the counts of the report, and what waits behind each of its moves to the most and the
-mean of registers and targets."""
+mean of registers and targets. What `run --page` prints is that script's page."""
 import json
 import tempfile
 from collections import Counter
+from itertools import takewhile
+from pathlib import Path
 
 from harness import ROOT, each, lockup, read, same, want, write
 from suite.draws import Generator
@@ -46,7 +48,7 @@ def check_sums(report: str) -> None:
 @each(names)
 def test_report(name: str) -> None:
     ran = lockup("run", FOLDER / f"{name}.txt")
-    same("status and error", (0, ""), (ran.status, ran.err))
+    same("status and error", (0, unused(read(FOLDER / f"{name}.txt"))), (ran.status, ran.err))
     same("report", read(FOLDER / f"{name}.out"), ran.out)
     check_sums(ran.out)
     want(f"(../examples/programs/{name}.txt)" in read(ROOT / "docs/EXAMPLES.md"), "docs/EXAMPLES.md doesn't name it")
@@ -73,6 +75,21 @@ def stalls(registers: int, most: int, loads: int, seed: int) -> int:
             lines, asked, stalled = [*lines, 2], asked + 1, False
 
 
+def unused(text: str, *words: str) -> str:
+    """What is said of the lines of a text that change nothing of its run."""
+    lines = [line.split() for line in text.splitlines()]
+    lines = list(takewhile(lambda line: line[:1] != ["core"], lines))
+    said = {line[0]: line[1] for line in lines if len(line) > 1}
+    given = words[words.index("--outstanding") + 1] if "--outstanding" in words else None
+    told = []
+    for number, line in enumerate(lines, 1):
+        if line[:1] == ["outstanding"] and given:
+            told.append(f"lockup: line {number}: outstanding changes nothing: --outstanding stands in its place\n")
+        if line and line[0] in ("mshrs", "targets", "misses") and (given or said.get("outstanding", "1")) == "1":
+            told.append(f"lockup: line {number}: {line[0]} changes nothing: each core has one access under way\n")
+    return "".join(told)
+
+
 def parallel(registers: int, most: int | None, loads: int) -> str:
     limit = "" if most is None else f"outstanding {most}\n"
     asks = "".join(f"load {8 * line}\n" for line in range(loads))
@@ -82,7 +99,7 @@ def parallel(registers: int, most: int | None, loads: int) -> str:
 def ran_on(text: str, *words: str) -> list[list[str]]:
     with tempfile.TemporaryDirectory() as room:
         ran = lockup("run", write(f"{room}/text.txt", text), *words)
-    same("status and error", (0, ""), (ran.status, ran.err))
+    same("status and error", (0, unused(text, *words)), (ran.status, ran.err))
     return [row.split() for row in ran.out.splitlines()]
 
 
@@ -109,10 +126,10 @@ def test_the_option_and_the_line() -> None:
     want(all("primary" not in row for row in ran_on(option)), "counted where no number is given")
 
 
-def played(*words: object) -> list[tuple[list[str], list[str]]]:
+def played(file: Path, *words: str) -> list[tuple[list[str], list[str]]]:
     """The script of a run: each command with its answer, both as words."""
-    script = lockup("run", *words, "--script")
-    same("status and error", (0, ""), (script.status, script.err))
+    script = lockup("run", file, *words, "--script")
+    same("status and error", (0, unused(read(file), *words)), (script.status, script.err))
     with tempfile.TemporaryDirectory() as room:
         file = write(f"{room}/script.txt", script.out)
         ran = lockup("script", file)
@@ -141,9 +158,20 @@ def test_schedule(name: str) -> None:
         same("answers", Counter(wanted), +count)
 
 
-@each(lambda: ["--json", "--csv", "--seeds 1..2", "--set ways=1"])
+@each(lambda: ["ping_pong", "parallel_misses"])
+def test_page(name: str) -> None:
+    """The page of a run is that of its script, behind its name and seed."""
+    words = ("run", FOLDER / f"{name}.txt", "--seed", "3", "--outstanding", "2")
+    script, page = lockup(*words, "--script"), lockup(*words, "--page")
+    same("status and error", (script.status, script.err), (page.status, page.err))
+    same("error", unused(read(words[1]), *words[2:]), page.err)
+    same("page", lockup("page", "-", text=f"# {name}, seed 3\n{script.out}").out, page.out)
+
+
+@each(lambda: [f"{one} {other}" for one in ("--script", "--page")
+               for other in ("--json", "--csv", "--seeds 1..2", "--set ways=1")] + ["--script --page"])
 def test_a_schedule_is_printed_alone(words: str) -> None:
-    ran = lockup("run", FOLDER / "ping_pong.txt", "--script", *words.split())
+    ran = lockup("run", FOLDER / "ping_pong.txt", *words.split())
     same("status and output", (2, ""), (ran.status, ran.out))
     want("cannot be used with" in ran.err, ran.err)
 

@@ -1,18 +1,23 @@
 """Reads each example's waves as a viewer does: behind each command they show what `state` and
-`waiting` print.
+`waiting` print, and count what `show` prints. What doesn't change isn't told again.
 
 The output of `lockup script --vcd` is taken apart into its signals and their values at each time.
 Lines that differ in nothing but their blanks are shown as they are written. A script with an
 invalid line has no waves, and its error is reported. What tools/gtkw writes for GTKWave names all
-signals.
+signals but the counts that stay 0.
 """
 import re
 import tempfile
 
 from harness import ROOT, each, lockup, read, run, same, want, write
+from harness.scripts import split
 from harness.states import States, shown_scripts, states_of
 
 Times = list[tuple[int, list[tuple[str, str]]]]
+
+# the states in which a miss register waits for a line, and those in which it is being written back
+MISSING = ("IS_D", "IM_AD", "IM_A", "SM_AD", "SM_A")
+LEAVING = ("MI_A", "SI_A", "II_A")
 
 
 def taken_apart(text: str) -> tuple[dict[str, str], Times]:
@@ -27,17 +32,20 @@ def taken_apart(text: str) -> tuple[dict[str, str], Times]:
             scopes.pop()
         elif word == "$var":
             kind, size, code, name = next(words), next(words), next(words), next(words)
-            want((kind, size) == ("string", "1") and code not in signals, f"a signal {kind} {size} {code}")
+            want((kind, size) in (("string", "1"), ("integer", "32")) and code not in signals,
+                 f"a signal {kind} {size} {code}")
             signals[code] = "/".join([*scopes, name])
         elif word.startswith("#"):
             times.append((int(word[1:]), []))
         elif word.startswith("s"):
             times[-1][1].append((next(words), word[1:]))
+        elif word.startswith("b"):
+            times[-1][1].append((next(words), str(int(word[1:], 2))))
         elif word in ("$version", "$timescale"):
             while next(words) != "$end":
                 pass
         else:
-            want(word in ("$end", "$enddefinitions"), f"a word {word}")
+            want(word in ("$end", "$enddefinitions", "[31:0]"), f"a word {word}")
     return signals, times
 
 
@@ -45,7 +53,7 @@ def channel_of(message: str) -> tuple[str, str]:
     """Returns a channel's line and its name, from what `waiting` prints of the message in front of
     it."""
     _, channel, line, *cores = message.split("   ")[0].split()
-    return line, channel + ".".join(cores)
+    return line, channel[0] + ".".join(cores)
 
 
 def values_of(state: str, messages: list[str]) -> dict[str, str]:
@@ -55,11 +63,39 @@ def values_of(state: str, messages: list[str]) -> dict[str, str]:
     found.update({f"run/line{line}/core{core}": copy for core, copy in enumerate(cores.split())})
     waiting = [name for at, name in map(channel_of, messages) if at == line]
     found[f"run/line{line}/in_flight"] = "+".join(waiting) or "-"
+    found[f"run/line{line}/messages"] = str(len(waiting))
     return found
 
 
-def wanted_at(command: str, states: States) -> dict[str, str]:
-    values = {"run/command": re.sub("[^!-~]", "_", command)}
+def shape_of(script: str) -> tuple[int, int]:
+    """Returns how many cores and slices a script's machine has."""
+    shape = {"cores": 2, "slices": 1}
+    for line in split(script)[0]:
+        name, *words = line.split()
+        shape[name] = words[0] if words else ""
+    return int(shape["cores"]), int(shape["slices"])
+
+
+def counts_of(shape: tuple[int, int], held: list[str]) -> dict[str, str]:
+    """Returns what each core has in use of each slice, from what `show` prints, one slice after
+    another."""
+    cores, slices = shape
+    names = ("registers", "targets", "writebacks")
+    found = {f"run/slice{slice}/core{core}/{name}": 0 for slice in range(slices) for core in range(cores) for name in names}
+    slice = 0
+    for words in map(str.split, held):
+        if words[0] == "slice":
+            slice += 1
+        elif words[0] == "core":
+            used = {"registers": words[2] == "line" and words[4] in MISSING, "targets": "awaits" in words,
+                    "writebacks": words[2] == "line" and words[4] in LEAVING}
+            for name, counts in used.items():
+                found[f"run/slice{slice}/core{words[1]}/{name}"] += counts
+    return {name: str(count) for name, count in found.items()}
+
+
+def wanted_at(command: str, shape: tuple[int, int], states: States) -> dict[str, str]:
+    values = {"run/command": re.sub("[^!-~]", "_", command), **counts_of(shape, states.held)}
     for state in states.lines:
         values.update(values_of(state, states.messages))
     return values
@@ -74,13 +110,15 @@ def test_waves(name: str) -> None:
     commands, wanted = states_of(script)
     same("times", list(range(len(commands) + 2)), [at for at, _ in times])
     same("begin and end", ([("c", "-")], []), (times[0][1], times[-1][1]))
-    named = set()
+    stands = {}
     for (at, said), command, states in zip(times[1:], commands, wanted):
-        values = wanted_at(command, states)
-        same(f"values at {at}", values, {signals[code]: value for code, value in said})
-        same(f"how many values there are at {at}", len(values), len(said))
-        named.update(values)
-    want(not commands or named == set(signals.values()), "there is a signal without a value")
+        values = wanted_at(command, shape_of(script), states)
+        # the command is always told, and else what changes
+        changed = {name: value for name, value in values.items() if name == "run/command" or stands.get(name) != value}
+        same(f"values at {at}", changed, {signals[code]: value for code, value in said})
+        same(f"how many values there are at {at}", len(changed), len(said))
+        stands.update(values)
+    want(not commands or set(stands) == set(signals.values()), "there is a signal without a value")
 
 
 def test_an_invalid_line() -> None:
@@ -99,6 +137,11 @@ def test_settings_for_gtkwave() -> None:
     same("the file of waves", f'[dumpfile] "{room}/run.vcd"', lines[0])
     # the longest value is deliver_data_0_0: 16 characters need more than half of a unit's 200 pixels
     want(any(it.startswith("*-0.000000 ") for it in lines), f"{lines[3]} is another zoom")
-    shown = [it for it in lines if it.startswith(("run.", "-"))]
+    shown = [it for it in lines if it.startswith(("run.", "-")) and it != "-"]
+    # both cores miss, and neither writes a line back
+    counts = [it for core in (0, 1) for it in (f"-slice0 core{core}", f"run.slice0.core{core}.registers[31:0]",
+                                               f"run.slice0.core{core}.targets[31:0]")]
     same("signals", ["run.command", "-line0", "run.line0.directory", "run.line0.core0", "run.line0.core1",
-                     "run.line0.in_flight"], shown)
+                     "run.line0.in_flight", "run.line0.messages[31:0]", *counts], shown)
+    steps = [at for at, it in enumerate(lines) if it.endswith("[31:0]")]
+    same("counts", [["@8024", "@20000", "-"]] * len(steps), [[lines[at - 1], *lines[at + 1:at + 3]] for at in steps])

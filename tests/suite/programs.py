@@ -90,6 +90,23 @@ def unused(text: str, *words: str) -> str:
     return "".join(told)
 
 
+@each(lambda: list(range(6)))
+def test_what_changes_nothing(seed: int) -> None:
+    """Where a core has one access under way, registers, targets and their kind change no count."""
+    generator = Generator(seed)
+    text = f"cores 3\nlines 8\nsets {1 + seed % 2}\nways 1\nwritebacks 1\n{'outstanding 1' * (seed % 2)}\n"
+    for core in range(3):
+        steps = (("load {}", "store {} 1", "add {} 3", "cas {} 0 5")[generator.word() % 4] for _ in range(40))
+        text += f"core {core}\n" + "".join(step.format(generator.word() % 64) + "\n" for step in steps)
+    with tempfile.TemporaryDirectory() as room:
+        file = write(f"{room}/text.txt", text)
+        words = ("--set", "mshrs=1,8", "--set", "targets=1,4", "--set", "misses=explicit,inverted", "--seeds", "1..3")
+        rows = [row.split(",") for row in lockup("run", file, *words).out.splitlines()[1:]]
+    same("rows", 24, len(rows))
+    for row in rows:
+        same("counts of a seed", [it[4:] for it in rows if it[3] == row[3]][0], row[4:])
+
+
 def parallel(registers: int, most: int | None, loads: int) -> str:
     limit = "" if most is None else f"outstanding {most}\n"
     asks = "".join(f"load {8 * line}\n" for line in range(loads))

@@ -72,13 +72,10 @@ def behind(tasks):
 GAIN = {1: 1.0, 2: 1.6, 3: 2.0, 4: 2.2}
 
 
-def jobs_for(idle, ready, chain, total, lanes):
-    """Returns how many processors the first of the ready tasks gets: more than one where others leave them idle, or where
-    its chain is longer than all that is left takes on all processors."""
-    spare = idle // max(len(ready), 1)
-    if chain * lanes > 1.2 * total and lanes > 2:
-        spare = max(spare, 2)
-    return max(1, min(4, idle, spare))
+def jobs_for(idle, ready):
+    """Returns how many processors the first of so many tasks gets that can begin: more than one where the others leave
+    them idle, since two tasks on one each get more done than one on two."""
+    return max(1, min(max(GAIN), idle // ready))
 
 
 def run(tasks, lanes, memory, shown):
@@ -91,11 +88,11 @@ def run(tasks, lanes, memory, shown):
             while ready and not ran.failed:
                 idle = lanes - sum(jobs for _, jobs, _ in running.values())
                 room = memory - sum(task.memory for task, _, _ in running.values())
-                if idle < 1 or running and ready[0].memory > room:
+                fitting = [it for it in ready if it.memory <= room or not running]
+                if idle < 1 or not fitting:
                     break
-                total = sum(it.seconds for it in left.values())
-                jobs = jobs_for(idle, ready, chains[ready[0].name], total, lanes)
-                task = left.pop(ready.pop(0).name)
+                task, jobs = left.pop(fitting[0].name), jobs_for(idle, len(fitting))
+                ready.remove(task)
                 running[pool.submit(task.call, jobs)] = (task, jobs, time.time())
             if ran.failed and not running:
                 return ran

@@ -76,6 +76,12 @@ def test_order() -> None:
     same("two processors", 2, work.most)
 
 
+def test_processors() -> None:
+    """A task gets what the other ones leave idle, and no more than help it."""
+    same("one of so many", [4, 2, 1, 1, 1], [lanes.jobs_for(4, ready) for ready in range(1, 6)])
+    same("of many", 4, lanes.jobs_for(64, 1))
+
+
 def test_one_processor() -> None:
     """The tasks go by the length of their chains."""
     work = Work(ALONE + CHAIN)
@@ -87,6 +93,9 @@ def test_memory() -> None:
     work = Work([(f"big{number}", [], 3, 40) for number in range(5)])
     work.run(4)
     same("memory", 80, work.most_memory)
+    work = Work([("first", [], 9, 60), ("second", [], 8, 60), ("third", [], 3, 30)])
+    work.run(4)
+    same("what fits doesn't wait for what doesn't", ["first", "third", "second"], work.begun())
     work = Work([("huge", [], 1, 1000)])
     work.run(4)
     same("more than there is, alone", ["huge"], work.begun())

@@ -147,7 +147,7 @@ def test_chart(name: str) -> None:
     script = scripts()[name]
     with tempfile.TemporaryDirectory() as room:
         file = write(f"{room}/script", script)
-        answered, drawn = lockup("script", file), lockup("chart", file)
+        answered, drawn = lockup("script", "--explain", file), lockup("chart", file)
     same("status and error", (answered.status, answered.err), (drawn.status, drawn.err))
     # nothing is drawn of a configuration at fault
     want(drawn.out or drawn.status, "there is no chart")

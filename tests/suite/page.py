@@ -350,7 +350,7 @@ def test_an_invalid_line() -> None:
     page = lockup("page", "-", text=script)
     run = json.loads(value_of(page.out))
     told = (page.status, page.err, run["fault"], run["script"], [it and it["command"] for it in run["steps"]])
-    wanted = (2, "lockup: line 4: not a command\n", "line 4: not a command", script, ["issue 0 0 add 0 5", None])
+    wanted = (2, "lockup: line 4: not a command   end of the line: load, store, add or cas\n", "line 4: not a command", script, ["issue 0 0 add 0 5", None])
     same("the page of a script with an invalid line", wanted, told)
 
 

@@ -24,7 +24,7 @@ def test_a_script_to_begin_with() -> None:
         wanted = READ_MISS + """\
 deliver req 1 0
 moved   dir 0 (I, GetS): to S, sharers 0; sends Data(0) to core 0
-fault: not a command
+fault: not a command   help lists what can be asked
 line 1 dir S owner - sharers 0 home 0 0 0 0 0 0 0 0 cores IS_D I
 saved so_far
 fault: cannot write no_such_folder/so_far

@@ -63,7 +63,7 @@ def values_of(state: str, messages: list[str]) -> dict[str, str]:
     found.update({f"run/line{line}/core{core}": copy for core, copy in enumerate(cores.split())})
     waiting = [name for at, name in map(channel_of, messages) if at == line]
     found[f"run/line{line}/in_flight"] = "+".join(waiting) or "-"
-    found[f"run/line{line}/messages"] = str(len(waiting))
+    found[f"run/line{line}/channels"] = str(len(waiting))
     return found
 
 
@@ -142,6 +142,6 @@ def test_settings_for_gtkwave() -> None:
     counts = [it for core in (0, 1) for it in (f"-slice0 core{core}", f"run.slice0.core{core}.registers[31:0]",
                                                f"run.slice0.core{core}.targets[31:0]")]
     same("signals", ["run.command", "-line0", "run.line0.directory", "run.line0.core0", "run.line0.core1",
-                     "run.line0.in_flight", "run.line0.messages[31:0]", *counts], shown)
+                     "run.line0.in_flight", "run.line0.channels[31:0]", *counts], shown)
     steps = [at for at, it in enumerate(lines) if it.endswith("[31:0]")]
     same("counts", [["@8024", "@20000", "-"]] * len(steps), [[lines[at - 1], *lines[at + 1:at + 3]] for at in steps])

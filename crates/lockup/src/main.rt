@@ -162,7 +162,7 @@ where
     }
 }
 
-/// Complains of a fault, and where answers are explained, of what the line at fault was expected to say.
+/// Complains of a fault, and where answers are explained or drawn, of what the line at fault was expected to say.
 fn complain_of<R>(rt: &R, people: People, line: CommandLine<'_>, input: &[u8], fault: TextFault)
 where
     R: AllocGlobal + Eprint,
@@ -176,7 +176,7 @@ where
     }
 }
 
-/// Whether answers are explained.
+/// Whether answers are explained, or drawn.
 const fn is_explained(line: CommandLine<'_>) -> bool {
     matches!(
         line,
@@ -184,6 +184,8 @@ const fn is_explained(line: CommandLine<'_>) -> bool {
             form: ScriptForm::Answers { explain: true, .. } | ScriptForm::Beside { explain: true },
             ..
         } | CommandLine::Try { .. }
+            | CommandLine::Chart { .. }
+            | CommandLine::Page { .. }
     )
 }
 

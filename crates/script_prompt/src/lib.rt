@@ -15,6 +15,7 @@ pub use session::Session;
 
 mod asked;
 mod help;
+mod hint;
 mod kinds;
 mod machine;
 mod own;

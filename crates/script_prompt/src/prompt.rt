@@ -4,6 +4,7 @@ ghost use Rattle.script_prompt.specs.Session.{IsMadeWith, IsTakenBack, IsUndone,
 
 use super::asked::Asked;
 use super::help::HELP;
+use super::hint::hint_of;
 use super::kinds::AnySession;
 use super::own::Own;
 use super::saver::Saver;
@@ -111,7 +112,7 @@ impl Prompt {
                 return Ok(true);
             }
             Ok(asked) => self.do_other(asked, &statement, out, saver)?,
-            Err(fault) => tell(fault, out)?,
+            Err(fault) => self.tell_line(&statement, fault, out)?,
         }
         if self.session.script().len() > before {
             self.parts.push(before)?;
@@ -134,6 +135,28 @@ impl Prompt {
                 written(answers.write_str(HELP))
             }
             _ => Ok(()),
+        }
+    }
+
+    /// Says what is wrong with a line, and what could stand in it.
+    fn tell_line<W: Write>(
+        &self,
+        statement: &Statement<'_>,
+        fault: TextFault,
+        out: &mut W,
+    ) -> Result<(), TextFault> {
+        let TextFault::Line { fault: wrong, .. } = fault else {
+            return tell(fault, out);
+        };
+        let Some(name) = statement.words.as_slice().first() else {
+            return tell(fault, out);
+        };
+        let mut text = with_end(self.alloc, self.session.script())?;
+        text.extend_from_slice(statement.line)?;
+        let mut answers = TextWriter { out };
+        match hint_of(self.alloc, &text, name, wrong) {
+            Some(hint) => written(writeln!(answers, "fault: {wrong}   {hint}")),
+            None => written(writeln!(answers, "fault: {wrong}")),
         }
     }
 

@@ -12,7 +12,7 @@ abbrev pub name_of : Signal → List ℕ
 name_of signals.Directory = codes "directory"
 name_of (signals.Copy core) = codes "core" ++ decimal core
 name_of signals.Channels = codes "in_flight"
-name_of signals.Total = codes "messages"
+name_of signals.Total = codes "channels"
 
 -- the code by which the file tells it from all others
 abbrev pub code_of : LineAddr → Signal → List ℕ

@@ -27,7 +27,7 @@ impl fmt::Display for Signal {
             Signal::Directory => f.write_str("directory"),
             Signal::Copy(core) => write!(f, "core{core}"),
             Signal::Channels => f.write_str("in_flight"),
-            Signal::Total => f.write_str("messages"),
+            Signal::Total => f.write_str("channels"),
         }
     }
 }

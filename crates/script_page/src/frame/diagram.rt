@@ -172,11 +172,12 @@ function drawMarks(place, row) {
     const y = place.y(row.number);
     marksOf(row).slice(0, 3).forEach(({ kind, text }, order) => {
         const x = place.x(row.event.who);
+        const short = place.narrow && kind === 'ring';
         if (kind === 'ring') found.push(drawn('circle', 'ring', { cx: x, cy: y, r: 9 }));
         if (kind === 'cross') found.push(drawn('path', 'cross', { d: `M${x - 7},${y - 7} l14,14 m0,-14 l-14,14` }));
         if (kind === 'diamond') found.push(drawn('path', 'diamond', { d: `M${x},${y - 3} l6,6 l-6,6 l-6,-6 z` }));
         const it = kind === 'diamond' ? remark(place, row.event.who, y + 25 + 11 * order, 'performed', text)
-            : remark(place, row.event.who, y + 4, 'mark', text, roomier(place, row.event.who));
+            : remark(place, row.event.who, y + 4, 'mark', short ? 'blocked' : text, roomier(place, row.event.who));
         it.setAttribute('data-step', row.step);
         found.push(it);
     });

@@ -199,8 +199,9 @@ def test_run(name: str) -> None:
     file = EXAMPLES / f"programs/{name}.txt"
     for words in ((), ("--outstanding", "4")):
         value_of("run", "run", file, *words, err=unused(read(file), *words))
-        value_of("run_rows", "run", file, *words, "--seeds", "1..2", "--set", "ways=1,2", "--set", "policy=random 7")
-    value_of("run_rows", "run", file, "--set", "outstanding=1,2")
+        value_of("run_rows", "run", file, *words, "--seeds", "1..2", "--set", "ways=1,2", "--set", "policy=random 7",
+                 err=unused(read(file), *words))
+    value_of("run_rows", "run", file, "--set", "outstanding=1,2", "--set", "misses=explicit,inverted")
 
 
 @each(lambda: sorted(path.stem for path in (ROOT / "docs/schema").glob("*.json")))

@@ -101,7 +101,10 @@ def test_what_changes_nothing(seed: int) -> None:
     with tempfile.TemporaryDirectory() as room:
         file = write(f"{room}/text.txt", text)
         words = ("--set", "mshrs=1,8", "--set", "targets=1,4", "--set", "misses=explicit,inverted", "--seeds", "1..3")
-        rows = [row.split(",") for row in lockup("run", file, *words).out.splitlines()[1:]]
+        ran = lockup("run", file, *words)
+    rows = [row.split(",") for row in ran.out.splitlines()[1:]]
+    told = [f"lockup: --set {name} changes nothing: each core has one access under way\n" for name in ("mshrs", "targets", "misses")]
+    same("error", "".join([unused(text), *told]), ran.err)
     same("rows", 24, len(rows))
     for row in rows:
         same("counts of a seed", [it[4:] for it in rows if it[3] == row[3]][0], row[4:])
@@ -237,8 +240,11 @@ def test_what_is_in_use(what: str) -> None:
         file = write(f"{room}/text.txt", text)
         for seed in ("1", "2", "3"):
             usages = in_use(played(file, "--seed", seed), cores, slices)
-            told = report_of(file, "--seed", seed)["cores"]
+            report = report_of(file, "--seed", seed)
+            told = report["cores"]
             same(f"seed {seed}", usages, [{name: core[name] for name in usage} for core, usage in zip(told, usages)])
+            of_all = {name: (sum if name.endswith("_sum") else max)(usage[name] for usage in usages) for name in usages[0]}
+            same(f"all of seed {seed}", of_all, {name: report["all"][name] for name in of_all})
             rows = [[str(core), str(usage["registers_most"]), mean(usage["registers_sum"], usage["moves"]),
                      str(usage["targets_most"]), mean(usage["targets_sum"], usage["moves"])]
                     for core, usage in enumerate(usages)]

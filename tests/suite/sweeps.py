@@ -16,14 +16,16 @@ REFUSED = {
     "--set walls=1": "--set walls: there is no such setting",
     "--set ways": "--set ways: not NAME=VALUE,VALUE..",
     "--set ways=": "--set ways=: not NAME=VALUE,VALUE..",
-    "--set ways=1,two": "--set ways: two is none of its values",
-    "--set ways=1,": "--set ways:  is none of its values",
+    "--set ways=1,two": "--set ways: 'two' is none of its values",
+    "--set ways=1,": "--set ways: '' is none of its values",
+    "--set ways=1,17": "--set ways: '17' is none of its values",
+    "--set ways=1,02": "--set ways: '02' is none of its values",
     "--set ways=1 --set ways=2": "--set ways: given twice",
-    "--set outstanding=1,65": "--set outstanding: 65 is none of its values",
-    "--set outstanding=0": "--set outstanding: 0 is none of its values",
+    "--set outstanding=1,65": "--set outstanding: '65' is none of its values",
+    "--set outstanding=0": "--set outstanding: '0' is none of its values",
     "--set outstanding=2 --outstanding 3": "--set outstanding: given twice",
     "--set counter=8": "--set counter: its lines add up, so none replaces another",
-    "--set mshrs=1 --set ways=1,17 --seeds 3..4": "mshrs=1 ways=17 seed 3: config 5 Ways",
+    "--set slices=1,2 --set lines=9 --seeds 3..4": "slices=2 lines=9 seed 3: config 3 Lines",
     "--set cores=1": "cores=1 seed 1: line 11: out of range",
     "--seeds 5..1": "--seeds 5..1: runs backwards",
     "--seeds x": "--seeds x: not FIRST..LAST",
@@ -60,6 +62,21 @@ def test_rows() -> None:
             same("row of JSON", {"ways": int(row["ways"]), "policy": row["policy"], "seed": int(row["seed"]), **report}, other)
 
 
+def test_kinds_of_miss_file() -> None:
+    """The setting has a name of its own beside the count."""
+    with tempfile.TemporaryDirectory() as room:
+        text = str(write(f"{room}/text", TEXT))
+        words = ("--outstanding", "2", "--set", "misses=explicit,inverted")
+        rows = rows_of(text, *words, "--csv")
+        listed = json.loads(lockup("run", text, *words, "--json").out)
+        for kind, row, other in zip(("explicit", "inverted"), rows, listed, strict=True):
+            alone = str(write(f"{room}/alone", with_settings({"misses": kind})))
+            report = json.loads(lockup("run", alone, *words[:2], "--json").out)["all"]
+            same("columns", ["miss_file", "seed", *report], list(row))
+            same(f"row of {kind}", {"miss_file": kind, "seed": 1, **report}, other)
+            same(f"row of {kind}", {name: str(value) for name, value in other.items()}, row)
+
+
 def test_accesses_under_way() -> None:
     """The setting is the option, whatever the text says, and stands beside others."""
     with tempfile.TemporaryDirectory() as room:
@@ -94,6 +111,14 @@ def test_refused(words: str) -> None:
         same("status and error", (2, f"lockup: {REFUSED[words]}\n"), (ran.status, ran.err))
 
 
+def test_blanks_around_a_value_are_refused() -> None:
+    with tempfile.TemporaryDirectory() as room:
+        text = str(write(f"{room}/text", TEXT))
+        for value in " 2", "2 ", "\t2":
+            ran = lockup("run", text, "--set", f"ways=1,{value}")
+            same("status and error", (2, f"lockup: --set ways: '{value}' is none of its values\n"), (ran.status, ran.err))
+
+
 @each(lambda: list(SIZES))
 def test_workload(name: str) -> None:
     with tempfile.TemporaryDirectory() as room:
@@ -121,7 +146,18 @@ def test_refused_workloads() -> None:
         "lock --cores 0": "--cores takes 1 to 64",
         "lock --cores 65": "--cores takes 1 to 64",
         "matmul --size 65": "--size takes 1 to 64 here",
-        "lock --cores 4 --size 1000000": "more than 1000000 accesses",
+        "lock --cores 4 --size 62501": "--size takes 1 to 62500 here",
+        "ring --cores 1 --size 1000000": "--size takes 1 to 333333 here",
+        "uniform --cores 64 --size 15626": "--size takes 1 to 15625 here",
+        "chase --cores 64 --size 15626": "--size takes 1 to 15625 here",
+        "chase --cores 1 --size 65537": "--size takes 1 to 65536 here",
+        "histogram --cores 64 --size 4097": "--size takes 1 to 4096 here",
     }.items():
         ran = lockup("generate", *words.split())
         same(words, (2, "", f"lockup: {told}\n"), (ran.status, ran.out, ran.err))
+
+
+@each(lambda: ["lock --cores 64 --size 3906", "ring --cores 64 --size 5208", "chase --cores 64 --size 15625"])
+def test_greatest_workloads(words: str) -> None:
+    ran = lockup("generate", *words.split())
+    same("status and error", (0, ""), (ran.status, ran.err))

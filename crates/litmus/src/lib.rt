@@ -2,9 +2,10 @@
 //!
 //! - [`read_line`] reads what the program's own words ask for.
 //! - [`run_script`] runs a script, [`run_explained`] tells what happened behind each answer, [`run_beside`] prints each
-//!   answer beside its command, [`run_json`] each command as a value of JSON, [`run_chart`] draws the run as a sequence diagram, [`run_svg`] one line of it over
-//!   time, and [`run_page`] writes it as a page for a browser, which with [`run_page_with`] can be played, [`run_waves`] as waves for a wave viewer. [`expected`]
-//!   tells what a line at fault was to say.
+//!   answer beside its command, and [`run_json`] each command as a value of JSON. [`run_chart`] draws the run as a
+//!   sequence diagram, [`run_svg`] one line of it over time, [`run_page`] writes it as a page for a browser, which with
+//!   [`run_page_with`] can be played, and [`run_waves`] as waves for a wave viewer. [`expected`] tells what a line at
+//!   fault was to say.
 //! - [`run_trace`] writes a model checker's trace as a script.
 //! - [`run_prompt`] answers a script's lines one by one, and gives a [`Saver`] the script so far.
 //! - [`run_test`] tests a script against the answers that it wants.
@@ -12,12 +13,12 @@
 //!   outcomes, and tells a [`Progress`] how far it is, which with [`Silent`] nobody sees. [`write_walk`] prints a round
 //!   of such a schedule as a script, and [`page_walk`] as that script's page.
 //! - [`run_programs`] runs programs on a random schedule, and reports what each core and each line met.
-//!   [`write_schedule`] prints that schedule as a script, and [`page_schedule`] as that script's page. [`run_sweep`] runs
-//!   them once for each row of a [`Sweep`], side by side, and prints the rows. [`write_workload`] prints the programs of
-//!   a workload.
+//!   [`write_schedule`] prints that schedule as a script, and [`page_schedule`] as that script's page. [`run_sweep`]
+//!   runs them once for each row of a [`Sweep`], side by side, and prints the rows. [`write_workload`] prints the
+//!   programs of a workload.
 //! - [`check_trace`] judges a trace, and answers its [`Verdict`]; [`run_check`] writes what that comes to.
-//! - [`run_table`] prints a table of the protocol with its legend, [`run_table_rows`] its rows as values of JSON, and [`run_export`] the protocol of one line as a
-//!   model.
+//! - [`run_table`] prints a table of the protocol with its legend, [`run_table_rows`] its rows as values of JSON, and
+//!   [`run_export`] the protocol of one line as a model.
 //!
 //! Running, drawing, reading and walking are crates of their own. What is wrong with a text, or why it can't be run or
 //! what comes of it can't be written, is a [`TextFault`].
@@ -37,7 +38,7 @@ pub use outcomes_json::OutcomeForm;
 pub use pages::{page_schedule, page_walk};
 pub use program_generate::{GenerateFault, Size, Workload, write_workload};
 pub use program_run::{Form, run_programs, write_schedule};
-pub use program_sweep::{RowFault, RowForm, Seeds, Sweep, SweepFault, run_sweep};
+pub use program_sweep::{RowFault, RowForm, Seeds, Setting, Sweep, SweepFault, run_sweep};
 pub use script_beside::run_beside;
 pub use script_explained::{expected, run_explained};
 pub use script_json::run_json;

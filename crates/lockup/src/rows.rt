@@ -1,6 +1,7 @@
 //! The rows of a sweep.
 
 use super::progress::ShownRows;
+use super::unused::tell_unused_settings;
 use super::{People, complain, read, report, show};
 use litmus::{RowFault, RowForm, Seeds, Sweep, SweepFault, read_settings, run_sweep};
 use litmus_text::TextFault;
@@ -47,7 +48,11 @@ where
     };
     let form = if json { RowForm::Json } else { RowForm::Csv };
     match print_rows(rt, people, input.as_slice(), &sweep, form) {
-        Ok(()) => 0,
+        Ok(()) => {
+            let settings = sweep.settings.as_slice();
+            tell_unused_settings(rt, people, input.as_slice(), settings, outstanding);
+            0
+        }
         Err(fault) => complain_of(rt, people, &sweep, fault),
     }
 }

@@ -1,6 +1,7 @@
-//! Lines of a text of programs that change nothing of its run.
+//! Lines of a text of programs that change nothing of its run, and settings of a sweep that change nothing of its runs.
 
 use super::{People, complain};
+use litmus::Setting;
 use litmus_text::{Lines, Words, parse_number, value_named};
 
 /// What bounds the accesses of a core that wait. Where one is under way at a time, none finds a bound.
@@ -13,6 +14,9 @@ static BOUNDS: [(&[u8], &str); 3] = [
 static OUTSTANDING: [(&[u8], ()); 1] = [(b"outstanding", ())];
 
 static CORE: [(&[u8], ()); 1] = [(b"core", ())];
+
+/// Why what bounds waiting accesses changes nothing.
+const SINGLE: &str = "each core has one access under way";
 
 /// Tells on standard error which lines of a text that was run changed nothing: those that bound what waits of a core,
 /// where it has one access under way at a time, and an `outstanding` in whose place another number was given.
@@ -42,16 +46,46 @@ pub fn tell_unused<R: Eprint>(rt: &R, people: People, input: &[u8], given: Optio
     }
 }
 
+/// Tells on standard error the same of a text and of settings that vary. Where it varies how many accesses of a core may
+/// be under way, all may change something.
+pub fn tell_unused_settings<R: Eprint>(
+    rt: &R,
+    people: People,
+    input: &[u8],
+    settings: &[Setting<'_>],
+    given: Option<u64>,
+) {
+    if varies_outstanding(settings) {
+        return;
+    }
+    tell_unused(rt, people, input, given);
+    if !is_single(input, given) {
+        return;
+    }
+    for setting in settings {
+        let name = setting.name;
+        if value_named(&BOUNDS, name.as_bytes()).is_some() {
+            tell_setting(rt, people, name, SINGLE);
+        }
+    }
+}
+
+fn varies_outstanding(settings: &[Setting<'_>]) -> bool {
+    settings.iter().any(|setting| value_named(&OUTSTANDING, setting.name.as_bytes()).is_some())
+}
+
 fn tell_bound<R: Eprint>(rt: &R, people: People, number: u64, word: &[u8]) {
     if let Some(name) = value_named(&BOUNDS, word) {
-        tell(
-            rt,
-            people,
-            number,
-            name,
-            "each core has one access under way",
-        );
+        tell(rt, people, number, name, SINGLE);
     }
+}
+
+fn tell_setting<R: Eprint>(rt: &R, people: People, name: &str, why: &str) {
+    complain(
+        rt,
+        people,
+        format_args!("--set {name} changes nothing: {why}"),
+    );
 }
 
 fn tell<R: Eprint>(rt: &R, people: People, number: u64, name: &str, why: &str) {

@@ -23,8 +23,9 @@ pub fn write_workload<W: Write>(
     if size.cores == 0 || size.cores > 64 {
         return Err(GenerateFault::Cores);
     }
-    if size.size == 0 || size.size > workload.most() {
-        return Err(GenerateFault::Size(workload.most()));
+    let most = workload.most(size.cores);
+    if size.size == 0 || size.size > most {
+        return Err(GenerateFault::Size(most));
     }
     let text = generate(alloc, workload, size)?;
     match write_text(out, text.as_slice()) {

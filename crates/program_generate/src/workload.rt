@@ -1,3 +1,7 @@
+ghost use Rattle.std.specs.Prelude.{◌<◌, ◌≤◌};
+
+use program_text::MOST_ACCESSES;
+
 /// A workload.
 #[derive(Clone, Copy, Debug, PartialEq, Eq)]
 pub enum Workload {
@@ -35,13 +39,20 @@ impl Workload {
         }
     }
 
-    /// The greatest size that it may have.
-    pub fn most(self) -> u64 {
+    /// The greatest size that it may have for so many cores, by the lines that it takes and by the accesses that a text
+    /// may have.
+    pub(crate) fn most(self, cores: u64) -> u64
+        requires some { 0 < cores }
+        requires few { cores ≤ 64 }
+    {
+        let accesses = MOST_ACCESSES as u64;
         match self {
             Workload::Matmul | Workload::Stencil => 64,
-            Workload::Chase => 65_536,
             Workload::Histogram => 4_096,
-            Workload::Ring | Workload::Lock | Workload::Uniform | Workload::Zipf => 1_000_000,
+            Workload::Chase => (accesses / cores).min(65_536),
+            Workload::Uniform | Workload::Zipf => accesses / cores,
+            Workload::Ring => accesses / (3 * cores),
+            Workload::Lock => accesses / (4 * cores),
         }
     }
 }

@@ -6,7 +6,7 @@ use Rattle.program_run.specs.declared.column.Column.{Column}
 use Rattle.program_run.specs.declared.tally.Counts.{Counts}
 use Rattle.program_run.specs.Column.{columns_of_all, columns_of_core, count_in, line_columns, name_of}
 use Rattle.program_run.specs.Tally.{TallyView, counts_at, requests_of, totals_of}
-use Rattle.program_run.specs.Usage.{usage_at}
+use Rattle.program_run.specs.Usage.{no_usage, usage_at, usage_of_all}
 use Rattle.program_run.specs.declared.usage.Usage.{Usage}
 
 -- what a column shows, under its name
@@ -17,7 +17,7 @@ member_of counts column = codes "\"" ++ (name_of column ++ (codes "\":" ++ decim
 abbrev pub members_of : List Column → Counts → List ℕ
 members_of columns counts = with_commas (map (member_of counts) columns)
 
--- what was in use of a core, where several of its accesses may be under way
+-- what was in use of a core or of all, where several accesses of each may be under way
 abbrev pub usage_members : Bool → Usage → List ℕ
 usage_members false usage = []
 usage_members true usage =
@@ -66,4 +66,5 @@ json_of tally usages is_limited seed =
     codes "{\"seed\":" ++ (decimal seed ++ codes ",\"cores\":[")
     ++ core_objects_of is_limited tally.cores usages
     ++ codes "],\"lines\":[" ++ line_objects_of tally.lines
-    ++ codes "],\"all\":{" ++ members_of (columns_of_all is_limited) (totals_of tally.lines) ++ codes "}}\n"
+    ++ codes "],\"all\":{" ++ members_of (columns_of_all is_limited) (totals_of tally.lines)
+    ++ usage_members is_limited (usage_of_all no_usage usages) ++ codes "}}\n"

@@ -16,7 +16,7 @@ ghost use Rattle.program_run.specs.Usage.{usage_at};
 
 use super::column::{Column, columns_of_all, columns_of_core, line_columns};
 use super::tally::{Counts, Tally};
-use super::usage::Usage;
+use super::usage::{Usage, usage_of_all};
 use json_text::write_comma;
 use std::fmt;
 use std::fmt::Write;
@@ -38,6 +38,7 @@ pub(crate) fn write_json<W: Write>(
     write_lines(tally.lines(), out)?;
     write!(out, "],\"all\":{{")?;
     write_members(columns_of_all(is_limited), &tally.all(), out)?;
+    write_usage(is_limited, usage_of_all(usages), out)?;
     writeln!(out, "}}}}")
 }
 

@@ -1,6 +1,6 @@
 //! What cores' accesses under way take up.
 ghost use Rattle.std.specs.Prelude.{◌≡◌, ◌<◌};
-ghost use Rattle.program_run.specs.Usage.{hundredths_of, measured, no_usage, whole_of};
+ghost use Rattle.program_run.specs.Usage.{hundredths_of, measured, no_usage, usage_of_all, usages_together, whole_of};
 
 /// How many miss registers and targets of a core were in use behind each move: the most, and the sum over the moves. A
 /// number stops at 2^64 - 1.
@@ -39,6 +39,30 @@ impl Usage {
             sum_targets: self.sum_targets.saturating_add(targets),
         }
     }
+
+    /// What is in use of two cores of one run: the most of either, and the sums of both.
+    fn with(self, other: Usage) -> Self
+        ensures { result ≡ usages_together self other }
+    {
+        Usage {
+            moves: self.moves.max(other.moves),
+            most_registers: self.most_registers.max(other.most_registers),
+            sum_registers: self.sum_registers.saturating_add(other.sum_registers),
+            most_targets: self.most_targets.max(other.most_targets),
+            sum_targets: self.sum_targets.saturating_add(other.sum_targets),
+        }
+    }
+}
+
+/// What is in use of all cores of a run.
+pub(crate) fn usage_of_all(usages: &[Usage]) -> Usage
+    ensures { result ≡ usage_of_all no_usage usages.now }
+{
+    let mut all = Usage::none();
+    for usage in usages {
+        all = all.with(*usage);
+    }
+    all
 }
 
 /// The whole part of a mean: 0 where nothing was measured.

@@ -1,8 +1,9 @@
 -- The row of a run: its settings, its seed, and what the last object of its report has, which are the sums over all
 -- lines.
-use Rattle.std.specs.Prelude.{ℕ, ◌-◌, ◌==◌, ◌&&◌, ◌||◌, Bool, false, not, nat_le, List, [], ◌∷◌, ◌++◌, codes}
+use Rattle.std.specs.Prelude.{ℕ, ◌-◌, ◌==◌, ◌&&◌, ◌||◌, Bool, false, true, is_some, not, nat_le, List, [], ◌∷◌, ◌++◌, codes}
 use Rattle.std.specs.Prelude.{decimal, if◌then◌else◌, length, take}
 use Rattle.std.specs.List.{flat_map}
+use Rattle.litmus_text.specs.Table.{value_named}
 use Rattle.program_sweep.specs.declared.row.RowForm.{RowForm}
 use Rattle.program_sweep.specs.declared.row.RowForm.TheVariants as row_forms
 use Rattle.program_sweep.specs.declared.setting.Setting.{Setting}
@@ -37,6 +38,10 @@ is_count_byte byte = byte == 44 || (nat_le 48 byte && nat_le byte 57)
 abbrev pub is_name_byte : ℕ → Bool
 is_name_byte byte = byte == 44 || byte == 45 || byte == 95 || (nat_le 97 byte && nat_le byte 122)
 
+-- the name of a setting's column: `misses` names a count, so the kind of miss file stands under another
+abbrev pub column_of : List ℕ → List ℕ
+column_of name = if is_some (value_named ((codes "misses", true) ∷ []) name) then codes "miss_file" else name
+
 -- ---- CSV
 
 abbrev pub cell_of : List ℕ → List ℕ
@@ -46,7 +51,7 @@ abbrev pub cells_of : ℕ → List Setting → List ℕ
 cells_of row settings = flat_map (λ (setting : Setting). cell_of (value_in setting row)) settings
 
 abbrev pub name_cells_of : List Setting → List ℕ
-name_cells_of settings = flat_map (λ (setting : Setting). cell_of setting.name.now) settings
+name_cells_of settings = flat_map (λ (setting : Setting). cell_of (column_of setting.name.now)) settings
 
 abbrev pub heading_of : List Setting → List ℕ → List ℕ
 heading_of settings sums = name_cells_of settings ++ codes "seed," ++ kept is_name_byte sums ++ codes "\n"
@@ -67,7 +72,8 @@ abbrev pub member_of : List ℕ → List ℕ → List ℕ
 member_of name value = codes "\"" ++ name ++ codes "\":" ++ value_of value ++ codes ","
 
 abbrev pub members_of : ℕ → List Setting → List ℕ
-members_of row settings = flat_map (λ (setting : Setting). member_of setting.name.now (value_in setting row)) settings
+members_of row settings =
+    flat_map (λ (setting : Setting). member_of (column_of setting.name.now) (value_in setting row)) settings
 
 -- what stands before the object of a row, with its brace
 abbrev pub front_of : ℕ → List ℕ

@@ -14,7 +14,7 @@ pub enum SweepFault<'a> {
     /// Lines of this name add up: none replaces another.
     #[error("--set {0}: its lines add up, so none replaces another")]
     AddsUp(&'a str),
-    #[error("--set {name}: {value} is none of its values")]
+    #[error("--set {name}: '{value}' is none of its values")]
     BadValue { name: &'a str, value: &'a str },
     #[error("--set {0}: given twice")]
     Twice(&'a str),

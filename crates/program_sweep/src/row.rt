@@ -21,6 +21,7 @@ ghost use Rattle.program_sweep.specs.Row.{
   foot_of,
 };
 
+use super::name::column_of;
 use super::setting::Setting;
 use itoa::Buffer;
 use std::alloc::AllocError;
@@ -114,7 +115,7 @@ fn push_names(out: &mut Vec<u8>, settings: &[Setting<'_>]) -> Result<(), AllocEr
     ensures { OnOk result (out.new.items ≡ out.old.items ++ name_cells_of settings.now) }
 {
     for setting in settings {
-        push_cell(out, setting.name)?;
+        push_cell(out, column_of(setting.name))?;
     }
     Ok(())
 }
@@ -139,7 +140,7 @@ fn push_members(out: &mut Vec<u8>, settings: &[Setting<'_>], row: u64) -> Result
     ensures { OnOk result (out.new.items ≡ out.old.items ++ members_of row settings.now) }
 {
     for setting in settings {
-        push_member(out, setting.name, setting.value_in(row))?;
+        push_member(out, column_of(setting.name), setting.value_in(row))?;
     }
     Ok(())
 }

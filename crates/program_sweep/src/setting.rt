@@ -3,7 +3,7 @@ ghost use Rattle.std.specs.List.{slice_split};
 
 use super::fault::SweepFault;
 use super::name::{is_name, is_outstanding, may_vary};
-use litmus_text::{ConfigLine, first_words, parse_number};
+use litmus_text::{ConfigLine, Settings, first_words, parse_number};
 use program_text::MOST_OUTSTANDING;
 use std::alloc::{AllocError, Global};
 
@@ -88,16 +88,46 @@ fn push_value<'a>(
     Ok(())
 }
 
-// Whether the name and the value write a line that configures, or the value is how many accesses may be under way.
+// Whether the name and the value write a line that configures a machine, or the value is how many accesses may be under
+// way. It is written in one way, so that rows with the same value say the same.
 fn is_value(alloc: Global, name: &str, value: &str) -> Result<bool, AllocError> {
+    if !is_plain(value.as_bytes()) {
+        return Ok(false);
+    }
     if is_outstanding(name.as_bytes()) {
         return Ok(is_few(parse_number(value.as_bytes())));
     }
     let mut line = Vec::from_slice(alloc, name.as_bytes())?;
     line.extend_from_slice(b" ")?;
     line.extend_from_slice(value.as_bytes())?;
-    let words = first_words(line.as_slice());
-    Ok(ConfigLine::parse(words.as_slice()).is_ok())
+    configures(alloc, line.as_slice())
+}
+
+// Whether no blank stands around a value, and no zero before other digits.
+fn is_plain(value: &[u8]) -> bool {
+    match value {
+        [b' ' | b'\t', ..] | [.., b' ' | b'\t'] => false,
+        [b'0', next, ..] => !next.is_ascii_digit(),
+        _ => true,
+    }
+}
+
+// Whether there is a machine with this line and all else as it is where a text says nothing.
+fn configures(alloc: Global, line: &[u8]) -> Result<bool, AllocError> {
+    let words = first_words(line);
+    let Ok(line) = ConfigLine::parse(words.as_slice()) else {
+        return Ok(false);
+    };
+    let mut settings = Settings::new(alloc);
+    line.set(&mut settings)?;
+    let Settings { config, .. } = settings;
+    match config.check() {
+        Ok(checked) => {
+            drop(checked);
+            Ok(true)
+        }
+        Err(_) => Ok(false),
+    }
 }
 
 // Whether so many accesses of a core may be under way.

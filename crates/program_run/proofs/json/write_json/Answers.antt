@@ -8,11 +8,13 @@ returns g c =
     let cores = rw c.cores.ensures at c.in_ok-write_cores.ensures in
     let lines = rw c.lines.ensures at c.in_ok-write_lines.ensures in
     let all = rw (c.columns_of_all.ensures, c.all.ensures) at c.in_ok-write_members.ensures in
+    let usages = rw c.usage_of_all.ensures at c.in_ok-write_usage.ensures in
     on_ok_weaker c.writeln.result
     (λ last. then _ _ _ _ _
     (then _ _ _ _ _
     (then _ _ _ _ _
     (then _ _ _ _ _
+    (then _ _ _ _ _
     (then _ _ _ _ _ (then _ _ _ _ _ c.in_ok-write.ensures.writes cores) c.in_ok-write-2.ensures.writes)
-    lines) c.in_ok-write-3.ensures.writes) all) last)
+    lines) c.in_ok-write-3.ensures.writes) all) usages) last)
     c.writeln.ensures.writes

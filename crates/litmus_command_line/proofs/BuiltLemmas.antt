@@ -7,45 +7,53 @@ use Rattle.clap.specs.Adds.{AddsConflicts}
 use Rattle.clap.specs.Walk.{is_empty, is_free_arg}
 use Rattle.clap.specs.declared.builder.arg.Arg.{Arg}
 use Rattle.clap.specs.declared.builder.command.Command.{Command}
-use Rattle.clap.specs.declared.builder.command.Command.TheViews.{out-Command as fields_of}
 use Rattle.clap.specs.Words.{App, Text, app_of, rule_of, with_subcommand}
-use Rattle.litmus_command_line.specs.CommandLine.{IsExport, IsLockup, IsTable, IsTablesProgram, IsWith}
+use Rattle.litmus_command_line.specs.CommandLine.{IsExport, IsLockup, IsTable, IsTablesProgram, IsWith, Reads}
 use Rattle.litmus_command_line.specs.CommandLine.{table_app, table_program}
 
 -- the program with a subcommand that is known
-pub with_known : {E : Type 0} (made : Result Command E) (program before known app : App) → program ≡ before
-    → IfOk made (λ sub. app_of sub ≡ known) → IfOk made (λ sub. (fields_of sub).has_globals ≡ false)
-    → IsOkAnd made (λ sub. IsWith program sub app) → app ≡ with_subcommand before known.top
-with_known (Ok sub) program before known app is reads plain added =
-    added plain ∙ ap₂ with_subcommand is (ap (λ (a : App). a.top) reads)
-with_known (Err e) program before known app is reads plain added = absurd added
+pub with_known : {E : Type 0} (program made result : Result Command E) (before known : App)
+    → IfOk program (λ old. app_of old ≡ before) → IfOk made (Reads known)
+    → IfOk result (λ new. IsOkAnd program (λ old. IsOkAnd made (λ sub. IsWith (app_of old) sub (app_of new))))
+    → IfOk result (λ new. app_of new ≡ with_subcommand before known.top)
+with_known (Ok program) (Ok sub) (Ok new) before known is reads added =
+    added reads.1 ∙ ap₂ with_subcommand is (ap (λ (a : App). a.top) reads.0)
+with_known (Ok program) (Err e) (Ok new) before known is reads added = absurd added
+with_known (Err e) made (Ok new) before known is reads added = absurd added
+with_known program made (Err e) before known is reads added = tt
 
 -- the program with the subcommand that prints a table
-pub with_table : {E : Type 0} (made : Result Command E) (program before app : App) → program ≡ before
+pub with_table : {E : Type 0} (program made result : Result Command E) (before : App)
     → ((names : Bor (List (Bor Text))) → table_program names ≡ with_subcommand before (table_app names).top)
-    → IfOk made (λ sub. IsTable (app_of sub)) → IfOk made (λ sub. (fields_of sub).has_globals ≡ false)
-    → IsOkAnd made (λ sub. IsWith program sub app) → IsTablesProgram app
-with_table (Ok sub) program before app is whole reads plain added = record {
-  names = reads.names;
-  words = reads.words;
-  is = added plain ∙ ap₂ with_subcommand is (ap (λ (a : App). a.top) reads.is) ∙ sym (whole reads.names);
+    → IfOk program (λ old. app_of old ≡ before) → IfOk made IsTable
+    → IfOk result (λ new. IsOkAnd program (λ old. IsOkAnd made (λ sub. IsWith (app_of old) sub (app_of new))))
+    → IfOk result (λ new. IsTablesProgram (app_of new))
+with_table (Ok program) (Ok sub) (Ok new) before whole is table added = record {
+  names = table.names;
+  words = table.words;
+  is = added table.reads.1 ∙ ap₂ with_subcommand is (ap (λ (a : App). a.top) table.reads.0) ∙ sym (whole table.names);
 }
-with_table (Err e) program before app is whole reads plain added = absurd added
+with_table (Ok program) (Err e) (Ok new) before whole is table added = absurd added
+with_table (Err e) made (Ok new) before whole is table added = absurd added
+with_table program made (Err e) before whole is table added = tt
 
 -- the program is whole with the subcommand that prints a model
-pub with_export : {E : Type 0} (made : Result Command E) (program app : App) → IsTablesProgram program
-    → IfOk made (λ sub. IsExport (app_of sub)) → IfOk made (λ sub. (fields_of sub).has_globals ≡ false)
-    → IsOkAnd made (λ sub. IsWith program sub app) → IsLockup app
-with_export (Ok sub) program app is reads plain added = record {
+pub with_export : {E : Type 0} (program made result : Result Command E)
+    → IfOk program (λ old. IsTablesProgram (app_of old)) → IfOk made IsExport
+    → IfOk result (λ new. IsOkAnd program (λ old. IsOkAnd made (λ sub. IsWith (app_of old) sub (app_of new))))
+    → IfOk result (λ new. IsLockup (app_of new))
+with_export (Ok program) (Ok sub) (Ok new) is export added = record {
   names = is.names;
-  forms = reads.forms;
-  numbers = reads.numbers;
+  forms = export.forms;
+  numbers = export.numbers;
   words = is.words;
-  form_words = reads.form_words;
-  number_words = reads.number_words;
-  is = added plain ∙ ap₂ with_subcommand is.is (ap (λ (a : App). a.top) reads.is);
+  form_words = export.form_words;
+  number_words = export.number_words;
+  is = added export.reads.1 ∙ ap₂ with_subcommand is.is (ap (λ (a : App). a.top) export.reads.0);
 }
-with_export (Err e) program app is reads plain added = absurd added
+with_export (Ok program) (Err e) (Ok new) is export added = absurd added
+with_export (Err e) made (Ok new) is export added = absurd added
+with_export program made (Err e) is export added = tt
 
 -- an option that can't stand with some others has a rule on them
 pub rule-conflicting : (old new : Arg) (ids : List (Bor Text)) → 0 < length ids → AddsConflicts old new ids

@@ -5,10 +5,11 @@ use Rattle.std.specs.Option.{option_map, option_map_or}
 use Rattle.std.specs.Str.{bytes_eq}
 use Rattle.std.specs.Str.Parse.{digits_value, without_leading_plus}
 use Rattle.std.specs.Borrow.{Bor}
+use Rattle.clap.specs.declared.builder.arg.Arg.{Arg}
 use Rattle.clap.specs.declared.builder.command.Command.{Command}
 use Rattle.clap.specs.declared.builder.command.Command.TheViews.{out-Command as fields_of}
-use Rattle.clap.specs.Words.{App, Row, Rule, Text, all_of, app_of, first_of, new_app, new_rule, one_of, subcommand_of}
-use Rattle.clap.specs.Words.{with_rule, with_subcommand}
+use Rattle.clap.specs.Words.{App, Row, Rule, Text, all_of, app_of, first_of, new_app, new_rule, one_of, rule_of}
+use Rattle.clap.specs.Words.{subcommand_of, with_rule, with_subcommand}
 use Rattle.clap.specs.declared.builder.action.ArgAction.TheVariants.{Append, SetTrue}
 use Rattle.clap.specs.declared.builder.value_parser.ValueParser.TheVariants as value_parsers
 use Rattle.litmus_command_line.specs.declared.command_line.CommandLine.{CommandLine}
@@ -19,6 +20,11 @@ use Rattle.litmus_command_line.specs.declared.form.ScriptForm.{ScriptForm}
 use Rattle.litmus_command_line.specs.declared.form.ScriptForm.TheVariants as script_forms
 use Rattle.litmus_command_line.specs.declared.table.Table.{Table}
 use Rattle.litmus_command_line.specs.declared.table.Table.TheVariants.{Cache, Directory}
+
+-- the command with these arguments and options too
+abbrev pub with_rules : App → List Rule → App
+with_rules app [] = app
+with_rules app (rule ∷ rules) = with_rules (with_rule app rule) rules
 
 -- the argument of a subcommand that reads a text, which has to be there
 abbrev pub file_rule : Rule
@@ -36,24 +42,16 @@ flag_rule name = record (new_rule name) { long = Some name; action = Some SetTru
 abbrev pub lone_rule : Text → Rule
 lone_rule name = record (flag_rule name) { is_free = false }
 
--- the subcommand that runs a script, with the options that say how its answers are printed
-abbrev pub answering_app : App
-answering_app =
-    with_rule
-    (with_rule
-    (with_rule (with_rule (new_app (codes "script")) file_rule) (flag_rule (codes "echo")))
-    (flag_rule (codes "explain")))
-    (lone_rule (codes "beside"))
-
--- .. and with those that print something else in their place
+-- the subcommand that runs a script
 abbrev pub script_app : App
 script_app =
-    with_rule (with_rule (with_rule answering_app (lone_rule (codes "vcd"))) (lone_rule (codes "from-murphi")))
-    (lone_rule (codes "json"))
+    with_rules (new_app (codes "script"))
+    (file_rule ∷ flag_rule (codes "echo") ∷ flag_rule (codes "explain") ∷ lone_rule (codes "beside")
+    ∷ lone_rule (codes "vcd") ∷ lone_rule (codes "from-murphi") ∷ lone_rule (codes "json") ∷ [])
 
 -- the subcommand that answers a script's lines one by one, behind a text that may be left out
 abbrev pub try_app : App
-try_app = with_rule (new_app (codes "try")) (new_rule (codes "FILE"))
+try_app = with_rules (new_app (codes "try")) (new_rule (codes "FILE") ∷ [])
 
 -- an option `--name` that takes a number below 2^64
 abbrev pub number_rule : Text → Rule
@@ -66,8 +64,7 @@ number_rule name = record (new_rule name) {
 -- the subcommand that draws the run of a script
 abbrev pub chart_app : App
 chart_app =
-    with_rule (with_rule (with_rule (new_app (codes "chart")) file_rule) (flag_rule (codes "svg")))
-    (number_rule (codes "line"))
+    with_rules (new_app (codes "chart")) (file_rule ∷ flag_rule (codes "svg") ∷ number_rule (codes "line") ∷ [])
 
 -- .. from 1 to 4
 abbrev pub depth_rule : Text → Rule
@@ -76,8 +73,7 @@ depth_rule name = record (number_rule name) { parser = Some (value_parsers.Unsig
 -- the subcommand that writes it as a page
 abbrev pub page_app : App
 page_app =
-    with_rule (with_rule (with_rule (new_app (codes "page")) file_rule) (depth_rule (codes "branches")))
-    (flag_rule (codes "guess"))
+    with_rules (new_app (codes "page")) (file_rule ∷ depth_rule (codes "branches") ∷ flag_rule (codes "guess") ∷ [])
 
 -- an option `--name` that takes a number from 1 on
 abbrev pub positive_rule : Text → Rule
@@ -94,24 +90,16 @@ number_rule_or name value = record (number_rule name) { defaults = value ∷ [] 
 -- the subcommand that runs a litmus test over threads
 abbrev pub litmus_app : App
 litmus_app =
-    with_rule
-    (with_rule
-    (with_rule (with_rule (new_app (codes "litmus")) file_rule) (number_rule_or (codes "seed") (codes "1")))
-    (number_rule_or (codes "limit") (codes "1000000")))
-    (flag_rule (codes "json"))
+    with_rules (new_app (codes "litmus"))
+    (file_rule ∷ number_rule_or (codes "seed") (codes "1") ∷ number_rule_or (codes "limit") (codes "1000000")
+    ∷ flag_rule (codes "json") ∷ [])
 
 -- the subcommand that runs one on random schedules, or prints a schedule
-abbrev pub walking_app : App
-walking_app =
-    with_rule
-    (with_rule
-    (with_rule (with_rule (new_app (codes "walk")) file_rule) (positive_rule (codes "rounds")))
-    (number_rule_or (codes "seed") (codes "1")))
-    (flag_rule (codes "script"))
-
--- .. in these forms too
 abbrev pub walk_app : App
-walk_app = with_rule (with_rule walking_app (lone_rule (codes "page"))) (lone_rule (codes "json"))
+walk_app =
+    with_rules (new_app (codes "walk"))
+    (file_rule ∷ positive_rule (codes "rounds") ∷ number_rule_or (codes "seed") (codes "1")
+    ∷ flag_rule (codes "script") ∷ lone_rule (codes "page") ∷ lone_rule (codes "json") ∷ [])
 
 -- an option `--name` that takes a text
 abbrev pub text_rule : Text → Rule
@@ -125,25 +113,13 @@ settings_rule name = record (text_rule name) { action = Some Append }
 abbrev pub lone_text_rule : Text → Rule
 lone_text_rule name = record (text_rule name) { is_free = false }
 
--- the subcommand that runs programs, with the options of one run
-abbrev pub reporting_app : App
-reporting_app =
-    with_rule
-    (with_rule
-    (with_rule (with_rule (new_app (codes "run")) file_rule) (few_rule (codes "outstanding")))
-    (number_rule_or (codes "seed") (codes "1")))
-    (flag_rule (codes "json"))
-
--- .. and with those of many, and those of a script and its page
+-- the subcommand that runs programs
 abbrev pub run_app : App
 run_app =
-    with_rule
-    (with_rule
-    (with_rule
-    (with_rule (with_rule reporting_app (settings_rule (codes "set"))) (lone_text_rule (codes "seeds")))
-    (lone_rule (codes "csv")))
-    (lone_rule (codes "script")))
-    (lone_rule (codes "page"))
+    with_rules (new_app (codes "run"))
+    (file_rule ∷ few_rule (codes "outstanding") ∷ number_rule_or (codes "seed") (codes "1") ∷ flag_rule (codes "json")
+    ∷ settings_rule (codes "set") ∷ lone_text_rule (codes "seeds") ∷ lone_rule (codes "csv")
+    ∷ lone_rule (codes "script") ∷ lone_rule (codes "page") ∷ [])
 
 -- the argument that names a workload, which has to be there
 abbrev pub name_rule : Rule
@@ -152,26 +128,23 @@ name_rule = record (new_rule (codes "NAME")) { required = true }
 -- the subcommand that prints a workload's programs
 abbrev pub generate_app : App
 generate_app =
-    with_rule
-    (with_rule
-    (with_rule (with_rule (new_app (codes "generate")) name_rule) (number_rule_or (codes "cores") (codes "4")))
-    (number_rule_or (codes "size") (codes "16")))
-    (number_rule_or (codes "seed") (codes "1"))
+    with_rules (new_app (codes "generate"))
+    (name_rule ∷ number_rule_or (codes "cores") (codes "4") ∷ number_rule_or (codes "size") (codes "16")
+    ∷ number_rule_or (codes "seed") (codes "1") ∷ [])
 
 -- the subcommand that tests a script
 abbrev pub test_app : App
-test_app = with_rule (new_app (codes "test")) file_rule
+test_app = with_rules (new_app (codes "test")) (file_rule ∷ [])
 
 -- the subcommand that judges a trace
 abbrev pub check_app : App
-check_app = with_rule (with_rule (new_app (codes "check")) file_rule) (flag_rule (codes "json"))
+check_app = with_rules (new_app (codes "check")) (file_rule ∷ flag_rule (codes "json") ∷ [])
 
 -- the subcommand that prints one of these tables
 abbrev pub table_app : Bor (List (Bor Text)) → App
 table_app names =
-    with_rule
-    (with_rule (with_rule (new_app (codes "table")) (table_rule names)) (flag_rule (codes "exclusive")))
-    (flag_rule (codes "json"))
+    with_rules (new_app (codes "table"))
+    (table_rule names ∷ flag_rule (codes "exclusive") ∷ flag_rule (codes "json") ∷ [])
 
 -- the argument that is one of these forms, and the option that is one of these numbers: both have to be there
 abbrev pub form_rule : Bor (List (Bor Text)) → Rule
@@ -186,14 +159,10 @@ cores_rule names = record (new_rule (codes "cores")) {
 }
 
 -- the subcommand that prints a model in one of these forms, of one of these numbers of cores
-abbrev pub open_export_app : Bor (List (Bor Text)) → Bor (List (Bor Text)) → App
-open_export_app forms numbers =
-    with_rule (with_rule (with_rule (new_app (codes "export")) (form_rule forms)) (cores_rule numbers))
-    (flag_rule (codes "exclusive"))
-
--- .. which may be a closed one
 abbrev pub export_app : Bor (List (Bor Text)) → Bor (List (Bor Text)) → App
-export_app forms numbers = with_rule (open_export_app forms numbers) (flag_rule (codes "closed"))
+export_app forms numbers =
+    with_rules (new_app (codes "export"))
+    (form_rule forms ∷ cores_rule numbers ∷ flag_rule (codes "exclusive") ∷ flag_rule (codes "closed") ∷ [])
 
 -- the program itself, which asks for a subcommand
 abbrev pub top_app : App
@@ -201,7 +170,21 @@ top_app = record (new_app (codes "lockup")) {
   top = record (new_app (codes "lockup")).top { subcommand_required = true; has_version = true };
 }
 
--- this is the program with one more subcommand, which has no global argument
+-- the argument or option has this rule, and is none that all subcommands have
+abbrev pub HasRule : Rule → Arg → Type 0
+HasRule rule arg = (rule_of arg ≡ rule) × (arg.global ≡ false)
+
+-- it is one of some words, which its rule has wherever they lie in memory
+pub record IsNameOf (rule : Bor (List (Bor Text)) → Rule) (Are : Bor (List (Bor Text)) → Type 0) (arg : Arg) : Type 0 where
+  pub names : Bor (List (Bor Text))
+  pub words : Are names
+  pub has : HasRule (rule names) arg
+
+-- the subcommand reads these arguments and options, of which it hands none on
+abbrev pub Reads : App → Command → Type 0
+Reads app command = (app_of command ≡ app) × ((fields_of command).has_globals ≡ false)
+
+-- this is the program with one more subcommand
 abbrev pub IsWith : App → Command → App → Type 0
 IsWith program sub app = (fields_of sub).has_globals ≡ false → app ≡ with_subcommand program (app_of sub).top
 
@@ -257,24 +240,18 @@ AreNumbers names =
     map (λ name. name.now) names.now ≡ word_of_number Two ∷ word_of_number Three ∷ word_of_number Four ∷ []
 
 -- the subcommand that prints a table
-pub record IsTable (app : App) : Type 0 where
+pub record IsTable (command : Command) : Type 0 where
   pub names : Bor (List (Bor Text))
   pub words : AreTables names
-  pub is : app ≡ table_app names
+  pub reads : Reads (table_app names) command
 
--- the subcommand that prints a model, as it is made with such words
-pub record IsExportBy (made : Bor (List (Bor Text)) → Bor (List (Bor Text)) → App) (app : App) : Type 0 where
+-- the subcommand that prints a model
+pub record IsExport (command : Command) : Type 0 where
   pub forms : Bor (List (Bor Text))
   pub numbers : Bor (List (Bor Text))
   pub form_words : AreForms forms
   pub number_words : AreNumbers numbers
-  pub is : app ≡ made forms numbers
-
-abbrev pub IsOpenExport : App → Type 0
-IsOpenExport app = IsExportBy open_export_app app
-
-abbrev pub IsExport : App → Type 0
-IsExport app = IsExportBy export_app app
+  pub reads : Reads (export_app forms numbers) command
 
 -- the program with all but the last of its subcommands
 pub record IsTablesProgram (app : App) : Type 0 where

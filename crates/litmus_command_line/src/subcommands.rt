@@ -1,13 +1,44 @@
 //! The program's subcommands and their options.
-ghost use Rattle.std.specs.Prelude.{◌≡◌, ◌<◌, length, IfOk, IsOkAnd, false};
-ghost use Rattle.clap.specs.declared.builder.command.Command.TheViews.{out-Command as fields_of};
-ghost use Rattle.litmus_command_line.specs.CommandLine.{IsLockup, IsTable, IsWith, chart_app, check_app, answering_app};
-ghost use Rattle.litmus_command_line.specs.CommandLine.{file_rule, flag_rule, lone_rule, page_app, script_app, test_app};
-ghost use Rattle.litmus_command_line.specs.CommandLine.{top_app, litmus_app, number_rule, IsExport, IsOpenExport};
-ghost use Rattle.litmus_command_line.specs.CommandLine.{number_rule_or, run_app, try_app, few_rule, positive_rule, walk_app};
-ghost use Rattle.litmus_command_line.specs.CommandLine.{generate_app, lone_text_rule, reporting_app, settings_rule};
-ghost use Rattle.litmus_command_line.specs.CommandLine.{depth_rule, text_rule, walking_app};
-ghost use Rattle.clap.specs.Words.{app_of, rule_of};
+ghost use Rattle.std.specs.Prelude.{◌≡◌, ◌<◌, codes, length, IfOk, IsOkAnd};
+ghost use Rattle.clap.specs.Words.{App, Rule, app_of, new_app, new_rule, with_rule};
+ghost use Rattle.litmus_command_line.specs.CommandLine.{
+  AreForms,
+  AreNumbers,
+  AreTables,
+  HasRule,
+  IsExport,
+  IsLockup,
+  IsNameOf,
+  IsTable,
+  IsWith,
+  Reads,
+  chart_app,
+  check_app,
+  cores_rule,
+  depth_rule,
+  few_rule,
+  file_rule,
+  flag_rule,
+  form_rule,
+  generate_app,
+  litmus_app,
+  lone_rule,
+  lone_text_rule,
+  name_rule,
+  number_rule,
+  number_rule_or,
+  page_app,
+  positive_rule,
+  run_app,
+  script_app,
+  settings_rule,
+  table_rule,
+  test_app,
+  text_rule,
+  top_app,
+  try_app,
+  walk_app,
+};
 
 use clap::builder::ValueParser;
 use clap::{Arg, ArgAction, Command, value_parser};
@@ -28,17 +59,17 @@ static MODEL_CORES: [&str; 3] = ["2", "3", "4"];
 pub(crate) fn lockup<'a>(alloc: Global) -> Result<Command<'a>, AllocError>
     ensures { IfOk result (λ c. IsLockup (app_of c)) }
 {
-    let program = with(top(alloc), script(alloc))?;
-    let program = with(program, prompt(alloc))?;
-    let program = with(program, chart(alloc))?;
-    let program = with(program, page(alloc))?;
-    let program = with(program, litmus(alloc))?;
-    let program = with(program, walk(alloc))?;
-    let program = with(program, run(alloc))?;
-    let program = with(program, generate(alloc))?;
-    let program = with(program, test(alloc))?;
-    let program = with(program, check(alloc))?;
-    let program = with(program, table(alloc))?;
+    let program = with(Ok(top(alloc)), script(alloc));
+    let program = with(program, prompt(alloc));
+    let program = with(program, chart(alloc));
+    let program = with(program, page(alloc));
+    let program = with(program, litmus(alloc));
+    let program = with(program, walk(alloc));
+    let program = with(program, run(alloc));
+    let program = with(program, generate(alloc));
+    let program = with(program, test(alloc));
+    let program = with(program, check(alloc));
+    let program = with(program, table(alloc));
     with(program, export(alloc))
 }
 
@@ -52,344 +83,497 @@ fn top<'a>(alloc: Global) -> Command<'a>
         .subcommand_required(true)
 }
 
-/// The program with one more subcommand, where there was memory to make it. One is made at a time: of several, each
-/// would be dropped on each way out.
+// Whoever adds one thing after another hands on what was made so far, and whether there was memory for it: were each
+// step to end early, all that was made before would be dropped on each way out.
+
+/// The program with one more subcommand.
 fn with<'a>(
-    program: Command<'a>,
+    program: Result<Command<'a>, AllocError>,
     made: Result<Command<'a>, AllocError>,
 ) -> Result<Command<'a>, AllocError>
-    ensures { IfOk result (λ c. IsOkAnd made.entry (λ sub. IsWith (app_of program.entry) sub (app_of c))) }
+    ensures { IfOk result (λ c. IsOkAnd program.entry (λ old. IsOkAnd made.entry
+        (λ sub. IsWith (app_of old) sub (app_of c)))) }
 {
-    program.subcommand(made?)
+    program?.subcommand(made?)
+}
+
+/// A subcommand that takes nothing yet.
+fn begin<'a>(
+    alloc: Global,
+    name: &'a str,
+    about: &'a str,
+    help: &'a str,
+) -> Result<Command<'a>, AllocError>
+    ensures { IfOk result (Reads (new_app name.entry.now)) }
+{
+    Ok(Command::new(alloc, name).about(about).after_help(help))
+}
+
+/// The subcommand with one more argument or option.
+fn and<'a>(
+    command: Result<Command<'a>, AllocError>,
+    arg: Arg<'a>,
+) -> Result<Command<'a>, AllocError>
+    ensures { (app : App) (rule : Rule) → IfOk command.entry (Reads app) → HasRule rule arg.entry
+        → IfOk result (Reads (with_rule app rule)) }
+{
+    command?.arg(arg)
+}
+
+/// .. where there was memory for that.
+fn and_made<'a>(
+    command: Result<Command<'a>, AllocError>,
+    arg: Result<Arg<'a>, AllocError>,
+) -> Result<Command<'a>, AllocError>
+    ensures { (app : App) (rule : Rule) → IfOk command.entry (Reads app) → IfOk arg.entry (HasRule rule)
+        → IfOk result (Reads (with_rule app rule)) }
+{
+    and(command, arg?)
 }
 
 fn script<'a>(alloc: Global) -> Result<Command<'a>, AllocError>
-    ensures reads { IfOk result (λ c. app_of c ≡ script_app) }
-    ensures plain { IfOk result (λ c. (fields_of c).has_globals ≡ false) }
+    ensures { IfOk result (Reads script_app) }
 {
-    let answering = answering(alloc)?;
-    answering
-        .arg(lone_flag(
-            alloc,
-            "vcd",
-            "Print the run as waves for a wave viewer, in place of answers",
-            &["echo", "explain", "beside"],
-        )?)?
-        .arg(lone_flag(
-            alloc,
-            "from-murphi",
-            "FILE is a trace of the model: print it as a script",
-            &["echo", "explain", "beside", "vcd"],
-        )?)?
-        .arg(lone_flag(
-            alloc,
-            "json",
-            "Print each command with its answer and what happened as a value of JSON",
-            &["echo", "explain", "beside", "vcd", "from-murphi"],
-        )?)
-}
-
-/// The same with the options that say how answers are printed alone.
-fn answering<'a>(alloc: Global) -> Result<Command<'a>, AllocError>
-    ensures reads { IfOk result (λ c. app_of c ≡ answering_app) }
-    ensures plain { IfOk result (λ c. (fields_of c).has_globals ≡ false) }
-{
-    Command::new(alloc, "script")
-        .about("Runs a script on the state of each slice, without threads, and prints its answers")
-        .after_help(help::SCRIPT)
-        .arg(file(alloc, "The script: one command a line; - is standard input"))?
-        .arg(flag(alloc, "echo", "Print each command's line before its answer"))?
-        .arg(flag(alloc, "explain", "Print behind each answer what happened"))?
-        .arg(lone_flag(
+    let command = begin(
+        alloc,
+        "script",
+        "Runs a script on the state of each slice, without threads, and prints its answers",
+        help::SCRIPT,
+    );
+    let command = and(
+        command,
+        file(alloc, "The script: one command a line; - is standard input"),
+    );
+    let command = and(
+        command,
+        flag(alloc, "echo", "Print each command's line before its answer"),
+    );
+    let command = and(
+        command,
+        flag(alloc, "explain", "Print behind each answer what happened"),
+    );
+    let command = and_made(
+        command,
+        lone_flag(
             alloc,
             "beside",
             "Print each answer beside its command's line",
             &["echo"],
-        )?)
+        ),
+    );
+    let command = and_made(
+        command,
+        lone_flag(
+            alloc,
+            "vcd",
+            "Print the run as waves for a wave viewer, in place of answers",
+            &["echo", "explain", "beside"],
+        ),
+    );
+    let command = and_made(
+        command,
+        lone_flag(
+            alloc,
+            "from-murphi",
+            "FILE is a trace of the model: print it as a script",
+            &["echo", "explain", "beside", "vcd"],
+        ),
+    );
+    and_made(
+        command,
+        lone_flag(
+            alloc,
+            "json",
+            "Print each command with its answer and what happened as a value of JSON",
+            &["echo", "explain", "beside", "vcd", "from-murphi"],
+        ),
+    )
 }
 
 fn prompt<'a>(alloc: Global) -> Result<Command<'a>, AllocError>
-    ensures reads { IfOk result (λ c. app_of c ≡ try_app) }
-    ensures plain { IfOk result (λ c. (fields_of c).has_globals ≡ false) }
+    ensures { IfOk result (Reads try_app) }
 {
-    Command::new(alloc, "try")
-        .about("Answers a script's lines one by one, and tells what happened behind each answer")
-        .after_help(help::TRY)
-        .arg(Arg::new(alloc, "FILE").help("A script to begin with"))
+    let command = begin(
+        alloc,
+        "try",
+        "Answers a script's lines one by one, and tells what happened behind each answer",
+        help::TRY,
+    );
+    and(command, optional_file(alloc, "A script to begin with"))
 }
 
 fn chart<'a>(alloc: Global) -> Result<Command<'a>, AllocError>
-    ensures reads { IfOk result (λ c. app_of c ≡ chart_app) }
-    ensures plain { IfOk result (λ c. (fields_of c).has_globals ≡ false) }
+    ensures { IfOk result (Reads chart_app) }
 {
-    Command::new(alloc, "chart")
-        .about(
-            "Draws the run of a script as a sequence diagram, in Mermaid's words, or as a picture",
-        )
-        .after_help(help::CHART)
-        .arg(file(alloc, "The script: one command a line; - is standard input"))?
-        .arg(flag(
+    let command = begin(
+        alloc,
+        "chart",
+        "Draws the run of a script as a sequence diagram, in Mermaid's words, or as a picture",
+        help::CHART,
+    );
+    let command = and(
+        command,
+        file(alloc, "The script: one command a line; - is standard input"),
+    );
+    let command = and(
+        command,
+        flag(
             alloc,
             "svg",
             "Draw one line's states and messages over time, as a picture in SVG",
-        ))?
-        .arg(number(
+        ),
+    );
+    and(
+        command,
+        number(
             alloc,
             "line",
             "Draw this line so, and not the one that is named first",
-        ))
+        ),
+    )
 }
 
 fn page<'a>(alloc: Global) -> Result<Command<'a>, AllocError>
-    ensures reads { IfOk result (λ c. app_of c ≡ page_app) }
-    ensures plain { IfOk result (λ c. (fields_of c).has_globals ≡ false) }
+    ensures { IfOk result (Reads page_app) }
 {
-    Command::new(alloc, "page")
-        .about("Writes the run of a script as a page for a browser, which is stepped through there")
-        .after_help(help::PAGE)
-        .arg(file(alloc, "The script: one command a line; - is standard input"))?
-        .arg(depth(
+    let command = begin(
+        alloc,
+        "page",
+        "Writes the run of a script as a page for a browser, which is stepped through there",
+        help::PAGE,
+    );
+    let command = and(
+        command,
+        file(alloc, "The script: one command a line; - is standard input"),
+    );
+    let command = and(
+        command,
+        depth(
             alloc,
             "branches",
             "Give at each step what each delivery leads to, N deliveries deep",
-        ))?
-        .arg(flag(alloc, "guess", "Ask for each answer before it is shown"))
+        ),
+    );
+    and(
+        command,
+        flag(alloc, "guess", "Ask for each answer before it is shown"),
+    )
 }
 
 fn litmus<'a>(alloc: Global) -> Result<Command<'a>, AllocError>
-    ensures reads { IfOk result (λ c. app_of c ≡ litmus_app) }
-    ensures plain { IfOk result (λ c. (fields_of c).has_globals ≡ false) }
+    ensures { IfOk result (Reads litmus_app) }
 {
-    Command::new(alloc, "litmus")
-        .about("Runs a litmus test over threads, round by round, and counts its outcomes")
-        .after_help(help::LITMUS)
-        .arg(file(alloc, "The litmus test; - is standard input"))?
-        .arg(number_or(
+    let command = begin(
+        alloc,
+        "litmus",
+        "Runs a litmus test over threads, round by round, and counts its outcomes",
+        help::LITMUS,
+    );
+    let command = and(command, file(alloc, "The litmus test; - is standard input"));
+    let command = and(
+        command,
+        number_or(
             alloc,
             "seed",
             "Seeds the extra turns that a core makes before each step",
             "1",
-        ))?
-        .arg(number_or(alloc, "limit", "How many turns a run may take", "1000000"))?
-        .arg(flag(alloc, "json", "Print the outcomes as one value of JSON"))
+        ),
+    );
+    let command = and(
+        command,
+        number_or(alloc, "limit", "How many turns a run may take", "1000000"),
+    );
+    and(
+        command,
+        flag(alloc, "json", "Print the outcomes as one value of JSON"),
+    )
 }
 
 fn walk<'a>(alloc: Global) -> Result<Command<'a>, AllocError>
-    ensures reads { IfOk result (λ c. app_of c ≡ walk_app) }
-    ensures plain { IfOk result (λ c. (fields_of c).has_globals ≡ false) }
+    ensures { IfOk result (Reads walk_app) }
 {
-    let walking = walking(alloc)?;
-    walking
-        .arg(lone_flag(
-            alloc,
-            "page",
-            "Print the round of this seed, as a page for a browser",
-            &["script"],
-        )?)?
-        .arg(lone_flag(
-            alloc,
-            "json",
-            "Print the outcomes as one value of JSON",
-            &["script", "page"],
-        )?)
-}
-
-/// The same with the options that stand by themselves alone.
-fn walking<'a>(alloc: Global) -> Result<Command<'a>, AllocError>
-    ensures reads { IfOk result (λ c. app_of c ≡ walking_app) }
-    ensures plain { IfOk result (λ c. (fields_of c).has_globals ≡ false) }
-{
-    Command::new(alloc, "walk")
-        .about("Runs a litmus test on random schedules, without threads, and counts its outcomes")
-        .after_help(help::WALK)
-        .arg(file(alloc, "The litmus test; - is standard input"))?
-        .arg(positive_number(
+    let command = begin(
+        alloc,
+        "walk",
+        "Runs a litmus test on random schedules, without threads, and counts its outcomes",
+        help::WALK,
+    );
+    let command = and(command, file(alloc, "The litmus test; - is standard input"));
+    let command = and(
+        command,
+        positive_number(
             alloc,
             "rounds",
             "How many rounds, and not as many as the test says",
-        ))?
-        .arg(number_or(
+        ),
+    );
+    let command = and(
+        command,
+        number_or(
             alloc,
             "seed",
             "The first round's seed; each later one's is one more",
             "1",
-        ))?
-        .arg(flag(alloc, "script", "Print the round of this seed, as a script"))
+        ),
+    );
+    let command = and(
+        command,
+        flag(alloc, "script", "Print the round of this seed, as a script"),
+    );
+    let command = and_made(
+        command,
+        lone_flag(
+            alloc,
+            "page",
+            "Print the round of this seed, as a page for a browser",
+            &["script"],
+        ),
+    );
+    and_made(
+        command,
+        lone_flag(
+            alloc,
+            "json",
+            "Print the outcomes as one value of JSON",
+            &["script", "page"],
+        ),
+    )
 }
 
 fn run<'a>(alloc: Global) -> Result<Command<'a>, AllocError>
-    ensures reads { IfOk result (λ c. app_of c ≡ run_app) }
-    ensures plain { IfOk result (λ c. (fields_of c).has_globals ≡ false) }
+    ensures { IfOk result (Reads run_app) }
 {
-    let reporting = reporting(alloc)?;
-    reporting
-        .arg(settings(
+    let command = begin(
+        alloc,
+        "run",
+        "Runs a program for each core, and counts its hits, its messages and its misses by cause",
+        help::RUN,
+    );
+    let command = and(command, file(alloc, "The programs; - is standard input"));
+    let command = and(
+        command,
+        few(
+            alloc,
+            "outstanding",
+            "How many accesses of a core may be under way, and not as many as the text says",
+        ),
+    );
+    let command = and(
+        command,
+        number_or(
+            alloc,
+            "seed",
+            "Seeds the order of accesses and deliveries",
+            "1",
+        ),
+    );
+    let command = and(command, flag(alloc, "json", "Report as one value of JSON"));
+    let command = and(
+        command,
+        settings(
             alloc,
             "set",
             "SETTING",
             "Run with each of these values: --set ways=1,2,4; may be given again",
-        ))?
-        .arg(lone_text(
+        ),
+    );
+    let command = and_made(
+        command,
+        lone_text(
             alloc,
             "seeds",
             "RANGE",
             "Run with each of these seeds: --seeds 1..20",
             &["seed"],
-        )?)?
-        .arg(lone_flag(
+        ),
+    );
+    let command = and_made(
+        command,
+        lone_flag(
             alloc,
             "csv",
             "Print a row of each run, and no report; so do --set and --seeds",
             &["json"],
-        )?)?
-        .arg(lone_flag(
+        ),
+    );
+    let command = and_made(
+        command,
+        lone_flag(
             alloc,
             "script",
             "Print what was asked of the machine, as a script, and no report",
             &["json", "set", "seeds", "csv"],
-        )?)?
-        .arg(lone_flag(
+        ),
+    );
+    and_made(
+        command,
+        lone_flag(
             alloc,
             "page",
             "Print the same as a page for a browser",
             &["json", "set", "seeds", "csv", "script"],
-        )?)
-}
-
-/// The same with the options of one run alone.
-fn reporting<'a>(alloc: Global) -> Result<Command<'a>, AllocError>
-    ensures reads { IfOk result (λ c. app_of c ≡ reporting_app) }
-    ensures plain { IfOk result (λ c. (fields_of c).has_globals ≡ false) }
-{
-    Command::new(alloc, "run")
-        .about(
-            "Runs a program for each core, and counts its hits, its messages and its misses by cause",
-        )
-        .after_help(help::RUN)
-        .arg(file(alloc, "The programs; - is standard input"))?
-        .arg(few(
-            alloc,
-            "outstanding",
-            "How many accesses of a core may be under way, and not as many as the text says",
-        ))?
-        .arg(number_or(
-            alloc,
-            "seed",
-            "Seeds the order of accesses and deliveries",
-            "1",
-        ))?
-        .arg(flag(alloc, "json", "Report as one value of JSON"))
+        ),
+    )
 }
 
 fn generate<'a>(alloc: Global) -> Result<Command<'a>, AllocError>
-    ensures reads { IfOk result (λ c. app_of c ≡ generate_app) }
-    ensures plain { IfOk result (λ c. (fields_of c).has_globals ≡ false) }
+    ensures { IfOk result (Reads generate_app) }
 {
-    Command::new(alloc, "generate")
-        .about("Prints the programs of a workload, for 'lockup run'")
-        .after_help(help::GENERATE)
-        .arg(Arg::new(alloc, "NAME").help("The workload").required(true))?
-        .arg(number_or(alloc, "cores", "How many cores", "4"))?
-        .arg(number_or(
+    let command = begin(
+        alloc,
+        "generate",
+        "Prints the programs of a workload, for 'lockup run'",
+        help::GENERATE,
+    );
+    let command = and(command, workload(alloc));
+    let command = and(command, number_or(alloc, "cores", "How many cores", "4"));
+    let command = and(
+        command,
+        number_or(
             alloc,
             "size",
             "Its size; what it counts is listed below",
             "16",
-        ))?
-        .arg(number_or(alloc, "seed", "Seeds what is drawn at random", "1"))
+        ),
+    );
+    and(
+        command,
+        number_or(alloc, "seed", "Seeds what is drawn at random", "1"),
+    )
 }
 
 fn test<'a>(alloc: Global) -> Result<Command<'a>, AllocError>
-    ensures reads { IfOk result (λ c. app_of c ≡ test_app) }
-    ensures plain { IfOk result (λ c. (fields_of c).has_globals ≡ false) }
+    ensures { IfOk result (Reads test_app) }
 {
-    Command::new(alloc, "test")
-        .about("Tests a script against the answers that it wants: finds the first that differs")
-        .after_help(help::TEST)
-        .arg(file(alloc, "The script: one command a line; - is standard input"))
+    let command = begin(
+        alloc,
+        "test",
+        "Tests a script against the answers that it wants: finds the first that differs",
+        help::TEST,
+    );
+    and(
+        command,
+        file(alloc, "The script: one command a line; - is standard input"),
+    )
 }
 
 fn check<'a>(alloc: Global) -> Result<Command<'a>, AllocError>
-    ensures reads { IfOk result (λ c. app_of c ≡ check_app) }
-    ensures plain { IfOk result (λ c. (fields_of c).has_globals ≡ false) }
+    ensures { IfOk result (Reads check_app) }
 {
-    Command::new(alloc, "check")
-        .about(
-            "Judges a trace: whether its log is legal and ordered, or which entry is wrong, and why",
-        )
-        .after_help("Example: lockup check examples/illegal_trace.txt")
-        .arg(file(alloc, "The trace: one entry a line; - is standard input"))?
-        .arg(flag(alloc, "json", "Print the verdict as one value of JSON"))
+    let command = begin(
+        alloc,
+        "check",
+        "Judges a trace: whether its log is legal and ordered, or which entry is wrong, and why",
+        "Example: lockup check examples/illegal_trace.txt",
+    );
+    let command = and(
+        command,
+        file(alloc, "The trace: one entry a line; - is standard input"),
+    );
+    and(
+        command,
+        flag(alloc, "json", "Print the verdict as one value of JSON"),
+    )
 }
 
 fn table<'a>(alloc: Global) -> Result<Command<'a>, AllocError>
-    ensures reads { IfOk result (λ c. IsTable (app_of c)) }
-    ensures plain { IfOk result (λ c. (fields_of c).has_globals ≡ false) }
+    ensures { IfOk result IsTable }
 {
-    Command::new(alloc, "table")
-        .about("Prints a table of the protocol: what a state does at each event")
-        .after_help("Example: lockup table cache --exclusive")
-        .arg(
-            Arg::new(alloc, "TABLE")
-                .help("Of a private cache, or of a slice's directory")
-                .required(true)
-                .value_parser(TABLES.as_slice()),
-        )?
-        .arg(flag(alloc, "exclusive", "Also show the exclusive state"))?
-        .arg(flag(alloc, "json", "Print each row as a value of JSON"))
+    let command = begin(
+        alloc,
+        "table",
+        "Prints a table of the protocol: what a state does at each event",
+        "Example: lockup table cache --exclusive",
+    );
+    let command = and(command, table_name(alloc));
+    let command = and(
+        command,
+        flag(alloc, "exclusive", "Also show the exclusive state"),
+    );
+    and(
+        command,
+        flag(alloc, "json", "Print each row as a value of JSON"),
+    )
+}
+
+fn table_name<'a>(alloc: Global) -> Arg<'a>
+    ensures { IsNameOf table_rule AreTables result }
+{
+    Arg::new(alloc, "TABLE")
+        .help("Of a private cache, or of a slice's directory")
+        .required(true)
+        .value_parser(TABLES.as_slice())
 }
 
 fn export<'a>(alloc: Global) -> Result<Command<'a>, AllocError>
-    ensures reads { IfOk result (λ c. IsExport (app_of c)) }
-    ensures plain { IfOk result (λ c. (fields_of c).has_globals ≡ false) }
+    ensures { IfOk result IsExport }
 {
-    let open = export_open(alloc)?;
-    open.arg(flag(
+    let command = begin(
         alloc,
-        "closed",
-        "Also have each miss completed, once no core asks any more",
-    ))
+        "export",
+        "Prints the protocol of one line as a model for the model checkers Rumur and CMurphi",
+        help::EXPORT,
+    );
+    let command = and(command, form(alloc));
+    let command = and(command, model_cores(alloc));
+    let command = and(
+        command,
+        flag(alloc, "exclusive", "With the exclusive state"),
+    );
+    and(
+        command,
+        flag(
+            alloc,
+            "closed",
+            "Also have each miss completed, once no core asks any more",
+        ),
+    )
 }
 
-/// The same without the option of closed models.
-fn export_open<'a>(alloc: Global) -> Result<Command<'a>, AllocError>
-    ensures reads { IfOk result (λ c. IsOpenExport (app_of c)) }
-    ensures plain { IfOk result (λ c. (fields_of c).has_globals ≡ false) }
+fn form<'a>(alloc: Global) -> Arg<'a>
+    ensures { IsNameOf form_rule AreForms result }
 {
-    Command::new(alloc, "export")
-        .about(
-            "Prints the protocol of one line as a model for the model checkers Rumur and CMurphi",
-        )
-        .after_help(help::EXPORT)
-        .arg(
-            Arg::new(alloc, "FORM")
-                .help("The form of the model")
-                .required(true)
-                .value_parser(FORMS.as_slice()),
-        )?
-        .arg(
-            Arg::new(alloc, "cores")
-                .long("cores")
-                .value_name("N")
-                .help("How many cores the model has")
-                .required(true)
-                .value_parser(MODEL_CORES.as_slice()),
-        )?
-        .arg(flag(alloc, "exclusive", "With the exclusive state"))
+    Arg::new(alloc, "FORM")
+        .help("The form of the model")
+        .required(true)
+        .value_parser(FORMS.as_slice())
+}
+
+fn model_cores<'a>(alloc: Global) -> Arg<'a>
+    ensures { IsNameOf cores_rule AreNumbers result }
+{
+    Arg::new(alloc, "cores")
+        .long("cores")
+        .value_name("N")
+        .help("How many cores the model has")
+        .required(true)
+        .value_parser(MODEL_CORES.as_slice())
 }
 
 /// The argument that names the file of a text.
 fn file<'a>(alloc: Global, help: &'a str) -> Arg<'a>
-    ensures rule { rule_of result ≡ file_rule }
-    ensures plain { result.global ≡ false }
+    ensures { HasRule file_rule result }
 {
     Arg::new(alloc, "FILE").help(help).required(true)
 }
 
+/// .. which may be left out.
+fn optional_file<'a>(alloc: Global, help: &'a str) -> Arg<'a>
+    ensures { HasRule (new_rule (codes "FILE")) result }
+{
+    Arg::new(alloc, "FILE").help(help)
+}
+
+/// The argument that names a workload.
+fn workload<'a>(alloc: Global) -> Arg<'a>
+    ensures { HasRule name_rule result }
+{
+    Arg::new(alloc, "NAME").help("The workload").required(true)
+}
+
 /// An option with a number.
 fn number<'a>(alloc: Global, name: &'a str, help: &'a str) -> Arg<'a>
-    ensures rule { rule_of result ≡ number_rule name.entry.now }
-    ensures plain { result.global ≡ false }
+    ensures { HasRule (number_rule name.entry.now) result }
 {
     Arg::new(alloc, name)
         .long(name)
@@ -400,40 +584,35 @@ fn number<'a>(alloc: Global, name: &'a str, help: &'a str) -> Arg<'a>
 
 /// .. from 1 on.
 fn positive_number<'a>(alloc: Global, name: &'a str, help: &'a str) -> Arg<'a>
-    ensures rule { rule_of result ≡ positive_rule name.entry.now }
-    ensures plain { result.global ≡ false }
+    ensures { HasRule (positive_rule name.entry.now) result }
 {
     number(alloc, name, help).value_parser(ValueParser::unsigned(1, u64::MAX))
 }
 
 /// An option with a number from 1 to 64.
 fn few<'a>(alloc: Global, name: &'a str, help: &'a str) -> Arg<'a>
-    ensures rule { rule_of result ≡ few_rule name.entry.now }
-    ensures plain { result.global ≡ false }
+    ensures { HasRule (few_rule name.entry.now) result }
 {
     number(alloc, name, help).value_parser(ValueParser::unsigned(1, 64))
 }
 
 /// An option with a number from 1 to 4.
 fn depth<'a>(alloc: Global, name: &'a str, help: &'a str) -> Arg<'a>
-    ensures rule { rule_of result ≡ depth_rule name.entry.now }
-    ensures plain { result.global ≡ false }
+    ensures { HasRule (depth_rule name.entry.now) result }
 {
     number(alloc, name, help).value_parser(ValueParser::unsigned(1, 4))
 }
 
 /// An option with a number, which is this one where none is given.
 fn number_or<'a>(alloc: Global, name: &'a str, help: &'a str, value: &'a str) -> Arg<'a>
-    ensures rule { rule_of result ≡ number_rule_or name.entry.now value.entry.now }
-    ensures plain { result.global ≡ false }
+    ensures { HasRule (number_rule_or name.entry.now value.entry.now) result }
 {
     number(alloc, name, help).default_value(value)
 }
 
 /// An option with a text.
 fn text<'a>(alloc: Global, name: &'a str, value: &'a str, help: &'a str) -> Arg<'a>
-    ensures rule { rule_of result ≡ text_rule name.entry.now }
-    ensures plain { result.global ≡ false }
+    ensures { HasRule (text_rule name.entry.now) result }
 {
     Arg::new(alloc, name)
         .long(name)
@@ -443,8 +622,7 @@ fn text<'a>(alloc: Global, name: &'a str, value: &'a str, help: &'a str) -> Arg<
 
 /// .. which may be given more than once.
 fn settings<'a>(alloc: Global, name: &'a str, value: &'a str, help: &'a str) -> Arg<'a>
-    ensures rule { rule_of result ≡ settings_rule name.entry.now }
-    ensures plain { result.global ≡ false }
+    ensures { HasRule (settings_rule name.entry.now) result }
 {
     text(alloc, name, value, help).action(ArgAction::Append)
 }
@@ -458,16 +636,14 @@ fn lone_text<'a>(
     others: &'a [&'a str],
 ) -> Result<Arg<'a>, AllocError>
     requires { 0 < length others.now }
-    ensures rule { IfOk result (λ arg. rule_of arg ≡ lone_text_rule name.entry.now) }
-    ensures plain { IfOk result (λ arg. arg.global ≡ false) }
+    ensures { IfOk result (HasRule (lone_text_rule name.entry.now)) }
 {
     text(alloc, name, value, help).conflicts_with_all(others)
 }
 
 /// An option without a value.
 fn flag<'a>(alloc: Global, name: &'a str, help: &'a str) -> Arg<'a>
-    ensures rule { rule_of result ≡ flag_rule name.entry.now }
-    ensures plain { result.global ≡ false }
+    ensures { HasRule (flag_rule name.entry.now) result }
 {
     Arg::new(alloc, name)
         .long(name)
@@ -483,8 +659,7 @@ fn lone_flag<'a>(
     others: &'a [&'a str],
 ) -> Result<Arg<'a>, AllocError>
     requires { 0 < length others.now }
-    ensures rule { IfOk result (λ arg. rule_of arg ≡ lone_rule name.entry.now) }
-    ensures plain { IfOk result (λ arg. arg.global ≡ false) }
+    ensures { IfOk result (HasRule (lone_rule name.entry.now)) }
 {
     flag(alloc, name, help).conflicts_with_all(others)
 }

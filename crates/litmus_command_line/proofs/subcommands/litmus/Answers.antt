@@ -1,26 +1,8 @@
-use Rattle.std.proofs.Common.{◌≡◌, ◌∙◌, ◌||◌, false, rules, ap₂, codes}
-use Rattle.std.proofs.lemmas.Result.{IfOk-weaker}
-use Rattle.clap.specs.declared.builder.command.Command.TheViews.{out-Command as fields_of}
-use Rattle.clap.specs.Words.{app_of, new_app, with_rule}
 use Rattle.litmus_command_line.proofs.subcommands.litmus.Goals as goal
 
-pub returns-clause-reads : goal.returns-clause-reads
-returns-clause-reads c =
-    let named : app_of c.after_help.result ≡ new_app (codes "litmus") = search rules in
-    let file = c.in_ok-arg.ensures.shape c.file.ensures.plain ∙ ap₂ with_rule named c.file.ensures.rule in
-    let seed = c.in_ok-arg-2.ensures.shape c.number_or.ensures.plain ∙ ap₂ with_rule file c.number_or.ensures.rule in
-    let limit = c.in_ok-arg-3.ensures.shape c.number_or-2.ensures.plain
-    ∙ ap₂ with_rule seed c.number_or-2.ensures.rule in
-    IfOk-weaker c.arg-4.result _ _
-    (λ made adds. adds.shape c.flag.ensures.plain ∙ ap₂ with_rule limit c.flag.ensures.rule)
-    c.arg-4.ensures
-
-pub returns-clause-plain : goal.returns-clause-plain
-returns-clause-plain c =
-    let none : (fields_of c.after_help.result).has_globals ≡ false = search rules in
-    let file = c.in_ok-arg.ensures.globals ∙ ap₂ (λ a b. a || b) none c.file.ensures.plain in
-    let seed = c.in_ok-arg-2.ensures.globals ∙ ap₂ (λ a b. a || b) file c.number_or.ensures.plain in
-    let limit = c.in_ok-arg-3.ensures.globals ∙ ap₂ (λ a b. a || b) seed c.number_or-2.ensures.plain in
-    IfOk-weaker c.arg-4.result _ _
-    (λ made adds. adds.globals ∙ ap₂ (λ a b. a || b) limit c.flag.ensures.plain)
-    c.arg-4.ensures
+pub returns : goal.returns
+returns c =
+    let step_1 = c.and-command.ensures _ _ c.begin-command.ensures c.file.ensures in
+    let step_2 = c.and-command-2.ensures _ _ step_1 c.number_or.ensures in
+    let step_3 = c.and-command-3.ensures _ _ step_2 c.number_or-2.ensures in
+    c.and.ensures _ _ step_3 c.flag.ensures

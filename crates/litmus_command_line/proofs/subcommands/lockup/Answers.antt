@@ -1,32 +1,30 @@
 use Rattle.std.proofs.Common.{refl}
-use Rattle.std.proofs.lemmas.Result.{IfOk-weaker}
+use Rattle.std.specs.Prelude.{Ok}
 use Rattle.litmus_command_line.proofs.BuiltLemmas.{with_export, with_known, with_table}
 use Rattle.litmus_command_line.proofs.subcommands.lockup.Goals as goal
 
 pub returns : goal.returns
 returns c =
-    let one = with_known c.script.result _ _ _ _ c.top.ensures c.script.ensures.reads c.script.ensures.plain
-    c.in_ok-program.ensures in
-    let two = with_known c.prompt.result _ _ _ _ one c.prompt.ensures.reads c.prompt.ensures.plain
-    c.in_ok-program-2.ensures in
-    let three = with_known c.chart.result _ _ _ _ two c.chart.ensures.reads c.chart.ensures.plain
-    c.in_ok-program-3.ensures in
-    let four = with_known c.page.result _ _ _ _ three c.page.ensures.reads c.page.ensures.plain
-    c.in_ok-program-4.ensures in
-    let five = with_known c.litmus.result _ _ _ _ four c.litmus.ensures.reads c.litmus.ensures.plain
-    c.in_ok-program-5.ensures in
-    let six = with_known c.walk.result _ _ _ _ five c.walk.ensures.reads c.walk.ensures.plain
-    c.in_ok-program-6.ensures in
-    let seven = with_known c.run.result _ _ _ _ six c.run.ensures.reads c.run.ensures.plain
-    c.in_ok-program-7.ensures in
-    let eight = with_known c.generate.result _ _ _ _ seven c.generate.ensures.reads c.generate.ensures.plain
-    c.in_ok-program-8.ensures in
-    let nine = with_known c.test.result _ _ _ _ eight c.test.ensures.reads c.test.ensures.plain
-    c.in_ok-program-9.ensures in
-    let ten = with_known c.check.result _ _ _ _ nine c.check.ensures.reads c.check.ensures.plain
-    c.in_ok-program-10.ensures in
-    let eleven = with_table c.table.result _ _ _ ten (λ names. refl) c.table.ensures.reads c.table.ensures.plain
-    c.in_ok-program-11.ensures in
-    IfOk-weaker c.with-12.result _ _
-    (λ made. with_export c.export.result _ _ eleven c.export.ensures.reads c.export.ensures.plain)
-    c.with-12.ensures
+    let script = with_known (Ok c.top.result) c.script.result c.with-program.result _ _ c.top.ensures c.script.ensures
+    c.with-program.ensures in
+    let prompt = with_known c.with-program.result c.prompt.result c.with-program-2.result _ _ script c.prompt.ensures
+    c.with-program-2.ensures in
+    let chart = with_known c.with-program-2.result c.chart.result c.with-program-3.result _ _ prompt c.chart.ensures
+    c.with-program-3.ensures in
+    let page = with_known c.with-program-3.result c.page.result c.with-program-4.result _ _ chart c.page.ensures
+    c.with-program-4.ensures in
+    let litmus = with_known c.with-program-4.result c.litmus.result c.with-program-5.result _ _ page c.litmus.ensures
+    c.with-program-5.ensures in
+    let walk = with_known c.with-program-5.result c.walk.result c.with-program-6.result _ _ litmus c.walk.ensures
+    c.with-program-6.ensures in
+    let run = with_known c.with-program-6.result c.run.result c.with-program-7.result _ _ walk c.run.ensures
+    c.with-program-7.ensures in
+    let generate = with_known c.with-program-7.result c.generate.result c.with-program-8.result _ _ run c.generate.ensures
+    c.with-program-8.ensures in
+    let test = with_known c.with-program-8.result c.test.result c.with-program-9.result _ _ generate c.test.ensures
+    c.with-program-9.ensures in
+    let check = with_known c.with-program-9.result c.check.result c.with-program-10.result _ _ test c.check.ensures
+    c.with-program-10.ensures in
+    let table = with_table c.with-program-10.result c.table.result c.with-program-11.result _ (λ names. refl) check c.table.ensures
+    c.with-program-11.ensures in
+    with_export c.with-program-11.result c.export.result c.with.result table c.export.ensures c.with.ensures

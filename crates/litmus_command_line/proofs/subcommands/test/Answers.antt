@@ -1,0 +1,5 @@
+use Rattle.litmus_command_line.proofs.subcommands.test.Goals as goal
+
+pub returns : goal.returns
+returns c =
+    c.and.ensures _ _ c.begin-command.ensures c.file.ensures

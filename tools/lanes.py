@@ -73,8 +73,8 @@ GAIN = {1: 1.0, 2: 1.6, 3: 2.0, 4: 2.2}
 
 
 def jobs_for(idle, ready):
-    """Returns how many processors the first of so many tasks gets that can begin: more than one where the others leave
-    them idle, since two tasks on one each get more done than one on two."""
+    """Returns how many processors the first of `ready` tasks gets: more than one where the others leave them idle,
+    since two tasks on one each get more done than one on two."""
     return max(1, min(max(GAIN), idle // ready))
 
 

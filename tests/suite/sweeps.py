@@ -158,6 +158,6 @@ def test_refused_workloads() -> None:
 
 
 @each(lambda: ["lock --cores 64 --size 3906", "ring --cores 64 --size 5208", "chase --cores 64 --size 15625"])
-def test_greatest_workloads(words: str) -> None:
+def test_largest_workloads(words: str) -> None:
     ran = lockup("generate", *words.split())
     same("status and error", (0, ""), (ran.status, ran.err))

@@ -46,8 +46,8 @@ pub fn tell_unused<R: Eprint>(rt: &R, people: People, input: &[u8], given: Optio
     }
 }
 
-/// Tells on standard error the same of a text and of settings that vary. Where it varies how many accesses of a core may
-/// be under way, all may change something.
+/// Tells on standard error the same of a text that is swept, and of the settings that vary. If one of these is
+/// `outstanding`, each line may change something, and nothing is told.
 pub fn tell_unused_settings<R: Eprint>(
     rt: &R,
     people: People,
@@ -65,7 +65,7 @@ pub fn tell_unused_settings<R: Eprint>(
     for setting in settings {
         let name = setting.name;
         if value_named(&BOUNDS, name.as_bytes()).is_some() {
-            tell_setting(rt, people, name, SINGLE);
+            tell_setting(rt, people, name);
         }
     }
 }
@@ -80,11 +80,11 @@ fn tell_bound<R: Eprint>(rt: &R, people: People, number: u64, word: &[u8]) {
     }
 }
 
-fn tell_setting<R: Eprint>(rt: &R, people: People, name: &str, why: &str) {
+fn tell_setting<R: Eprint>(rt: &R, people: People, name: &str) {
     complain(
         rt,
         people,
-        format_args!("--set {name} changes nothing: {why}"),
+        format_args!("--set {name} changes nothing: {SINGLE}"),
     );
 }
 

@@ -39,7 +39,7 @@ impl Workload {
         }
     }
 
-    /// The greatest size that it may have for so many cores, by the lines that it takes and by the accesses that a text
+    /// The largest size that it may have for this number of cores, by the lines that it takes and by the accesses that a text
     /// may have.
     pub(crate) fn most(self, cores: u64) -> u64
         requires some { 0 < cores }

@@ -91,7 +91,7 @@ fn push_value<'a>(
 // Whether the name and the value write a line that configures a machine, or the value is how many accesses may be under
 // way. It is written in one way, so that rows with the same value say the same.
 fn is_value(alloc: Global, name: &str, value: &str) -> Result<bool, AllocError> {
-    if !is_plain(value.as_bytes()) {
+    if !is_canonical(value.as_bytes()) {
         return Ok(false);
     }
     if is_outstanding(name.as_bytes()) {
@@ -100,11 +100,11 @@ fn is_value(alloc: Global, name: &str, value: &str) -> Result<bool, AllocError> 
     let mut line = Vec::from_slice(alloc, name.as_bytes())?;
     line.extend_from_slice(b" ")?;
     line.extend_from_slice(value.as_bytes())?;
-    configures(alloc, line.as_slice())
+    is_allowed(alloc, line.as_slice())
 }
 
 // Whether no blank stands around a value, and no zero before other digits.
-fn is_plain(value: &[u8]) -> bool {
+fn is_canonical(value: &[u8]) -> bool {
     match value {
         [b' ' | b'\t', ..] | [.., b' ' | b'\t'] => false,
         [b'0', next, ..] => !next.is_ascii_digit(),
@@ -113,7 +113,7 @@ fn is_plain(value: &[u8]) -> bool {
 }
 
 // Whether there is a machine with this line and all else as it is where a text says nothing.
-fn configures(alloc: Global, line: &[u8]) -> Result<bool, AllocError> {
+fn is_allowed(alloc: Global, line: &[u8]) -> Result<bool, AllocError> {
     let words = first_words(line);
     let Ok(line) = ConfigLine::parse(words.as_slice()) else {
         return Ok(false);

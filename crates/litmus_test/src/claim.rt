@@ -12,7 +12,7 @@ use arrayvec::ArrayVec;
 use litmus_text::{LineFault, parse_number};
 
 /// That a reply has a value.
-#[derive(Clone, Copy, Debug, Default)]
+#[derive(Clone, Copy, Default)]
 pub(super) struct Claim<'a> {
     pub name: &'a [u8],
     pub value: u64,

@@ -19,7 +19,7 @@ use arrayvec::ArrayVec;
 use litmus_text::{LineFault, no_numbers, one_number, parse_number, two_numbers};
 
 /// What a line says behind the settings. Cores, words and lines are numbers that the machine may lack.
-#[derive(Debug, Drop)]
+#[derive(Drop)]
 pub(super) enum Line<'a> {
     Thread(u64),
     Load(u64, &'a [u8]),

@@ -7,7 +7,7 @@ use litmus_text::{ConfigLine, LineFault, Settings, TextFault};
 use std::alloc::Global;
 
 /// What the settings of a test say so far.
-#[derive(Debug, Drop)]
+#[derive(Drop)]
 pub(super) struct Preamble {
     pub settings: Settings,
     pub rounds: u64,

@@ -6,7 +6,7 @@ ghost use Rattle.litmus_test.specs.Line.{IsSettingName, WritesSetting, parts_of_
 use litmus_text::{ConfigLine, LineFault, one_number};
 
 /// A line that comes before all threads.
-#[derive(Clone, Copy, Debug, PartialEq, Eq)]
+#[derive(Clone, Copy)]
 pub(super) enum Setting {
     Config(ConfigLine),
     /// How many times the test is run.

@@ -6,7 +6,7 @@ ghost use Rattle.litmus_test.specs.Line.{has_cas, number_of, parts_of_first};
 use litmus_text::LineFault;
 
 /// How a litmus test is written.
-#[derive(Clone, Copy, Debug, PartialEq, Eq)]
+#[derive(Clone, Copy)]
 pub(super) enum Version {
     /// Without compare-exchanges.
     One,

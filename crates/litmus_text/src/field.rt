@@ -37,7 +37,7 @@ impl Count {
 }
 
 /// What a line that configures the machine is about.
-#[derive(Clone, Copy, Debug, PartialEq, Eq)]
+#[derive(Clone, Copy)]
 pub(super) enum Field {
     Count(Count),
     Policy,

@@ -7,7 +7,7 @@ use super::fired::parted;
 use litmus_text::value_named;
 
 /// What a copy meets.
-#[derive(Clone, Copy, Debug, PartialEq, Eq)]
+#[derive(Clone, Copy)]
 pub(crate) enum Event {
     Load,
     Write,

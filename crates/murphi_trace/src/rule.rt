@@ -15,7 +15,7 @@ use slice_queues_message::Pick;
 pub(crate) const LINE: LineAddr = LineAddr(0);
 
 /// What a rule of the model does.
-#[derive(Clone, Copy, Debug, PartialEq, Eq)]
+#[derive(Clone, Copy)]
 pub(crate) enum Rule {
     Load(CoreId),
     Write(CoreId),

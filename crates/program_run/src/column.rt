@@ -5,7 +5,7 @@ ghost use Rattle.program_run.specs.Column.{parallel_columns};
 use super::tally::Counts;
 
 /// A column of the report, by what it counts.
-#[derive(Clone, Copy, Debug, PartialEq, Eq)]
+#[derive(Clone, Copy)]
 pub(crate) enum Column {
     Requests,
     Hits,

@@ -14,7 +14,7 @@ use slice_core::{Class, DeliveredNext, Delivery, Pick, SliceState};
 use std::alloc::AllocError;
 
 /// What a look at a line finds.
-#[derive(Clone, Copy, Debug, PartialEq, Eq)]
+#[derive(Clone, Copy)]
 pub(crate) enum Front {
     /// Nothing waits.
     Idle,

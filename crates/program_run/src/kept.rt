@@ -23,7 +23,7 @@ use slice_core::{Class, Decision, Delivered, Numbered, Pick};
 use std::alloc::{AllocError, Global};
 
 /// What the machine decides of a request.
-#[derive(Clone, Copy, Debug, PartialEq, Eq)]
+#[derive(Clone, Copy)]
 pub(crate) struct Decided {
     pub request: Request,
     pub decision: Decision,
@@ -31,7 +31,7 @@ pub(crate) struct Decided {
 
 /// What the machine decided of each core's next access, as long as that holds: until a call changes what the core has.
 /// And which lines need no look for a next delivery.
-#[derive(Debug, Drop)]
+#[derive(Drop)]
 pub(crate) struct Kept {
     decided: Vec<Option<Decided>>,
     /// Of each slice, in how many lines in front of its ring nothing waits.

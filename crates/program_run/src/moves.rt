@@ -30,7 +30,7 @@ use slice_core::{AccessKind, Decision, Pick};
 use std::alloc::AllocError;
 
 /// What may come next.
-#[derive(Clone, Copy, Debug, PartialEq, Eq)]
+#[derive(Clone, Copy)]
 pub(crate) enum Move {
     /// The next step of the program of this number.
     Ask(usize),
@@ -38,7 +38,7 @@ pub(crate) enum Move {
 }
 
 /// Where a core's program stands.
-#[derive(Clone, Copy, Debug, PartialEq, Eq)]
+#[derive(Clone, Copy)]
 pub(crate) struct Place {
     /// How many steps were taken.
     pub asked: usize,
@@ -68,7 +68,7 @@ impl Place {
 }
 
 /// What an access takes up until it is performed.
-#[derive(Clone, Copy, Debug, PartialEq, Eq)]
+#[derive(Clone, Copy)]
 pub(crate) enum Takes {
     Nothing,
     /// A target of a miss register that is open.
@@ -78,7 +78,7 @@ pub(crate) enum Takes {
 }
 
 /// How a program goes on.
-#[derive(Clone, Copy, Debug, PartialEq, Eq)]
+#[derive(Clone, Copy)]
 pub(crate) enum Turn {
     Ask(Request),
     /// Its core has waited for its accesses.

@@ -26,7 +26,7 @@ use std::alloc::{AllocError, Global};
 use std::marker::Model;
 
 /// What is counted once.
-#[derive(Clone, Copy, Debug, PartialEq, Eq)]
+#[derive(Clone, Copy)]
 pub(crate) enum Counted {
     /// An access that was done at once.
     Hit(CoreId, LineAddr),
@@ -79,7 +79,7 @@ impl Counted {
 
 /// What was counted of a core, or of a line. A count stops at 2^64 - 1.
 // What most lines count stands together, so that fewer cache lines are written.
-#[derive(Clone, Copy, Debug, PartialEq, Eq)]
+#[derive(Clone, Copy)]
 pub(crate) struct Counts {
     pub hits: u64,
     pub cold: u64,
@@ -237,7 +237,7 @@ fn add_messages(messages: &mut MessageCounts, other: &MessageCounts)
 }
 
 /// What was counted, of each core and of each line of the machine.
-#[derive(Debug, Drop)]
+#[derive(Drop)]
 pub(crate) struct Tally {
     cores: Vec<Counts>,
     lines: Vec<Counts>,

@@ -10,7 +10,7 @@ use address_map::Op;
 use litmus_text::LineFault;
 
 /// What a line says behind those that configure. Cores and words are numbers that the machine may lack.
-#[derive(Clone, Copy, Debug, PartialEq, Eq)]
+#[derive(Clone, Copy)]
 pub(super) enum Line {
     /// How many accesses of a core may be under way.
     Outstanding(u64),

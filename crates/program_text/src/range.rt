@@ -8,7 +8,7 @@ ghost use Rattle.program_text.specs.Range.{IsRange, is_dot};
 use litmus_text::{LineFault, parse_number};
 
 /// The words from the first to the last.
-#[derive(Clone, Copy, Debug, PartialEq, Eq)]
+#[derive(Clone, Copy)]
 pub(super) struct Range {
     pub first: u64,
     pub last: u64,

@@ -18,7 +18,7 @@ use litmus_text::{ConfigLine, LineFault, Settings, Statement, Statements, TextFa
 use std::alloc::Global;
 
 /// A `repeat` without its `end` so far.
-#[derive(Clone, Copy, Debug, Default, PartialEq, Eq)]
+#[derive(Clone, Copy, Default)]
 pub(super) struct Block {
     /// The number of its line.
     pub number: usize,
@@ -28,7 +28,7 @@ pub(super) struct Block {
 }
 
 /// Programs that are read so far.
-#[derive(Debug, Drop)]
+#[derive(Drop)]
 pub(super) struct Reader {
     pub programs: Programs,
     pub blocks: ArrayVec<Block, MOST_DEPTH>,

@@ -12,7 +12,7 @@ use std::alloc::{AllocError, Global};
 use std::marker::Model;
 
 /// Requests in a row: the first in full, and behind it those that were each done at once, with nothing seen in between.
-#[derive(Clone, Copy, Debug, PartialEq, Eq)]
+#[derive(Clone, Copy)]
 pub(crate) struct Streak {
     ask: Ask,
     /// The first one's number.

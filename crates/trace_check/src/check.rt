@@ -26,7 +26,7 @@ use slice_log::Entry;
 use std::alloc::{AllocError, Global};
 
 /// What was read of a trace.
-#[derive(Debug, Drop)]
+#[derive(Drop)]
 struct Check {
     version: Version,
     judge: Judge,

@@ -12,6 +12,8 @@ import lanes
 PARTS = ("src", "specs", "proofs")
 # What is built in the folder, and by which call.
 BUILT = {"lockup": kit.prove_program, "lockup_c": kit.prove_static}
+# What a crate's proof took of the memory that rt expects, at most: from 0.4 to 0.6 of it.
+TAKEN = 0.7
 
 
 def opened(who):
@@ -76,7 +78,8 @@ class Room:
         for crate in left:
             waits = [it.name for it in crate.below() if it in left]
             call = lambda jobs, crate=crate: self.prove_crate(crate, sums[crate.name], jobs)
-            tasks[crate.name] = lanes.Task(crate.name, waits, seconds.get(crate.name, 60), self.rt.need(crate), call)
+            need = TAKEN * self.rt.need(crate)
+            tasks[crate.name] = lanes.Task(crate.name, waits, seconds.get(crate.name, 60), need, call)
         shown = lanes.Shown(self.who, number - len(left), number)
         ran = lanes.run(tasks, self.rt.processors(), 0.85 * self.rt.free(), shown)
         lanes.note_seconds(f"{self.folder}/seconds", {**seconds, **ran.seconds})

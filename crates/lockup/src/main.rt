@@ -79,11 +79,22 @@ fn run<R>(rt: &R, people: People) -> u8
 where
     R: Env + Files + Input + AllocGlobal + Print + Eprint + Threads + Wait + Sync,
 {
-    let words: Vec<String> = match env::args(rt).and_then(|words| Ok(words.collect(rt.alloc())?)) {
-        Ok(words) => words,
-        Err(error) => return report(rt, people, &error, unread(&error)),
-    };
-    match read_line(rt.alloc(), &words) {
+    match read_words(rt) {
+        Ok(words) => run_words(rt, people, words.as_slice()),
+        Err(error) => report(rt, people, &error, unread(&error)),
+    }
+}
+
+fn read_words<R: Env + AllocGlobal>(rt: &R) -> io::Result<Vec<String>> {
+    env::args(rt).and_then(|words| Ok(words.collect(rt.alloc())?))
+}
+
+// Whatever is owned here is handed on borrowed, so that each function has one thing to drop.
+fn run_words<R>(rt: &R, people: People, words: &[String]) -> u8
+where
+    R: Env + Files + Input + AllocGlobal + Print + Eprint + Threads + Wait + Sync,
+{
+    match read_line(rt.alloc(), words) {
         Ok(
             CommandLine::Sweep {
                 file,
@@ -93,18 +104,12 @@ where
                 json,
             },
         ) => {
-            let seeds = seeds_of(seed, seeds);
-            rows::run(
-                rt,
-                people,
-                &words,
-                Rows {
-                    file,
-                    outstanding,
-                    seeds,
-                    json,
-                },
-            )
+            let rows = Rows {
+                file,
+                outstanding,
+                json,
+            };
+            rows::run(rt, people, words, seeds_of(seed, seeds), rows)
         }
         Ok(
             CommandLine::Generate {
@@ -141,22 +146,28 @@ fn answer<R>(rt: &R, line: CommandLine<'_>, people: People) -> u8
 where
     R: Files + Input + AllocGlobal + Print + Eprint + Threads + Wait + Sync,
 {
-    let mut input = Vec::new(rt.alloc());
-    if let Some(file) = file_of(line) {
-        match read(rt, file) {
-            Ok(text) => input = text,
-            Err(error) => return report(rt, people, &error, format_args!("cannot read {file}")),
-        }
+    let Some(file) = file_of(line) else {
+        return answer_to(rt, line, &[], people);
+    };
+    match read(rt, file) {
+        Ok(input) => answer_to(rt, line, input.as_slice(), people),
+        Err(error) => report(rt, people, &error, format_args!("cannot read {file}")),
     }
-    match print_answers(rt, line, &input, people) {
+}
+
+fn answer_to<R>(rt: &R, line: CommandLine<'_>, input: &[u8], people: People) -> u8
+where
+    R: Files + Input + AllocGlobal + Print + Eprint + Threads + Wait + Sync,
+{
+    match print_answers(rt, line, input, people) {
         Ok(status) => {
             if let CommandLine::Run { outstanding, .. } = line {
-                tell_unused(rt, people, &input, outstanding);
+                tell_unused(rt, people, input, outstanding);
             }
             status
         }
         Err(fault) => {
-            complain_of(rt, people, line, &input, fault);
+            complain_of(rt, people, line, input, fault);
             fault.status()
         }
     }

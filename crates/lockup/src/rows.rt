@@ -10,50 +10,74 @@ use std::io::{self, BufWriter, Write};
 use std::rt::Files;
 use std::thread::Threads;
 
-/// What the command line says of rows beside their settings.
-#[derive(Drop)]
+/// What the command line says of rows beside their settings and seeds.
+#[derive(Clone, Copy)]
 pub struct Rows<'a> {
     pub file: &'a str,
     pub outstanding: Option<u64>,
-    pub seeds: Result<Seeds, SweepFault<'a>>,
     pub json: bool,
 }
 
 /// Runs the programs in a file once for each row that the command line asks for, and prints the rows. Returns the exit
 /// status.
-pub fn run<R>(rt: &R, people: People, words: &[String], rows: Rows<'_>) -> u8
+pub fn run<R>(
+    rt: &R,
+    people: People,
+    words: &[String],
+    seeds: Result<Seeds, SweepFault<'_>>,
+    rows: Rows<'_>,
+) -> u8
 where
     R: Files + Input + AllocGlobal + Print + Eprint + Threads + Sync,
 {
-    let Rows {
-        file,
-        outstanding,
-        seeds,
-        json,
-    } = rows;
-    let settings = match read_settings(rt.alloc(), words) {
-        Ok(settings) => settings,
-        Err(error) => return show(rt, people, &error),
-    };
-    let sweep = match read_sweep(rt.alloc(), settings.as_slice(), seeds, outstanding) {
-        Ok(sweep) => sweep,
+    match read_settings(rt.alloc(), words) {
+        Ok(settings) => run_settings(rt, people, settings.as_slice(), seeds, rows),
+        Err(error) => show(rt, people, &error),
+    }
+}
+
+fn run_settings<R>(
+    rt: &R,
+    people: People,
+    settings: &[&str],
+    seeds: Result<Seeds, SweepFault<'_>>,
+    rows: Rows<'_>,
+) -> u8
+where
+    R: Files + Input + AllocGlobal + Print + Eprint + Threads + Sync,
+{
+    match read_sweep(rt.alloc(), settings, seeds, rows.outstanding) {
+        Ok(sweep) => read_and_run(rt, people, &sweep, rows),
         Err(fault) => {
             complain(rt, people, fault);
-            return fault.status();
+            fault.status()
         }
-    };
-    let input = match read(rt, file) {
-        Ok(input) => input,
-        Err(error) => return report(rt, people, &error, format_args!("cannot read {file}")),
-    };
-    let form = if json { RowForm::Json } else { RowForm::Csv };
-    match print_rows(rt, people, input.as_slice(), &sweep, form) {
+    }
+}
+
+fn read_and_run<R>(rt: &R, people: People, sweep: &Sweep<'_>, rows: Rows<'_>) -> u8
+where
+    R: Files + Input + AllocGlobal + Print + Eprint + Threads + Sync,
+{
+    let file = rows.file;
+    match read(rt, file) {
+        Ok(input) => run_input(rt, people, input.as_slice(), sweep, rows),
+        Err(error) => report(rt, people, &error, format_args!("cannot read {file}")),
+    }
+}
+
+fn run_input<R>(rt: &R, people: People, input: &[u8], sweep: &Sweep<'_>, rows: Rows<'_>) -> u8
+where
+    R: Files + Input + AllocGlobal + Print + Eprint + Threads + Sync,
+{
+    let form = if rows.json { RowForm::Json } else { RowForm::Csv };
+    match print_rows(rt, people, input, sweep, form) {
         Ok(()) => {
             let settings = sweep.settings.as_slice();
-            tell_unused_settings(rt, people, input.as_slice(), settings, outstanding);
+            tell_unused_settings(rt, people, input, settings, rows.outstanding);
             0
         }
-        Err(fault) => complain_of(rt, people, &sweep, fault),
+        Err(fault) => complain_of(rt, people, sweep, fault),
     }
 }
 

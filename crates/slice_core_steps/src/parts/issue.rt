@@ -4,9 +4,8 @@ ghost use Rattle.slice_answer.specs.Stats.{after_hit as hit_counted, after_evict
 ghost use Rattle.slice_answer.specs.Stats.{after_secondary};
 ghost use Rattle.slice_core_cache.specs.Access.{CanReplace, CanStand, IsWithin};
 ghost use Rattle.slice_core_plan.specs.Decision.{decision_of};
-ghost use Rattle.slice_core_plan.specs.Calls.{PartsView, AfterAccepting, AfterIssue, CanIssue, IsDecided, opened_ring};
-ghost use Rattle.slice_core_plan.specs.Calls.{opened_stats, target_for};
-ghost use Rattle.slice_core_plan.specs.Steps.{after_hit, after_join, after_open, after_opening, with_way};
+ghost use Rattle.slice_core_plan.specs.Calls.{PartsView, AfterAccepting, AfterIssue, CanIssue, IsDecided, target_for};
+ghost use Rattle.slice_core_plan.specs.Steps.{after_hit, after_join, after_opening, with_way};
 ghost use Rattle.slice_core_plan.specs.View.{View, channels_at, cache_at, IsShaped};
 ghost use Rattle.slice_core_plan.specs.Within.{StandsAt};
 ghost use Rattle.slice_core_cache.specs.Steps.{victim_for};
@@ -104,8 +103,19 @@ impl<F: MissFile> Parts<F> {
             AccessKind::PrimaryMiss {
                 next,
                 ask,
+                placement: Placement::Victim,
+            } => {
+                self.replace(core, local);
+                Issue::Pending(self.open(core, request, local, false, next, ask))
+            }
+            AccessKind::PrimaryMiss {
+                next,
+                ask,
                 placement,
-            } => { Issue::Pending(self.open(core, request, local, placement, next, ask)) }
+            } => {
+                let held = matches!(placement, Placement::Held);
+                Issue::Pending(self.open(core, request, local, held, next, ask))
+            }
             AccessKind::Stall(stall) => Issue::Stall(stall),
         }
     }
@@ -175,44 +185,6 @@ impl<F: MissFile> Parts<F> {
         cache.join(local, request.word.offset(), request, since)
     }
 
-    // Opens a miss register for the access, once a victim has left where one has to. Returns its `seq`.
-    fn open(
-        &mut self,
-        core: CoreId,
-        request: Request,
-        local: Local,
-        placement: Placement,
-        next: CopyState,
-        ask: Ask,
-    ) -> u64
-        requires can { CanIssue self.old core }
-        requires line { local.0 < self.old.view.lines.lines }
-        requires tag { request.tag < 64 }
-        requires within { IsWithin (cache_at self.old.view core) local request.tag (AccessKind.PrimaryMiss next ask placement) }
-        ensures seq { result ≡ (cache_at self.old.view core).accepted }
-        ensures added { AddsTarget (cache_at self.old.view core).misses (cache_at self.new.view core).misses local.0
-            (target_for self.old core request) }
-        ensures sound { IsMissFile (cache_at self.new.view core).misses }
-        ensures after { self.new
-            ≡ record self.old {
-              view =
-                  after_open self.old.view core request local placement next ask (cache_at self.new.view core).misses;
-              stats =
-                  opened_stats self.old.stats core placement;
-              pending = self.old.pending + 1;
-              ring = opened_ring self.old core local placement;
-            } }
-    {
-        match placement {
-            Placement::Held => self.open_way(core, request, local, true, next, ask),
-            Placement::Free => self.open_way(core, request, local, false, next, ask),
-            Placement::Victim => {
-                self.replace(core, local);
-                self.open_way(core, request, local, false, next, ask)
-            }
-        }
-    }
-
     // A victim of the line's set leaves for it, and the directory is told.
     fn replace(&mut self, core: CoreId, local: Local)
         requires can { CanIssue self.old core }
@@ -235,8 +207,8 @@ impl<F: MissFile> Parts<F> {
     }
 
     // Opens a miss register for the access, whose copy stands in the array (`held`) or has a way, and asks the
-    // directory.
-    fn open_way(
+    // directory. Returns its `seq`.
+    fn open(
         &mut self,
         core: CoreId,
         request: Request,

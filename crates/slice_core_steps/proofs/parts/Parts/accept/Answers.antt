@@ -2,9 +2,9 @@ use Rattle.std.proofs.Common.{subst, sym}
 use Rattle.slice_core_plan.specs.Calls.{PartsView}
 use Rattle.slice_core_plan.specs.View.{IsShaped}
 use Rattle.slice_core_steps.proofs.ShapedLaws.{shaped-request}
-use Rattle.slice_core_steps.proofs.parts.Parts.open.Goals as goal
+use Rattle.slice_core_steps.proofs.parts.Parts.accept.Goals as goal
 
-pub open_way-requires-in-Victim-clause-shaped : goal.open_way-requires-in-Victim-clause-shaped
-open_way-requires-in-Victim-clause-shaped g c =
+pub open-requires-clause-shaped : goal.open-requires-clause-shaped
+open-requires-clause-shaped g c =
     subst (λ (p : PartsView). IsShaped p.view) (sym c.replace.ensures.after)
     (shaped-request c.args.self.now.view c.args.core _ _ _ c.requires.can.shaped)

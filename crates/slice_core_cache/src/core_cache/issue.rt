@@ -29,22 +29,12 @@ impl<F: MissFile> CoreCache<F> {
         ensures decided { result ≡ access_of self.now local tag op }
         ensures within { IsWithin self.now local tag result }
     {
-        match self.file.admit(local, tag) {
-            Admission::Join => AccessKind::SecondaryMiss,
-            Admission::NoTarget => AccessKind::Stall(Stall::NoTarget),
-            Admission::Open => self.decide_alone(local, op, true),
-            Admission::NoRegister => self.decide_alone(local, op, false),
-        }
-    }
-
-    // What is to be done where the line has no register. `room` says that one can be opened. It is inlined, since its
-    // answer has small fields side by side: read back from memory, several at once, they take as long as a fifth of a
-    // hit.
-    #[inline(always)]
-    fn decide_alone(&self, local: Local, op: Op, room: bool) -> AccessKind
-        ensures decided { result ≡ alone_of self.now local room op }
-        ensures within { IsAlone self.now local room result }
-    {
+        let room = match self.file.admit(local, tag) {
+            Admission::Join => return AccessKind::SecondaryMiss,
+            Admission::NoTarget => return AccessKind::Stall(Stall::NoTarget),
+            Admission::Open => true,
+            Admission::NoRegister => false,
+        };
         match self.array.find(local) {
             Some(way) => self.decide_held(local, way, op, room),
             None if self.buffer.get(local).is_some() => AccessKind::Stall(Stall::WriteBackBusy),
@@ -52,7 +42,7 @@ impl<F: MissFile> CoreCache<F> {
         }
     }
 
-    // What is to be done with an access to a copy in this way of its set.
+    // What is to be done with an access to a copy in this way of its set. `room` says that a register can be opened.
     fn decide_held(&self, local: Local, way: usize, op: Op, room: bool) -> AccessKind
         requires { position (holds local) (slots_at self.now.array local) ≡ Some way }
         ensures decided { result ≡ alone_of self.now local room op }

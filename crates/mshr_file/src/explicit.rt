@@ -79,7 +79,7 @@ impl MissFile for ExplicitFile {
         self.table.lines(alloc)
     }
 
-    fn admit(&self, line: Local, tag: u8) -> Admission {
+    fn admit(&self, line: Local, _tag: u8) -> Admission {
         let used = self.table.waiting(line);
         if used > 0 {
             if used < self.fields {
@@ -87,7 +87,7 @@ impl MissFile for ExplicitFile {
             } else {
                 Admission::NoTarget
             }
-        } else if self.room_open(tag) {
+        } else if self.table.has_free() {
             Admission::Open
         } else {
             Admission::NoRegister

@@ -1,6 +1,6 @@
 -- One set: what each call leaves of its values and its lines.
 use Rattle.std.proofs.Common.{◌≡◌, ◌≢◌, ℕ, ◌+◌, ◌<◌, ◌≤◌, Bool, true, false, cond, not, List, [], ◌∷◌, ◌++◌, length}
-use Rattle.std.proofs.Common.{get_or, set, suc, refl, ap, sym, subst, ◌∙◌, arith, Option, Some, None, option_map}
+use Rattle.std.proofs.Common.{get_or, set, suc, refl, ap, sym, ◌∙◌, arith, Option, Some, None, option_map}
 use Rattle.std.proofs.Common.{option_to_list, find, All, eq-eqb, length-append, is_some, position, remove, slice_get}
 use Rattle.std.specs.List.{position_or_len, refill, AllZip}
 use Rattle.std.specs.Option.{option_or}
@@ -276,20 +276,18 @@ moved_set {V = V} line inside now old new long way l e f kept at moved =
     (ap (λ (s : SetView V). s.ways) e)
 
 -- once the line's slot went to the end it is taken out there
-pub popped_set : {V : Type 0} (line : Local) (inside now : SetView V) (looked old new rest : List (Slot V))
+pub popped_set : {V : Type 0} (line : Local) (inside now : SetView V) (old new rest : List (Slot V))
     (last : Slot V) (out : Option (Slot V)) (long way : ℕ) →
-    long ≡ length inside.slots → inside ≡ now → looked ≡ inside.slots → position (holds line) looked ≡ Some way →
+    long ≡ length inside.slots → inside ≡ now → position (holds line) now.slots ≡ Some way →
     old ≡ inside.slots → length new ≡ length old →
     ((d : Slot V) → new ≡ remove old way ++ get_or old way d ∷ []) →
     refill long inside.slots new ≡ rest ++ option_to_list out → out ≡ Some last →
     (◌≡◌ {A = SetView V} (record { slots = rest; ways = inside.ways })
     (record now { slots = after_remove now.slots line }))
     × (Some last.value ≡ value_in now.slots line)
-popped_set {V = V} line inside now looked old new rest last out long way l e k at f kept moved there is =
-    let slots = ap (λ (s : SetView V). s.slots) e in
+popped_set {V = V} line inside now old new rest last out long way l e at f kept moved there is =
     let both =
-    popped (holds line) now.slots inside.slots old new rest last way slots f kept
-    (subst (λ (xs : List (Slot V)). position (holds line) xs ≡ Some way) (k ∙ slots) at) moved
+    popped (holds line) now.slots inside.slots old new rest last way (ap (λ (s : SetView V). s.slots) e) f kept at moved
     (ap (λ n. refill n inside.slots new) (sym l) ∙ there
     ∙ ap (λ (o : Option (Slot V)). rest ++ option_to_list o) is) in (
       set_is (record now { slots = after_remove now.slots line }) rest inside.ways both.0

@@ -97,7 +97,7 @@ impl<V: Copy> Set<V> {
     pub fn find(&self, line: Local) -> Option<usize>
         ensures { result ≡ position (holds line) self.now.slots }
     {
-        way_of(&self.slots, line)
+        self.slots.iter().position(|slot| slot.line == line)
     }
 
     /// The value of the line, whose slot stands there.
@@ -123,7 +123,7 @@ impl<V: Copy> Set<V> {
         requires { IsSome (value_in self.old.slots line) }
         ensures { self.new ≡ record self.old { slots = after_write self.old.slots line value } }
     {
-        if let Some(way) = way_of(&self.slots, line) {
+        if let Some(way) = self.find(line) {
             self.slots[way] = Slot { line, value };
         }
     }
@@ -144,7 +144,7 @@ impl<V: Copy> Set<V> {
         ensures value { result ≡ value_in self.old.slots line }
         ensures rest { self.new ≡ record self.old { slots = after_remove self.old.slots line } }
     {
-        let Some(way) = way_of(&self.slots, line) else {
+        let Some(way) = self.find(line) else {
             return None;
         };
         move_to_end(&mut self.slots, way);
@@ -218,13 +218,6 @@ fn some_allowed<V, F: Fn(&V) -> bool>(slots: &[Slot<V>], allowed: F) -> bool
         }
     }
     false
-}
-
-// The way of the line's slot.
-fn way_of<V>(slots: &[Slot<V>], line: Local) -> Option<usize>
-    ensures { result ≡ position (holds line) slots.now }
-{
-    slots.iter().position(|slot| slot.line == line)
 }
 
 // Moves the slot behind those that follow it. Nothing moves where it is the last, and one slot is passed at less cost

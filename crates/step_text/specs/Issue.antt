@@ -4,7 +4,6 @@ use Rattle.address_map.specs.declared.request.Op.{Op}
 use Rattle.address_map.specs.declared.request.Op.TheVariants as ops
 use Rattle.address_map.specs.declared.request.Request.{Request}
 use Rattle.cache_table.specs.Name.{name_of}
-use Rattle.cache_table.specs.declared.state.CopyState.{CopyState}
 use Rattle.slice_answer.specs.declared.answer.Evicted.{Evicted}
 use Rattle.slice_answer.specs.declared.answer.Evicted.TheVariants as evictions
 use Rattle.slice_answer.specs.declared.answer.Refused.{Refused}

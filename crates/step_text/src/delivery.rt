@@ -24,19 +24,69 @@ impl fmt::Display for ExplainedDelivery {
     ghost output = { λ delivery. Some (text_of_delivery delivery) };
 
     fn fmt<W: fmt::Write>(&self, f: &mut fmt::Formatter<W>) -> fmt::Result {
+        write!(f, "{}: {}", self.case, Effects(*self))
+    }
+}
+
+/// What is planned for the message of a delivery, and what was done of it.
+#[derive(Clone, Copy)]
+struct Effects(ExplainedDelivery);
+
+impl fmt::Display for Effects {
+    ghost use Rattle.std.specs.Prelude.{Some};
+    ghost use Rattle.step_text.specs.Delivery.{text_of_effects};
+
+    ghost output = { λ effects. Some (text_of_effects effects.0) };
+
+    fn fmt<W: fmt::Write>(&self, f: &mut fmt::Formatter<W>) -> fmt::Result {
         let ExplainedDelivery {
             slice,
             core,
             case,
             done,
             ..
+        } = self.0;
+        match self.0.plan {
+            Plan::Nothing => f.write_str("nothing"),
+            Plan::Blocked => write!(f, "waits for {}", awaited(case.who)),
+            Plan::Broken(cell) => f.write_str(broken(cell)),
+            Plan::Moved(transition) => {
+                let moved = Moved {
+                    slice,
+                    core,
+                    transition,
+                    done,
+                };
+                write!(f, "to {moved}")
+            }
+        }
+    }
+}
+
+/// A message that is moved: the state that follows, and what is done besides.
+#[derive(Clone, Copy)]
+struct Moved {
+    slice: usize,
+    core: CoreId,
+    transition: Transition,
+    done: Done,
+}
+
+impl fmt::Display for Moved {
+    ghost use Rattle.std.specs.Prelude.{Some};
+    ghost use Rattle.step_text.specs.Delivery.{text_of_transition};
+
+    ghost output = { λ moved. Some (text_of_transition moved.slice moved.core moved.done moved.transition) };
+
+    fn fmt<W: fmt::Write>(&self, f: &mut fmt::Formatter<W>) -> fmt::Result {
+        let Moved {
+            slice,
+            core,
+            done,
+            ..
         } = *self;
-        let numbers = Numbers(done);
-        match self.plan {
-            Plan::Nothing => write!(f, "{case}: nothing"),
-            Plan::Blocked => write!(f, "{case}: waits for {}", awaited(case.who)),
-            Plan::Broken(cell) => write!(f, "{case}: {}", broken(cell)),
-            Plan::Moved(Transition::Directory(step)) => {
+        match self.transition {
+            Transition::Directory(step) => {
                 let entry = Entry {
                     state: step.state,
                     owner: step.owner,
@@ -46,31 +96,29 @@ impl fmt::Display for ExplainedDelivery {
                     core,
                     sends: step.sends,
                 };
-                write!(f, "{case}: to {entry}{sent}{}", home(step.writes_home))
+                write!(f, "{entry}{sent}{}", home(step.writes_home))
             }
-            Plan::Moved(Transition::Home(step)) => {
+            Transition::Home(step) => {
                 let entry = Entry {
                     state: step.state,
                     owner: step.owner,
                     sharers: step.sharers,
                 };
-                write!(f, "{case}: to {entry}; block home")
+                write!(f, "{entry}; block home")
             }
-            Plan::Moved(Transition::Forwarded(step)) => {
+            Transition::Forwarded(step) => {
                 let sent = FromCore {
                     slice,
                     requester: step.requester,
                     sends: step.sends,
                 };
-                write!(f, "{case}: to {}{sent}", step.next)
+                write!(f, "{}{sent}", step.next)
             }
-            Plan::Moved(Transition::Fill(step)) => {
+            Transition::Fill(step) => {
                 let asked = AskedOfDirectory { slice, done };
-                write!(f, "{case}: to {}{numbers}{asked}", step.next)
+                write!(f, "{}{}{asked}", step.next, Numbers(done))
             }
-            Plan::Moved(Transition::Acknowledge(step)) => {
-                write!(f, "{case}: to {}; k + 1{numbers}", step.next)
-            }
+            Transition::Acknowledge(step) => { write!(f, "{}; k + 1{}", step.next, Numbers(done)) }
         }
     }
 }

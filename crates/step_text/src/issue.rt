@@ -162,18 +162,39 @@ impl fmt::Display for Eviction {
     ghost output = { λ eviction. Some (text_of_eviction eviction) };
 
     fn fmt<W: fmt::Write>(&self, f: &mut fmt::Formatter<W>) -> fmt::Result {
-        let case = self.case;
-        match self.answer {
+        write!(f, "{}: {}", self.case, Answer(*self))
+    }
+}
+
+/// What became of an eviction.
+#[derive(Clone, Copy)]
+struct Answer(Eviction);
+
+impl fmt::Display for Answer {
+    ghost use Rattle.std.specs.Prelude.{Some};
+    ghost use Rattle.step_text.specs.Issue.{text_of_answer};
+
+    ghost output = { λ answer. Some (text_of_answer answer.0 answer.0.answer) };
+
+    fn fmt<W: fmt::Write>(&self, f: &mut fmt::Formatter<W>) -> fmt::Result {
+        let Eviction {
+            slice,
+            case,
+            answer,
+            state,
+            sent,
+        } = self.0;
+        match answer {
             Evicted::Evicting => {
                 let sent = Sent {
-                    slice: self.slice,
-                    message: self.sent,
+                    slice,
+                    message: sent,
                 };
-                write!(f, "{case}: to {}{sent}", self.state)
+                write!(f, "to {state}{sent}")
             }
-            Evicted::NotHeld => write!(f, "{case}: no copy"),
-            Evicted::Busy => write!(f, "{case}: waits for {}", awaited(case.who)),
-            Evicted::WriteBackFull => write!(f, "{case}: the write-back buffer is full"),
+            Evicted::NotHeld => f.write_str("no copy"),
+            Evicted::Busy => write!(f, "waits for {}", awaited(case.who)),
+            Evicted::WriteBackFull => f.write_str("the write-back buffer is full"),
         }
     }
 }

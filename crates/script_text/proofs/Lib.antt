@@ -1,3 +1,4 @@
+pub mod CommandLemmas
 pub mod Numbers
 pub mod Pieces
 pub mod SettingsLemmas

@@ -5,7 +5,8 @@ ghost use Rattle.litmus_text.specs.Form.{key, num};
 ghost use Rattle.script_text.specs.Line.{line_of_parts};
 
 use super::delivery::Delivery;
-use address_map::{CoreId, LineAddr, Op, Request};
+use super::line::{write_number, write_pair};
+use address_map::{CoreId, Op, Request, WordAddr};
 use litmus_text::Command;
 use std::fmt;
 use std::fmt::Write;
@@ -16,57 +17,59 @@ pub fn write_command<W: Write>(command: Command, out: &mut W) -> fmt::Result
 {
     match command {
         Command::Issue { core, request } => write_issue(core, request, out),
-        Command::Evict { core, line } => write_evict(core, line, out),
+        Command::Evict { core, line } => write_pair("evict", u64::from(core.0), line.0, out),
         Command::Deliver(pick) => {
             let delivery = Delivery(pick);
             writeln!(out, "{delivery}")
         }
         Command::Hand { core, slice } => {
-            let core = core.0;
-            let slice = slice.0;
-            writeln!(out, "hand {core} {slice}")
+            write_pair("hand", u64::from(core.0), u64::from(slice.0), out)
         }
-        Command::Word(word) => {
-            let word = word.0;
-            writeln!(out, "word {word}")
-        }
-        Command::State(line) => {
-            let line = line.0;
-            writeln!(out, "state {line}")
-        }
-        Command::Log(slice) => {
-            let slice = slice.0;
-            writeln!(out, "log {slice}")
-        }
+        Command::Word(word) => write_number("word", word.0, out),
+        Command::State(line) => write_number("state", line.0, out),
+        Command::Log(slice) => write_number("log", u64::from(slice.0), out),
         Command::Stats => writeln!(out, "stats"),
         Command::Waiting => writeln!(out, "waiting"),
         Command::Show => writeln!(out, "show"),
-        Command::Pump(calls) => writeln!(out, "pump {calls}"),
+        Command::Pump(calls) => write_number("pump", calls, out),
     }
 }
 
-#[tactic(auto, unfolding(litmus_text::specs::Command::parts_of_op))]
+/// What a request asks for.
+#[derive(Clone, Copy)]
+struct Access {
+    op: Op,
+    word: WordAddr,
+}
+
+impl fmt::Display for Access {
+    ghost use Rattle.std.specs.Prelude.{Some};
+    ghost use Rattle.litmus_text.specs.Command.{parts_of_op};
+    ghost use Rattle.script_text.specs.Line.{text_of_parts};
+
+    ghost output = { λ access. Some (text_of_parts (parts_of_op access.op access.word.0)) };
+
+    #[tactic(auto, unfolding(litmus_text::specs::Command::parts_of_op))]
+    fn fmt<W: fmt::Write>(&self, f: &mut fmt::Formatter<W>) -> fmt::Result {
+        let word = self.word.0;
+        match self.op {
+            Op::Load => write!(f, "load {word}"),
+            Op::Store(value) => write!(f, "store {word} {value}"),
+            Op::Add(delta) => write!(f, "add {word} {delta}"),
+            Op::Cas { expect, new } => write!(f, "cas {word} {expect} {new}"),
+        }
+    }
+}
+
 fn write_issue<W: Write>(core: CoreId, request: Request, out: &mut W) -> fmt::Result
     ensures { OnOk result (WritesInCalls W.write_str_gives out.old
         (line_of_parts (key (codes "issue") ∷ num core.0 ∷ num request.tag ∷ parts_of_op request.op request.word.0))
         out.new) }
 {
-    let core = core.0;
-    let tag = request.tag;
-    let word = request.word.0;
-    match request.op {
-        Op::Load => writeln!(out, "issue {core} {tag} load {word}"),
-        Op::Store(value) => writeln!(out, "issue {core} {tag} store {word} {value}"),
-        Op::Add(delta) => writeln!(out, "issue {core} {tag} add {word} {delta}"),
-        Op::Cas { expect, new } => writeln!(out, "issue {core} {tag} cas {word} {expect} {new}"),
-    }
-}
-
-fn write_evict<W: Write>(core: CoreId, line: LineAddr, out: &mut W) -> fmt::Result
-    ensures { OnOk result (WritesInCalls W.write_str_gives out.old
-        (line_of_parts (parts_of (Command.Evict core line))) out.new) }
-{
-    let core = core.0;
-    let line = line.0;
-    writeln!(out, "evict {core} {line}")
+    let (core, tag) = (core.0, request.tag);
+    let access = Access {
+        op: request.op,
+        word: request.word,
+    };
+    writeln!(out, "issue {core} {tag} {access}")
 }

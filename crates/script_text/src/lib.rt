@@ -13,4 +13,5 @@ pub use settings::write_settings;
 
 mod command;
 mod delivery;
+mod line;
 mod settings;

@@ -1,10 +1,12 @@
-ghost use Rattle.std.specs.Prelude.{OnOk, map};
+ghost use Rattle.std.specs.Prelude.{[], ◌∷◌, OnOk, map};
 ghost use Rattle.std.specs.Fmt.{WritesInCalls};
 ghost use Rattle.litmus_text.specs.ConfigLine.{parts_of_config_line};
 ghost use Rattle.litmus_text.specs.declared.config_line.ConfigLine.TheVariants as config_lines;
+ghost use Rattle.litmus_text.specs.Form.{key, num};
 ghost use Rattle.script_text.specs.Line.{line_of_parts};
 ghost use Rattle.script_text.specs.Settings.{counts_of, init_line, lines_of_settings, text_of_lines};
 
+use super::line::write_number;
 use address_map::{Checked, PolicyKind, WordAddr};
 use mshr_file::MissKind;
 use std::fmt;
@@ -26,22 +28,21 @@ pub fn write_settings<W: Write>(config: &Checked, misses: MissKind, out: &mut W)
 fn write_counts<W: Write>(config: &Checked, out: &mut W) -> fmt::Result
     ensures { OnOk result (WritesInCalls W.write_str_gives out.old (text_of_lines (counts_of config.now)) out.new) }
 {
-    let cores = config.cores();
-    let slices = config.slices();
-    let lines = config.lines();
-    let sets = config.sets();
-    let ways = config.ways();
-    let mshrs = config.mshrs();
-    let targets = config.targets();
-    let writebacks = config.writebacks();
-    writeln!(out, "cores {cores}")?;
-    writeln!(out, "slices {slices}")?;
-    writeln!(out, "lines {lines}")?;
-    writeln!(out, "sets {sets}")?;
-    writeln!(out, "ways {ways}")?;
-    writeln!(out, "mshrs {mshrs}")?;
-    writeln!(out, "targets {targets}")?;
-    writeln!(out, "writebacks {writebacks}")
+    write_count("cores", config.cores(), out)?;
+    write_count("slices", config.slices(), out)?;
+    write_count("lines", config.lines(), out)?;
+    write_count("sets", config.sets(), out)?;
+    write_count("ways", config.ways(), out)?;
+    write_count("mshrs", config.mshrs(), out)?;
+    write_count("targets", config.targets(), out)?;
+    write_count("writebacks", config.writebacks(), out)
+}
+
+fn write_count<W: Write>(name: &str, count: usize, out: &mut W) -> fmt::Result
+    ensures { OnOk result (WritesInCalls W.write_str_gives out.old
+        (line_of_parts (key name.now ∷ num count ∷ [])) out.new) }
+{
+    write_number(name, count as u64, out)
 }
 
 fn write_policy<W: Write>(policy: PolicyKind, out: &mut W) -> fmt::Result

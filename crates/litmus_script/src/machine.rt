@@ -221,12 +221,19 @@ impl<F: MissFile> Machine<F> {
         Ok(stats)
     }
 
-    /// The slice of a line. Lines go to the slices in turn.
+    /// The slice of a line. Lines go to the slices in turn. Where there are 1, 2 or 4 slices no division is made, which
+    /// would cost more than much else of a call.
     pub fn slice_of(&self, line: LineAddr) -> usize
         ensures slice { result ≡ line.0 % self.now.config.slices }
         ensures known { result < length self.now.slices.items }
         ensures allowed { IsAllowed self.now.config }
     {
-        (line.0 % self.config.slices() as u64) as usize
+        let slices = self.config.slices() as u64;
+        match slices {
+            1 => 0,
+            2 => (line.0 % 2) as usize,
+            4 => (line.0 % 4) as usize,
+            _ => (line.0 % slices) as usize,
+        }
     }
 }

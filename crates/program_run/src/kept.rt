@@ -15,7 +15,6 @@ ghost use Rattle.program_run.specs.Run.{decision_on, delivery_of};
 
 use super::front::{lines_before, moved, next_delivery};
 use super::moves::decide;
-use super::slice::slice_of;
 use address_map::{CoreId, LineAddr, Request, SliceId};
 use litmus_script::{Issued, Machine};
 use mshr_file::MissFile;
@@ -192,7 +191,7 @@ impl Kept {
         ensures idle { LooksBehind machine.now.slices.items (line.0 % machine.now.config.slices) core line
             self.old.idle.items self.new.idle.items }
     {
-        let slice = slice_of(machine, line);
+        let slice = machine.slice_of(line);
         if slice >= self.idle.len() {
             return;
         }
@@ -235,7 +234,7 @@ impl Kept {
         ensures kept { Knows machine.old.config machine.new.slices.items self.new }
     {
         self.forget(core_of(pick));
-        deliver(machine, pick)
+        machine.deliver(pick)
     }
 
     pub fn hand<F: MissFile>(
@@ -255,15 +254,6 @@ impl Kept {
         self.forget(core);
         machine.hand(core, slice)
     }
-}
-
-fn deliver<F: MissFile>(machine: &mut Machine<F>, pick: Pick) -> Delivered
-    ensures config { machine.new.config ≡ machine.old.config }
-    ensures answered { IsAnswered ((line_of pick).0 % machine.old.config.slices) (slice_calls.Deliver pick)
-        (call_answers.Deliver result) machine.old.slices.items machine.new.slices.items }
-{
-    let slice = slice_of(machine, pick.line());
-    machine.slices[slice].deliver(pick)
 }
 
 // The core at the pick's channel. A block on its way home changes what no core has.

@@ -41,7 +41,6 @@ mod report;
 mod run;
 mod runner;
 mod script;
-mod slice;
 mod tally;
 mod tidy;
 mod usage;

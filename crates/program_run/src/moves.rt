@@ -20,7 +20,6 @@ ghost use Rattle.program_run.specs.Run.{
 
 use super::front::push_delivery;
 use super::kept::Kept;
-use super::slice::slice_of;
 use super::usage::Usage;
 use address_map::{CoreId, Request};
 use litmus_script::Machine;
@@ -271,7 +270,7 @@ pub(crate) fn decide<F: MissFile>(machine: &Machine<F>, core: CoreId, request: R
     requires { HasCore machine.now.config core }
     ensures { decision_on machine.now.config machine.now.slices.items core request ≡ Some result }
 {
-    let slice = slice_of(machine, request.word.line());
+    let slice = machine.slice_of(request.word.line());
     machine.slices[slice].decide(core, request)
 }
 

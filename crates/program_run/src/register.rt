@@ -5,7 +5,6 @@ ghost use Rattle.slice_core.specs.Facts.{targets_at};
 ghost use Rattle.program_run.specs.Register.{waits_in};
 ghost use Rattle.program_run.specs.Run.{is_closed};
 
-use super::slice::slice_of;
 use address_map::{CoreId, LineAddr};
 use litmus_script::Machine;
 use mshr_file::MissFile;
@@ -26,7 +25,7 @@ pub(crate) fn is_closed<F: MissFile>(
     if !is_first {
         return false;
     }
-    let slice = slice_of(machine, line);
+    let slice = machine.slice_of(line);
     is_unwaited(&machine.slices[slice], core, line)
 }
 

@@ -45,7 +45,6 @@ use super::moves::{Move, Place, Takes, Turn, list_moves, next_turn};
 use super::observer::Observer;
 use super::performed::{hand_out_all, list_performed};
 use super::register::is_closed;
-use super::slice::slice_of;
 use super::tally::Tally;
 use super::tidy::tidy;
 use super::usage::Usage;
@@ -265,7 +264,7 @@ impl<F: MissFile> Runner<F> {
             (Leads (Makes self.old.config programs.now (Move.Deliver pick)) self.old self.new) }
         ensures kept { OnOk result (Knows self.old.config self.new.slices kept.new) }
     {
-        let slice = SliceId(slice_of(&self.machine, pick.line()) as u8);
+        let slice = SliceId(self.machine.slice_of(pick.line()) as u8);
         let front = front_of(&self.machine, pick);
         let before = self.machine.log_of(slice).len();
         self.calls.push(Command::Deliver(pick))?;
@@ -392,7 +391,7 @@ fn left_in<F: MissFile>(machine: &Machine<F>, core: CoreId, line: LineAddr) -> O
     requires { HasCore machine.now.config core }
     ensures { result ≡ left_in (slice_get machine.now.slices.items (line.0 % machine.now.config.slices)) core }
 {
-    let slice = slice_of(machine, line);
+    let slice = machine.slice_of(line);
     machine.slices[slice].last_written_back(core)
 }
 
@@ -525,7 +524,7 @@ fn front_of<F: MissFile>(machine: &Machine<F>, pick: Pick) -> Option<Message>
     ensures { HasAt machine.now.slices.items ((line_of pick).0 % machine.now.config.slices)
         (λ state. result ≡ front_at state.view (local_at state.view.lines (line_of pick).0) (channel_of pick)) }
 {
-    let slice = slice_of(machine, pick.line());
+    let slice = machine.slice_of(pick.line());
     machine.slices[slice].front(pick)
 }
 

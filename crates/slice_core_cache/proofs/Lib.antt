@@ -6,3 +6,4 @@ pub mod Quiet
 pub mod Lines
 pub mod Found
 pub mod Evictions
+pub mod Settled

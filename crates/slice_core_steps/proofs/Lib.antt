@@ -9,3 +9,4 @@ pub mod NextLaws
 pub mod NextAnswers
 pub mod TurnLaws
 pub mod MadeLaws
+pub mod AskedLaws

@@ -5,6 +5,7 @@ use Rattle.slice_core_cache.specs.Steps.{after_change, after_settle}
 use Rattle.slice_core_plan.specs.Calls.{filled_by}
 use Rattle.slice_core_plan.specs.Steps.{asked_by}
 use Rattle.slice_core_plan.specs.View.{channels_at, cache_at}
+use Rattle.slice_core_steps.proofs.AskedLaws.{has_no_request, may_ask}
 use Rattle.slice_core_steps.proofs.ChangedLaws.{changed_stands}
 use Rattle.slice_core_steps.proofs.SettledLaws.{settles}
 use Rattle.slice_core_steps.proofs.StandsLaws.{read_cache}
@@ -21,6 +22,20 @@ settle_copy-asks-requires-clause-held g c =
     read_cache _ _ _ _ c.index_mut-cache.ensures.value (ap (λ p. p.view.caches) c.self.view_is) c.requires.core in
     rw (c.fill_copy.ensures, cache)
     (changed_stands (cache_at c.args.self.now.view c.args.core) c.args.local c.args.step.way _ c.requires.stands)
+
+pub drop_at-requires : goal.drop_at-requires
+drop_at-requires g c =
+    let here = has_no_request _ c.args.self.now c.args.local c.args.core c.self.view_is c.requires.delivers.shaped
+    c.requires.line c.requires.core c.requires.idle in
+    record { line = here.line; there = here.core_there }
+
+pub ask_to_write-requires : goal.ask_to_write-requires
+ask_to_write-requires g c =
+    let here = has_no_request _ c.args.self.now c.args.local c.args.core c.self.view_is c.requires.delivers.shaped
+    c.requires.line c.requires.core c.requires.idle in
+    let asks = may_ask c.self.inside.queues c.drop_at.new.self c.args.local c.args.core here.line here.core_there
+    here.idle c.drop_at.ensures in
+    record { line = asks.line; core = asks.core_there; idle = λ _. asks.idle; listed = asks.listed }
 
 pub returns : goal.returns
 returns g c =

@@ -1,7 +1,7 @@
 -- How a slice's first values, lines and cores are made, one after another.
 use Rattle.std.proofs.Common.{◌≡◌, ◌≢◌, ◌<◌, ◌+◌, ℕ, List, [], ◌∷◌, ◌++◌, length, get_or, set, inl, inr, sym, ◌∙◌}
-use Rattle.std.proofs.Common.{arith, below_more}
-use Rattle.std.proofs.lemmas.List.{get_or-set_same, get_or-set_other, get_or_append_left, get_or_push, length_push}
+use Rattle.std.proofs.Common.{ap, arith, below_more, take}
+use Rattle.std.proofs.lemmas.List.{get_or-set_same, get_or-set_other, get_or_append_left, get_or_push, length_push, take_more}
 use Rattle.std.proofs.lemmas.Bool.{cases_lt}
 use Rattle.address_map.specs.Locator.{Lines}
 use Rattle.address_map.specs.declared.block.Block.{Block}
@@ -63,3 +63,13 @@ caches-more c bound slice n caches before = record {
         rw same (get_or_push caches (new_cache c bound slice n) no_cache n before.count_is)
   ];
 }
+
+-- one more core's cache is copied
+pub copied-more : (caches copies more : List CoreCacheView) (i : ℕ) (cache copy : CoreCacheView) → i < length caches →
+    copies ≡ take i caches → cache ≡ get_or caches i cache → copy ≡ cache → more ≡ copies ++ copy ∷ [] →
+    more ≡ take (i + 1) caches
+copied-more caches copies more i cache copy within before read same pushed =
+    pushed
+    ∙ ap (λ (all : List CoreCacheView). all ++ copy ∷ []) before
+    ∙ ap (λ (last : CoreCacheView). take i caches ++ last ∷ []) (same ∙ read)
+    ∙ sym (take_more caches i cache within)

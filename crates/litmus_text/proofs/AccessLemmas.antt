@@ -1,7 +1,8 @@
 -- What words are that write an access.
-use Rattle.std.proofs.Common.{◌≡◌, ◌≢◌, ℕ, List, [], ◌∷◌, None, Some, arith, map, refl, rules}
+use Rattle.std.proofs.Common.{◌≡◌, ◌≢◌, ℕ, List, [], ◌∷◌, None, Some, Result, IfErr, arith, map, refl, rules}
 use Rattle.std.specs.Prelude.{codes}
 use Rattle.std.proofs.lemmas.Grind.{common_steps}
+use Rattle.std.proofs.lemmas.Result.{IfErr-weaker}
 use Rattle.address_map.specs.declared.request.Op.{Op}
 use Rattle.address_map.specs.declared.request.Op.TheVariants as ops
 use Rattle.litmus_text.specs.declared.parse.Access.{Access}
@@ -13,7 +14,7 @@ use Rattle.litmus_text.specs.Command.{parts_of_access, parts_of_op}
 use Rattle.litmus_text.specs.declared.fault.LineFault.{LineFault}
 use Rattle.litmus_text.specs.declared.fault.LineFault.TheVariants as line_faults
 use Rattle.litmus_text.specs.Form.{Writes, HasForm, IsFaultOf, IsFormFaultOf, one_part, two_parts, three_parts}
-use Rattle.litmus_text.proofs.FaultLemmas.{form_behind}
+use Rattle.litmus_text.proofs.FaultLemmas.{form_behind, form_refuses}
 use Rattle.litmus_text.proofs.FormLemmas.{HasForm-Writes}
 use Rattle.litmus_text.proofs.TableLemmas.{Each, named, unnamed}
 
@@ -57,6 +58,12 @@ no_access name rest other (ops.Store value) word w = other accesses.Store w.0
 no_access name rest other (ops.Add delta) word w = other accesses.Add w.0
 no_access name rest other (ops.Cas expect new) word w = other accesses.Cas w.0
 
+-- and write none
+pub no_access_written : (name : List ℕ) (rest : List (List ℕ)) → ((access : Access) → name ≢ name_of_access access)
+    → (op : Op) (word : ℕ) → Writes (name ∷ rest) (parts_of_op op word) → ⊥
+no_access_written name rest other op word w =
+    no_access name rest other op word (HasForm-Writes (name ∷ rest) (parts_of_op op word) w)
+
 -- .. so this is what is wrong with them
 pub nothing_fault : IsFormFaultOf parts_of_access [] line_faults.NotACommand
 unfolding IsFaultOf
@@ -66,6 +73,13 @@ pub unnamed_fault : (name : List ℕ) (rest : List (List ℕ)) → ((access : Ac
     → IsFormFaultOf parts_of_access (name ∷ rest) line_faults.NotACommand
 unfolding IsFaultOf
 unnamed_fault name rest other = λ access. no_access name rest other access.0 access.1
+
+-- words with a fault write none
+pub refused_access : {X T : Type 0} (text : X → List ℕ) (words : List X) (r : Result T LineFault)
+    → IfErr r (IsFormFaultOf parts_of_access (map text words))
+    → IfErr r (λ fault. (op : Op) (word : ℕ) → Writes (map text words) (parts_of_op op word) → ⊥)
+refused_access text words r =
+    IfErr-weaker r _ _ (λ fault wrong op word. form_refuses parts_of_access (map text words) fault wrong (op, word))
 
 -- ---- what is wrong behind a name is wrong with the access
 

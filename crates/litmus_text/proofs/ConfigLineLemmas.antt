@@ -1,6 +1,7 @@
 -- What is wrong behind the name of a field is wrong with the line that configures.
-use Rattle.std.proofs.Common.{◌≢◌, ℕ, Bool, List, [], ◌∷◌, arith, refl}
+use Rattle.std.proofs.Common.{◌≢◌, ℕ, Bool, List, [], ◌∷◌, Result, IfErr, arith, map, refl}
 use Rattle.std.proofs.lemmas.Grind.{common_steps}
+use Rattle.std.proofs.lemmas.Result.{IfErr-weaker}
 use Rattle.address_map.specs.declared.address.WordAddr.{WordAddr}
 use Rattle.address_map.specs.declared.config.PolicyKind.{PolicyKind}
 use Rattle.litmus_text.specs.declared.config_line.ConfigLine.{ConfigLine}
@@ -14,8 +15,8 @@ use Rattle.litmus_text.specs.declared.field.Field.TheVariants as fields
 use Rattle.mshr_file.specs.declared.kind.MissKind.{MissKind}
 use Rattle.litmus_text.specs.ConfigLine.{parts_of_config_line, parts_of_misses, parts_of_policy, parts_of_setting}
 use Rattle.litmus_text.specs.Field.{name_of}
-use Rattle.litmus_text.specs.Form.{HasForm, IsFaultOf, IsFormFaultOf, one_part, two_parts}
-use Rattle.litmus_text.proofs.FaultLemmas.{form_behind}
+use Rattle.litmus_text.specs.Form.{HasForm, IsFaultOf, IsFormFaultOf, Writes, one_part, two_parts}
+use Rattle.litmus_text.proofs.FaultLemmas.{form_behind, form_refuses}
 use Rattle.litmus_text.proofs.FormLemmas.{no_field}
 
 -- no words have the form of no line
@@ -36,6 +37,12 @@ pub unnamed_fault : (name : List ℕ) (rest : List (List ℕ)) → ((field : Fie
     → IsFormFaultOf parts_of_config_line (name ∷ rest) line_faults.NotACommand
 unfolding IsFaultOf
 unnamed_fault name rest other = no_field name rest other
+
+-- words with a fault write none
+pub refused_line : {X T : Type 0} (text : X → List ℕ) (words : List X) (r : Result T LineFault)
+    → IfErr r (IsFormFaultOf parts_of_config_line (map text words))
+    → IfErr r (λ fault. (line : ConfigLine) → Writes (map text words) (parts_of_config_line line) → ⊥)
+refused_line text words r = IfErr-weaker r _ _ (form_refuses parts_of_config_line (map text words))
 
 -- the lines of each field
 only_count : (count : Count) (words : List (List ℕ)) (P : ConfigLine → Type 0) →

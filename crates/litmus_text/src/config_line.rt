@@ -1,7 +1,10 @@
 ghost use Rattle.std.specs.Prelude.{◌≡◌, ◌↔◌, IsTrue, ◌≢◌, ℕ, Bool, IfOk, IfErr, IfSome, IfNone, OnOk, OnErr, map};
 ghost use Rattle.std.specs.Prelude.{[], ◌∷◌};
 ghost use Rattle.litmus_text.specs.Form.{Writes, IsFormFaultOf, key};
-ghost use Rattle.litmus_text.specs.ConfigLine.{name_of_misses, name_of_setting, parts_of_misses, parts_of_setting};
+ghost use Rattle.litmus_text.specs.ConfigLine.{name_of_misses, name_of_setting, parts_of_config_line, parts_of_misses};
+ghost use Rattle.litmus_text.specs.ConfigLine.{parts_of_setting};
+ghost use Rattle.litmus_text.specs.Field.{name_of};
+ghost use Rattle.litmus_text.specs.declared.config_line.ConfigLine.{ConfigLine};
 ghost use Rattle.mshr_file.specs.declared.kind.MissKind.{MissKind};
 
 use super::fault::LineFault;
@@ -28,9 +31,8 @@ pub enum ConfigLine {
 }
 
 impl ConfigLine {
-    ghost use Rattle.litmus_text.specs.ConfigLine.{IsLateFault, parts_of_config_line, after_config_line};
+    ghost use Rattle.litmus_text.specs.ConfigLine.{IsLateFault, after_config_line};
     ghost use Rattle.litmus_text.specs.Field.{IsFieldName};
-    ghost use Rattle.litmus_text.specs.declared.config_line.ConfigLine.{ConfigLine};
 
     /// Whether a line that begins with this word configures the machine, or would if it were well formed.
     pub fn is_named(name: &[u8]) -> bool
@@ -51,19 +53,9 @@ impl ConfigLine {
         let Some((name, rest)) = words.split_first() else {
             return Err(LineFault::NotACommand);
         };
-        let Some(field) = value_named(&FIELDS, name) else {
-            return Err(LineFault::NotACommand);
-        };
-        match field {
-            Field::Count(count) => Ok(ConfigLine::Count(count, one_number(rest)?)),
-            Field::Policy => Ok(ConfigLine::Policy(parse_policy(rest)?)),
-            Field::Misses => Ok(ConfigLine::Misses(misses(rest)?)),
-            Field::Exclusive => Ok(ConfigLine::Exclusive(setting(rest)?)),
-            Field::Init => {
-                let (word, value) = two_numbers(rest)?;
-                Ok(ConfigLine::Init(WordAddr(word), value))
-            }
-            Field::Counter => Ok(ConfigLine::Counter(WordAddr(one_number(rest)?))),
+        match value_named(&FIELDS, name) {
+            Some(field) => parse_called(field, rest),
+            None => Err(LineFault::NotACommand),
         }
     }
 
@@ -92,6 +84,28 @@ impl ConfigLine {
             ConfigLine::Counter(word) => settings.config.counters.push(word)?,
         }
         Ok(())
+    }
+}
+
+// The configuration line of this field whose other words these are.
+fn parse_called(field: Field, words: &[&[u8]]) -> Result<ConfigLine, LineFault>
+    ensures written { IfOk result
+        (λ line. Writes (name_of field ∷ map (λ w. w.now) words.now) (parts_of_config_line line)) }
+    ensures only { IfOk result (λ line. (other : ConfigLine)
+        → Writes (name_of field ∷ map (λ w. w.now) words.now) (parts_of_config_line other) → other ≡ line) }
+    ensures fault { IfErr result
+        (IsFormFaultOf parts_of_config_line (name_of field ∷ map (λ w. w.now) words.now)) }
+{
+    match field {
+        Field::Count(count) => Ok(ConfigLine::Count(count, one_number(words)?)),
+        Field::Policy => Ok(ConfigLine::Policy(parse_policy(words)?)),
+        Field::Misses => Ok(ConfigLine::Misses(misses(words)?)),
+        Field::Exclusive => Ok(ConfigLine::Exclusive(setting(words)?)),
+        Field::Init => {
+            let (word, value) = two_numbers(words)?;
+            Ok(ConfigLine::Init(WordAddr(word), value))
+        }
+        Field::Counter => Ok(ConfigLine::Counter(WordAddr(one_number(words)?))),
     }
 }
 

@@ -2,6 +2,7 @@
 ghost use Rattle.std.specs.Prelude.{◌≡◌, ◌≢◌, ℕ, ◌∷◌, codes, IfOk, IfErr, IfSome, IfNone, map};
 ghost use Rattle.address_map.specs.declared.config.Config.{Config};
 ghost use Rattle.address_map.specs.declared.request.Op.{Op};
+ghost use Rattle.litmus_text.specs.Access.{name_of_access};
 ghost use Rattle.litmus_text.specs.Command.{IsFaultOfCommand, IsRead, ReadsAs, parts_of_access, parts_of_op};
 ghost use Rattle.litmus_text.specs.Form.{Writes, IsFormFaultOf};
 ghost use Rattle.litmus_text.specs.Verb.{name_of_verb};
@@ -221,7 +222,6 @@ impl Access {
 }
 
 /// The access that words write, by its name, its word and what else it takes.
-#[tactic(auto, unfolding(crate::specs::Command::parts_of_op))]
 pub fn parse_access(words: &[&[u8]]) -> Result<(Op, WordAddr), LineFault>
     ensures written { IfOk result (λ p. Writes (map (λ w. w.now) words.now) (parts_of_op p.0 p.1.0)) }
     ensures refused { IfErr result (λ fault. (op : Op) (word : ℕ)
@@ -231,24 +231,35 @@ pub fn parse_access(words: &[&[u8]]) -> Result<(Op, WordAddr), LineFault>
     let Some((name, rest)) = words.split_first() else {
         return Err(LineFault::NotACommand);
     };
-    let Some(access) = value_named(&ACCESSES, name) else {
-        return Err(LineFault::NotACommand);
-    };
+    match value_named(&ACCESSES, name) {
+        Some(access) => parse_access_called(access, rest),
+        None => Err(LineFault::NotACommand),
+    }
+}
+
+// The access of this name whose other words these are.
+#[tactic(auto, unfolding(crate::specs::Command::parts_of_op))]
+fn parse_access_called(access: Access, words: &[&[u8]]) -> Result<(Op, WordAddr), LineFault>
+    ensures written { IfOk result
+        (λ p. Writes (name_of_access access ∷ map (λ w. w.now) words.now) (parts_of_op p.0 p.1.0)) }
+    ensures fault { IfErr result
+        (IsFormFaultOf parts_of_access (name_of_access access ∷ map (λ w. w.now) words.now)) }
+{
     match access {
         Access::Load => {
-            let word = one_number(rest)?;
+            let word = one_number(words)?;
             Ok((Op::Load, WordAddr(word)))
         }
         Access::Store => {
-            let (word, value) = two_numbers(rest)?;
+            let (word, value) = two_numbers(words)?;
             Ok((Op::Store(value), WordAddr(word)))
         }
         Access::Add => {
-            let (word, delta) = two_numbers(rest)?;
+            let (word, delta) = two_numbers(words)?;
             Ok((Op::Add(delta), WordAddr(word)))
         }
         Access::Cas => {
-            let (word, expect, new) = three_numbers(rest)?;
+            let (word, expect, new) = three_numbers(words)?;
             Ok((Op::Cas { expect, new }, WordAddr(word)))
         }
     }

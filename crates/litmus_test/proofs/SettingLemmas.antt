@@ -1,5 +1,5 @@
 -- What is wrong with words that begin as a setting.
-use Rattle.std.proofs.Common.{◌≡◌, ◌≢◌, ℕ, List, [], ◌∷◌, refl, subst}
+use Rattle.std.proofs.Common.{◌≢◌, ℕ, List, [], ◌∷◌, refl, subst}
 use Rattle.std.proofs.lemmas.Bool.{false≢true}
 use Rattle.std.specs.Str.{bytes_eq}
 use Rattle.std.specs.Prelude.{codes, IsTrue}

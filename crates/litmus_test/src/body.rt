@@ -1,4 +1,4 @@
-ghost use Rattle.std.specs.Prelude.{◌≡◌, ◌==◌, ◌<◌, ◌≤◌, ◌/◌, ◌↔◌, IfErr, IfSome, IsTrue, OnErr, OnOk, length};
+ghost use Rattle.std.specs.Prelude.{◌≡◌, ◌==◌, ◌⊎◌, ◌<◌, ◌≤◌, ◌/◌, ◌↔◌, IfErr, IfSome, IsTrue, OnErr, OnOk, length};
 ghost use Rattle.std.specs.Prelude.{unwrap_or, vec_len};
 ghost use Rattle.std.specs.List.{list_all, list_any, position};
 ghost use Rattle.std.specs.Str.{bytes_eq};
@@ -57,23 +57,51 @@ impl<'a> LitmusTest<'a> {
     {
         match line {
             Line::Thread(core) => self.may_begin(*core),
-            Line::Load(word, name) | Line::Add(word, _, name) => {
-                self.may_access(*word)?;
-                self.may_name(name)
-            }
-            Line::Store(word, _) => {
-                self.may_access(*word)?;
-                self.may_overwrite(*word)
-            }
-            Line::Cas { word, name, .. } => {
-                self.may_access(*word)?;
-                self.may_name(name)?;
-                self.may_overwrite(*word)
-            }
+            Line::Load(word, name) | Line::Add(word, _, name) => self.may_read(*word, name),
+            Line::Store(word, _) => self.may_store(*word),
+            Line::Cas { word, name, .. } => self.may_swap(*word, name),
             Line::Settle => self.may_step(),
             Line::Evict(line) => self.may_evict(*line),
             Line::Forbid(claims) => self.may_forbid(claims.as_slice()),
         }
+    }
+
+    // What loads and adds need.
+    fn may_read(&self, word: u64, name: &[u8]) -> Result<(), LineFault>
+        ensures may { OnOk result (MayAccess (said_by self.now) word × MayName (said_by self.now) name.now) }
+        ensures refused { OnErr result (¬ (MayAccess (said_by self.now) word × MayName (said_by self.now) name.now)) }
+        ensures fault { IfErr result (λ fault. HasAccessFault (said_by self.now) word fault
+            ⊎ (MayAccess (said_by self.now) word × HasNameFault (said_by self.now) name.now fault)) }
+    {
+        self.may_access(word)?;
+        self.may_name(name)
+    }
+
+    // What a store needs.
+    fn may_store(&self, word: u64) -> Result<(), LineFault>
+        ensures may { OnOk result (MayAccess (said_by self.now) word × MayOverwrite (said_by self.now) word) }
+        ensures refused { OnErr result (¬ (MayAccess (said_by self.now) word × MayOverwrite (said_by self.now) word)) }
+        ensures fault { IfErr result (λ fault. HasAccessFault (said_by self.now) word fault
+            ⊎ (MayAccess (said_by self.now) word × HasCounterFault (said_by self.now) word fault)) }
+    {
+        self.may_access(word)?;
+        self.may_overwrite(word)
+    }
+
+    // What a compare-and-swap needs.
+    fn may_swap(&self, word: u64, name: &[u8]) -> Result<(), LineFault>
+        ensures may { OnOk result (MayAccess (said_by self.now) word × MayName (said_by self.now) name.now
+            × MayOverwrite (said_by self.now) word) }
+        ensures refused { OnErr result (¬ (MayAccess (said_by self.now) word × MayName (said_by self.now) name.now
+            × MayOverwrite (said_by self.now) word)) }
+        ensures fault { IfErr result (λ fault. HasAccessFault (said_by self.now) word fault
+            ⊎ (MayAccess (said_by self.now) word × HasNameFault (said_by self.now) name.now fault)
+            ⊎ (MayAccess (said_by self.now) word × MayName (said_by self.now) name.now
+            × HasCounterFault (said_by self.now) word fault)) }
+    {
+        self.may_access(word)?;
+        self.may_name(name)?;
+        self.may_overwrite(word)
     }
 
     #[tactic(auto, unfolding(crate::specs::Text::said_by))]

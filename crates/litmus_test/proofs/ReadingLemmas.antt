@@ -376,3 +376,14 @@ at_no_line holds text_faults.NoMemory at = tt
 at_no_line holds (text_faults.Line n fault) at = absurd at
 at_no_line holds (text_faults.Config error) at = tt
 at_no_line holds text_faults.CannotWrite at = tt
+
+-- where the line that the words write may not come next, the words write none that may
+pub no_next : (version : Version) (said : Said) (words : List (List ℕ)) (line : Line)
+    → ((other : Line) → WritesLine version words other → other ≡ line) → (fault : TextFault)
+    → IsNoMemoryOr (¬ MayFollow said line) fault → IsNoMemoryOr (IsNoNextLine version said words) fault
+no_next version said words line only text_faults.NoMemory wrong = tt
+no_next version said words line only (text_faults.Line n fault) wrong =
+    λ other written may. wrong (subst (MayFollow said) (only other written) may)
+no_next version said words line only (text_faults.Config error) wrong =
+    λ other written may. wrong (subst (MayFollow said) (only other written) may)
+no_next version said words line only text_faults.CannotWrite wrong = wrong

@@ -1,4 +1,4 @@
-use Rattle.litmus_test.proofs.ReadingLemmas.{begun_line, on_ok_two, reading_line}
+use Rattle.litmus_test.proofs.ReadingLemmas.{begun_line, no_next, on_ok_two, reading_line}
 use Rattle.std.proofs.Common.{subst, sym}
 use Rattle.litmus_test.specs.Reading.{IsBegun, IsReading}
 use Rattle.litmus_test.specs.Line.{line_of}
@@ -21,6 +21,13 @@ returns-in-Ok-clause-begun c =
     on_ok_two c.take.result _ _ _
     (λ may said. subst IsBegun (sym said) (begun_line (said_by c.args.self.now) c.in-Ok.line may))
     c.take.ensures.may c.take.ensures.said
+
+pub returns-in-Ok-clause-refused : goal.returns-in-Ok-clause-refused
+returns-in-Ok-clause-refused c =
+    IfErr-weaker c.take.result _ _
+    (no_next c.args.version (said_by c.args.self.now) _ (line_of c.in-Ok.line)
+    (rw c.as_slice-words.ensures.value at c.in-Ok.ensures.reads.only))
+    c.take.ensures.refused
 
 pub returns-in-Ok-clause-fault : goal.returns-in-Ok-clause-fault
 returns-in-Ok-clause-fault c =

@@ -8,7 +8,7 @@ pub returns-clause-kept : goal.returns-clause-kept
 returns-clause-kept g c =
     let config = c.args.machine.now.config in
     let old = c.args.machine.now.slices.items in
-    let new = c.deliver.new.machine.slices.items in
+    let new = c.deliver.new.self.slices.items in
     let others = delivery_leaves config _ c.args.pick c.deliver.result old new c.deliver.ensures.answered in
     record {
       decided = c.forget.ensures.decided config old new c.requires.decided

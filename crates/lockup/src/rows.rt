@@ -70,7 +70,11 @@ fn run_input<R>(rt: &R, people: People, input: &[u8], sweep: &Sweep<'_>, rows: R
 where
     R: Files + Input + AllocGlobal + Print + Eprint + Threads + Sync,
 {
-    let form = if rows.json { RowForm::Json } else { RowForm::Csv };
+    let form = if rows.json {
+        RowForm::Json
+    } else {
+        RowForm::Csv
+    };
     match print_rows(rt, people, input, sweep, form) {
         Ok(()) => {
             let settings = sweep.settings.as_slice();

@@ -1,5 +1,6 @@
 -- What a memory of events keeps.
-use Rattle.std.specs.Prelude.{◌≡◌, ℕ, Bool, false, ◌+◌, ◌*◌, ◌<◌, List, slice_index_or}
+use Rattle.std.specs.Prelude.{◌≡◌, ℕ, Bool, ◌+◌, ◌*◌, ◌<◌, List, slice_index_or}
+use Rattle.address_map.specs.CoreSet.{has}
 use Rattle.miss_cause.specs.Cause.{fate_of, is_written_since}
 use Rattle.miss_cause.specs.declared.cause.Event.{Event}
 use Rattle.miss_cause.specs.declared.cause.Event.TheVariants as events
@@ -12,7 +13,7 @@ abbrev pub fate_in : Memory → ℕ → ℕ → Fate
 fate_in memory core line = slice_index_or memory.fates.items (line * 64 + core) fates.Never
 
 abbrev pub written_in : Memory → ℕ → ℕ → Bool
-written_in memory core word = slice_index_or memory.written.items (word * 64 + core) false
+written_in memory core word = has (slice_index_or memory.written.items word 0) core
 
 -- the memory has a place for what the event names
 abbrev pub HasPlace : ℕ → Event → Type 0

@@ -4,7 +4,7 @@
 //! writes a word. [`Memory::cause`] names the [`Cause`] of a miss, which is a function of the events alone
 //! (specs/Cause.antt).
 //!
-//! Only [`Memory::new`] takes memory: 576 bytes for each line.
+//! Only [`Memory::new`] takes memory: 128 bytes for each line.
 #![tactic(auto)]
 
 pub use cause::{Cause, Event};

@@ -5,7 +5,7 @@ ghost use Rattle.miss_cause.specs.declared.cause.Event.{Event};
 ghost use Rattle.miss_cause.specs.declared.cause.Fate.TheVariants as fates;
 
 use super::cause::{Cause, Event, Fate};
-use address_map::{CoreId, LineAddr, WordAddr};
+use address_map::{CoreId, CoreSet, LineAddr, WordAddr};
 use std::alloc::{AllocError, Global};
 
 /// What has to be known of the events to tell the cause of each miss that may come, of 64 cores.
@@ -14,17 +14,18 @@ pub struct Memory {
     lines: usize,
     /// For each line what became last of each core's copy.
     fates: Vec<Fate>,
-    /// For each word, whether a core other than this one wrote it since this one lost the line.
-    written: Vec<bool>,
+    /// For each word, the cores for which it was written: by another core, since they lost the line.
+    written: Vec<CoreSet>,
     ghost few: { lines ≤ 65536 },
     ghost each_line: { vec_len fates ≡ lines * 64 },
-    ghost each_word: { vec_len written ≡ lines * 512 },
+    ghost each_word: { vec_len written ≡ lines * 8 },
 }
 
 impl Memory {
     ghost use Rattle.miss_cause.specs.Memory.{HasPlace, Recalls, fate_in, written_in};
 
     /// Nothing happened to so many lines.
+    #[tactic(auto, using(crate::proofs::Sets::word_sets))]
     pub fn new(alloc: Global, lines: usize) -> Result<Self, AllocError>
         requires { lines ≤ 65536 }
         ensures lines { IfOk result (λ memory. memory.lines ≡ lines) }
@@ -33,7 +34,7 @@ impl Memory {
         Ok(Memory {
             lines,
             fates: vec![in alloc; Fate::Never; lines * 64]?,
-            written: vec![in alloc; false; lines * 512]?,
+            written: vec![in alloc; CoreSet::none(); lines * 8]?,
         })
     }
 
@@ -100,20 +101,9 @@ impl Memory {
         self.fates[place] = fate;
     }
 
-    fn set_written(&mut self, core: usize, word: usize, is_written: bool)
-        requires core { core < 64 }
-        requires word { word < self.old.lines * 8 }
-        ensures lines { self.new.lines ≡ self.old.lines }
-        ensures fates { self.new.fates ≡ self.old.fates }
-        ensures written { (c w : ℕ) → c < 64 → written_in self.new c w
-            ≡ (if core == c && word == w then is_written else written_in self.old c w) }
-    {
-        self.written[word * 64 + core] = is_written;
-    }
-
     // The core lost the line: no write of its words came since.
+    #[tactic(auto, using(crate::proofs::Sets::word_sets))]
     fn forget_writes(&mut self, core: CoreId, line: LineAddr)
-        requires core { core.0 < 64 }
         requires line { line.0 < self.old.lines }
         ensures lines { self.new.lines ≡ self.old.lines }
         ensures fates { self.new.fates ≡ self.old.fates }
@@ -121,11 +111,12 @@ impl Memory {
             ≡ (if core.0 == c && line.0 == w / 8 then false else written_in self.old c w) }
     {
         for offset in 0..8 {
-            self.set_written(core.0 as usize, line.0 as usize * 8 + offset, false);
+            self.written[line.0 as usize * 8 + offset].remove(core);
         }
     }
 
-    // All cores but this one see the word written by another.
+    // All cores but this one see the word written by another, and this one sees what it saw.
+    #[tactic(auto, using(crate::proofs::Sets::word_sets))]
     fn write(&mut self, core: CoreId, word: WordAddr)
         requires word { word.0 < self.old.lines * 8 }
         ensures lines { self.new.lines ≡ self.old.lines }
@@ -133,11 +124,10 @@ impl Memory {
         ensures written { (c w : ℕ) → c < 64 → written_in self.new c w
             ≡ (if not (core.0 == c) && word.0 == w then true else written_in self.old c w) }
     {
-        for other in 0..64 {
-            if other != core.0 as usize {
-                self.set_written(other, word.0 as usize, true);
-            }
-        }
+        let all = CoreSet::from_bits(u64::MAX);
+        let others = all.without(core);
+        let set = &mut self.written[word.0 as usize];
+        *set = if set.has(core) { all } else { others };
     }
 
     fn fate(&self, core: CoreId, line: LineAddr) -> Fate
@@ -149,11 +139,10 @@ impl Memory {
     }
 
     fn is_written(&self, core: CoreId, word: WordAddr) -> bool
-        requires core { core.0 < 64 }
         requires word { word.0 < self.now.lines * 8 }
         ensures { result ≡ written_in self.now core.0 word.0 }
     {
-        self.written[word.0 as usize * 64 + core.0 as usize]
+        self.written[word.0 as usize].has(core)
     }
 
     /// Whether the core has the line: it took it last.

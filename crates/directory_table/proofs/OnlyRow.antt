@@ -36,13 +36,8 @@ same_sets one other small small_too same =
     ])
 
 is_sent_inv-has : (x : DirSends) (core : ℕ) → is_sent_inv x core ≡ has (invalidated_by x) core
-is_sent_inv-has dir_sends.Nothing core = sym (has-zero core)
-is_sent_inv-has (dir_sends.Data acks) core = sym (has-zero core)
-is_sent_inv-has dir_sends.DataE core = sym (has-zero core)
 is_sent_inv-has (dir_sends.DataAndInv acks invalidated) core = refl
-is_sent_inv-has (dir_sends.FwdGetS to) core = sym (has-zero core)
-is_sent_inv-has (dir_sends.FwdGetM to) core = sym (has-zero core)
-is_sent_inv-has dir_sends.PutAck core = sym (has-zero core)
+is_sent_inv-has _ core = sym (has-zero core)
 
 -- ---- what is sent is known from these facts of it
 
@@ -64,13 +59,9 @@ sends_told x =
     (invalidated_by x) (forwarded_to x)
 
 sends_from-told : (x : DirSends) → AwaitsInvalidated x → sends_told x ≡ x
-sends_from-told dir_sends.Nothing counted = refl
 sends_from-told (dir_sends.Data acks) counted = ap (λ n. dir_sends.Data n) (sym counted)
-sends_from-told dir_sends.DataE counted = refl
 sends_from-told (dir_sends.DataAndInv acks cores) counted = ap (λ n. dir_sends.DataAndInv n cores) (sym counted)
-sends_from-told (dir_sends.FwdGetS owner) counted = refl
-sends_from-told (dir_sends.FwdGetM owner) counted = refl
-sends_from-told dir_sends.PutAck counted = refl
+sends_from-told _ counted = refl
 
 same_told : (x y : DirSends) → acknowledges_put x ≡ acknowledges_put y → sends_inv x ≡ sends_inv y
     → sends_only_copy x ≡ sends_only_copy y → sends_data x ≡ sends_data y
@@ -123,30 +114,19 @@ to_by (Some to) owner false g m get current owned named =
 
 reads_ask : (event : DirEvent) → is_some (reader event) ≡ true → is_some (getter event) ≡ true
 reads_ask (dir_events.GetS core) is = refl
-reads_ask (dir_events.GetM core) is = apart is
-reads_ask (dir_events.PutS core) is = apart is
-reads_ask (dir_events.PutM core) is = apart is
-reads_ask dir_events.DataHome is = apart is
+reads_ask _ is = apart is
 
 writes_ask : (event : DirEvent) → is_some (writer event) ≡ true → is_some (getter event) ≡ true
 writes_ask (dir_events.GetM core) is = refl
-writes_ask (dir_events.GetS core) is = apart is
-writes_ask (dir_events.PutS core) is = apart is
-writes_ask (dir_events.PutM core) is = apart is
-writes_ask dir_events.DataHome is = apart is
+writes_ask _ is = apart is
 
 no_reader : (event : DirEvent) → is_some (writer event) ≡ true → is_some (reader event) ≡ false
-no_reader (dir_events.GetM core) is = refl
 no_reader (dir_events.GetS core) is = apart is
-no_reader (dir_events.PutS core) is = refl
-no_reader (dir_events.PutM core) is = refl
-no_reader dir_events.DataHome is = refl
+no_reader _ is = refl
 
 current-unowned : (state : DirState) → (is_idle state || is_shared state) ≡ true → is_modified state ≡ false
-current-unowned dir_states.I is = refl
-current-unowned dir_states.S is = refl
 current-unowned dir_states.M is = apart is
-current-unowned dir_states.S_D is = refl
+current-unowned _ is = refl
 
 first : (o : Option CoreId) (P Q : CoreId → Type 0) → IfSome o (λ to. P to × Q to) → IfSome o P
 first None P Q both = both
@@ -159,12 +139,7 @@ owned-some (Some to) owner named is = ap (λ o. is_some o) named
 forwarded_either : (x : DirSends)
     → is_some (forwarded_to x) ≡ (is_some (forwarded_get_s x) || is_some (forwarded_get_m x))
 forwarded_either dir_sends.Nothing = refl
-forwarded_either (dir_sends.Data acks) = refl
-forwarded_either dir_sends.DataE = refl
-forwarded_either (dir_sends.DataAndInv acks invalidated) = refl
-forwarded_either (dir_sends.FwdGetS to) = refl
-forwarded_either (dir_sends.FwdGetM to) = refl
-forwarded_either dir_sends.PutAck = refl
+forwarded_either _ = refl
 
 or_right : (one other : Bool) → other ≡ true → (one || other) ≡ true
 or_right true other is = refl
@@ -225,10 +200,8 @@ given_up_or_kept true o owner kept given_up = given_up refl
 given_up_or_kept false o owner kept given_up = kept refl
 
 not_both : {P : Type 0} (state : DirState) → is_awaited state ≡ true → is_modified state ≡ true → P
-not_both dir_states.I awaited modified = apart awaited
-not_both dir_states.S awaited modified = apart awaited
-not_both dir_states.M awaited modified = apart awaited
 not_both dir_states.S_D awaited modified = apart modified
+not_both _ awaited modified = apart awaited
 
 -- the row that goes on to this
 abbrev row_to : DirState → Option CoreId → ℕ → DirSends → Bool → DirRow
@@ -245,18 +218,12 @@ read-granted : (state : DirState) (exclusive : Bool) (owner : Option CoreId) (sh
     (next : DirState) (shares : ℕ) (sent : DirSends) (writes : Bool) → IsKept state owner sharers (dir_events.GetS core)
     → Goes exclusive state owner sharers (dir_events.GetS core) next None shares sent writes
     → None ≡ (if exclusive && is_idle state then Some core else None)
+read-granted _ false owner sharers core next shares sent writes kept row = refl
 read-granted dir_states.I true owner sharers core next shares sent writes kept row =
-    let nobody = has-zero core.0 in
-    let none = ap (λ set. has set core.0) (kept.sharers_in_s.none refl) ∙ nobody in
+    let none = ap (λ set. has set core.0) (kept.sharers_in_s.none refl) ∙ has-zero core.0 in
     let shared = row.shared core.0 kept.core ∙ none in
     apart (sym (ap (λ b. b || false) shared) ∙ row.known kept.core)
-read-granted dir_states.I false owner sharers core next shares sent writes kept row = refl
-read-granted dir_states.S true owner sharers core next shares sent writes kept row = refl
-read-granted dir_states.S false owner sharers core next shares sent writes kept row = refl
-read-granted dir_states.M true owner sharers core next shares sent writes kept row = refl
-read-granted dir_states.M false owner sharers core next shares sent writes kept row = refl
-read-granted dir_states.S_D true owner sharers core next shares sent writes kept row = refl
-read-granted dir_states.S_D false owner sharers core next shares sent writes kept row = refl
+read-granted _ true owner sharers core next shares sent writes kept row = refl
 
 -- An owner after a read was made one by it.
 read-owner : (exclusive : Bool) (state : DirState) (owner : Option CoreId) (sharers : ℕ) (core : CoreId)

@@ -1,7 +1,7 @@
 -- The laws hold in each cell of the table.
 use Rattle.std.proofs.Common.{◌≡◌, ℕ, ◌+◌, ◌==◌, ◌<◌, ◌≤◌, ◌&&◌, ◌||◌, Bool, true, false, not, if◌then◌else◌, Option}
 use Rattle.std.proofs.Common.{Some, refl, ap, ◌∙◌, rules, arith, inl, inr, IsTrue}
-use Rattle.std.proofs.lemmas.Bool.{cases_lt, eq-eqb, ne_eqb}
+use Rattle.std.proofs.lemmas.Bool.{cases_lt, cond_both, eq-eqb, ne_eqb}
 use Rattle.std.proofs.lemmas.Bool.Decides.{eqb_tells}
 use Rattle.address_map.specs.declared.address.CoreId.{CoreId}
 use Rattle.address_map.specs.CoreSet.{has, only, with, without}
@@ -116,14 +116,11 @@ set-without set core small other past =
 set-none : IsSet 0
 set-none other past = has-zero other
 
--- The sets of each cell have only cores that there can be.
+-- The sets of each cell have only cores that there can be. The last line stands for each cell that is left.
 pub cell-sets : (exclusive : Bool) (state : DirState) (owner : Option CoreId) (sharers : ℕ) (event : DirEvent)
     → IsSet sharers → HasSets (cell exclusive state owner sharers event)
 cell-sets true dir_states.I owner sharers (dir_events.GetS core) small = (small, set-none)
 cell-sets false dir_states.I owner sharers (dir_events.GetS core) small = (set-only core.0, set-none)
-cell-sets exclusive dir_states.I owner sharers (dir_events.GetM core) small = (small, set-none)
-cell-sets exclusive dir_states.I owner sharers (dir_events.PutS core) small = (small, set-none)
-cell-sets exclusive dir_states.I owner sharers (dir_events.PutM core) small = (small, set-none)
 cell-sets exclusive dir_states.S owner sharers (dir_events.GetS core) small = (set-with sharers core.0 small, set-none)
 cell-sets exclusive dir_states.S owner sharers (dir_events.GetM core) small =
     (set-none, set-without sharers core.0 small)
@@ -132,28 +129,16 @@ cell-sets exclusive dir_states.S owner sharers (dir_events.PutS core) small =
 cell-sets exclusive dir_states.S owner sharers (dir_events.PutM core) small =
     (set-without sharers core.0 small, set-none)
 cell-sets exclusive dir_states.M (Some from) sharers (dir_events.GetS core) small =
-    elim (eqb_tells from.0 core.0) [
-      | inl own ↦ rw own.0 _
-      | inr other ↦ rw other.0 (set-with (only from.0) core.0 (set-only from.0), set-none)
-    ]
+    cond_both (from.0 == core.0) _ _ HasSets (λ own. tt)
+    (λ other. (set-with (only from.0) core.0 (set-only from.0), set-none))
 cell-sets exclusive dir_states.M (Some from) sharers (dir_events.GetM core) small =
-    elim (eqb_tells from.0 core.0) [
-      | inl own ↦ rw own.0 _
-      | inr other ↦ rw other.0 (small, set-none)
-    ]
+    cond_both (from.0 == core.0) _ _ HasSets (λ own. tt) (λ other. (small, set-none))
 cell-sets exclusive dir_states.M (Some from) sharers (dir_events.PutS core) small =
-    elim (eqb_tells from.0 core.0) [
-      | inl own ↦ rw own.0 _
-      | inr other ↦ rw other.0 (small, set-none)
-    ]
+    cond_both (from.0 == core.0) _ _ HasSets (λ own. tt) (λ other. (small, set-none))
 cell-sets exclusive dir_states.M (Some from) sharers (dir_events.PutM core) small =
-    elim (eqb_tells from.0 core.0) [
-      | inl own ↦ rw own.0 (small, set-none)
-      | inr other ↦ rw other.0 (small, set-none)
-    ]
+    cond_both (from.0 == core.0) _ _ HasSets (λ own. (small, set-none)) (λ other. (small, set-none))
 cell-sets exclusive dir_states.S_D owner sharers (dir_events.PutS core) small =
     (set-without sharers core.0 small, set-none)
 cell-sets exclusive dir_states.S_D owner sharers (dir_events.PutM core) small =
     (set-without sharers core.0 small, set-none)
-cell-sets exclusive dir_states.S_D owner sharers dir_events.DataHome small = (small, set-none)
-cell-sets _ _ _ _ _ small = search rules
+cell-sets _ _ _ _ _ small = search (rules, small, set-none)

@@ -33,17 +33,7 @@ state_told s =
 
 state_from-told : (s : CopyState) → state_told s ≡ s
 state_from-told copy_states.I = refl
-state_from-told copy_states.IS_D = refl
-state_from-told copy_states.IM_AD = refl
-state_from-told copy_states.IM_A = refl
-state_from-told copy_states.S = refl
-state_from-told copy_states.SM_AD = refl
-state_from-told copy_states.SM_A = refl
-state_from-told copy_states.M = refl
-state_from-told copy_states.MI_A = refl
-state_from-told copy_states.SI_A = refl
-state_from-told copy_states.II_A = refl
-state_from-told copy_states.E = refl
+state_from-told _ = refl
 
 -- the message of which these facts are told
 abbrev sends_from : (to_requester home acknowledgement get get_m put put_m : Bool) → CacheSends
@@ -64,13 +54,7 @@ sends_told x =
 
 sends_from-told : (x : CacheSends) → sends_told x ≡ x
 sends_from-told cache_sends.Nothing = refl
-sends_from-told cache_sends.GetS = refl
-sends_from-told cache_sends.GetM = refl
-sends_from-told cache_sends.PutS = refl
-sends_from-told cache_sends.PutM = refl
-sends_from-told cache_sends.InvAckToRequester = refl
-sends_from-told cache_sends.DataToRequester = refl
-sends_from-told cache_sends.DataToRequesterAndHome = refl
+sends_from-told _ = refl
 
 same_told : (a b : CopyState) → is_readable a ≡ is_readable b → is_writer a ≡ is_writer b → is_clean a ≡ is_clean b
     → is_waiting a ≡ is_waiting b → awaits_data a ≡ awaits_data b → asked_to_write a ≡ asked_to_write b

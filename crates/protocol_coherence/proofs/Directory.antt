@@ -1,7 +1,7 @@
 -- Each row of the directory's table keeps the line coherent.
 use Rattle.std.proofs.Common.{◌≡◌, ℕ, ◌<◌, ◌≤◌, ◌==◌, Bool, true, false, refl, sym, subst, Option, Some, None}
 use Rattle.std.proofs.Common.{if◌then◌else◌, true≢false, IsTrue}
-use Rattle.std.proofs.lemmas.Bool.{eq-eqb, eqb-false, eqb-true, ne_eqb}
+use Rattle.std.proofs.lemmas.Bool.{cond_both, eq-eqb, eqb-false, eqb-true, ne_eqb}
 use Rattle.address_map.specs.declared.address.CoreId.{CoreId}
 use Rattle.address_map.specs.declared.block.Block.{Block}
 use Rattle.address_map.specs.CoreSet.{without}
@@ -78,132 +78,85 @@ home_comes cores roles s true part coherent e = go (s == 0) refl
     go true e = (roles, home_idle cores roles s part coherent e)
     go false e = (roles, home_shared cores roles s part coherent)
 
--- A row that asks whether the request is the owner's.
-choose : (P : DirRow → Type 0) (b : Bool) (own other : DirRow) → (b ≡ true → P own) → (b ≡ false → P other)
-    → P (if b then own else other)
-choose P true own other yes_own yes_other = yes_own refl
-choose P false own other yes_own yes_other = yes_other refl
-
 same_core : (a b : ℕ) → (a == b) ≡ true → (b == a) ≡ true
 same_core a b e = eq-eqb b a (sym (eqb-true a b e))
 
 other_core : (a b : ℕ) → (a == b) ≡ false → (b == a) ≡ false
 other_core a b e = ne_eqb b a (λ same. eqb-false a b e (sym same))
 
--- The rows with the exclusive state, by the directory's state and the request.
-rows_on : (cores : ℕ) (roles : Roles) (directory : DirState) (owner : Option CoreId) (s : ℕ) (home : Bool)
-    (part : ℕ → Part) (event : DirEvent) → cores ≤ 64 → IsCoherent cores (line_at directory owner s home part) roles
-    → IsWithin cores event → IsTrue (is_asked_for (line_at directory owner s home part) event)
-    → IsKeptBy cores (line_at directory owner s home part) event (cell true directory owner s event)
-rows_on cores roles dir_states.I None s home part (dir_events.GetS core) most coherent within wants =
-    (record roles { keeper = core.0 }, read_alone cores roles s home part core coherent within wants)
-rows_on cores roles dir_states.I (Some owner) s home part event most coherent within asks = absurd
-    (true≢false coherent.entry.in_m)
-rows_on cores roles dir_states.S (Some owner) s home part event most coherent within asks = absurd
-    (true≢false coherent.entry.in_m)
-rows_on cores roles dir_states.S_D (Some owner) s home part event most coherent within asks = absurd
-    (true≢false coherent.entry.in_m)
-rows_on cores roles dir_states.M None s home part event most coherent within asks = absurd
-    (true≢false (sym coherent.entry.in_m))
-rows_on cores roles dir_states.I None s home part (dir_events.GetM core) most coherent within wants =
-    (record roles { keeper = core.0 }, write_idle cores roles s home part core coherent within wants)
-rows_on cores roles dir_states.I None s home part (dir_events.PutS core) most coherent within wants = (
-  roles,
-  late_put cores roles (line_at dir_states.I None s home part) core.0 coherent within
-      (put_s_is (part core.0).look.request wants) refl refl,
-)
-rows_on cores roles dir_states.I None s home part (dir_events.PutM core) most coherent within wants = (
-  roles,
-  late_put cores roles (line_at dir_states.I None s home part) core.0 coherent within
-      (put_m_is (part core.0).look.request wants) refl refl,
-)
-rows_on cores roles dir_states.I None s home part dir_events.DataHome most coherent within wants = tt
-rows_on cores roles dir_states.S None s home part (dir_events.GetS core) most coherent within wants =
-    (roles, read_shared cores roles s home part core.0 most coherent within wants)
-rows_on cores roles dir_states.S None s home part (dir_events.GetM core) most coherent within wants =
-    (record roles { keeper = core.0 }, write_shared cores roles s home part core most coherent within wants)
-rows_on cores roles dir_states.S None s home part (dir_events.PutS core) most coherent within wants =
-    shared_put cores roles s home part core.0 most coherent within (put_s_is (part core.0).look.request wants)
-rows_on cores roles dir_states.S None s home part (dir_events.PutM core) most coherent within wants =
-    shared_put cores roles s home part core.0 most coherent within (put_m_is (part core.0).look.request wants)
-rows_on cores roles dir_states.S None s home part dir_events.DataHome most coherent within wants = tt
-rows_on cores roles dir_states.M (Some owner) s home part (dir_events.GetS core) most coherent within wants =
-    choose (IsKeptBy cores (line_at dir_states.M (Some owner) s home part) (dir_events.GetS core)) (owner.0 == core.0) _
-    _
-    (λ own. tt) (λ other. (
-      record roles { server = owner.0; asker = core.0 },
-      forward_get_s cores roles owner s home part core.0 most coherent within wants (eqb-false owner.0 core.0 other),
-    ))
-rows_on cores roles dir_states.M (Some owner) s home part (dir_events.GetM core) most coherent within wants =
-    choose (IsKeptBy cores (line_at dir_states.M (Some owner) s home part) (dir_events.GetM core)) (owner.0 == core.0) _
-    _
-    (λ own. tt) (λ other. (
-      record roles { by = by_also roles.by core.0 owner.0 },
-      forward_get_m cores roles owner core s home part coherent within wants (eqb-false owner.0 core.0 other),
-    ))
-rows_on cores roles dir_states.M (Some owner) s home part (dir_events.PutS core) most coherent within wants =
-    choose (IsKeptBy cores (line_at dir_states.M (Some owner) s home part) (dir_events.PutS core)) (owner.0 == core.0) _
-    _
-    (λ own. tt) (λ other. (
-      roles,
-      late_put cores roles (line_at dir_states.M (Some owner) s home part) core.0 coherent within
-          (put_s_is (part core.0).look.request wants)
-          (other_core owner.0 core.0 other) refl,
-    ))
-rows_on cores roles dir_states.M (Some owner) s home part (dir_events.PutM core) most coherent within wants =
-    choose (IsKeptBy cores (line_at dir_states.M (Some owner) s home part) (dir_events.PutM core)) (owner.0 == core.0) _
-    _
-    (λ own. (
-      roles,
-      owner_leaves cores roles owner s home part core.0 coherent within (put_m_is (part core.0).look.request wants)
-          (same_core owner.0 core.0 own),
-    ))
-    (λ other. (
-      roles,
-      late_put cores roles (line_at dir_states.M (Some owner) s home part) core.0 coherent within
-          (put_m_is (part core.0).look.request wants) (other_core owner.0 core.0 other) refl,
-    ))
-rows_on cores roles dir_states.M (Some owner) s home part dir_events.DataHome most coherent within wants = tt
-rows_on cores roles dir_states.S_D None s home part (dir_events.GetS core) most coherent within wants = tt
-rows_on cores roles dir_states.S_D None s home part (dir_events.GetM core) most coherent within wants = tt
-rows_on cores roles dir_states.S_D None s home part (dir_events.PutS core) most coherent within wants = (
-  roles,
-  sharer_leaves cores roles (line_at dir_states.S_D None s home part) core.0 most coherent within
-      (put_s_is (part core.0).look.request wants) refl,
-)
-rows_on cores roles dir_states.S_D None s home part (dir_events.PutM core) most coherent within wants = (
-  roles,
-  sharer_leaves cores roles (line_at dir_states.S_D None s home part) core.0 most coherent within
-      (put_m_is (part core.0).look.request wants) refl,
-)
-rows_on cores roles dir_states.S_D None s home part dir_events.DataHome most coherent within wants =
-    home_comes cores roles s home part coherent wants
+module _ (cores : ℕ) (roles : Roles) (s : ℕ) (home : Bool) (part : ℕ → Part) (most : cores ≤ 64) where
+  -- The rows with the exclusive state, by the directory's state and the request. `_` stands for each that is left.
+  rows_on : (directory : DirState) (owner : Option CoreId) (event : DirEvent)
+      → IsCoherent cores (line_at directory owner s home part) roles → IsWithin cores event
+      → IsTrue (is_asked_for (line_at directory owner s home part) event)
+      → IsKeptBy cores (line_at directory owner s home part) event (cell true directory owner s event)
+  rows_on dir_states.M (Some owner) (dir_events.GetS core) coherent within wants =
+      cond_both (owner.0 == core.0) _ _
+      (IsKeptBy cores (line_at dir_states.M (Some owner) s home part) (dir_events.GetS core)) (λ own. tt) (λ other. (
+        record roles { server = owner.0; asker = core.0 },
+        forward_get_s cores roles owner s home part core.0 most coherent within wants (eqb-false _ _ other),
+      ))
+  rows_on dir_states.M (Some owner) (dir_events.GetM core) coherent within wants =
+      cond_both (owner.0 == core.0) _ _
+      (IsKeptBy cores (line_at dir_states.M (Some owner) s home part) (dir_events.GetM core)) (λ own. tt) (λ other. (
+        record roles { by = by_also roles.by core.0 owner.0 },
+        forward_get_m cores roles owner core s home part coherent within wants (eqb-false _ _ other),
+      ))
+  rows_on dir_states.M (Some owner) (dir_events.PutS core) coherent within wants =
+      cond_both (owner.0 == core.0) _ _
+      (IsKeptBy cores (line_at dir_states.M (Some owner) s home part) (dir_events.PutS core)) (λ own. tt)
+      (λ other. (roles, late_put _ _ _ core.0 coherent within (put_s_is _ wants) (other_core _ _ other) refl))
+  rows_on dir_states.M (Some owner) (dir_events.PutM core) coherent within wants =
+      cond_both (owner.0 == core.0) _ _
+      (IsKeptBy cores (line_at dir_states.M (Some owner) s home part) (dir_events.PutM core))
+      (λ own.
+      (roles, owner_leaves _ _ owner s home part core.0 coherent within (put_m_is _ wants) (same_core _ _ own)))
+      (λ other. (roles, late_put _ _ _ core.0 coherent within (put_m_is _ wants) (other_core _ _ other) refl))
+  rows_on dir_states.M (Some owner) _ coherent within wants = tt
+  rows_on dir_states.M None event coherent within wants = absurd (true≢false (sym coherent.entry.in_m))
+  rows_on _ (Some owner) event coherent within wants = absurd (true≢false coherent.entry.in_m)
+  rows_on dir_states.I None (dir_events.GetS core) coherent within wants =
+      (record roles { keeper = core.0 }, read_alone cores roles s home part core coherent within wants)
+  rows_on dir_states.I None (dir_events.GetM core) coherent within wants =
+      (record roles { keeper = core.0 }, write_idle cores roles s home part core coherent within wants)
+  rows_on dir_states.I None (dir_events.PutS core) coherent within wants =
+      (roles, late_put _ _ _ core.0 coherent within (put_s_is _ wants) refl refl)
+  rows_on dir_states.I None (dir_events.PutM core) coherent within wants =
+      (roles, late_put _ _ _ core.0 coherent within (put_m_is _ wants) refl refl)
+  rows_on dir_states.S None (dir_events.GetS core) coherent within wants =
+      (roles, read_shared cores roles s home part core.0 most coherent within wants)
+  rows_on dir_states.S None (dir_events.GetM core) coherent within wants =
+      (record roles { keeper = core.0 }, write_shared cores roles s home part core most coherent within wants)
+  rows_on dir_states.S None (dir_events.PutS core) coherent within wants =
+      shared_put cores roles s home part core.0 most coherent within (put_s_is _ wants)
+  rows_on dir_states.S None (dir_events.PutM core) coherent within wants =
+      shared_put cores roles s home part core.0 most coherent within (put_m_is _ wants)
+  rows_on dir_states.S_D None (dir_events.PutS core) coherent within wants =
+      (roles, sharer_leaves _ _ _ core.0 most coherent within (put_s_is _ wants) refl)
+  rows_on dir_states.S_D None (dir_events.PutM core) coherent within wants =
+      (roles, sharer_leaves _ _ _ core.0 most coherent within (put_m_is _ wants) refl)
+  rows_on dir_states.S_D None dir_events.DataHome coherent within wants =
+      home_comes cores roles s home part coherent wants
+  rows_on _ None _ coherent within wants = tt
 
--- The row that the setting changes, without it.
-row_off : (cores : ℕ) (roles : Roles) (owner : Option CoreId) (s : ℕ) (home : Bool) (part : ℕ → Part) (core : CoreId)
-    → cores ≤ 64
-    → IsCoherent cores (line_at dir_states.I owner s home part) roles → core.0 < cores
-    → IsTrue (is_asked_for (line_at dir_states.I owner s home part) (dir_events.GetS core))
-    → IsKeptBy cores (line_at dir_states.I owner s home part) (dir_events.GetS core)
-    (cell false dir_states.I owner s (dir_events.GetS core))
-row_off cores roles None s home part core most coherent within
-    wants = (roles, read_idle cores roles s home part core.0 most coherent within wants)
-row_off cores roles (Some owner) s home part core most coherent within wants = absurd (true≢false coherent.entry.in_m)
+  -- The row that the setting changes, without it.
+  row_off : (owner : Option CoreId) (core : CoreId) → IsCoherent cores (line_at dir_states.I owner s home part) roles
+      → core.0 < cores → IsTrue (is_asked_for (line_at dir_states.I owner s home part) (dir_events.GetS core))
+      → IsKeptBy cores (line_at dir_states.I owner s home part) (dir_events.GetS core)
+      (cell false dir_states.I owner s (dir_events.GetS core))
+  row_off None core coherent within wants =
+      (roles, read_idle cores roles s home part core.0 most coherent within wants)
+  row_off (Some owner) core coherent within wants = absurd (true≢false coherent.entry.in_m)
 
--- The rows at both settings.
-rows_kept : (cores : ℕ) (roles : Roles) (s : ℕ) (home : Bool) (part : ℕ → Part) → cores ≤ 64
-    → (exclusive : Bool) (directory : DirState) (owner : Option CoreId) (event : DirEvent)
-    → IsCoherent cores (line_at directory owner s home part) roles → IsWithin cores event
-    → IsTrue (is_asked_for (line_at directory owner s home part) event)
-    → IsKeptBy cores (line_at directory owner s home part) event (cell exclusive directory owner s event)
-rows_kept cores roles s home part most =
-    by_setting (λ directory owner event row. IsCoherent cores (line_at directory owner s home part) roles
-    → IsWithin cores event
-    → IsTrue (is_asked_for (line_at directory owner s home part) event)
-    → IsKeptBy cores (line_at directory owner s home part) event row) s
-    (λ directory owner event coherent within wants. rows_on cores roles directory owner s home part event most coherent
-    within wants)
-    (λ owner core coherent within wants. row_off cores roles owner s home part core most coherent within wants)
+  -- The rows at both settings.
+  rows_kept : (exclusive : Bool) (directory : DirState) (owner : Option CoreId) (event : DirEvent)
+      → IsCoherent cores (line_at directory owner s home part) roles → IsWithin cores event
+      → IsTrue (is_asked_for (line_at directory owner s home part) event)
+      → IsKeptBy cores (line_at directory owner s home part) event (cell exclusive directory owner s event)
+  rows_kept =
+      by_setting (λ directory owner event row. IsCoherent cores (line_at directory owner s home part) roles
+      → IsWithin cores event → IsTrue (is_asked_for (line_at directory owner s home part) event)
+      → IsKeptBy cores (line_at directory owner s home part) event row) s rows_on row_off
 
 -- A turn of the directory keeps the line coherent.
 pub serve_kept : (cores : ℕ) (roles : Roles) (line : Line) (exclusive : Bool) (event : DirEvent) (home : Block)

@@ -1,8 +1,8 @@
 -- Each row finds room in the channels that it sends to.
 use Rattle.std.proofs.Common.{◌≡◌, ℕ, ◌+◌, ◌<◌, ◌≤◌, ◌==◌, ◌&&◌, ◌||◌, Bool, true, false, not, refl, ap, sym, ◌∙◌}
-use Rattle.std.proofs.Common.{subst, arith, Option, Some, None, if◌then◌else◌, IfSome, IsTrue, true≢false, nat_lt}
+use Rattle.std.proofs.Common.{subst, arith, Option, Some, None, IfSome, IsTrue, true≢false, nat_lt}
 use Rattle.std.proofs.Math.Bool.{or-true}
-use Rattle.std.proofs.lemmas.Bool.{and_from, and_parts, eq-eqb}
+use Rattle.std.proofs.lemmas.Bool.{and_from, and_parts, cond_both, eq-eqb}
 use Rattle.address_map.specs.declared.address.CoreId.{CoreId}
 use Rattle.address_map.specs.CoreSet.{has, without}
 use Rattle.cache_table.specs.Law.{sends_data, sends_get, sends_home, sends_inv_ack, sends_put}
@@ -281,10 +281,6 @@ either_s a b e = ap (λ x. x || b) e
 either_m : (a b : Bool) → b ≡ true → (a || b) ≡ true
 either_m a b e = ap (λ x. a || x) e ∙ or-true a
 
-choose : (P : DirRow → Type 0) (b : Bool) (own other : DirRow) → P own → P other → P (if b then own else other)
-choose P true own other yes_own yes_other = yes_own
-choose P false own other yes_own yes_other = yes_other
-
 -- Data, Put-Ack, a forwarded request and nothing, each by itself.
 data_room : (cores : ℕ) (line : Line) (event : DirEvent) (sent : DirSends)
     → (Law.acknowledges_put sent ≡ false) → Law.forwarded_to sent ≡ None → ((x : ℕ) → Law.is_sent_inv sent x ≡ false)
@@ -318,112 +314,69 @@ none_room cores line event = record {
   inv = λ x below h. nothing h;
 }
 
-room_on : (cores : ℕ) (roles : Roles) (directory : DirState) (owner : Option CoreId) (s : ℕ) (home : Bool)
-    (part : ℕ → Part) (event : DirEvent) → cores ≤ 64 → IsCoherent cores (line_at directory owner s home part) roles
-    → IsWithin cores event → IsTrue (is_asked_for (line_at directory owner s home part) event)
-    → IsRoomy cores (line_at directory owner s home part) event (Directory.cell true directory owner s event)
-room_on cores roles dir_states.M None s home part event most coherent within wants = absurd
-    (true≢false (sym coherent.entry.in_m))
-room_on cores roles dir_states.S (Some owner) s home part event most coherent within wants = absurd
-    (true≢false coherent.entry.in_m)
-room_on cores roles dir_states.I owner s home part (dir_events.GetS core) most coherent within wants =
-    data_room cores (line_at dir_states.I owner s home part) (dir_events.GetS core) dir_sends.DataE refl refl
-    (λ x. refl)
-    (no_data_for cores (line_at dir_states.I owner s home part) roles core.0 coherent within (either_s _ _ wants))
-room_on cores roles dir_states.I owner s home part (dir_events.GetM core) most coherent within wants =
-    data_room cores (line_at dir_states.I owner s home part) (dir_events.GetM core) (dir_sends.Data 0) refl refl
-    (λ x. refl)
-    (no_data_for cores (line_at dir_states.I owner s home part) roles core.0 coherent within (either_m _ _ wants))
-room_on cores roles dir_states.I owner s home part (dir_events.PutS core) most coherent within wants =
-    ack_room cores (line_at dir_states.I owner s home part) (dir_events.PutS core)
-    (room_for_put_ack cores (line_at dir_states.I owner s home part) roles core.0 coherent within (either_s _ _ wants))
-room_on cores roles dir_states.I owner s home part (dir_events.PutM core) most coherent within wants =
-    ack_room cores (line_at dir_states.I owner s home part) (dir_events.PutM core)
-    (room_for_put_ack cores (line_at dir_states.I owner s home part) roles core.0 coherent within (either_m _ _ wants))
-room_on cores roles dir_states.I owner s home part dir_events.DataHome most coherent within wants = tt
-room_on cores roles dir_states.S None s home part (dir_events.GetS core) most coherent within wants =
-    data_room cores (line_at dir_states.S None s home part) (dir_events.GetS core) (dir_sends.Data 0) refl refl
-    (λ x. refl)
-    (no_data_for cores (line_at dir_states.S None s home part) roles core.0 coherent within (either_s _ _ wants))
-room_on cores roles dir_states.S None s home part (dir_events.GetM core) most coherent within wants = record {
-  data_channel = λ h. no_data_for cores (line_at dir_states.S None s home part) roles core.0 coherent within
-      (either_m _ _ wants);
-  put_ack = λ h. nothing h;
-  named = tt;
-  forward = tt;
-  inv = λ x below h. room_for_inv cores roles s home part core.0 x most coherent within below h;
-}
-room_on cores roles dir_states.S None s home part (dir_events.PutS core) most coherent within wants =
-    ack_room cores (line_at dir_states.S None s home part) (dir_events.PutS core)
-    (room_for_put_ack cores (line_at dir_states.S None s home part) roles core.0 coherent within (either_s _ _ wants))
-room_on cores roles dir_states.S None s home part (dir_events.PutM core) most coherent within wants =
-    ack_room cores (line_at dir_states.S None s home part) (dir_events.PutM core)
-    (room_for_put_ack cores (line_at dir_states.S None s home part) roles core.0 coherent within (either_m _ _ wants))
-room_on cores roles dir_states.S None s home part dir_events.DataHome most coherent within wants = tt
-room_on cores roles dir_states.M (Some owner) s home part (dir_events.GetS core) most coherent within wants =
-    choose (IsRoomy cores (line_at dir_states.M (Some owner) s home part) (dir_events.GetS core)) (owner.0 == core.0) _
-    _ tt
-    (record {
-      data_channel = λ h. nothing h;
-      put_ack = λ h. nothing h;
-      named = coherent.entry.owner_within;
-      forward = room_for_forward cores roles owner s home part coherent;
-      inv = λ x below h. nothing h;
-    })
-room_on cores roles dir_states.M (Some owner) s home part (dir_events.GetM core) most coherent within wants =
-    choose (IsRoomy cores (line_at dir_states.M (Some owner) s home part) (dir_events.GetM core)) (owner.0 == core.0) _
-    _ tt
-    (record {
-      data_channel = λ h. nothing h;
-      put_ack = λ h. nothing h;
-      named = coherent.entry.owner_within;
-      forward = room_for_forward cores roles owner s home part coherent;
-      inv = λ x below h. nothing h;
-    })
-room_on cores roles dir_states.M (Some owner) s home part (dir_events.PutS core) most coherent within wants =
-    choose (IsRoomy cores (line_at dir_states.M (Some owner) s home part) (dir_events.PutS core)) (owner.0 == core.0) _
-    _ tt
-    (ack_room cores (line_at dir_states.M (Some owner) s home part) (dir_events.PutS core)
-    (room_for_put_ack cores (line_at dir_states.M (Some owner) s home part) roles core.0 coherent within
-    (either_s _ _ wants)))
-room_on cores roles dir_states.M (Some owner) s home part (dir_events.PutM core) most coherent within wants =
-    let room = ack_room cores (line_at dir_states.M (Some owner) s home part) (dir_events.PutM core)
-    (room_for_put_ack cores (line_at dir_states.M (Some owner) s home part) roles core.0 coherent within
-    (either_m _ _ wants)) in
-    choose (IsRoomy cores (line_at dir_states.M (Some owner) s home part) (dir_events.PutM core)) (owner.0 == core.0) _
-    _ room room
-room_on cores roles dir_states.M (Some owner) s home part dir_events.DataHome most coherent within wants = tt
-room_on cores roles dir_states.S_D owner s home part (dir_events.GetS core) most coherent within wants = tt
-room_on cores roles dir_states.S_D owner s home part (dir_events.GetM core) most coherent within wants = tt
-room_on cores roles dir_states.S_D owner s home part (dir_events.PutS core) most coherent within wants =
-    ack_room cores (line_at dir_states.S_D owner s home part) (dir_events.PutS core)
-    (room_for_put_ack cores (line_at dir_states.S_D owner s home part) roles core.0 coherent within
-    (either_s _ _ wants))
-room_on cores roles dir_states.S_D owner s home part (dir_events.PutM core) most coherent within wants =
-    ack_room cores (line_at dir_states.S_D owner s home part) (dir_events.PutM core)
-    (room_for_put_ack cores (line_at dir_states.S_D owner s home part) roles core.0 coherent within
-    (either_m _ _ wants))
-room_on cores roles dir_states.S_D owner s home part dir_events.DataHome most coherent within wants =
-    none_room cores (line_at dir_states.S_D owner s home part) dir_events.DataHome
+module _ (cores : ℕ) (roles : Roles) (s : ℕ) (home : Bool) (part : ℕ → Part) (most : cores ≤ 64) where
+  -- Each row with the exclusive state finds room. `_` stands for each state that no line above it takes.
+  room_on : (directory : DirState) (owner : Option CoreId) (event : DirEvent)
+      → IsCoherent cores (line_at directory owner s home part) roles → IsWithin cores event
+      → IsTrue (is_asked_for (line_at directory owner s home part) event)
+      → IsRoomy cores (line_at directory owner s home part) event (Directory.cell true directory owner s event)
+  room_on dir_states.M None event coherent within wants = absurd (true≢false (sym coherent.entry.in_m))
+  room_on dir_states.S (Some owner) event coherent within wants = absurd (true≢false coherent.entry.in_m)
+  room_on dir_states.M (Some owner) (dir_events.GetS core) coherent within wants =
+      cond_both (owner.0 == core.0) _ _ (IsRoomy _ _ _) (λ own. tt) (λ other. record {
+        data_channel = λ h. nothing h;
+        put_ack = λ h. nothing h;
+        named = coherent.entry.owner_within;
+        forward = room_for_forward cores roles owner s home part coherent;
+        inv = λ x below h. nothing h;
+      })
+  room_on dir_states.M (Some owner) (dir_events.GetM core) coherent within wants =
+      cond_both (owner.0 == core.0) _ _ (IsRoomy _ _ _) (λ own. tt) (λ other. record {
+        data_channel = λ h. nothing h;
+        put_ack = λ h. nothing h;
+        named = coherent.entry.owner_within;
+        forward = room_for_forward cores roles owner s home part coherent;
+        inv = λ x below h. nothing h;
+      })
+  room_on dir_states.M (Some owner) (dir_events.PutS core) coherent within wants =
+      cond_both (owner.0 == core.0) _ _ (IsRoomy _ _ _) (λ own. tt)
+      (λ other. ack_room _ _ _ (room_for_put_ack cores _ roles core.0 coherent within (either_s _ _ wants)))
+  room_on dir_states.M (Some owner) (dir_events.PutM core) coherent within wants =
+      let room = ack_room cores (line_at dir_states.M (Some owner) s home part) (dir_events.PutM core)
+      (room_for_put_ack cores _ roles core.0 coherent within (either_m _ _ wants)) in
+      cond_both (owner.0 == core.0) _ _ (IsRoomy _ _ _) (λ own. room) (λ other. room)
+  room_on dir_states.S None (dir_events.GetM core) coherent within wants = record {
+    data_channel = λ h. no_data_for cores (line_at dir_states.S None s home part) roles core.0 coherent within
+        (either_m _ _ wants);
+    put_ack = λ h. nothing h;
+    named = tt;
+    forward = tt;
+    inv = λ x below h. room_for_inv cores roles s home part core.0 x most coherent within below h;
+  }
+  room_on dir_states.S_D owner (dir_events.GetS core) coherent within wants = tt
+  room_on dir_states.S_D owner (dir_events.GetM core) coherent within wants = tt
+  room_on dir_states.S_D owner dir_events.DataHome coherent within wants = none_room _ _ _
+  room_on _ owner dir_events.DataHome coherent within wants = tt
+  room_on _ owner (dir_events.PutS core) coherent within wants =
+      ack_room _ _ _ (room_for_put_ack cores _ roles core.0 coherent within (either_s _ _ wants))
+  room_on _ owner (dir_events.PutM core) coherent within wants =
+      ack_room _ _ _ (room_for_put_ack cores _ roles core.0 coherent within (either_m _ _ wants))
+  room_on _ owner (dir_events.GetS core) coherent within wants =
+      data_room _ _ _ _ refl refl (λ x. refl) (no_data_for cores _ roles core.0 coherent within (either_s _ _ wants))
+  room_on _ owner (dir_events.GetM core) coherent within wants =
+      data_room _ _ _ _ refl refl (λ x. refl) (no_data_for cores _ roles core.0 coherent within (either_m _ _ wants))
 
-serve_room : (exclusive : Bool) (cores : ℕ) (roles : Roles) (line : Line) (event : DirEvent) → cores ≤ 64
-    → IsCoherent cores line roles
-    → IsWithin cores event → IsTrue (is_asked_for line event)
-    → IsRoomy cores line event (Directory.cell exclusive line.directory line.owner line.sharers event)
-serve_room exclusive cores roles line event most coherent within wants =
-    by_setting (λ directory owner event row. IsCoherent cores
-    (line_at directory owner line.sharers line.home line.part) roles
-    → IsWithin cores event → IsTrue (is_asked_for (line_at directory owner line.sharers line.home line.part) event)
-    → IsRoomy cores (line_at directory owner line.sharers line.home line.part) event row) line.sharers
-    (λ directory owner event coherent within wants. room_on cores roles directory owner line.sharers line.home
-    line.part event most coherent within wants)
-    (λ owner core coherent within wants.
-    data_room cores (line_at dir_states.I owner line.sharers line.home line.part) (dir_events.GetS core)
-    (dir_sends.Data 0) refl refl
-    (λ x. refl)
-    (no_data_for cores (line_at dir_states.I owner line.sharers line.home line.part) roles core.0 coherent within
-    (either_s _ _ wants)))
-    exclusive line.directory line.owner event coherent within wants
+  -- Each row finds room at both settings.
+  serve_room : (exclusive : Bool) (directory : DirState) (owner : Option CoreId) (event : DirEvent)
+      → IsCoherent cores (line_at directory owner s home part) roles → IsWithin cores event
+      → IsTrue (is_asked_for (line_at directory owner s home part) event)
+      → IsRoomy cores (line_at directory owner s home part) event (Directory.cell exclusive directory owner s event)
+  serve_room =
+      by_setting (λ directory owner event row. IsCoherent cores (line_at directory owner s home part) roles
+      → IsWithin cores event → IsTrue (is_asked_for (line_at directory owner s home part) event)
+      → IsRoomy cores (line_at directory owner s home part) event row) s room_on
+      (λ owner core coherent within wants. data_room _ _ _ _ refl refl (λ x. refl)
+      (no_data_for cores _ roles core.0 coherent within (either_s _ _ wants)))
 
 -- Each step finds room.
 pub has_room : (exclusive : Bool) (cores : ℕ) (line : Line) (roles : Roles) → cores ≤ 64 → IsCoherent cores line roles
@@ -432,5 +385,7 @@ has_room exclusive cores line roles most coherent = record {
   turn = λ c event next sent within here row. turn_room cores line roles c event next sent coherent within here row;
   ack = ack_sends;
   serve = λ event home step within wants row.
-      subst (IsRoomy cores line event) row (serve_room exclusive cores roles line event most coherent within wants);
+      subst (IsRoomy cores line event) row
+      (serve_room cores roles line.sharers line.home line.part most exclusive line.directory line.owner event coherent
+      within wants);
 }

@@ -221,18 +221,13 @@ owner_is cores roles owner core s home part coherent within own =
     (coherent.fit core.0 within)
     (eq-eqb core.0 owner.0 (sym (eqb-true owner.0 core.0 own)))
 
+-- Each row with the exclusive state is there. The last line stands for each cell that is left.
 row_on : (cores : ℕ) (roles : Roles) (directory : DirState) (owner : Option CoreId) (s : ℕ) (home : Bool)
     (part : ℕ → Part) (event : DirEvent) → IsCoherent cores (line_at directory owner s home part) roles
     → 0 < cores → IsWithin cores event → IsTrue (is_asked_for (line_at directory owner s home part) event)
     → is_directory_entry (Directory.cell true directory owner s event) ≡ true
 row_on cores roles dir_states.M None s home part event coherent some within wants = absurd
     (true≢false (sym coherent.entry.in_m))
-row_on cores roles dir_states.I owner s home part dir_events.DataHome coherent some within wants =
-    absurd (true≢false (sym (awaited cores roles dir_states.I owner s home part coherent some wants)))
-row_on cores roles dir_states.S owner s home part dir_events.DataHome coherent some within wants =
-    absurd (true≢false (sym (awaited cores roles dir_states.S owner s home part coherent some wants)))
-row_on cores roles dir_states.M (Some owner) s home part dir_events.DataHome coherent some within wants =
-    absurd (true≢false (sym (awaited cores roles dir_states.M (Some owner) s home part coherent some wants)))
 row_on cores roles dir_states.M (Some owner) s home part (dir_events.GetS core) coherent some within wants =
     no_own (owner.0 == core.0) _ _ (λ own. true≢false (sym wants
     ∙ (owner_is cores roles owner core s home part coherent within own).get_s)) refl
@@ -244,19 +239,10 @@ row_on cores roles dir_states.M (Some owner) s home part (dir_events.PutS core) 
     ∙ (owner_is cores roles owner core s home part coherent within own).put_s)) refl
 row_on cores roles dir_states.M (Some owner) s home part (dir_events.PutM core) coherent some within wants = entry_if
     (owner.0 == core.0) _ _ refl refl
-row_on cores roles dir_states.I owner s home part (dir_events.GetS core) coherent some within wants = refl
-row_on cores roles dir_states.I owner s home part (dir_events.GetM core) coherent some within wants = refl
-row_on cores roles dir_states.I owner s home part (dir_events.PutS core) coherent some within wants = refl
-row_on cores roles dir_states.I owner s home part (dir_events.PutM core) coherent some within wants = refl
-row_on cores roles dir_states.S owner s home part (dir_events.GetS core) coherent some within wants = refl
-row_on cores roles dir_states.S owner s home part (dir_events.GetM core) coherent some within wants = refl
-row_on cores roles dir_states.S owner s home part (dir_events.PutS core) coherent some within wants = refl
-row_on cores roles dir_states.S owner s home part (dir_events.PutM core) coherent some within wants = refl
-row_on cores roles dir_states.S_D owner s home part (dir_events.GetS core) coherent some within wants = refl
-row_on cores roles dir_states.S_D owner s home part (dir_events.GetM core) coherent some within wants = refl
-row_on cores roles dir_states.S_D owner s home part (dir_events.PutS core) coherent some within wants = refl
-row_on cores roles dir_states.S_D owner s home part (dir_events.PutM core) coherent some within wants = refl
 row_on cores roles dir_states.S_D owner s home part dir_events.DataHome coherent some within wants = refl
+row_on cores roles directory owner s home part dir_events.DataHome coherent some within wants =
+    absurd (true≢false (sym (awaited cores roles directory owner s home part coherent some wants)))
+row_on cores roles _ owner s home part _ coherent some within wants = refl
 
 serve_has_row : (exclusive : Bool) (cores : ℕ) (roles : Roles) (line : Line) (event : DirEvent)
     → IsCoherent cores line roles → 0 < cores

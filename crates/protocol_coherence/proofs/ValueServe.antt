@@ -1,12 +1,12 @@
 -- A turn of the directory leaves each block that is claimed to be the newest as the newest.
 use Rattle.std.proofs.Common.{◌≡◌, ℕ, ◌<◌, ◌≤◌, ◌⊎◌, ◌==◌, ◌&&◌, ◌||◌, Bool, true, false, not, refl, ap, sym, ◌∙◌}
 use Rattle.std.proofs.Common.{subst, Option, Some, None, if◌then◌else◌, IfSome, IsTrue, true≢false, inl, inr}
-use Rattle.std.proofs.lemmas.Bool.{and_parts, eq-eqb, eqb-true, not-true}
+use Rattle.std.proofs.lemmas.Bool.{and_parts, cond_both, eq-eqb, eqb-true, not-true}
 use Rattle.address_map.specs.declared.address.CoreId.{CoreId}
 use Rattle.address_map.specs.declared.block.Block.{Block}
 use Rattle.cache_table.specs.CopyState.{is_readable}
 use Rattle.directory_table.specs.Law.{IfGo, forwarded_to, is_data_home, is_named, is_sent_inv, requester, sends_data}
-use Rattle.directory_table.specs.Row.{cell, row_of, shared_by}
+use Rattle.directory_table.specs.Row.{cell, row_of}
 use Rattle.directory_table.specs.declared.state.DirState.{DirState}
 use Rattle.directory_table.specs.declared.state.DirState.TheVariants as dir_states
 use Rattle.directory_table.specs.declared.row.DirEvent.{DirEvent}
@@ -19,7 +19,7 @@ use Rattle.directory_table.specs.declared.row.DirStep.{DirStep}
 use Rattle.protocol_coherence.proofs.HasRoom.{has_room}
 use Rattle.protocol_coherence.proofs.Settings.{by_setting}
 use Rattle.protocol_coherence.specs.Coherent.{IsCoherent}
-use Rattle.address_map.specs.CoreSet.{count_of, has, without}
+use Rattle.address_map.specs.CoreSet.{has}
 use Rattle.protocol_coherence.specs.Fit.{is_counting, is_no_data, is_no_forward, is_put_ack_first, is_put_m}
 use Rattle.protocol_coherence.specs.Fit.{is_written_back}
 use Rattle.protocol_coherence.specs.Line.{Line, Part, Roles}
@@ -228,82 +228,45 @@ new_owner directory owner event core sent asked gives = record {
   brings = λ h. nothing h;
 }
 
-choose : (P : DirRow → Type 0) (b : Bool) (own other : DirRow) → (b ≡ true → P own) → (b ≡ false → P other)
-    → P (if b then own else other)
-choose P true own other yes_own yes_other = yes_own refl
-choose P false own other yes_own yes_other = yes_other refl
-
+-- Each row with the exclusive state moves blocks so. `_` stands for each state and event that no line above it takes.
 row_on : (s : ℕ) (directory : DirState) (owner : Option CoreId) (event : DirEvent)
     → RowMoves directory owner event (cell true directory owner s event)
-row_on s dir_states.I owner (dir_events.GetS core) =
-    new_owner dir_states.I owner (dir_events.GetS core) core dir_sends.DataE refl (λ h. refl)
-row_on s dir_states.I owner (dir_events.GetM core) =
-    new_owner dir_states.I owner (dir_events.GetM core) core (dir_sends.Data 0) refl (λ h. refl)
-row_on s dir_states.I owner (dir_events.PutS core) =
-    same_owner dir_states.I owner (dir_events.PutS core) dir_states.I dir_sends.PutAck (λ h. refl)
-    (λ h. refl)
-row_on s dir_states.I owner (dir_events.PutM core) =
-    same_owner dir_states.I owner (dir_events.PutM core) dir_states.I dir_sends.PutAck (λ h. refl)
-    (λ h. refl)
-row_on s dir_states.I owner dir_events.DataHome = tt
-row_on s dir_states.S owner (dir_events.GetS core) =
-    same_owner dir_states.S owner (dir_events.GetS core) dir_states.S (dir_sends.Data 0) (λ h. refl)
-    (λ h. refl)
-row_on s dir_states.S owner (dir_events.GetM core) =
-    new_owner dir_states.S owner (dir_events.GetM core) core
-    (dir_sends.DataAndInv (count_of (without s core.0)) (without s core.0))
-    refl (λ h. refl)
-row_on s dir_states.S owner (dir_events.PutS core) = same_owner dir_states.S owner (dir_events.PutS core)
-    (shared_by (without s core.0)) dir_sends.PutAck (λ h. refl) (λ h. refl)
-row_on s dir_states.S owner (dir_events.PutM core) = same_owner dir_states.S owner (dir_events.PutM core)
-    (shared_by (without s core.0)) dir_sends.PutAck (λ h. refl) (λ h. refl)
-row_on s dir_states.S owner dir_events.DataHome = tt
-row_on s dir_states.M None (dir_events.GetS core) = tt
-row_on s dir_states.M None (dir_events.GetM core) = tt
-row_on s dir_states.M None (dir_events.PutS core) = tt
-row_on s dir_states.M None (dir_events.PutM core) = tt
-row_on s dir_states.M None dir_events.DataHome = tt
+row_on s dir_states.I owner (dir_events.GetS core) = new_owner _ _ _ core _ refl (λ h. refl)
+row_on s dir_states.I owner (dir_events.GetM core) = new_owner _ _ _ core _ refl (λ h. refl)
+row_on s dir_states.S owner (dir_events.GetM core) = new_owner _ _ _ core _ refl (λ h. refl)
 row_on s dir_states.M (Some owner) (dir_events.GetS core) =
-    choose (RowMoves dir_states.M (Some owner) (dir_events.GetS core)) (owner.0 == core.0) _ _ (λ own. tt)
-    (λ other. record {
+    cond_both (owner.0 == core.0) _ _ (RowMoves _ _ _) (λ own. tt) (λ other. record {
       gives = λ h. nothing h;
       owner_is = λ x owns away. nothing owns;
       stays = λ home same. nothing home;
       brings = λ h. nothing h;
     })
 row_on s dir_states.M (Some owner) (dir_events.GetM core) =
-    choose (RowMoves dir_states.M (Some owner) (dir_events.GetM core)) (owner.0 == core.0) _ _ (λ own. tt)
-    (λ other. new_owner dir_states.M (Some owner) (dir_events.GetM core) core (dir_sends.FwdGetM owner) refl
-    (λ h. nothing h))
+    cond_both (owner.0 == core.0) _ _ (RowMoves _ _ _) (λ own. tt)
+    (λ other. new_owner _ _ _ core _ refl (λ h. nothing h))
 row_on s dir_states.M (Some owner) (dir_events.PutS core) =
-    choose (RowMoves dir_states.M (Some owner) (dir_events.PutS core)) (owner.0 == core.0) _ _ (λ own. tt)
-    (λ other. same_owner dir_states.M (Some owner) (dir_events.PutS core) dir_states.M dir_sends.PutAck (λ h. nothing h)
-    (λ h. h))
+    cond_both (owner.0 == core.0) _ _ (RowMoves _ _ _) (λ own. tt)
+    (λ other. same_owner _ _ _ _ _ (λ h. nothing h) (λ h. h))
 row_on s dir_states.M (Some owner) (dir_events.PutM core) =
-    choose (RowMoves dir_states.M (Some owner) (dir_events.PutM core)) (owner.0 == core.0) _ _
-    (λ own. record {
+    cond_both (owner.0 == core.0) _ _ (RowMoves _ _ _) (λ own. record {
       gives = λ h. nothing h;
       owner_is = λ x owns away. nothing owns;
       stays = λ home same. absurd (true≢false same);
       brings = λ h. inr (core, refl, eq-eqb core.0 owner.0 (sym (eqb-true owner.0 core.0 own)));
     })
-    (λ other. same_owner dir_states.M (Some owner) (dir_events.PutM core) dir_states.M dir_sends.PutAck (λ h. nothing h)
-    (λ h. h))
-row_on s dir_states.M (Some owner) dir_events.DataHome = tt
-row_on s dir_states.S_D owner (dir_events.GetS core) = tt
-row_on s dir_states.S_D owner (dir_events.GetM core) = tt
-row_on s dir_states.S_D owner (dir_events.PutS core) =
-    same_owner dir_states.S_D owner (dir_events.PutS core) dir_states.S_D dir_sends.PutAck
-    (λ h. nothing h) (λ h. h)
-row_on s dir_states.S_D owner (dir_events.PutM core) =
-    same_owner dir_states.S_D owner (dir_events.PutM core) dir_states.S_D dir_sends.PutAck
-    (λ h. nothing h) (λ h. h)
+    (λ other. same_owner _ _ _ _ _ (λ h. nothing h) (λ h. h))
+row_on s dir_states.M _ _ = tt
+row_on s dir_states.S_D owner (dir_events.PutS core) = same_owner _ _ _ _ _ (λ h. nothing h) (λ h. h)
+row_on s dir_states.S_D owner (dir_events.PutM core) = same_owner _ _ _ _ _ (λ h. nothing h) (λ h. h)
 row_on s dir_states.S_D owner dir_events.DataHome = record {
   gives = λ h. nothing h;
   owner_is = λ x owns away. owns;
   stays = λ home same. absurd (true≢false same);
   brings = λ h. inl refl;
 }
+row_on s dir_states.S_D owner _ = tt
+row_on s _ owner dir_events.DataHome = tt
+row_on s _ owner _ = same_owner _ _ _ _ _ (λ h. refl) (λ h. refl)
 
 row_moves : (exclusive : Bool) (line : Line) (event : DirEvent)
     → RowMoves line.directory line.owner event (cell exclusive line.directory line.owner line.sharers event)

@@ -73,18 +73,8 @@ used_by-sound (target ∷ targets) array local sound = used_sound array local so
 -- a line that may leave goes to a state in which it leaves
 leaves-by_eviction : (state : CopyState) → may_leave state ≡ true →
     is_leaving (next_by state (row_of state cache_events.Eviction)) ≡ true
-leaves-by_eviction copy_states.S may = refl
-leaves-by_eviction copy_states.M may = refl
-leaves-by_eviction copy_states.E may = refl
-leaves-by_eviction copy_states.I may = absurd (cc may)
-leaves-by_eviction copy_states.IS_D may = absurd (cc may)
-leaves-by_eviction copy_states.IM_AD may = absurd (cc may)
-leaves-by_eviction copy_states.IM_A may = absurd (cc may)
-leaves-by_eviction copy_states.SM_AD may = absurd (cc may)
-leaves-by_eviction copy_states.SM_A may = absurd (cc may)
-leaves-by_eviction copy_states.MI_A may = absurd (cc may)
-leaves-by_eviction copy_states.SI_A may = absurd (cc may)
-leaves-by_eviction copy_states.II_A may = absurd (cc may)
+leaves-by_eviction copy_states.S may = cc
+leaves-by_eviction _ may = cc
 
 -- ---- steps that leave array and buffer alone
 

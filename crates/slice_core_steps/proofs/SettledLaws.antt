@@ -42,33 +42,13 @@ pub length-performed_in : (state : CopyState) (targets : List Target) →
 length-performed_in copy_states.S targets =
     let front = length (front_loads targets) in
     omega (arith, ap length (take-front_loads targets), length-take front targets)
-length-performed_in copy_states.M targets = omega arith
-length-performed_in copy_states.E targets = omega arith
-length-performed_in copy_states.I targets = omega arith
-length-performed_in copy_states.IS_D targets = omega arith
-length-performed_in copy_states.IM_AD targets = omega arith
-length-performed_in copy_states.IM_A targets = omega arith
-length-performed_in copy_states.SM_AD targets = omega arith
-length-performed_in copy_states.SM_A targets = omega arith
-length-performed_in copy_states.MI_A targets = omega arith
-length-performed_in copy_states.SI_A targets = omega arith
-length-performed_in copy_states.II_A targets = omega arith
+length-performed_in _ targets = omega arith
 
 -- a copy that isn't shared asks for nothing
 pub asks-unshared : (state : CopyState) (targets : List Target) → is_shared state ≡ false →
     asks_to_write state targets ≡ false
-asks-unshared copy_states.S targets e = absurd (cc e)
-asks-unshared copy_states.M targets e = refl
-asks-unshared copy_states.E targets e = refl
-asks-unshared copy_states.I targets e = refl
-asks-unshared copy_states.IS_D targets e = refl
-asks-unshared copy_states.IM_AD targets e = refl
-asks-unshared copy_states.IM_A targets e = refl
-asks-unshared copy_states.SM_AD targets e = refl
-asks-unshared copy_states.SM_A targets e = refl
-asks-unshared copy_states.MI_A targets e = refl
-asks-unshared copy_states.SI_A targets e = refl
-asks-unshared copy_states.II_A targets e = refl
+asks-unshared copy_states.S targets e = cc
+asks-unshared _ targets e = refl
 
 -- a core whose copy was changed and then settled is as a message leaves it
 pub settles : (old new : PartsView) (local : Local) (core : CoreId) (channel : Channel) (way : ℕ) (copy : CacheCopy)

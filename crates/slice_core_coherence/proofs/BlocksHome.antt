@@ -31,16 +31,10 @@ use Rattle.slice_core_plan.specs.Plan.{home_move}
 -- The row for a block that comes home writes it to the home copy.
 home_writes : (exclusive : Bool) (state : DirState) (owner : Option CoreId) (sharers : ℕ)
     → IfGo (cell exclusive state owner sharers dir_events.DataHome) (λ next owns shares sent writes. writes ≡ true)
-home_writes true dir_states.I owner sharers = tt
-home_writes true dir_states.S owner sharers = tt
-home_writes true dir_states.M (Some core) sharers = tt
-home_writes true dir_states.M None sharers = tt
 home_writes true dir_states.S_D owner sharers = refl
-home_writes false dir_states.I owner sharers = tt
-home_writes false dir_states.S owner sharers = tt
-home_writes false dir_states.M (Some core) sharers = tt
-home_writes false dir_states.M None sharers = tt
 home_writes false dir_states.S_D owner sharers = refl
+home_writes _ dir_states.M (Some core) sharers = tt
+home_writes _ _ _ _ = tt
 
 writes_home : (exclusive : Bool) (entry : DirEntry) (step : DirStep)
     → Directory.row_of exclusive entry dir_events.DataHome ≡ dir_rows.Go step → step.writes_home ≡ true

@@ -101,15 +101,7 @@ pub performed_allowed : (state : CopyState) (targets : List Target) → All IsPe
 performed_allowed copy_states.S targets all loads = shared_allowed targets all
 performed_allowed copy_states.M targets all loads = writer_allowed targets all
 performed_allowed copy_states.E targets all loads = only_allowed targets all (loads refl)
-performed_allowed copy_states.I targets all loads = tt
-performed_allowed copy_states.IS_D targets all loads = tt
-performed_allowed copy_states.IM_AD targets all loads = tt
-performed_allowed copy_states.IM_A targets all loads = tt
-performed_allowed copy_states.SM_AD targets all loads = tt
-performed_allowed copy_states.SM_A targets all loads = tt
-performed_allowed copy_states.MI_A targets all loads = tt
-performed_allowed copy_states.SI_A targets all loads = tt
-performed_allowed copy_states.II_A targets all loads = tt
+performed_allowed _ targets all loads = tt
 
 -- ---- the copy
 

@@ -75,16 +75,7 @@ data_shares : (n k : ℕ) (state : CopyState) → if_go (row_of state (cache_eve
 unfolding if_go unless_exclusive
 data_shares n k copy_states.IM_AD = if_go-counted unless_exclusive k n copy_states.IM_A refl refl
 data_shares n k copy_states.SM_AD = if_go-counted unless_exclusive k n copy_states.SM_A refl refl
-data_shares n k copy_states.IS_D = refl
-data_shares n k copy_states.I = refl
-data_shares n k copy_states.IM_A = refl
-data_shares n k copy_states.S = refl
-data_shares n k copy_states.SM_A = refl
-data_shares n k copy_states.M = refl
-data_shares n k copy_states.E = refl
-data_shares n k copy_states.MI_A = refl
-data_shares n k copy_states.SI_A = refl
-data_shares n k copy_states.II_A = refl
+data_shares n k _ = refl
 
 write_owns : (state : CopyState) → if_go (row_of state (cache_events.DataE false)) unless_exclusive ≡ true
 unfolding each_state if_go unless_exclusive
@@ -94,16 +85,7 @@ ack_shares : (n k : ℕ) (state : CopyState) → if_go (row_of state (cache_even
 unfolding if_go unless_exclusive
 ack_shares n k copy_states.IM_A = if_go-counted unless_exclusive (k + 1) n copy_states.IM_A refl refl
 ack_shares n k copy_states.SM_A = if_go-counted unless_exclusive (k + 1) n copy_states.SM_A refl refl
-ack_shares n k copy_states.IM_AD = refl
-ack_shares n k copy_states.SM_AD = refl
-ack_shares n k copy_states.IS_D = refl
-ack_shares n k copy_states.I = refl
-ack_shares n k copy_states.S = refl
-ack_shares n k copy_states.M = refl
-ack_shares n k copy_states.E = refl
-ack_shares n k copy_states.MI_A = refl
-ack_shares n k copy_states.SI_A = refl
-ack_shares n k copy_states.II_A = refl
+ack_shares n k _ = refl
 
 not_exclusive : (event : CacheEvent) (state next : CopyState) (sent : CacheSends)
     → if_go (row_of state event) unless_exclusive ≡ true → row_of state event ≡ rows.Go next sent
@@ -130,16 +112,7 @@ ack_keeps : (n k : ℕ) (state : CopyState) → if_go (row_of state (cache_event
 unfolding if_go keeps_block
 ack_keeps n k copy_states.IM_A = if_go-counted (keeps_block copy_states.IM_A) (k + 1) n copy_states.IM_A refl refl
 ack_keeps n k copy_states.SM_A = if_go-counted (keeps_block copy_states.SM_A) (k + 1) n copy_states.SM_A refl refl
-ack_keeps n k copy_states.IM_AD = refl
-ack_keeps n k copy_states.SM_AD = refl
-ack_keeps n k copy_states.IS_D = refl
-ack_keeps n k copy_states.I = refl
-ack_keeps n k copy_states.S = refl
-ack_keeps n k copy_states.M = refl
-ack_keeps n k copy_states.E = refl
-ack_keeps n k copy_states.MI_A = refl
-ack_keeps n k copy_states.SI_A = refl
-ack_keeps n k copy_states.II_A = refl
+ack_keeps n k _ = refl
 
 -- An acknowledgement brings no block.
 had_block : (n k : ℕ) (state next : CopyState) (sent : CacheSends)

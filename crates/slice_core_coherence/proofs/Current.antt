@@ -1,7 +1,7 @@
 -- A slice whose lines are the machine's, blocks and all: its lines are the machine's without their blocks, and what may
 -- be read is the newest.
 use Rattle.std.proofs.Common.{◌≡◌, ℕ, ◌<◌, ◌≤◌, ◌||◌, ◌&&◌, Bool, true, false, not, List, length, Some, is_some}
-use Rattle.std.proofs.Common.{unwrap_or, refl, sym, ap, ◌∙◌, subst, true≢false}
+use Rattle.std.proofs.Common.{unwrap_or, refl, sym, ap, ◌∙◌, subst}
 use Rattle.address_map.specs.declared.block.Block.{Block}
 use Rattle.cache_table.specs.CopyState.{is_readable}
 use Rattle.cache_table.specs.declared.state.CopyState.{CopyState}
@@ -27,18 +27,8 @@ use Rattle.slice_queues_message.specs.declared.message.RequestMessage.TheVariant
 
 -- A copy that may be read has a block.
 pub readable_has_block : (state : CopyState) → is_readable state ≡ true → has_block state ≡ true
-readable_has_block copy_states.I readable = absurd (true≢false (sym readable))
-readable_has_block copy_states.IS_D readable = absurd (true≢false (sym readable))
-readable_has_block copy_states.IM_AD readable = absurd (true≢false (sym readable))
-readable_has_block copy_states.IM_A readable = refl
-readable_has_block copy_states.S readable = refl
-readable_has_block copy_states.SM_AD readable = refl
-readable_has_block copy_states.SM_A readable = refl
-readable_has_block copy_states.M readable = refl
-readable_has_block copy_states.E readable = refl
-readable_has_block copy_states.MI_A readable = refl
-readable_has_block copy_states.SI_A readable = refl
-readable_has_block copy_states.II_A readable = refl
+readable_has_block copy_states.I readable = cc
+readable_has_block _ readable = cc
 
 -- And it is the newest.
 readable_newest : (look : Look) → is_readable look.state ≡ true → has_newest look ≡ true

@@ -45,15 +45,7 @@ pub leaves_by : (block : Block) (state : CopyState) → may_leave state ≡ true
 leaves_by block copy_states.S may = record { sent = cache_sends.PutS; row = refl; put = λ waits. refl }
 leaves_by block copy_states.M may = record { sent = cache_sends.PutM; row = refl; put = λ waits. refl }
 leaves_by block copy_states.E may = record { sent = cache_sends.PutM; row = refl; put = λ waits. refl }
-leaves_by block copy_states.I may = absurd (true≢false (sym may))
-leaves_by block copy_states.IS_D may = absurd (true≢false (sym may))
-leaves_by block copy_states.IM_AD may = absurd (true≢false (sym may))
-leaves_by block copy_states.IM_A may = absurd (true≢false (sym may))
-leaves_by block copy_states.SM_AD may = absurd (true≢false (sym may))
-leaves_by block copy_states.SM_A may = absurd (true≢false (sym may))
-leaves_by block copy_states.MI_A may = absurd (true≢false (sym may))
-leaves_by block copy_states.SI_A may = absurd (true≢false (sym may))
-leaves_by block copy_states.II_A may = absurd (true≢false (sym may))
+leaves_by block _ may = absurd (true≢false (sym may))
 
 -- What passes is there, and passes.
 pub passing : (test : CacheCopy → Bool) (o : Option CacheCopy) → IsSomeAnd o (λ copy. test copy ≡ true)

@@ -89,33 +89,13 @@ moved copy next = if is_gone next then no_copy else record copy { state = next }
 
 pub moved-state : (copy : CacheCopy) (next : CopyState) → (moved copy next).state ≡ next
 moved-state copy copy_states.I = refl
-moved-state copy copy_states.IS_D = refl
-moved-state copy copy_states.IM_AD = refl
-moved-state copy copy_states.IM_A = refl
-moved-state copy copy_states.S = refl
-moved-state copy copy_states.SM_AD = refl
-moved-state copy copy_states.SM_A = refl
-moved-state copy copy_states.M = refl
-moved-state copy copy_states.E = refl
-moved-state copy copy_states.MI_A = refl
-moved-state copy copy_states.SI_A = refl
-moved-state copy copy_states.II_A = refl
+moved-state copy _ = refl
 
 -- A copy that waits stays, with its count.
 moved-counted : (copy : CacheCopy) (next : CopyState) → is_waiting next ≡ true
     → (moved copy next).counted ≡ copy.counted
-moved-counted copy copy_states.IS_D waits = refl
-moved-counted copy copy_states.IM_AD waits = refl
-moved-counted copy copy_states.IM_A waits = refl
-moved-counted copy copy_states.SM_AD waits = refl
-moved-counted copy copy_states.SM_A waits = refl
-moved-counted copy copy_states.I waits = absurd (cc waits)
-moved-counted copy copy_states.S waits = absurd (cc waits)
-moved-counted copy copy_states.M waits = absurd (cc waits)
-moved-counted copy copy_states.E waits = absurd (cc waits)
-moved-counted copy copy_states.MI_A waits = absurd (cc waits)
-moved-counted copy copy_states.SI_A waits = absurd (cc waits)
-moved-counted copy copy_states.II_A waits = absurd (cc waits)
+moved-counted copy copy_states.I waits = cc
+moved-counted copy _ waits = cc
 
 -- No forwarded message has its core ask for anything.
 asks-nothing : (message : ForwardedMessage) (own : Request) → asks_for (sends_for message) own ≡ own

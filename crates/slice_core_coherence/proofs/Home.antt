@@ -1,5 +1,5 @@
 -- A block that comes home is a step of the line.
-use Rattle.std.proofs.Common.{◌≡◌, ℕ, ◌<◌, Bool, true, false, if◌then◌else◌, length, Option, Some, None, is_some}
+use Rattle.std.proofs.Common.{◌≡◌, ℕ, ◌<◌, Bool, true, false, if◌then◌else◌, length, Option, Some, is_some}
 use Rattle.std.proofs.Common.{unwrap_or, refl, sym, ap, ◌∙◌, subst}
 use Rattle.address_map.specs.declared.address.CoreId.{CoreId}
 use Rattle.address_map.specs.declared.address.Local.{Local}
@@ -33,16 +33,10 @@ use Rattle.slice_core_plan.specs.declared.transition.Transition.{Transition}
 home_row : (exclusive : Bool) (state : DirState) (owner : Option CoreId) (sharers : ℕ)
     → IfGo (cell exclusive state owner sharers dir_events.DataHome)
     (λ next owns shares sent writes. sent ≡ dir_sends.Nothing)
-home_row true dir_states.I owner sharers = tt
-home_row true dir_states.S owner sharers = tt
-home_row true dir_states.M (Some core) sharers = tt
-home_row true dir_states.M None sharers = tt
 home_row true dir_states.S_D owner sharers = refl
-home_row false dir_states.I owner sharers = tt
-home_row false dir_states.S owner sharers = tt
-home_row false dir_states.M (Some core) sharers = tt
-home_row false dir_states.M None sharers = tt
 home_row false dir_states.S_D owner sharers = refl
+home_row _ dir_states.M (Some core) sharers = tt
+home_row _ _ _ _ = tt
 
 -- what the directory does by it
 abbrev pub comes_to : DirState → Option CoreId → ℕ → Bool → DirStep

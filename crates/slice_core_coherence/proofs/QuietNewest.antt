@@ -58,32 +58,12 @@ empty_queue false no_forward false owes_to names none =
 
 -- A copy that stands in the array doesn't leave.
 held_stays : (state : CopyState) → stands_in_array state ≡ true → is_leaving state ≡ false
-held_stays copy_states.IS_D stands = refl
-held_stays copy_states.IM_AD stands = refl
-held_stays copy_states.IM_A stands = refl
-held_stays copy_states.S stands = refl
-held_stays copy_states.SM_AD stands = refl
-held_stays copy_states.SM_A stands = refl
-held_stays copy_states.M stands = refl
-held_stays copy_states.E stands = refl
-held_stays copy_states.I stands = absurd (true≢false (sym stands))
-held_stays copy_states.MI_A stands = absurd (true≢false (sym stands))
-held_stays copy_states.SI_A stands = absurd (true≢false (sym stands))
-held_stays copy_states.II_A stands = absurd (true≢false (sym stands))
+held_stays copy_states.I stands = cc
+held_stays _ stands = cc
 
 writer_reads : (state : CopyState) → is_writer state ≡ true → is_readable state ≡ true
-writer_reads copy_states.M writes = refl
-writer_reads copy_states.E writes = refl
-writer_reads copy_states.S writes = refl
-writer_reads copy_states.SM_AD writes = refl
-writer_reads copy_states.SM_A writes = refl
-writer_reads copy_states.I writes = absurd (true≢false (sym writes))
-writer_reads copy_states.IS_D writes = absurd (true≢false (sym writes))
-writer_reads copy_states.IM_AD writes = absurd (true≢false (sym writes))
-writer_reads copy_states.IM_A writes = absurd (true≢false (sym writes))
-writer_reads copy_states.MI_A writes = absurd (true≢false (sym writes))
-writer_reads copy_states.SI_A writes = absurd (true≢false (sym writes))
-writer_reads copy_states.II_A writes = absurd (true≢false (sym writes))
+writer_reads copy_states.M writes = cc
+writer_reads _ writes = cc
 
 -- Without an owner, and with nothing awaited, the home copy is the one that counts.
 home_counts : (directory : DirState) → is_modified directory ≡ false → is_awaited directory ≡ false

@@ -191,16 +191,7 @@ data_all : (n k : ℕ) (state : CopyState) → if_go (row_of state (cache_events
 unfolding if_go is_taken is_sending number_of
 data_all n k copy_states.IM_AD = if_go-counted (is_taken copy_states.IM_AD) k n copy_states.IM_A refl refl
 data_all n k copy_states.SM_AD = if_go-counted (is_taken copy_states.SM_AD) k n copy_states.SM_A refl refl
-data_all n k copy_states.IS_D = refl
-data_all n k copy_states.I = refl
-data_all n k copy_states.IM_A = refl
-data_all n k copy_states.S = refl
-data_all n k copy_states.SM_A = refl
-data_all n k copy_states.M = refl
-data_all n k copy_states.E = refl
-data_all n k copy_states.MI_A = refl
-data_all n k copy_states.SI_A = refl
-data_all n k copy_states.II_A = refl
+data_all n k _ = refl
 
 pub data-taken : (n k : ℕ) (state next : CopyState) (sent : CacheSends)
     → row_of state (cache_events.Data n k) ≡ rows.Go next sent → IsTaken state next sent
@@ -223,16 +214,7 @@ ack_all : (n k : ℕ) (state : CopyState) → if_go (row_of state (cache_events.
 unfolding if_go is_counted is_taken is_sending number_of
 ack_all n k copy_states.IM_A = if_go-counted (is_counted copy_states.IM_A) (k + 1) n copy_states.IM_A refl refl
 ack_all n k copy_states.SM_A = if_go-counted (is_counted copy_states.SM_A) (k + 1) n copy_states.SM_A refl refl
-ack_all n k copy_states.IM_AD = refl
-ack_all n k copy_states.SM_AD = refl
-ack_all n k copy_states.IS_D = refl
-ack_all n k copy_states.I = refl
-ack_all n k copy_states.S = refl
-ack_all n k copy_states.M = refl
-ack_all n k copy_states.E = refl
-ack_all n k copy_states.MI_A = refl
-ack_all n k copy_states.SI_A = refl
-ack_all n k copy_states.II_A = refl
+ack_all n k _ = refl
 
 -- An acknowledgement has no copy come to count.
 pub ack-taken : (n k : ℕ) (state next : CopyState) (sent : CacheSends)
@@ -251,13 +233,4 @@ pub ack_row-same : (state : CopyState) (n wants k : ℕ) → (is_counting state 
     → row_of state (cache_events.InvAck n k) ≡ row_of state (cache_events.InvAck wants k)
 ack_row-same copy_states.IM_A n wants k same = ap (λ w. row_of copy_states.IM_A (cache_events.InvAck w k)) (same refl)
 ack_row-same copy_states.SM_A n wants k same = ap (λ w. row_of copy_states.SM_A (cache_events.InvAck w k)) (same refl)
-ack_row-same copy_states.IM_AD n wants k same = refl
-ack_row-same copy_states.SM_AD n wants k same = refl
-ack_row-same copy_states.IS_D n wants k same = refl
-ack_row-same copy_states.I n wants k same = refl
-ack_row-same copy_states.S n wants k same = refl
-ack_row-same copy_states.M n wants k same = refl
-ack_row-same copy_states.E n wants k same = refl
-ack_row-same copy_states.MI_A n wants k same = refl
-ack_row-same copy_states.SI_A n wants k same = refl
-ack_row-same copy_states.II_A n wants k same = refl
+ack_row-same _ n wants k same = refl

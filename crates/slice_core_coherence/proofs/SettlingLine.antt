@@ -102,17 +102,7 @@ asking copy_states.S targets = by (behind_loads targets) refl
     by : (left : List Target) → behind_loads targets ≡ left → Asking copy_states.S targets
     by [] is = stays (rw is refl) (rw is refl)
     by (target ∷ rest) is = asks_on (rw is refl) refl (rw is refl)
-asking copy_states.M targets = stays refl refl
-asking copy_states.E targets = stays refl refl
-asking copy_states.I targets = stays refl refl
-asking copy_states.IS_D targets = stays refl refl
-asking copy_states.IM_AD targets = stays refl refl
-asking copy_states.IM_A targets = stays refl refl
-asking copy_states.SM_AD targets = stays refl refl
-asking copy_states.SM_A targets = stays refl refl
-asking copy_states.MI_A targets = stays refl refl
-asking copy_states.SI_A targets = stays refl refl
-asking copy_states.II_A targets = stays refl refl
+asking _ targets = stays refl refl
 
 -- ---- the core's own part
 

@@ -76,18 +76,8 @@ nobody_at line core past = get_or_past line.cores core no_messages past
 -- Only a copy that waits has a row for an acknowledgement.
 entry_waits : (state : CopyState) (n k : ℕ) → is_entry (row_of state (cache_events.InvAck n k)) ≡ true
     → is_waiting state ≡ true
-entry_waits copy_states.IM_AD n k entry = refl
-entry_waits copy_states.SM_AD n k entry = refl
-entry_waits copy_states.IM_A n k entry = refl
-entry_waits copy_states.SM_A n k entry = refl
-entry_waits copy_states.IS_D n k entry = refl
-entry_waits copy_states.I n k entry = absurd (true≢false (sym entry))
-entry_waits copy_states.S n k entry = absurd (true≢false (sym entry))
-entry_waits copy_states.M n k entry = absurd (true≢false (sym entry))
-entry_waits copy_states.E n k entry = absurd (true≢false (sym entry))
-entry_waits copy_states.MI_A n k entry = absurd (true≢false (sym entry))
-entry_waits copy_states.SI_A n k entry = absurd (true≢false (sym entry))
-entry_waits copy_states.II_A n k entry = absurd (true≢false (sym entry))
+entry_waits copy_states.I n k entry = cc
+entry_waits _ n k entry = cc
 
 -- Where no element passes, none is found.
 found_none : {X : Type 0} (p : X → Bool) (xs : List X) → position p xs ≡ None → find p xs ≡ None
@@ -475,18 +465,8 @@ waits_in_array v whole core local below inside waits =
     ((whole.kept core below).leaving local) waits
   where
     not_leaving : (state : CopyState) → is_leaving state ≡ true → is_waiting state ≡ true → ⊥
-    not_leaving copy_states.MI_A leaves waits = true≢false (sym waits)
-    not_leaving copy_states.SI_A leaves waits = true≢false (sym waits)
-    not_leaving copy_states.II_A leaves waits = true≢false (sym waits)
-    not_leaving copy_states.I leaves waits = true≢false (sym leaves)
-    not_leaving copy_states.S leaves waits = true≢false (sym leaves)
-    not_leaving copy_states.M leaves waits = true≢false (sym leaves)
-    not_leaving copy_states.E leaves waits = true≢false (sym leaves)
-    not_leaving copy_states.IS_D leaves waits = true≢false (sym leaves)
-    not_leaving copy_states.IM_AD leaves waits = true≢false (sym leaves)
-    not_leaving copy_states.IM_A leaves waits = true≢false (sym leaves)
-    not_leaving copy_states.SM_AD leaves waits = true≢false (sym leaves)
-    not_leaving copy_states.SM_A leaves waits = true≢false (sym leaves)
+    not_leaving copy_states.I leaves waits = cc
+    not_leaving _ leaves waits = cc
 
     by : (held : Option CacheCopy) (leaving : Option Leaving) → IfSome leaving (λ l. is_leaving l.state ≡ true)
         → IsTrue (is_waiting (found_in held leaving).state) → IsSome held

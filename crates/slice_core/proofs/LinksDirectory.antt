@@ -1,7 +1,7 @@
 -- What the directory takes keeps what copies, registers and requests owe each other, and each owner is a core.
 use Rattle.std.proofs.Common.{◌≡◌, ℕ, ◌<◌, ◌==◌, Bool, true, false, if◌then◌else◌, length, Option, Some, None, IfSome}
 use Rattle.std.proofs.Common.{is_some, unwrap_or, inl, inr, refl, sym, ap, ◌∙◌, subst}
-use Rattle.std.proofs.lemmas.Bool.{cases_eq}
+use Rattle.std.proofs.lemmas.Bool.{cases_eq, cond_both}
 use Rattle.address_map.specs.declared.address.CoreId.{CoreId}
 use Rattle.address_map.specs.declared.address.Local.{Local}
 use Rattle.address_map.specs.declared.block.Block.{Block}
@@ -50,74 +50,27 @@ NamedBy P (dir_events.PutS core) = P core
 NamedBy P (dir_events.PutM core) = P core
 NamedBy P dir_events.DataHome = Unit {0}
 
--- a row of two
-either-owner : (P : CoreId → Type 0) (b : Bool) (one other : DirRow) → OwnerOf P one → OwnerOf P other →
-    OwnerOf P (if b then one else other)
-either-owner P true one other first second = first
-either-owner P false one other first second = second
-
--- The owner that a cell leaves is the one before, or the core that asks.
+-- The owner that a cell leaves is the one before, or the core that asks. `_` stands for what no line above it takes.
 pub cell-owner : (P : CoreId → Type 0) (exclusive : Bool) (state : DirState) (owner : Option CoreId) (sharers : ℕ)
     (event : DirEvent) →
     IfSome owner P → NamedBy P event → OwnerOf P (cell exclusive state owner sharers event)
 cell-owner P true dir_states.I owner sharers (dir_events.GetS core) was asks = asks
-cell-owner P true dir_states.I owner sharers (dir_events.GetM core) was asks = asks
-cell-owner P true dir_states.I owner sharers (dir_events.PutS core) was asks = was
-cell-owner P true dir_states.I owner sharers (dir_events.PutM core) was asks = was
-cell-owner P true dir_states.I owner sharers dir_events.DataHome was asks = tt
-cell-owner P true dir_states.S owner sharers (dir_events.GetS core) was asks = was
-cell-owner P true dir_states.S owner sharers (dir_events.GetM core) was asks = asks
-cell-owner P true dir_states.S owner sharers (dir_events.PutS core) was asks = was
-cell-owner P true dir_states.S owner sharers (dir_events.PutM core) was asks = was
-cell-owner P true dir_states.S owner sharers dir_events.DataHome was asks = tt
-cell-owner P true dir_states.M (Some owner) sharers (dir_events.GetS core) was asks =
-    either-owner P (owner.0 == core.0) _ _ tt tt
-cell-owner P true dir_states.M (Some owner) sharers (dir_events.GetM core) was asks =
-    either-owner P (owner.0 == core.0) _ _ tt asks
-cell-owner P true dir_states.M (Some owner) sharers (dir_events.PutS core) was asks =
-    either-owner P (owner.0 == core.0) _ _ tt was
-cell-owner P true dir_states.M (Some owner) sharers (dir_events.PutM core) was asks =
-    either-owner P (owner.0 == core.0) _ _ tt was
-cell-owner P true dir_states.M (Some owner) sharers dir_events.DataHome was asks = tt
-cell-owner P true dir_states.M None sharers (dir_events.GetS core) was asks = tt
-cell-owner P true dir_states.M None sharers (dir_events.GetM core) was asks = tt
-cell-owner P true dir_states.M None sharers (dir_events.PutS core) was asks = tt
-cell-owner P true dir_states.M None sharers (dir_events.PutM core) was asks = tt
-cell-owner P true dir_states.M None sharers dir_events.DataHome was asks = tt
-cell-owner P true dir_states.S_D owner sharers (dir_events.GetS core) was asks = tt
-cell-owner P true dir_states.S_D owner sharers (dir_events.GetM core) was asks = tt
-cell-owner P true dir_states.S_D owner sharers (dir_events.PutS core) was asks = was
-cell-owner P true dir_states.S_D owner sharers (dir_events.PutM core) was asks = was
-cell-owner P true dir_states.S_D owner sharers dir_events.DataHome was asks = was
-cell-owner P false dir_states.I owner sharers (dir_events.GetS core) was asks = was
-cell-owner P false dir_states.I owner sharers (dir_events.GetM core) was asks = asks
-cell-owner P false dir_states.I owner sharers (dir_events.PutS core) was asks = was
-cell-owner P false dir_states.I owner sharers (dir_events.PutM core) was asks = was
-cell-owner P false dir_states.I owner sharers dir_events.DataHome was asks = tt
-cell-owner P false dir_states.S owner sharers (dir_events.GetS core) was asks = was
-cell-owner P false dir_states.S owner sharers (dir_events.GetM core) was asks = asks
-cell-owner P false dir_states.S owner sharers (dir_events.PutS core) was asks = was
-cell-owner P false dir_states.S owner sharers (dir_events.PutM core) was asks = was
-cell-owner P false dir_states.S owner sharers dir_events.DataHome was asks = tt
-cell-owner P false dir_states.M (Some owner) sharers (dir_events.GetS core) was asks =
-    either-owner P (owner.0 == core.0) _ _ tt tt
-cell-owner P false dir_states.M (Some owner) sharers (dir_events.GetM core) was asks =
-    either-owner P (owner.0 == core.0) _ _ tt asks
-cell-owner P false dir_states.M (Some owner) sharers (dir_events.PutS core) was asks =
-    either-owner P (owner.0 == core.0) _ _ tt was
-cell-owner P false dir_states.M (Some owner) sharers (dir_events.PutM core) was asks =
-    either-owner P (owner.0 == core.0) _ _ tt was
-cell-owner P false dir_states.M (Some owner) sharers dir_events.DataHome was asks = tt
-cell-owner P false dir_states.M None sharers (dir_events.GetS core) was asks = tt
-cell-owner P false dir_states.M None sharers (dir_events.GetM core) was asks = tt
-cell-owner P false dir_states.M None sharers (dir_events.PutS core) was asks = tt
-cell-owner P false dir_states.M None sharers (dir_events.PutM core) was asks = tt
-cell-owner P false dir_states.M None sharers dir_events.DataHome was asks = tt
-cell-owner P false dir_states.S_D owner sharers (dir_events.GetS core) was asks = tt
-cell-owner P false dir_states.S_D owner sharers (dir_events.GetM core) was asks = tt
-cell-owner P false dir_states.S_D owner sharers (dir_events.PutS core) was asks = was
-cell-owner P false dir_states.S_D owner sharers (dir_events.PutM core) was asks = was
-cell-owner P false dir_states.S_D owner sharers dir_events.DataHome was asks = was
+cell-owner P _ dir_states.I owner sharers (dir_events.GetM core) was asks = asks
+cell-owner P _ dir_states.S owner sharers (dir_events.GetM core) was asks = asks
+cell-owner P _ dir_states.S_D owner sharers (dir_events.GetS core) was asks = tt
+cell-owner P _ dir_states.S_D owner sharers (dir_events.GetM core) was asks = tt
+cell-owner P _ dir_states.S_D owner sharers dir_events.DataHome was asks = was
+cell-owner P _ dir_states.M (Some owner) sharers (dir_events.GetS core) was asks =
+    cond_both (owner.0 == core.0) _ _ (OwnerOf P) (λ own. tt) (λ other. tt)
+cell-owner P _ dir_states.M (Some owner) sharers (dir_events.GetM core) was asks =
+    cond_both (owner.0 == core.0) _ _ (OwnerOf P) (λ own. tt) (λ other. asks)
+cell-owner P _ dir_states.M (Some owner) sharers (dir_events.PutS core) was asks =
+    cond_both (owner.0 == core.0) _ _ (OwnerOf P) (λ own. tt) (λ other. was)
+cell-owner P _ dir_states.M (Some owner) sharers (dir_events.PutM core) was asks =
+    cond_both (owner.0 == core.0) _ _ (OwnerOf P) (λ own. tt) (λ other. was)
+cell-owner P _ dir_states.M _ sharers _ was asks = tt
+cell-owner P _ _ owner sharers dir_events.DataHome was asks = tt
+cell-owner P _ _ owner sharers _ was asks = was
 
 -- the owner that a plan leaves, if it leaves one, is a core
 abbrev pub IsOwnedPlan : View → Delivery Transition → Type 0

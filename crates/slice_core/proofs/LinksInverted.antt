@@ -61,18 +61,10 @@ finds-rests : (cache : CoreCacheView) (local : Local) (state : CopyState) → st
     → is_waiting state ≡ false
     → FindsRegister (held_by cache local true state (row_of state cache_events.Load))
     × FindsRegister (held_by cache local true state (row_of state cache_events.Write))
-finds-rests cache local copy_states.I stands rests = cc
-finds-rests cache local copy_states.IS_D stands rests = cc
-finds-rests cache local copy_states.IM_AD stands rests = cc
-finds-rests cache local copy_states.IM_A stands rests = cc
 finds-rests cache local copy_states.S stands rests = (tt, tt)
-finds-rests cache local copy_states.SM_AD stands rests = cc
-finds-rests cache local copy_states.SM_A stands rests = cc
 finds-rests cache local copy_states.M stands rests = (tt, tt)
 finds-rests cache local copy_states.E stands rests = (tt, tt)
-finds-rests cache local copy_states.MI_A stands rests = cc
-finds-rests cache local copy_states.SI_A stands rests = cc
-finds-rests cache local copy_states.II_A stands rests = cc
+finds-rests cache local _ stands rests = cc
 
 finds-held : (cache : CoreCacheView) (local : Local) (state : CopyState) → stands_in_array state ≡ true
     → is_waiting state ≡ false → (op : Op)

@@ -75,15 +75,7 @@ performed-left : (state : CopyState) (targets : List Target) →
 performed-left copy_states.S targets = take-append-drop (prefix_len is_load targets) targets
 performed-left copy_states.M targets = append-nil targets
 performed-left copy_states.E targets = append-nil targets
-performed-left copy_states.IS_D targets = refl
-performed-left copy_states.IM_AD targets = refl
-performed-left copy_states.IM_A targets = refl
-performed-left copy_states.SM_AD targets = refl
-performed-left copy_states.SM_A targets = refl
-performed-left copy_states.I targets = refl
-performed-left copy_states.MI_A targets = refl
-performed-left copy_states.SI_A targets = refl
-performed-left copy_states.II_A targets = refl
+performed-left _ targets = refl
 
 -- a settled copy's state
 state-settled : (copy : CacheCopy) (block : Block) (state : CopyState) → (settled_copy copy block state).state ≡ state

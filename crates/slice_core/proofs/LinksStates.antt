@@ -1,7 +1,7 @@
 -- What the rows of the cache's table do to a copy's state where a message comes, as far as registers and requests go:
 -- tests over all states that hold by computing.
 use Rattle.std.proofs.Common.{◌≡◌, ℕ, ◌+◌, Bool, true, false, not, ◌&&◌, ◌||◌, Option, Some, None, List}
-use Rattle.std.proofs.Common.{[], ◌∷◌, refl, sym, is_some}
+use Rattle.std.proofs.Common.{[], ◌∷◌, refl, is_some}
 use Rattle.cache_table.specs.CopyState.{is_leaving, is_waiting}
 use Rattle.cache_table.specs.Row.{row_of, row_by_count}
 use Rattle.cache_table.specs.declared.row.CacheEvent.TheVariants as cache_events
@@ -147,16 +147,7 @@ data-row : (n k : ℕ) (state : CopyState) → goes_to (comes state None) (row_o
 unfolding goes_to comes implies
 data-row n k copy_states.IM_AD = goes_to-counted (comes copy_states.IM_AD None) k n copy_states.IM_A refl refl
 data-row n k copy_states.SM_AD = goes_to-counted (comes copy_states.SM_AD None) k n copy_states.SM_A refl refl
-data-row n k copy_states.IS_D = refl
-data-row n k copy_states.I = refl
-data-row n k copy_states.IM_A = refl
-data-row n k copy_states.S = refl
-data-row n k copy_states.SM_A = refl
-data-row n k copy_states.M = refl
-data-row n k copy_states.E = refl
-data-row n k copy_states.MI_A = refl
-data-row n k copy_states.SI_A = refl
-data-row n k copy_states.II_A = refl
+data-row n k _ = refl
 
 exclusive-row : (loads : Bool) (state : CopyState) →
     goes_to (comes state None) (row_of state (cache_events.DataE loads))
@@ -186,29 +177,14 @@ ack-row : (n k : ℕ) (state : CopyState) (request : Option RequestMessage) →
     goes_to (comes state request) (row_of state (cache_events.InvAck n k)) ≡ true
 unfolding goes_to comes implies
 ack-row n k copy_states.IM_A =
-    ack-counts copy_states.IM_A copy_states.IM_A (k + 1) n
-    (each_request-at (λ r. comes copy_states.IM_A r copy_states.M cache_sends.Nothing) refl refl refl refl (λ b. refl))
-    (each_request-at (λ r. comes copy_states.IM_A r copy_states.IM_A cache_sends.Nothing) refl refl refl refl
-    (λ b. refl))
+    ack-counts copy_states.IM_A copy_states.IM_A (k + 1) n (each_request-at _ refl refl refl refl (λ b. refl))
+    (each_request-at _ refl refl refl refl (λ b. refl))
 ack-row n k copy_states.SM_A =
-    ack-counts copy_states.SM_A copy_states.SM_A (k + 1) n
-    (each_request-at (λ r. comes copy_states.SM_A r copy_states.M cache_sends.Nothing) refl refl refl refl (λ b. refl))
-    (each_request-at (λ r. comes copy_states.SM_A r copy_states.SM_A cache_sends.Nothing) refl refl refl refl
-    (λ b. refl))
-ack-row n k copy_states.IM_AD =
-    each_request-at (λ r. comes copy_states.IM_AD r copy_states.IM_AD cache_sends.Nothing) refl refl refl refl
-    (λ b. refl)
-ack-row n k copy_states.SM_AD =
-    each_request-at (λ r. comes copy_states.SM_AD r copy_states.SM_AD cache_sends.Nothing) refl refl refl refl
-    (λ b. refl)
-ack-row n k copy_states.IS_D = λ request. refl
-ack-row n k copy_states.I = λ request. refl
-ack-row n k copy_states.S = λ request. refl
-ack-row n k copy_states.M = λ request. refl
-ack-row n k copy_states.E = λ request. refl
-ack-row n k copy_states.MI_A = λ request. refl
-ack-row n k copy_states.SI_A = λ request. refl
-ack-row n k copy_states.II_A = λ request. refl
+    ack-counts copy_states.SM_A copy_states.SM_A (k + 1) n (each_request-at _ refl refl refl refl (λ b. refl))
+    (each_request-at _ refl refl refl refl (λ b. refl))
+ack-row n k copy_states.IM_AD = each_request-at _ refl refl refl refl (λ b. refl)
+ack-row n k copy_states.SM_AD = each_request-at _ refl refl refl refl (λ b. refl)
+ack-row n k _ = λ request. refl
 
 pub comes_by_ack : (n k : ℕ) (state next : CopyState) (sent : CacheSends) (request : Option RequestMessage) →
     row_of state (cache_events.InvAck n k) ≡ rows.Go next sent → ComesTo state next request
@@ -227,17 +203,7 @@ pub settled-waits : (state : CopyState) (targets : List Target) → stands_in_ar
     is_waited targets ≡ true →
     is_waiting (settled_state state (left_in state targets)) ≡ is_waited (left_in state targets)
 settled-waits copy_states.S targets stands some = shared-waits (behind_loads targets)
-settled-waits copy_states.M targets stands some = refl
-settled-waits copy_states.E targets stands some = refl
-settled-waits copy_states.IS_D targets stands some = sym some
-settled-waits copy_states.IM_AD targets stands some = sym some
-settled-waits copy_states.IM_A targets stands some = sym some
-settled-waits copy_states.SM_AD targets stands some = sym some
-settled-waits copy_states.SM_A targets stands some = sym some
-settled-waits copy_states.I targets stands some = cc
-settled-waits copy_states.MI_A targets stands some = cc
-settled-waits copy_states.SI_A targets stands some = cc
-settled-waits copy_states.II_A targets stands some = cc
+settled-waits _ targets stands some = cc
 
 -- what waits for the directory once a copy has settled: the right to write, if it is asked for
 unfoldable pub asked_then : Bool → Option RequestMessage → Option RequestMessage
@@ -256,17 +222,7 @@ pub settled-sent : (state : CopyState) (targets : List Target) (request : Option
     has_sent (settled_state state (left_in state targets)) (asked_then (asks_to_write state targets) request) ≡ true
 unfolding asked_then
 settled-sent copy_states.S targets request sent = shared-sent (behind_loads targets) request sent
-settled-sent copy_states.M targets request sent = sent
-settled-sent copy_states.E targets request sent = sent
-settled-sent copy_states.IS_D targets request sent = sent
-settled-sent copy_states.IM_AD targets request sent = sent
-settled-sent copy_states.IM_A targets request sent = sent
-settled-sent copy_states.SM_AD targets request sent = sent
-settled-sent copy_states.SM_A targets request sent = sent
-settled-sent copy_states.I targets request sent = sent
-settled-sent copy_states.MI_A targets request sent = sent
-settled-sent copy_states.SI_A targets request sent = sent
-settled-sent copy_states.II_A targets request sent = sent
+settled-sent _ targets request sent = sent
 
 -- It stands in the array as before.
 pub settled-stands : (state : CopyState) (targets : List Target) → stands_in_array state ≡ true →
@@ -276,32 +232,16 @@ settled-stands copy_states.S targets stands = shared (behind_loads targets)
     shared : (left : List Target) → stands_in_array (settled_state copy_states.S left) ≡ true
     shared [] = refl
     shared (target ∷ targets) = refl
-settled-stands copy_states.M targets stands = refl
-settled-stands copy_states.E targets stands = refl
-settled-stands copy_states.IS_D targets stands = refl
-settled-stands copy_states.IM_AD targets stands = refl
-settled-stands copy_states.IM_A targets stands = refl
-settled-stands copy_states.SM_AD targets stands = refl
-settled-stands copy_states.SM_A targets stands = refl
 settled-stands copy_states.I targets stands = stands
 settled-stands copy_states.MI_A targets stands = stands
 settled-stands copy_states.SI_A targets stands = stands
 settled-stands copy_states.II_A targets stands = stands
+settled-stands _ targets stands = refl
 
 -- a copy of which nothing is left is in I
 pub gone-is : (state : CopyState) → is_gone state ≡ true → state ≡ copy_states.I
 gone-is copy_states.I gone = refl
-gone-is copy_states.IS_D gone = cc
-gone-is copy_states.IM_AD gone = cc
-gone-is copy_states.IM_A gone = cc
-gone-is copy_states.S gone = cc
-gone-is copy_states.SM_AD gone = cc
-gone-is copy_states.SM_A gone = cc
-gone-is copy_states.M gone = cc
-gone-is copy_states.E gone = cc
-gone-is copy_states.MI_A gone = cc
-gone-is copy_states.SI_A gone = cc
-gone-is copy_states.II_A gone = cc
+gone-is _ gone = cc
 
 -- no copy waits and leaves
 pub waits-or_leaves : (state : CopyState) → is_leaving state ≡ true → is_waiting state ≡ false

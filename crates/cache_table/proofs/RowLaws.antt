@@ -26,31 +26,20 @@ counted-lawful state event waits come n last others none =
           ]
     ]
 
--- The laws hold in each cell. One line for each state splits the cases, and the last stands for each that is left.
+-- The laws hold in each cell. The line of Load splits the cases of each state, and the last stands for each that is left.
 pub row_of-lawful : (state : CopyState) (event : CacheEvent) → IsLawful state event (row_of state event)
 row_of-lawful copy_states.IM_AD (cache_events.Data n k) =
-    counted-lawful copy_states.IM_AD (cache_events.Data n k) copy_states.IM_A k n
-    (λ last within. search (rules, last, within))
+    counted-lawful _ _ copy_states.IM_A k n (λ last within. search (rules, last, within))
     (λ some within. search (rules, some, within)) (λ past. search (rules, past))
 row_of-lawful copy_states.SM_AD (cache_events.Data n k) =
-    counted-lawful copy_states.SM_AD (cache_events.Data n k) copy_states.SM_A k n
-    (λ last within. search (rules, last, within))
+    counted-lawful _ _ copy_states.SM_A k n (λ last within. search (rules, last, within))
     (λ some within. search (rules, some, within)) (λ past. search (rules, past))
 row_of-lawful copy_states.IM_A (cache_events.InvAck n k) =
-    counted-lawful copy_states.IM_A (cache_events.InvAck n k) copy_states.IM_A (k + 1) n
-    (λ last within. search (rules, last, within))
+    counted-lawful _ _ copy_states.IM_A (k + 1) n (λ last within. search (rules, last, within))
     (λ some within. search (rules, some, within)) (λ past. search (rules, past))
 row_of-lawful copy_states.SM_A (cache_events.InvAck n k) =
-    counted-lawful copy_states.SM_A (cache_events.InvAck n k) copy_states.SM_A (k + 1) n
-    (λ last within. search (rules, last, within))
+    counted-lawful _ _ copy_states.SM_A (k + 1) n (λ last within. search (rules, last, within))
     (λ some within. search (rules, some, within)) (λ past. search (rules, past))
 row_of-lawful copy_states.IS_D (cache_events.DataE true) = search rules
-row_of-lawful copy_states.IS_D (cache_events.DataE false) = search rules
-row_of-lawful copy_states.I cache_events.Load = search rules
-row_of-lawful copy_states.S cache_events.Load = search rules
-row_of-lawful copy_states.M cache_events.Load = search rules
-row_of-lawful copy_states.E cache_events.Load = search rules
-row_of-lawful copy_states.MI_A cache_events.Load = search rules
-row_of-lawful copy_states.SI_A cache_events.Load = search rules
-row_of-lawful copy_states.II_A cache_events.Load = search rules
+row_of-lawful _ cache_events.Load = search rules
 row_of-lawful _ _ = search rules

@@ -1,11 +1,12 @@
 -- A test of one core is proved by going through all looks and all entries that fit.
 use Rattle.std.proofs.Common.{◌≡◌, ◌&&◌, Bool, true, false, not, refl, sym, subst, true≢false}
 use Rattle.std.proofs.lemmas.Bool.{and_parts}
+unfoldable pub use Rattle.cache_table.proofs.Each.{each_state}
+pub use Rattle.cache_table.proofs.Each.{each_state-at}
 use Rattle.cache_table.specs.declared.row.CacheSends.{CacheSends}
 use Rattle.cache_table.specs.declared.row.Row.{Row}
 use Rattle.cache_table.specs.declared.row.Row.TheVariants as rows
 use Rattle.cache_table.specs.declared.state.CopyState.{CopyState}
-use Rattle.cache_table.specs.declared.state.CopyState.TheVariants as copy_states
 use Rattle.directory_table.specs.declared.state.DirState.{DirState}
 use Rattle.directory_table.specs.declared.state.DirState.TheVariants as dir_states
 use Rattle.protocol_coherence.specs.Fit.{◌implies◌, ◌iff◌, asker_fits, awaits, clean, comes, data_fits, debt_fits}
@@ -24,12 +25,6 @@ pub if_so-at : (a : Bool) (then : Unit {0} → Bool) → if_so a then ≡ true �
 unfolding if_so
 if_so-at true then e so = e
 if_so-at false then e so = absurd (true≢false (sym so))
-
-unfoldable pub each_state : (CopyState → Bool) → Bool
-each_state p =
-    p copy_states.I && p copy_states.IS_D && p copy_states.IM_AD && p copy_states.IM_A && p copy_states.S
-    && p copy_states.SM_AD && p copy_states.SM_A
-    && p copy_states.M && p copy_states.E && p copy_states.MI_A && p copy_states.SI_A && p copy_states.II_A
 
 unfoldable pub each_request : (Request → Bool) → Bool
 each_request p = p no_request && p get_s && p get_m && p put_s && p put_m
@@ -83,26 +78,6 @@ each_directory-at p e dir_states.I = left _ _ (left _ _ (left _ _ e))
 each_directory-at p e dir_states.S = right _ _ (left _ _ (left _ _ e))
 each_directory-at p e dir_states.M = right _ _ (left _ _ e)
 each_directory-at p e dir_states.S_D = right _ _ e
-
-pub each_state-at : (p : CopyState → Bool) → each_state p ≡ true → (s : CopyState) → p s ≡ true
-unfolding each_state
-each_state-at p e copy_states.I = left _ _ (left _ _ (left _ _ (left _ _
-    (left _ _ (left _ _ (left _ _ (left _ _ (left _ _ (left _ _ (left _ _ e))))))))))
-each_state-at p e copy_states.IS_D = right _ _ (left _ _ (left _ _
-    (left _ _ (left _ _ (left _ _ (left _ _ (left _ _ (left _ _ (left _ _ (left _ _ e))))))))))
-each_state-at p e copy_states.IM_AD = right _ _ (left _ _ (left _ _
-    (left _ _ (left _ _ (left _ _ (left _ _ (left _ _ (left _ _ (left _ _ e)))))))))
-each_state-at p e copy_states.IM_A = right _ _ (left _ _ (left _ _
-    (left _ _ (left _ _ (left _ _ (left _ _ (left _ _ (left _ _ e))))))))
-each_state-at p e copy_states.S =
-    right _ _ (left _ _ (left _ _ (left _ _ (left _ _ (left _ _ (left _ _ (left _ _ e)))))))
-each_state-at p e copy_states.SM_AD = right _ _ (left _ _ (left _ _ (left _ _ (left _ _ (left _ _ (left _ _ e))))))
-each_state-at p e copy_states.SM_A = right _ _ (left _ _ (left _ _ (left _ _ (left _ _ (left _ _ e)))))
-each_state-at p e copy_states.M = right _ _ (left _ _ (left _ _ (left _ _ (left _ _ e))))
-each_state-at p e copy_states.E = right _ _ (left _ _ (left _ _ (left _ _ e)))
-each_state-at p e copy_states.MI_A = right _ _ (left _ _ (left _ _ e))
-each_state-at p e copy_states.SI_A = right _ _ (left _ _ e)
-each_state-at p e copy_states.II_A = right _ _ e
 
 -- The looks that fit, then the entries that fit them.
 unfoldable pub each_near : (Near → Bool) → Look → Bool

@@ -202,13 +202,7 @@ ack_nothing false false = refl
 
 is_nothing-at : (sent : CacheSends) → is_nothing sent ≡ true → sent ≡ cache_sends.Nothing
 is_nothing-at cache_sends.Nothing e = refl
-is_nothing-at cache_sends.GetS e = nothing e
-is_nothing-at cache_sends.GetM e = nothing e
-is_nothing-at cache_sends.PutS e = nothing e
-is_nothing-at cache_sends.PutM e = nothing e
-is_nothing-at cache_sends.InvAckToRequester e = nothing e
-is_nothing-at cache_sends.DataToRequester e = nothing e
-is_nothing-at cache_sends.DataToRequesterAndHome e = nothing e
+is_nothing-at _ e = nothing e
 
 ack_sends : (state next : CopyState) (n k : ℕ) (sent : CacheSends)
     → row_of state (cache_events.InvAck n k) ≡ rows.Go next sent → sent ≡ cache_sends.Nothing

@@ -27,15 +27,7 @@ use Rattle.protocol_coherence.specs.Values.{further_with, has_newest, newest_aft
 performs_write : (event : CacheEvent) (next : CopyState) → performs event next ≡ true
     → (event ≡ cache_events.Write) × (is_writer next ≡ true)
 performs_write cache_events.Write next e = (refl, e)
-performs_write cache_events.Load next e = absurd (true≢false (sym e))
-performs_write cache_events.Eviction next e = absurd (true≢false (sym e))
-performs_write cache_events.Inv next e = absurd (true≢false (sym e))
-performs_write cache_events.FwdGetS next e = absurd (true≢false (sym e))
-performs_write cache_events.FwdGetM next e = absurd (true≢false (sym e))
-performs_write cache_events.PutAck next e = absurd (true≢false (sym e))
-performs_write (cache_events.Data n k) next e = absurd (true≢false (sym e))
-performs_write (cache_events.DataE loads) next e = absurd (true≢false (sym e))
-performs_write (cache_events.InvAck n k) next e = absurd (true≢false (sym e))
+performs_write _ next e = absurd (true≢false (sym e))
 
 turns_current : (cores : ℕ) (line : Line) (roles : Roles) (c : ℕ) (event : CacheEvent) (next : CopyState)
     (sent : CacheSends)

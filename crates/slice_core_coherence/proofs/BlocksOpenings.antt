@@ -70,13 +70,7 @@ put_carries : (sent : CacheSends) (next : CopyState) (block kept put : Block) �
     → block_in (if sends_put_m sent then kept else put) (Some (put_by block (rows.Go next sent)))
     ≡ (if sends_put_m sent then kept else put)
 put_carries cache_sends.PutM next block kept put same = same
-put_carries cache_sends.PutS next block kept put same = refl
-put_carries cache_sends.Nothing next block kept put same = refl
-put_carries cache_sends.GetS next block kept put same = refl
-put_carries cache_sends.GetM next block kept put same = refl
-put_carries cache_sends.InvAckToRequester next block kept put same = refl
-put_carries cache_sends.DataToRequester next block kept put same = refl
-put_carries cache_sends.DataToRequesterAndHome next block kept put same = refl
+put_carries _ next block kept put same = refl
 
 module _ (v : View) (core : CoreId) (local : Local) (shaped : IsShaped v) (most : length v.caches ≤ 64)
     (there : core.0 < length v.caches) (inside : local.0 < v.lines.lines) (kept : IsKept (cache_at v core))

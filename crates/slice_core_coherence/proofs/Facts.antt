@@ -129,12 +129,7 @@ small-answered dir_sends.PutAck part law small = small
 small-forwarded : (sent : DirSends) (core : ℕ) (part : Part) → IsSmall part →
     IsSmall (part_after_forward sent core part)
 small-forwarded dir_sends.Nothing core part small = small
-small-forwarded (dir_sends.Data acks) core part small = small
-small-forwarded (dir_sends.DataAndInv acks invalidated) core part small = small
-small-forwarded dir_sends.DataE core part small = small
-small-forwarded (dir_sends.FwdGetS owner) core part small = small
-small-forwarded (dir_sends.FwdGetM owner) core part small = small
-small-forwarded dir_sends.PutAck core part small = small
+small-forwarded _ core part small = small
 
 row_awaits : (exclusive : Bool) (line : Line) (home : Block) (event : DirEvent) (step : DirStep)
     → Directory.row_of exclusive (entry_of line home) event ≡ dir_rows.Go step → AwaitsInvalidated step.sends

@@ -76,18 +76,10 @@ module _ (cache : CoreCacheView) (local : Local) (state : CopyState) (op : Op) w
       → IsJudged cache local state op (held_by cache local room state row)
   judged-held room (rows.Go next cache_sends.Nothing) held is = (held, is)
   judged-held room (rows.Go next cache_sends.GetS) held is =
-      judged-register room (access_kinds.PrimaryMiss next asks.GetS placements.Held)
-      (is, held)
+      judged-register room (access_kinds.PrimaryMiss next asks.GetS placements.Held) (is, held)
   judged-held room (rows.Go next cache_sends.GetM) held is =
-      judged-register room (access_kinds.PrimaryMiss next asks.GetM placements.Held)
-      (is, held)
-  judged-held room (rows.Go next cache_sends.PutS) held is = tt
-  judged-held room (rows.Go next cache_sends.PutM) held is = tt
-  judged-held room (rows.Go next cache_sends.InvAckToRequester) held is = tt
-  judged-held room (rows.Go next cache_sends.DataToRequester) held is = tt
-  judged-held room (rows.Go next cache_sends.DataToRequesterAndHome) held is = tt
-  judged-held room rows.Blocked held is = tt
-  judged-held room rows.NoEntry held is = tt
+      judged-register room (access_kinds.PrimaryMiss next asks.GetM placements.Held) (is, held)
+  judged-held room _ held is = tt
 
   judged-absent : (room : Bool) (row : Row) → array_at cache.array local ≡ None
       → buffer_at cache.buffer.write_backs local.0 ≡ None → row_of state (event_of op) ≡ row
@@ -96,14 +88,7 @@ module _ (cache : CoreCacheView) (local : Local) (state : CopyState) (op : Op) w
       judged-register room (in_way cache local next asks.GetS) (judged-way next asks.GetS absent stays is)
   judged-absent room (rows.Go next cache_sends.GetM) absent stays is =
       judged-register room (in_way cache local next asks.GetM) (judged-way next asks.GetM absent stays is)
-  judged-absent room (rows.Go next cache_sends.Nothing) absent stays is = tt
-  judged-absent room (rows.Go next cache_sends.PutS) absent stays is = tt
-  judged-absent room (rows.Go next cache_sends.PutM) absent stays is = tt
-  judged-absent room (rows.Go next cache_sends.InvAckToRequester) absent stays is = tt
-  judged-absent room (rows.Go next cache_sends.DataToRequester) absent stays is = tt
-  judged-absent room (rows.Go next cache_sends.DataToRequesterAndHome) absent stays is = tt
-  judged-absent room rows.Blocked absent stays is = tt
-  judged-absent room rows.NoEntry absent stays is = tt
+  judged-absent room _ absent stays is = tt
 
 -- An access to a line that nobody waits for is by the row of its copy, which stands in the array, or leaves, or isn't
 -- there.

@@ -60,19 +60,12 @@ each_eviction_own = refl
 row_stays_own : (event : CacheEvent) (state : CopyState) → IsOwn event
     → if_go (row_of state event) (stays_own state) ≡ true
 row_stays_own cache_events.Load state own =
-    each_state-at (λ s. if_go (row_of s cache_events.Load) (stays_own s)) each_load_own
-    state
+    each_state-at (λ s. if_go (row_of s cache_events.Load) (stays_own s)) each_load_own state
 row_stays_own cache_events.Write state own =
     each_state-at (λ s. if_go (row_of s cache_events.Write) (stays_own s)) each_write_own state
 row_stays_own cache_events.Eviction state own =
     each_state-at (λ s. if_go (row_of s cache_events.Eviction) (stays_own s)) each_eviction_own state
-row_stays_own (cache_events.Data n k) state own = absurd own
-row_stays_own (cache_events.DataE loads) state own = absurd own
-row_stays_own (cache_events.InvAck n k) state own = absurd own
-row_stays_own cache_events.Inv state own = absurd own
-row_stays_own cache_events.FwdGetS state own = absurd own
-row_stays_own cache_events.FwdGetM state own = absurd own
-row_stays_own cache_events.PutAck state own = absurd own
+row_stays_own _ state own = absurd own
 
 pub own_row : (event : CacheEvent) (state next : CopyState) (sent : CacheSends) → IsOwn event
     → row_of state event ≡ rows.Go next sent → OwnRow state next sent
@@ -100,13 +93,7 @@ pub own_at_hand : (event : CacheEvent) (part : Part) → IsOwn event → stands 
 own_at_hand cache_events.Load part own = refl
 own_at_hand cache_events.Write part own = refl
 own_at_hand cache_events.Eviction part own = refl
-own_at_hand (cache_events.Data n k) part own = absurd own
-own_at_hand (cache_events.DataE loads) part own = absurd own
-own_at_hand (cache_events.InvAck n k) part own = absurd own
-own_at_hand cache_events.Inv part own = absurd own
-own_at_hand cache_events.FwdGetS part own = absurd own
-own_at_hand cache_events.FwdGetM part own = absurd own
-own_at_hand cache_events.PutAck part own = absurd own
+own_at_hand _ part own = absurd own
 
 -- ---- the core's part
 
@@ -132,13 +119,7 @@ module _ (copy now : CacheCopy) (mail : CoreChannels) (part : Part) (next : Copy
   own_stands cache_events.Load own = access_stands
   own_stands cache_events.Write own = access_stands
   own_stands cache_events.Eviction own = access_stands
-  own_stands (cache_events.Data n k) own = absurd own
-  own_stands (cache_events.DataE loads) own = absurd own
-  own_stands (cache_events.InvAck n k) own = absurd own
-  own_stands cache_events.Inv own = absurd own
-  own_stands cache_events.FwdGetS own = absurd own
-  own_stands cache_events.FwdGetM own = absurd own
-  own_stands cache_events.PutAck own = absurd own
+  own_stands _ own = absurd own
 
 -- ---- the line
 

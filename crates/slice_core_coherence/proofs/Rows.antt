@@ -61,13 +61,7 @@ numbered n =
 numbered-back : (sent : CacheSends) → numbered (number_of sent) ≡ sent
 unfolding number_of numbered
 numbered-back cache_sends.Nothing = refl
-numbered-back cache_sends.GetS = refl
-numbered-back cache_sends.GetM = refl
-numbered-back cache_sends.PutS = refl
-numbered-back cache_sends.PutM = refl
-numbered-back cache_sends.InvAckToRequester = refl
-numbered-back cache_sends.DataToRequester = refl
-numbered-back cache_sends.DataToRequesterAndHome = refl
+numbered-back _ = refl
 
 unfoldable is_sending : CacheSends → CacheSends → Bool
 is_sending wanted sent = number_of sent == number_of wanted

@@ -170,12 +170,7 @@ acks-sent line core block dir_sends.PutAck x = acks-with_core line core.0 x _ re
 pub home-sent : (line : LineChannels) (core : CoreId) (block : Block) (sent : DirSends)
     → (directory_sent line core block sent).home ≡ line.home
 home-sent line core block dir_sends.Nothing = refl
-home-sent line core block (dir_sends.Data acks) = refl
-home-sent line core block dir_sends.DataE = refl
-home-sent line core block (dir_sends.DataAndInv acks invalidated) = refl
-home-sent line core block (dir_sends.FwdGetS owner) = refl
-home-sent line core block (dir_sends.FwdGetM owner) = refl
-home-sent line core block dir_sends.PutAck = refl
+home-sent line core block _ = refl
 
 -- whether a core's acknowledgement waits, and for whom
 abbrev pub debt_of : Part → Bool × ℕ
@@ -184,22 +179,12 @@ debt_of part = (part.look.sent, part.owes_to)
 -- What a core is sent says nothing of its own acknowledgement.
 pub debt-answered : (sent : DirSends) (part : Part) → debt_of (part_after_answer sent part) ≡ debt_of part
 debt-answered dir_sends.Nothing part = refl
-debt-answered (dir_sends.Data acks) part = refl
-debt-answered (dir_sends.DataAndInv acks invalidated) part = refl
-debt-answered dir_sends.DataE part = refl
-debt-answered (dir_sends.FwdGetS owner) part = refl
-debt-answered (dir_sends.FwdGetM owner) part = refl
-debt-answered dir_sends.PutAck part = refl
+debt-answered _ part = refl
 
 pub debt-forwarded : (sent : DirSends) (core : ℕ) (part : Part) → debt_of (part_after_forward sent core part)
     ≡ debt_of part
 debt-forwarded dir_sends.Nothing core part = refl
-debt-forwarded (dir_sends.Data acks) core part = refl
-debt-forwarded (dir_sends.DataAndInv acks invalidated) core part = refl
-debt-forwarded dir_sends.DataE core part = refl
-debt-forwarded (dir_sends.FwdGetS owner) core part = refl
-debt-forwarded (dir_sends.FwdGetM owner) core part = refl
-debt-forwarded dir_sends.PutAck core part = refl
+debt-forwarded _ core part = refl
 
 pub debt_if : (b : Bool) (change : Part → Part) (part : Part) → debt_of (change part) ≡ debt_of part
     → debt_of (change_if b change part) ≡ debt_of part

@@ -5,6 +5,7 @@ use Rattle.std.proofs.lemmas.Bool.{and_parts}
 use Rattle.address_map.specs.declared.block.Block.{Block}
 use Rattle.address_map.specs.declared.request.Op.{Op}
 use Rattle.address_map.specs.declared.request.Op.TheVariants as ops
+use Rattle.cache_table.proofs.Each.{each_state, each_state-at}
 use Rattle.cache_table.specs.CopyState.{is_leaving, is_waiting}
 use Rattle.cache_table.specs.Row.{row_of, row_by_count}
 use Rattle.cache_table.specs.declared.row.CacheEvent.TheVariants as cache_events
@@ -28,39 +29,11 @@ use Rattle.slice_queues_message.specs.declared.message.RequestMessage.TheVariant
 
 -- ---- tests over all states
 
-unfoldable pub each_state : (CopyState → Bool) → Bool
-each_state p =
-    p copy_states.I && p copy_states.IS_D && p copy_states.IM_AD && p copy_states.IM_A && p copy_states.S
-    && p copy_states.SM_AD && p copy_states.SM_A
-    && p copy_states.M && p copy_states.E && p copy_states.MI_A && p copy_states.SI_A && p copy_states.II_A
-
 pub left : (a b : Bool) → (a && b) ≡ true → a ≡ true
 left a b e = (and_parts a b e).0
 
 pub right : (a b : Bool) → (a && b) ≡ true → b ≡ true
 right a b e = (and_parts a b e).1
-
-pub each_state-at : (p : CopyState → Bool) → each_state p ≡ true → (s : CopyState) → p s ≡ true
-unfolding each_state
-each_state-at p e copy_states.I =
-    left _ _ (left _ _ (left _ _
-    (left _ _ (left _ _ (left _ _ (left _ _ (left _ _ (left _ _ (left _ _ (left _ _ e))))))))))
-each_state-at p e copy_states.IS_D =
-    right _ _ (left _ _ (left _ _
-    (left _ _ (left _ _ (left _ _ (left _ _ (left _ _ (left _ _ (left _ _ (left _ _ e))))))))))
-each_state-at p e copy_states.IM_AD =
-    right _ _ (left _ _ (left _ _ (left _ _ (left _ _ (left _ _ (left _ _ (left _ _ (left _ _ (left _ _ e)))))))))
-each_state-at p e copy_states.IM_A =
-    right _ _ (left _ _ (left _ _ (left _ _ (left _ _ (left _ _ (left _ _ (left _ _ (left _ _ e))))))))
-each_state-at p e copy_states.S =
-    right _ _ (left _ _ (left _ _ (left _ _ (left _ _ (left _ _ (left _ _ (left _ _ e)))))))
-each_state-at p e copy_states.SM_AD = right _ _ (left _ _ (left _ _ (left _ _ (left _ _ (left _ _ (left _ _ e))))))
-each_state-at p e copy_states.SM_A = right _ _ (left _ _ (left _ _ (left _ _ (left _ _ (left _ _ e)))))
-each_state-at p e copy_states.M = right _ _ (left _ _ (left _ _ (left _ _ (left _ _ e))))
-each_state-at p e copy_states.E = right _ _ (left _ _ (left _ _ (left _ _ e)))
-each_state-at p e copy_states.MI_A = right _ _ (left _ _ (left _ _ e))
-each_state-at p e copy_states.SI_A = right _ _ (left _ _ e)
-each_state-at p e copy_states.II_A = right _ _ e
 
 -- the second where the first holds
 unfoldable pub implies : Bool → Bool → Bool

@@ -126,11 +126,7 @@ pub asked-cache_sent : (line : LineChannels) (core requester : CoreId) (other : 
 asked-cache_sent line core requester other block cache_sends.DataToRequester = asked-data line requester other _
 asked-cache_sent line core requester other block cache_sends.DataToRequesterAndHome = asked-data line requester other _
 asked-cache_sent line core requester other block cache_sends.InvAckToRequester = asked-ack line requester other core
-asked-cache_sent line core requester other block cache_sends.Nothing = refl
-asked-cache_sent line core requester other block cache_sends.GetS = refl
-asked-cache_sent line core requester other block cache_sends.GetM = refl
-asked-cache_sent line core requester other block cache_sends.PutS = refl
-asked-cache_sent line core requester other block cache_sends.PutM = refl
+asked-cache_sent line core requester other block _ = refl
 
 -- Where the right to write is asked for, that is what the core asks for.
 pub asked-asked_by : (write : Bool) (line : LineChannels) (core : CoreId) → core.0 < length line.cores →

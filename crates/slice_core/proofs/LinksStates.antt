@@ -2,6 +2,7 @@
 -- tests over all states that hold by computing.
 use Rattle.std.proofs.Common.{◌≡◌, ℕ, ◌+◌, Bool, true, false, not, ◌&&◌, ◌||◌, Option, Some, None, List}
 use Rattle.std.proofs.Common.{[], ◌∷◌, refl, is_some}
+use Rattle.cache_table.proofs.Each.{each_state, each_state-at}
 use Rattle.cache_table.specs.CopyState.{is_leaving, is_waiting}
 use Rattle.cache_table.specs.Row.{row_of, row_by_count}
 use Rattle.cache_table.specs.declared.row.CacheEvent.TheVariants as cache_events
@@ -12,7 +13,7 @@ use Rattle.cache_table.specs.declared.row.Row.{Row}
 use Rattle.cache_table.specs.declared.state.CopyState.TheVariants as copy_states
 use Rattle.cache_table.specs.declared.state.CopyState.{CopyState}
 use Rattle.mshr_file.specs.Miss.{is_waited}
-use Rattle.slice_core.proofs.LinksAsking.{agree, agree-at, each_request-at, each_state, each_state-at, goes_to}
+use Rattle.slice_core.proofs.LinksAsking.{agree, agree-at, each_request-at, goes_to}
 use Rattle.slice_core.proofs.LinksAsking.{goes_to-at, goes_to-counted, implies, implies-at, leaves, left, not-false}
 use Rattle.slice_core.proofs.LinksAsking.{right}
 use Rattle.slice_core.specs.Sound.{has_sent}

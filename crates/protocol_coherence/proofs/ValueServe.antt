@@ -112,79 +112,33 @@ back_newest (dir_sends.DataAndInv acks set) core x asks p f g h = go (has set x)
 -- Data are on their way to a core because they were, or because it is answered with data.
 back_arriving : (sent : DirSends) (core x : ℕ) (asks : Bool) (p : Part) → (sends_data sent && asks) ≡ false
     → is_no_data (sent_to sent core x asks p).look.incoming ≡ false → is_no_data p.look.incoming ≡ false
-back_arriving dir_sends.Nothing core x true p f h = h
-back_arriving dir_sends.Nothing core x false p f h = h
-back_arriving (dir_sends.Data acks) core x true p f h = absurd (true≢false f)
-back_arriving (dir_sends.Data acks) core x false p f h = h
-back_arriving dir_sends.DataE core x true p f h = absurd (true≢false f)
-back_arriving dir_sends.DataE core x false p f h = h
-back_arriving dir_sends.PutAck core x true p f h = h
-back_arriving dir_sends.PutAck core x false p f h = h
-back_arriving (dir_sends.FwdGetS owner) core x asks p f h = go (x == owner.0) asks h
+back_arriving sent core x asks p f = by (is_sent_inv sent x) (is_named (forwarded_to sent) x) asks sent f
   where
-    go : (b asks : Bool) → is_no_data (change_if b (part_after_forward (dir_sends.FwdGetS owner) core)
-        (change_if asks (part_after_answer (dir_sends.FwdGetS owner)) p)).look.incoming ≡ false
+    by : (inv named asks : Bool) (sent : DirSends) → (sends_data sent && asks) ≡ false
+        → is_no_data (change_if inv (invalidated_by core) (change_if named (part_after_forward sent core)
+        (change_if asks (part_after_answer sent) p))).look.incoming ≡ false
         → is_no_data p.look.incoming ≡ false
-    go true true h = h
-    go true false h = h
-    go false true h = h
-    go false false h = h
-back_arriving (dir_sends.FwdGetM owner) core x asks p f h = go (x == owner.0) asks h
-  where
-    go : (b asks : Bool) → is_no_data (change_if b (part_after_forward (dir_sends.FwdGetM owner) core)
-        (change_if asks (part_after_answer (dir_sends.FwdGetM owner)) p)).look.incoming ≡ false
-        → is_no_data p.look.incoming ≡ false
-    go true true h = h
-    go true false h = h
-    go false true h = h
-    go false false h = h
-back_arriving (dir_sends.DataAndInv acks set) core x true p f h = absurd (true≢false f)
-back_arriving (dir_sends.DataAndInv acks set) core x false p f h = go (has set x) h
-  where
-    go : (b : Bool) → is_no_data (change_if b (invalidated_by core) p).look.incoming ≡ false
-        → is_no_data p.look.incoming ≡ false
-    go true h = h
-    go false h = h
+    by true true true dir_sends.Nothing f h = h
+    by _ true true dir_sends.Nothing f h = h
+    by _ _ true dir_sends.Nothing f h = h
+    by _ _ _ dir_sends.Nothing f h = h
+    by _ _ _ _ f h = cc
 
 -- A PutM waits because it did, and its core isn't the one that is answered.
 back_put : (sent : DirSends) (core x : ℕ) (asks : Bool) (p : Part)
     → is_put_m (sent_to sent core x asks p).look.request ≡ true
     → (asks ≡ false) × (is_put_m p.look.request ≡ true)
-back_put dir_sends.Nothing core x true p h = absurd (true≢false (sym h))
-back_put dir_sends.Nothing core x false p h = (refl, h)
-back_put (dir_sends.Data acks) core x true p h = absurd (true≢false (sym h))
-back_put (dir_sends.Data acks) core x false p h = (refl, h)
-back_put dir_sends.DataE core x true p h = absurd (true≢false (sym h))
-back_put dir_sends.DataE core x false p h = (refl, h)
-back_put dir_sends.PutAck core x true p h = absurd (true≢false (sym h))
-back_put dir_sends.PutAck core x false p h = (refl, h)
-back_put (dir_sends.FwdGetS owner) core x asks p h = go (x == owner.0) asks h
+back_put sent core x asks p = by (is_sent_inv sent x) (is_named (forwarded_to sent) x) asks sent
   where
-    go : (b asks : Bool) → is_put_m (change_if b (part_after_forward (dir_sends.FwdGetS owner) core)
-        (change_if asks (part_after_answer (dir_sends.FwdGetS owner)) p)).look.request ≡ true
+    by : (inv named asks : Bool) (sent : DirSends)
+        → is_put_m (change_if inv (invalidated_by core) (change_if named (part_after_forward sent core)
+        (change_if asks (part_after_answer sent) p))).look.request ≡ true
         → (asks ≡ false) × (is_put_m p.look.request ≡ true)
-    go true true h = absurd (true≢false (sym h))
-    go true false h = (refl, h)
-    go false true h = absurd (true≢false (sym h))
-    go false false h = (refl, h)
-back_put (dir_sends.FwdGetM owner) core x asks p h = go (x == owner.0) asks h
-  where
-    go : (b asks : Bool) → is_put_m (change_if b (part_after_forward (dir_sends.FwdGetM owner) core)
-        (change_if asks (part_after_answer (dir_sends.FwdGetM owner)) p)).look.request ≡ true
-        → (asks ≡ false) × (is_put_m p.look.request ≡ true)
-    go true true h = absurd (true≢false (sym h))
-    go true false h = (refl, h)
-    go false true h = absurd (true≢false (sym h))
-    go false false h = (refl, h)
-back_put (dir_sends.DataAndInv acks set) core x asks p h = go (has set x) asks h
-  where
-    go : (b asks : Bool) → is_put_m (change_if b (invalidated_by core)
-        (change_if asks (part_after_answer (dir_sends.DataAndInv acks set)) p)).look.request ≡ true
-        → (asks ≡ false) × (is_put_m p.look.request ≡ true)
-    go true true h = absurd (true≢false (sym h))
-    go true false h = (refl, h)
-    go false true h = absurd (true≢false (sym h))
-    go false false h = (refl, h)
+    by true true true dir_sends.Nothing h = (cc, cc)
+    by _ true true dir_sends.Nothing h = (cc, cc)
+    by _ _ true dir_sends.Nothing h = (cc, cc)
+    by _ _ _ dir_sends.Nothing h = (cc, cc)
+    by _ _ _ _ h = (cc, cc)
 
 -- ---- a row
 

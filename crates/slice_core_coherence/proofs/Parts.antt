@@ -191,22 +191,10 @@ first_of_slots : (inv : Bool) (asked : Forward) (put_ack : Bool) (part : Part) (
     → slice_get (slots inv part.owes_to asked part.names put_ack) 0 ≡ Some message → IsFirst message part
 unfolding named_in
 first_of_slots true asked put_ack part (forwarded_messages.Inv core) i f p e = (i, ap named_in e)
-first_of_slots true asked put_ack part (forwarded_messages.FwdGetS core) i f p e = absurd (cc e)
-first_of_slots true asked put_ack part (forwarded_messages.FwdGetM core) i f p e = absurd (cc e)
-first_of_slots true asked put_ack part forwarded_messages.PutAck i f p e = absurd (cc e)
 first_of_slots false fwd_get_s put_ack part (forwarded_messages.FwdGetS core) i f p e = (i, f, ap named_in e)
-first_of_slots false fwd_get_s put_ack part (forwarded_messages.Inv core) i f p e = absurd (cc e)
-first_of_slots false fwd_get_s put_ack part (forwarded_messages.FwdGetM core) i f p e = absurd (cc e)
-first_of_slots false fwd_get_s put_ack part forwarded_messages.PutAck i f p e = absurd (cc e)
 first_of_slots false fwd_get_m put_ack part (forwarded_messages.FwdGetM core) i f p e = (i, f, ap named_in e)
-first_of_slots false fwd_get_m put_ack part (forwarded_messages.Inv core) i f p e = absurd (cc e)
-first_of_slots false fwd_get_m put_ack part (forwarded_messages.FwdGetS core) i f p e = absurd (cc e)
-first_of_slots false fwd_get_m put_ack part forwarded_messages.PutAck i f p e = absurd (cc e)
 first_of_slots false no_forward true part forwarded_messages.PutAck i f p e = (i, f, p)
-first_of_slots false no_forward true part (forwarded_messages.Inv core) i f p e = absurd (cc e)
-first_of_slots false no_forward true part (forwarded_messages.FwdGetS core) i f p e = absurd (cc e)
-first_of_slots false no_forward true part (forwarded_messages.FwdGetM core) i f p e = absurd (cc e)
-first_of_slots false no_forward false part message i f p e = absurd (cc e)
+first_of_slots _ _ _ part _ i f p e = absurd (cc e)
 
 -- The oldest message of the channel is the first that stands in the slots.
 pub first_stands : (copy : CacheCopy) (mail : CoreChannels) (part : Part) (message : ForwardedMessage)

@@ -345,15 +345,5 @@ lawful-only exclusive state owner sharers event (dir_rows.Go step) (dir_rows.Go 
     next.sends step.sends next.writes_home step.writes_home kept sets_too sets other one
 lawful-only exclusive state owner sharers event dir_rows.Blocked dir_rows.Blocked kept sets sets_too one other = refl
 lawful-only exclusive state owner sharers event dir_rows.NoEntry dir_rows.NoEntry kept sets sets_too one other = refl
-lawful-only exclusive state owner sharers event (dir_rows.Go step) dir_rows.Blocked kept sets sets_too one other =
-    apart (one.blocked ∙ sym other.blocked)
-lawful-only exclusive state owner sharers event dir_rows.Blocked (dir_rows.Go next) kept sets sets_too one other =
-    apart (other.blocked ∙ sym one.blocked)
-lawful-only exclusive state owner sharers event (dir_rows.Go step) dir_rows.NoEntry kept sets sets_too one other =
-    apart (other.entry kept.owner_in_m ∙ sym (one.entry kept.owner_in_m))
-lawful-only exclusive state owner sharers event dir_rows.Blocked dir_rows.NoEntry kept sets sets_too one other =
-    apart (other.entry kept.owner_in_m ∙ sym (one.entry kept.owner_in_m))
-lawful-only exclusive state owner sharers event dir_rows.NoEntry (dir_rows.Go next) kept sets sets_too one other =
-    apart (one.entry kept.owner_in_m ∙ sym (other.entry kept.owner_in_m))
-lawful-only exclusive state owner sharers event dir_rows.NoEntry dir_rows.Blocked kept sets sets_too one other =
-    apart (one.entry kept.owner_in_m ∙ sym (other.entry kept.owner_in_m))
+lawful-only exclusive state owner sharers event _ _ kept sets sets_too one other =
+    cc (one.blocked, other.blocked, one.entry kept.owner_in_m, other.entry kept.owner_in_m)

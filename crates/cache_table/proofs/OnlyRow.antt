@@ -1,5 +1,5 @@
 -- The laws leave each row no choice: a state is known from its facts, and what is sent from what it is.
-use Rattle.std.proofs.Common.{◌≡◌, Bool, true, false, if◌then◌else◌, refl, sym, ◌∙◌}
+use Rattle.std.proofs.Common.{◌≡◌, Bool, if◌then◌else◌, refl, sym, ◌∙◌}
 use Rattle.cache_table.specs.CopyState.{is_leaving, is_readable, is_waiting, is_writer}
 use Rattle.cache_table.specs.Law.{IsLawful, asked_to_write, awaits_data, holds_data, is_clean, is_sharer, sends_data}
 use Rattle.cache_table.specs.Law.{sends_get, sends_get_m, sends_home, sends_inv_ack, sends_put, sends_put_m}
@@ -93,9 +93,6 @@ same_sends state event a b x y one other =
 go-same : (a b : CopyState) (x y : CacheSends) → a ≡ b → x ≡ y → rows.Go a x ≡ rows.Go b y
 go-same a b x y e f = cc
 
-apart : {P : Type 0} → false ≡ true → P
-apart clash = absurd (cc clash)
-
 -- Two rows that obey the laws at a state and an event are one.
 pub IsLawful-only : (state : CopyState) (event : CacheEvent) (row other : Row)
     → IsLawful state event row → IsLawful state event other → other ≡ row
@@ -103,9 +100,4 @@ IsLawful-only state event (rows.Go a x) (rows.Go b y) one other =
     go-same b a y x (same_state state event b a y x other one) (same_sends state event b a y x other one)
 IsLawful-only state event rows.Blocked rows.Blocked one other = refl
 IsLawful-only state event rows.NoEntry rows.NoEntry one other = refl
-IsLawful-only state event (rows.Go a x) rows.Blocked one other = apart (one.blocked ∙ sym other.blocked)
-IsLawful-only state event (rows.Go a x) rows.NoEntry one other = apart (other.entry ∙ sym one.entry)
-IsLawful-only state event rows.Blocked (rows.Go b y) one other = apart (other.blocked ∙ sym one.blocked)
-IsLawful-only state event rows.Blocked rows.NoEntry one other = apart (other.entry ∙ sym one.entry)
-IsLawful-only state event rows.NoEntry (rows.Go b y) one other = apart (one.entry ∙ sym other.entry)
-IsLawful-only state event rows.NoEntry rows.Blocked one other = apart (one.entry ∙ sym other.entry)
+IsLawful-only state event _ _ one other = cc (one.blocked, other.blocked, one.entry, other.entry)

@@ -308,15 +308,10 @@ serve_current exclusive cores line roles event home step blocks newest most cohe
         → (is_data_home event ≡ true) ⊎ ((core : CoreId) × (event ≡ dir_events.PutM core)
         × (is_named line.owner core.0 ≡ true)) → home_after_row event blocks ≡ newest
     brought_is dir_events.DataHome within wants from = current.mail wants
-    brought_is (dir_events.GetS core) within wants (inl h) = nothing h
-    brought_is (dir_events.GetM core) within wants (inl h) = nothing h
-    brought_is (dir_events.PutS core) within wants (inl h) = nothing h
-    brought_is (dir_events.PutM core) within wants (inl h) = nothing h
-    brought_is (dir_events.GetS core) within wants (inr h) = absurd (true≢false (sym (ap is_put_m_event h.1)))
-    brought_is (dir_events.GetM core) within wants (inr h) = absurd (true≢false (sym (ap is_put_m_event h.1)))
-    brought_is (dir_events.PutS core) within wants (inr h) = absurd (true≢false (sym (ap is_put_m_event h.1)))
     brought_is (dir_events.PutM core) within wants (inr h) = current.put core.0 within
         (subst (λ y. is_named line.owner y ≡ true) (sym (ap put_m_core h.1)) h.2) wants
+    brought_is _ within wants (inl h) = nothing h
+    brought_is _ within wants (inr h) = absurd (true≢false (sym (ap is_put_m_event h.1)))
 
     home_is : Moves line.directory line.owner event step.state step.owner step.sends step.writes_home → (b : Bool)
         → step.writes_home ≡ b → is_at_home step.state ≡ true

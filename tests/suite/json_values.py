@@ -94,7 +94,9 @@ def test_script(name: str) -> None:
             fields = fields_of(words) if value["call"]["name"] in ("issue", "evict", "deliver", "hand", "word") else {}
             same("fields", fields, {name: it for name, it in line.items() if name not in ("words", "happened")})
             answers.append(f"{words}   {line['happened']}" if "happened" in line else words)
-    same("answers", told.out.splitlines(), answers)
+    # blanks part the columns of a report, and stand before its first one
+    wanted = [" ".join(it.split()) if it.startswith(" ") else it for it in told.out.splitlines()]
+    same("answers", wanted, answers)
 
 
 @each(scripts)

@@ -1,5 +1,5 @@
 -- What an access leaves of the lines in front of a ring in which nothing waits: those to which nothing was sent.
-use Rattle.std.proofs.Common.{◌≡◌, ◌≢◌, ℕ, ◌<◌, ◌≤◌, ◌⊎◌, Bool, true, false, if◌then◌else◌, List, [], ◌∷◌, ◌++◌, length}
+use Rattle.std.proofs.Common.{◌≡◌, ℕ, ◌<◌, ◌≤◌, ◌⊎◌, Bool, true, false, if◌then◌else◌, List, [], ◌++◌, length}
 use Rattle.std.proofs.Common.{get_or, Option, Some, None, Result, Ok, Err, refl, sym, ap, ◌∙◌, subst, ⊎_elim, inl, inr}
 use Rattle.std.proofs.Common.{append-nil, append_assoc, arith}
 use Rattle.std.specs.Prelude.{◌&&◌, nat_lt, not, slice_get, slice_set}
@@ -7,7 +7,6 @@ use Rattle.std.proofs.lemmas.List.{get_or-set_other}
 use Rattle.address_map.specs.Locator.{is_past, line_at, local_at}
 use Rattle.address_map.specs.Place.{line_of}
 use Rattle.address_map.specs.declared.address.CoreId.{CoreId}
-use Rattle.address_map.specs.declared.address.LineAddr.{LineAddr}
 use Rattle.address_map.specs.declared.address.Local.{Local}
 use Rattle.address_map.specs.declared.request.Request.{Request}
 use Rattle.cache_table.specs.declared.state.CopyState.{CopyState}
@@ -37,7 +36,7 @@ use Rattle.slice_queues.specs.Line.{LineChannels, empty_line}
 use Rattle.slice_queues.specs.Ring.{with_listed}
 use Rattle.program_run.proofs.FrontCalls.{front-kept, listed}
 use Rattle.program_run.proofs.FrontLemmas.{line-named}
-use Rattle.program_run.specs.Front.{HasIdleFront, IsIdle}
+use Rattle.program_run.specs.Front.{HasIdleFront}
 
 -- lines came into the ring behind the others, and only to lines at these places something was sent
 record SendsTo (At : ℕ → Type 0) (old new : PartsView) : Type 0 where

@@ -1,17 +1,14 @@
 -- The next delivery behind lines in which nothing waits.
-use Rattle.std.proofs.Common.{◌≡◌, ◌≢◌, ℕ, zero, suc, ◌+◌, ◌*◌, ◌/◌, ◌%◌, ◌<◌, ◌≤◌, ◌⊎◌, Bool, true, false, if◌then◌else◌}
-use Rattle.std.proofs.Common.{List, [], ◌∷◌, ◌++◌, length, map, get_or, Option, Some, None, refl, sym, ap, ◌∙◌, subst}
-use Rattle.std.proofs.Common.{⊎_elim, inl, inr, arith, append-nil, length-append}
-use Rattle.std.specs.Prelude.{◌==◌, ◌&&◌, filter, nat_lt, slice_get, slice_set}
-use Rattle.std.specs.List.{count_by}
+use Rattle.std.proofs.Common.{◌≡◌, ◌≢◌, ℕ, zero, suc, ◌+◌, ◌/◌, ◌%◌, ◌<◌, ◌≤◌, Bool, true, false, if◌then◌else◌}
+use Rattle.std.proofs.Common.{List, [], ◌∷◌, length, map, Option, Some, None, refl, sym, ap, ◌∙◌, subst}
+use Rattle.std.proofs.Common.{⊎_elim, arith}
+use Rattle.std.specs.Prelude.{◌==◌, ◌&&◌, filter, nat_lt, slice_get}
 use Rattle.std.proofs.lemmas.Bool.{and_parts, cases_eq, eqb-true, ltb-false}
-use Rattle.std.proofs.lemmas.List.{get_or-set_other}
 use Rattle.std.proofs.lemmas.Nat.{div-add-mod'}
 use Rattle.address_map.specs.Locator.{IsOfMachine, Lines, line_at, local_at}
 use Rattle.address_map.specs.declared.address.LineAddr.{LineAddr}
 use Rattle.address_map.specs.declared.address.Local.{Local}
 use Rattle.slice_answer.specs.Delivery.{better_of}
-use Rattle.slice_answer.specs.declared.answer.Delivered.{Delivered}
 use Rattle.slice_answer.specs.declared.answer.Delivery.TheVariants as deliveries
 use Rattle.slice_answer.specs.declared.answer.Delivery.{Delivery}
 use Rattle.slice_core.specs.Facts.{AreWaitingAt, Holds}
@@ -23,8 +20,8 @@ use Rattle.slice_core_plan.specs.Plan.{plan_of, planned_at, planned_in}
 use Rattle.slice_core_plan.specs.Ring.{first_of, next_at, next_in, pick_of}
 use Rattle.slice_core_plan.specs.View.{View, channels_at}
 use Rattle.slice_core_plan.specs.declared.transition.Transition.{Transition}
-use Rattle.slice_queues.specs.Line.{LineChannels, messages_at}
-use Rattle.slice_queues.specs.Waiting.{is_same_channel, is_waiting, line_waiting}
+use Rattle.slice_queues.specs.Line.{messages_at}
+use Rattle.slice_queues.specs.Waiting.{line_waiting}
 use Rattle.slice_queues_message.specs.Class.{is_of_class}
 use Rattle.slice_queues_message.specs.Pick.{pick_at}
 use Rattle.slice_queues_message.specs.declared.channel.Channel.{Channel}
@@ -34,7 +31,6 @@ use Rattle.slice_queues_message.specs.declared.channel.Pick.{Pick}
 use Rattle.slice_queues_message.specs.declared.message.Message.{Message}
 use Rattle.program_run.specs.Front.{HasIdleFront, IsApart, IsFront, IsIdle, IsLineFront, WaitsFirst, delivery_if}
 use Rattle.program_run.specs.Run.{delivery_of}
-use Rattle.program_run.specs.declared.front.Front.{Front}
 use Rattle.program_run.specs.declared.front.Front.TheVariants as fronts
 
 -- ---- a line

@@ -12,3 +12,4 @@ pub mod Seen
 pub mod TidyLemmas
 pub mod Totals
 pub mod UsageLemmas
+pub mod WaitLemmas

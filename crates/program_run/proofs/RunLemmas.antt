@@ -43,7 +43,7 @@ pub made_more : (programs : Programs) (first last after : List ℕ) (count : ℕ
     → Leads (Makes now.config programs to) now next
     → Tidies next.config.slices count next.slices tidied
     → Leads (HasMade start.config programs first after (count + 1)) start
-    (record (measured_runner next) { slices = tidied })
+    (record (measured_runner (is_limited programs.outstanding) next) { slices = tidied })
 made_more programs first last after count start now next to tidied made draws on makes tidy = record {
   config = makes.config ∙ made.config;
   goes = λ before seen.
@@ -61,7 +61,8 @@ made_more programs first last after count start now next to tidied made draws on
         λ end more then.
             let behind = subst
             (λ g. MakesAll start.config programs g (count + 1) more
-            (run_of (record (measured_runner next) { slices = tidied }) two.0) end) on then in
+            (run_of (record (measured_runner (is_limited programs.outstanding) next) { slices = tidied }) two.0) end) on
+            then in
             let (all, makes_all, counted) =
             one.2 end (to ∷ more) (run_of next two.0, drew, goes, tidied, kept, behind) in
             (all, makes_all, counted ∙ omega arith),

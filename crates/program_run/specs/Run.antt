@@ -89,6 +89,11 @@ abbrev pub may_step : Option ℕ → Place → Step → Bool
 may_step most place (step_kinds.Access access) = nat_lt place.waiting (most_of most)
 may_step most place step_kinds.Settle = place.waiting == 0
 
+-- .. where there is a program
+abbrev pub may_step_at : Option ℕ → Option Place → Step → Bool
+may_step_at most None step = false
+may_step_at most (Some place) step = may_step most place step
+
 -- the request for an access, under a tag by its place in the program
 abbrev pub request_of : Place → Access → Request
 request_of place access = record { op = access.op; word = access.word; tag = place.asked % 64 }
@@ -358,26 +363,32 @@ Makes config programs (moves.Ask number) old new =
     Asks config number (next_of config.cores programs old.places number) old new
 Makes config programs (moves.Deliver pick) old new = Delivers config programs pick old new
 
--- what each core's accesses take up is measured
+-- what a core's accesses take up is measured
 abbrev pub measured_place : Place → Place
 measured_place place = record place { usage = measured place.registers place.waiting place.usage }
 
-abbrev pub measured_run : RunState → RunState
-measured_run run = record run { places = map measured_place run.places }
+-- .. of each core, where several may be under way
+abbrev pub measured_places : Bool → List Place → List Place
+measured_places false places = places
+measured_places true places = map measured_place places
+
+abbrev pub measured_run : Bool → RunState → RunState
+measured_run limited run = record run { places = measured_places limited run.places }
 
 -- the move that a word draws, each as likely as the others
 abbrev pub drawn_move : ℕ → List Move → Option Move
 drawn_move word moves = slice_get moves (word % length moves)
 
 -- These moves are made behind so many others, one after another. Each is drawn from those that may come next, by the
--- next word of the generator that stands there; behind it, it is measured what is in use, and rings are kept short.
+-- next word of the generator that stands there; behind it, it is measured what is in use, where several accesses of a
+-- core may be under way, and rings are kept short.
 abbrev pub MakesAll : Config → Programs → List ℕ → ℕ → List Move → RunState → RunState → Type 0
 MakesAll config programs generator made [] old new = new ≡ old
 MakesAll config programs generator made (to ∷ more) old new =
     (next : RunState) × (drawn_move (plus_plus generator).0 (moves_of config programs old) ≡ Some to)
     × Makes config programs to old next × (tidied : List PartsView) × Tidies config.slices made next.slices tidied
-    × MakesAll config programs (plus_plus generator).1 (made + 1) more (record (measured_run next) { slices = tidied })
-    new
+    × MakesAll config programs (plus_plus generator).1 (made + 1) more
+    (record (measured_run (is_limited programs.outstanding) next) { slices = tidied }) new
 
 -- The moves that the seed draws are made, up to where none may come next, or 2^64 - 1 of them.
 pub record Runs (config : Config) (programs : Programs) (seed : ℕ) (old new : RunState) : Type 0 where
@@ -423,8 +434,8 @@ pub record RunnerView : Type 0 where
   pub observer : Observer
 
 -- a runner that has measured
-abbrev pub measured_runner : RunnerView → RunnerView
-measured_runner runner = record runner { places = map measured_place runner.places }
+abbrev pub measured_runner : Bool → RunnerView → RunnerView
+measured_runner limited runner = record runner { places = measured_places limited runner.places }
 
 -- a runner of such a run
 pub record IsNewRunner (machine : Config) (bound : Bound) (programs : Programs) (wanted : Bool) (runner : RunnerView) :

@@ -1,6 +1,7 @@
-ghost use Rattle.std.specs.Prelude.{◌≡◌, ◌++◌, ◌<◌, IfSome, OnOk, Some, slice_get};
+ghost use Rattle.std.specs.Prelude.{◌≡◌, ◌++◌, ◌<◌, IfSome, OnOk, Some, false, slice_get, true};
 ghost use Rattle.litmus_text.specs.Command.{HasCore};
 ghost use Rattle.program_run.specs.Kept.{Knows};
+ghost use Rattle.program_text.specs.declared.programs.Step.{Step};
 ghost use Rattle.program_run.specs.Run.{
   asks_of,
   decision_on,
@@ -10,6 +11,7 @@ ghost use Rattle.program_run.specs.Run.{
   may_ask,
   may_stall,
   may_step,
+  may_step_at,
   may_turn,
   most_of,
   next_by,
@@ -152,10 +154,23 @@ fn may_ask<F: MissFile>(
     ensures may { result ≡ may_ask machine.now.config programs.now machine.now.slices.items places.now number }
     ensures kept { Knows machine.now.config machine.now.slices.items kept.new }
 {
+    if has_to_wait(programs.outstanding, places, number) {
+        return false;
+    }
     let stalls = may_stall(programs.outstanding, places, number);
     match next_turn(machine.config.cores(), programs, places, number) {
         Some((core, turn)) => may_turn(machine, kept, stalls, core, turn),
         None => false,
+    }
+}
+
+// Whether so many accesses of a program wait already that it takes no step, whatever comes next. Most programs wait.
+fn has_to_wait(most: Option<u64>, places: &[Place], number: usize) -> bool
+    ensures { result ≡ true → (step : Step) → may_step_at most (slice_get places.now number) step ≡ false }
+{
+    match places.get(number) {
+        Some(place) => place.waiting > 0 && place.waiting >= most_of(most),
+        None => true,
     }
 }
 

@@ -139,7 +139,7 @@ pub(crate) fn run<F: MissFile>(
             return Ok(());
         };
         runner.go(programs, to, &mut kept, &mut performed)?;
-        runner.measure();
+        runner.measure(is_limited(programs.outstanding));
         runner.tidy(made, &mut kept);
     }
     Ok(())

@@ -129,11 +129,13 @@ impl<F: MissFile> Runner<F> {
         )
     }
 
-    /// Measures what each core's accesses take up, behind a move.
-    pub fn measure(&mut self)
-        ensures { self.new ≡ measured_runner self.old }
+    /// Measures what each core's accesses take up, behind a move, where several may be under way.
+    pub fn measure(&mut self, limited: bool)
+        ensures { self.new ≡ measured_runner limited self.old }
     {
-        measure_all(&mut self.places);
+        if limited {
+            measure_all(&mut self.places);
+        }
     }
 
     /// Keeps the rings of the slices short, behind a move that so many others came before.

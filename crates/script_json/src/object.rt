@@ -3,7 +3,8 @@ ghost use Rattle.std.specs.Prelude.{◌≡◌, ◌≤◌, OnOk, decimal, length,
 ghost use Rattle.std.specs.Io.KnownBytes.{Appends};
 ghost use Rattle.std.specs.Str.Lines.{lines};
 ghost use Rattle.json_text.specs.List.{with_commas};
-ghost use Rattle.script_json.specs.Object.{answer_of, gap_at, happened_of, head_of, is_gap, object_of, tail_of, told_of};
+ghost use Rattle.script_json.specs.Object.{answer_of, gap_at, happened_of, head_of, is_gap, is_tabular};
+ghost use Rattle.script_json.specs.Object.{object_of, parts_of, tail_of, told_of, words_end};
 
 use super::call::write_call;
 use super::fields::{is_told, write_fields_if};
@@ -26,7 +27,7 @@ pub(crate) fn write_object<W: Write>(
 {
     begin(number, line, out)?;
     write_call(command, out)?;
-    end(is_told(command), answer, out)
+    end(command, answer, out)
 }
 
 fn begin<W: Write>(number: u64, line: &[u8], out: &mut W) -> Result<(), TextFault>
@@ -38,10 +39,10 @@ fn begin<W: Write>(number: u64, line: &[u8], out: &mut W) -> Result<(), TextFaul
     }
 }
 
-fn end<W: Write>(told: bool, answer: &[u8], out: &mut W) -> Result<(), TextFault>
-    ensures { OnOk result (Appends (W.contents out.old) (W.contents out.new) (tail_of told (lines answer.now))) }
+fn end<W: Write>(command: Command, answer: &[u8], out: &mut W) -> Result<(), TextFault>
+    ensures { OnOk result (Appends (W.contents out.old) (W.contents out.new) (tail_of command (lines answer.now))) }
 {
-    match write_tail(told, answer, out) {
+    match write_tail(command, answer, out) {
         Ok(()) => Ok(()),
         Err(_) => Err(TextFault::CannotWrite),
     }
@@ -57,11 +58,11 @@ fn write_head<W: Write>(number: u64, line: &[u8], out: &mut W) -> Result<(), Cut
     write_text(out, b",\"call\":")
 }
 
-fn write_tail<W: Write>(told: bool, answer: &[u8], out: &mut W) -> Result<(), Cut>
-    ensures { OnOk result (Appends (W.contents out.old) (W.contents out.new) (tail_of told (lines answer.now))) }
+fn write_tail<W: Write>(command: Command, answer: &[u8], out: &mut W) -> Result<(), Cut>
+    ensures { OnOk result (Appends (W.contents out.old) (W.contents out.new) (tail_of command (lines answer.now))) }
 {
     write_text(out, b",\"answer\":[")?;
-    write_answers(told, Lines::of(answer), out)?;
+    write_answers(command, Lines::of(answer), out)?;
     write_text(out, b"]}\n")
 }
 
@@ -72,25 +73,32 @@ fn write_number<W: Write>(number: u64, out: &mut W) -> Result<(), Cut>
     write_text(out, buffer.format(number).as_bytes())
 }
 
-fn write_answers<W: Write>(told: bool, answer: Lines<'_>, out: &mut W) -> Result<(), Cut>
+fn write_answers<W: Write>(command: Command, answer: Lines<'_>, out: &mut W) -> Result<(), Cut>
     ensures { OnOk result
-        (Appends (W.contents out.old) (W.contents out.new) (with_commas (map (answer_of told) answer.entry))) }
+        (Appends (W.contents out.old) (W.contents out.new) (with_commas (map (answer_of command) answer.entry))) }
 {
     let mut is_first = true;
     for line in answer {
         write_before(is_first, out)?;
         is_first = false;
-        write_answer(told, line, out)?;
+        write_answer(command, line, out)?;
     }
     Ok(())
 }
 
-// A line of an answer: its words, where it is told what they say, and what happened behind it.
-fn write_answer<W: Write>(told: bool, line: &[u8], out: &mut W) -> Result<(), Cut>
-    ensures { OnOk result (Appends (W.contents out.old) (W.contents out.new) (answer_of told line.now)) }
+// A line of the answer to a command.
+fn write_answer<W: Write>(command: Command, line: &[u8], out: &mut W) -> Result<(), Cut>
+    ensures { OnOk result (Appends (W.contents out.old) (W.contents out.new) (answer_of command line.now)) }
 {
-    let gap = gap_in(line);
-    let (text, happened) = line.split_at(gap);
+    let (text, happened) = line.split_at(words_end(command, line));
+    write_parts(is_told(command), text, happened, out)
+}
+
+// The words of an answer, where it is told what they say, and what happened behind them.
+fn write_parts<W: Write>(told: bool, text: &[u8], happened: &[u8], out: &mut W) -> Result<(), Cut>
+    ensures { OnOk result
+        (Appends (W.contents out.old) (W.contents out.new) (parts_of told text.now happened.now)) }
+{
     write_text(out, b"{\"words\":[")?;
     write_words(text, out)?;
     write_text(out, b"]")?;
@@ -115,6 +123,24 @@ fn write_told<W: Write>(happened: &[u8], out: &mut W) -> Result<(), Cut>
 {
     write_text(out, b",\"happened\":")?;
     write_quoted(happened, out)
+}
+
+// Where what happened begins: at the line's end in a table, of which blanks part the columns.
+fn words_end(command: Command, line: &[u8]) -> usize
+    ensures end { result ≡ words_end command line.now }
+    ensures within { result ≤ length line.now }
+{
+    if is_tabular(command) {
+        line.len()
+    } else {
+        gap_in(line)
+    }
+}
+
+fn is_tabular(command: Command) -> bool
+    ensures { result ≡ is_tabular command }
+{
+    matches!(command, Command::Stats)
 }
 
 // The place of the first three blanks: the line's end where there are none.

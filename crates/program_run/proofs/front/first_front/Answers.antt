@@ -1,7 +1,4 @@
-use Rattle.std.proofs.Common.{◌≡◌, ◌∙◌, arith, sym}
-use Rattle.address_map.specs.Locator.{local_at}
-use Rattle.program_run.specs.Front.{IsLineFront}
-use Rattle.program_run.specs.declared.front.Front.{Front}
+use Rattle.std.proofs.Common.{◌∙◌, arith, sym}
 use Rattle.program_run.proofs.FrontLemmas.{front-found, front-more, front-past, within-front}
 use Rattle.program_run.proofs.front.first_front.Goals as goal
 

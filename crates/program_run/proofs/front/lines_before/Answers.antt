@@ -1,4 +1,3 @@
-use Rattle.std.proofs.Common.{◌≡◌, ◌∙◌, arith, refl, subst, sym, ⊎_elim}
 use Rattle.program_run.proofs.FrontLemmas.{apart-more}
 use Rattle.program_run.proofs.front.lines_before.Goals as goal
 

@@ -1,4 +1,3 @@
-use Rattle.std.proofs.Common.{◌≡◌, ◌∙◌, sym}
 use Rattle.program_run.proofs.FrontLemmas.{next-empty}
 use Rattle.program_run.proofs.front.next_delivery.Goals as goal
 

@@ -1,4 +1,4 @@
-use Rattle.std.proofs.Common.{◌≡◌, ◌∙◌, ap}
+use Rattle.std.proofs.Common.{◌∙◌, ap}
 use Rattle.std.specs.Prelude.{not}
 use Rattle.address_map.specs.Locator.{local_at}
 use Rattle.program_run.proofs.RegisterLemmas.{unwaited}

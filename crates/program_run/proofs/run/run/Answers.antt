@@ -32,7 +32,7 @@ loop-made-preserved g c =
     let tidied = rw c.measure.ensures at c.tidy.ensures.tidied in
     let config = ap (λ (runner : RunnerView). runner.config) c.measure.ensures ∙ c.in_ok-go.ensures.leads.config
     ∙ c.loop-made.invariant.0.config in (
-      rw (c.tidy.ensures.rest, c.measure.ensures)
+      rw (c.tidy.ensures.rest, c.measure.ensures, c.is_limited.ensures)
           (made_more c.args.programs.now _ c.loop-made.generator _ c.loop-made.made c.args.runner.now
           c.loop-made.runner c.go.new.self c.in-Some.to c.tidy.new.self.slices c.loop-made.invariant.0 draws
           c.in-Some.ensures.next c.in_ok-go.ensures.leads tidied),

@@ -1,4 +1,4 @@
-use Rattle.std.proofs.Common.{◌≡◌, ◌∙◌, ap, drop, List, ℕ}
+use Rattle.std.proofs.Common.{◌∙◌, ap, drop, List, ℕ}
 use Rattle.std.specs.Prelude.{slice_get}
 use Rattle.script_json.proofs.fields.next_pair.Goals as goal
 

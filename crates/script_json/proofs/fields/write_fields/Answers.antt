@@ -1,4 +1,3 @@
-use Rattle.std.proofs.Common.{rules}
 use Rattle.script_json.proofs.fields.write_fields.Goals as goal
 
 pub returns : goal.returns

@@ -9,5 +9,5 @@ abbrev pub invariant-loop-line : goal.invariant-loop-line
 invariant-loop-line g l =
     let contents = g.W.Write.contents in
     (after : Option (List ℕ))
-    → Appends (contents l.out) after (with_commas_from l.is_first (map (answer_of l.told) l.line-iterator))
-    → Appends (contents l.fn.out) after (with_commas (map (answer_of l.told) l.fn.answer))
+    → Appends (contents l.out) after (with_commas_from l.is_first (map (answer_of l.command) l.line-iterator))
+    → Appends (contents l.fn.out) after (with_commas (map (answer_of l.command) l.fn.answer))

@@ -1,4 +1,4 @@
-use Rattle.std.proofs.Common.{◌≡◌, ◌<◌, ◌∙◌, below_more, length, arith, length-set, None}
+use Rattle.std.proofs.Common.{◌∙◌, arith, length-set, None}
 use Rattle.program_run.proofs.KeptLemmas.{empties, empty_more}
 use Rattle.program_run.proofs.kept.Kept.forget_cores.Goals as goal
 

@@ -1,4 +1,4 @@
-use Rattle.std.proofs.Common.{◌≡◌, ◌<◌, ◌∙◌, arith, length-set}
+use Rattle.std.proofs.Common.{◌∙◌, arith, length-set}
 use Rattle.program_run.proofs.KeptLemmas.{idle-none, no-counts, zero_more}
 use Rattle.program_run.proofs.kept.Kept.forget_slices.Goals as goal
 

@@ -1,8 +1,6 @@
-use Rattle.std.proofs.Common.{◌≡◌, ◌∙◌, ◌<◌, ◌≤◌, Some, get_or, length, refl, rules, slice_get, subst, sym, arith}
-use Rattle.std.specs.Prelude.{◌%◌}
-use Rattle.std.proofs.lemmas.Option.{get_or_from_slice_get, slice_get_read}
-use Rattle.program_run.specs.Front.{IsApart, LooksBehind}
-use Rattle.program_run.proofs.KeptLemmas.{looks_past, looks_set}
+use Rattle.std.proofs.Common.{◌≤◌, length, rules, subst}
+use Rattle.program_run.specs.Front.{LooksBehind}
+use Rattle.program_run.proofs.KeptLemmas.{looks_past}
 use Rattle.program_run.proofs.kept.Kept.look_behind.Goals as goal
 
 pub returns-then-slice-len-clause-idle : goal.returns-then-slice-len-clause-idle

@@ -1,7 +1,4 @@
-use Rattle.std.proofs.Common.{◌≡◌, ℕ, [], List, Some, rules}
-use Rattle.std.specs.Io.KnownBytes.{Appends}
-use Rattle.std.specs.Str.Lines.{lines}
-use Rattle.script_json.specs.Object.{object_of}
+use Rattle.std.proofs.Common.{[], Some, rules}
 use Rattle.script_json.proofs.player.ListerPlayer.play.Goals as goal
 
 pub returns-in-Ok-clause-plays : goal.returns-in-Ok-clause-plays

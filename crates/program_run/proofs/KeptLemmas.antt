@@ -57,7 +57,7 @@ use Rattle.slice_queues_message.specs.declared.channel.Channel.{Channel}
 use Rattle.slice_queues_message.specs.declared.channel.Pick.{Pick}
 use Rattle.program_run.proofs.FrontCalls.{delivery-front, hand-front}
 use Rattle.program_run.proofs.FrontIssue.{SentAt, issue-front, same-front}
-use Rattle.program_run.specs.Front.{AreIdle, HasIdleFront, IsApart, IsLess, LooksAgain, LooksBehind}
+use Rattle.program_run.specs.Front.{AreIdle, HasIdleFront, IsApart, LooksAgain, LooksBehind}
 use Rattle.program_run.specs.Kept.{AreDecided, KeepsOthers}
 use Rattle.program_run.specs.Run.{decided_in, decision_on, slice_of}
 use Rattle.program_run.specs.declared.kept.Decided.{Decided}
@@ -520,16 +520,3 @@ pub looks_past : (slices : List PartsView) (slice : ℕ) (core : CoreId) (line :
 looks_past slices slice core line counts past = λ p found.
     let none : get_or counts slice 0 ≡ 0 = get_or_past counts slice 0 past in
     ((omega arith, (λ place below. absurd (omega (arith, below, none)))), (λ other apart. refl))
-
-pub looks_set : (slices : List PartsView) (slice : ℕ) (core : CoreId) (line : LineAddr) (counts : List ℕ) (count : ℕ)
-    (state : PartsView) → slice_get slices slice ≡ Some state → slice < length counts → count ≤ get_or counts slice 0
-    → IsApart state count line (last_written_back state.view core)
-    → LooksBehind slices slice core line counts (slice_set counts slice count)
-looks_set slices slice core line counts count state found within few apart = λ p there.
-    let both : Some state ≡ Some p = sym found ∙ there in
-    let same : state ≡ p = cc both in
-    let is : get_or (slice_set counts slice count) slice 0 ≡ count = get_or-set_same counts slice count 0 within in (
-      subst (λ n. IsLess p core line (get_or counts slice 0) n) (sym is)
-          (subst (λ (q : PartsView). IsLess q core line (get_or counts slice 0) count) same (few, apart)),
-      λ other away. get_or-set_other counts slice other count 0 away,
-    )

@@ -367,7 +367,7 @@ Makes config programs (moves.Deliver pick) old new = Delivers config programs pi
 abbrev pub measured_place : Place → Place
 measured_place place = record place { usage = measured place.registers place.waiting place.usage }
 
--- .. of each core, where several may be under way
+-- .. of each core, where it is said how many may be under way
 abbrev pub measured_places : Bool → List Place → List Place
 measured_places false places = places
 measured_places true places = map measured_place places
@@ -380,8 +380,8 @@ abbrev pub drawn_move : ℕ → List Move → Option Move
 drawn_move word moves = slice_get moves (word % length moves)
 
 -- These moves are made behind so many others, one after another. Each is drawn from those that may come next, by the
--- next word of the generator that stands there; behind it, it is measured what is in use, where several accesses of a
--- core may be under way, and rings are kept short.
+-- next word of the generator that stands there; behind it, it is measured what is in use, where it is said how many
+-- accesses may be under way, and rings are kept short.
 abbrev pub MakesAll : Config → Programs → List ℕ → ℕ → List Move → RunState → RunState → Type 0
 MakesAll config programs generator made [] old new = new ≡ old
 MakesAll config programs generator made (to ∷ more) old new =

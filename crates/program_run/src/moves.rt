@@ -49,7 +49,7 @@ pub(crate) struct Place {
     pub registers: u64,
     /// Whether the next access was asked for, and stalled.
     pub stalled: bool,
-    /// What was in use behind each move.
+    /// What was in use behind each move, where that is measured.
     pub usage: Usage,
 }
 
@@ -164,7 +164,8 @@ fn may_ask<F: MissFile>(
     }
 }
 
-// Whether so many accesses of a program wait already that it takes no step, whatever comes next. Most programs wait.
+// Whether it is plain that a program takes no step: so many of its accesses wait, or there is no such program. It is
+// asked first, since most wait.
 fn has_to_wait(most: Option<u64>, places: &[Place], number: usize) -> bool
     ensures { result ≡ true → (step : Step) → may_step_at most (slice_get places.now number) step ≡ false }
 {

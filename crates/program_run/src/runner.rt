@@ -11,7 +11,6 @@ ghost use Rattle.program_run.specs.Kept.{Knows};
 ghost use Rattle.program_run.specs.Tidy.{Tidies};
 ghost use Rattle.program_run.specs.Run.{
   Accesses,
-  HandsOut,
   HasEnded,
   HaveEnded,
   Leads,
@@ -129,7 +128,7 @@ impl<F: MissFile> Runner<F> {
         )
     }
 
-    /// Measures what each core's accesses take up, behind a move, where several may be under way.
+    /// Measures what each core's accesses take up, behind a move, where their number is given.
     pub fn measure(&mut self, limited: bool)
         ensures { self.new ≡ measured_runner limited self.old }
     {

@@ -1,6 +1,6 @@
 -- Texts that are written item by item.
 use Rattle.std.proofs.Common.{◌≡◌, ℕ, ◌+◌, ◌<◌, ◌≤◌, Bool, false, List, ◌∷◌, ◌++◌, Option, drop, get_or, length, map}
-use Rattle.std.proofs.Common.{sym, subst, ap, ◌∙◌, if◌then◌else◌, true, [], None, Some, option_map, refl}
+use Rattle.std.proofs.Common.{sym, subst, ap, ◌∙◌, if◌then◌else◌, [], None, Some, option_map, refl}
 use Rattle.std.proofs.Common.{append_assoc}
 use Rattle.std.specs.Borrow.{Bor}
 use Rattle.std.specs.Prelude.{MatchOption, slice_get}
@@ -53,14 +53,3 @@ gap_further xs i below none =
     let here : is_gap (get_or xs i 0 ∷ drop (i + 1) xs) ≡ false = ap is_gap (sym split) ∙ none in
     ap gap_at split
     ∙ ap (λ (b : Bool). if b then 0 else gap_at (drop (i + 1) xs) + 1) here
-
--- a gap at a place: it is there
-pub gap_here : (xs : List ℕ) (i : ℕ) → i < length xs → is_gap (drop i xs) ≡ true → gap_at (drop i xs) ≡ 0
-gap_here xs i below is =
-    let split = at_drop_more (λ (ys : List ℕ). ys) xs i 0 below in
-    let here : is_gap (get_or xs i 0 ∷ drop (i + 1) xs) ≡ true = ap is_gap (sym split) ∙ is in
-    ap gap_at split ∙ ap (λ (b : Bool). if b then 0 else gap_at (drop (i + 1) xs) + 1) here
-
--- behind the last place there is none
-pub no_gap : (xs : List ℕ) (i : ℕ) → length xs ≤ i → gap_at (drop i xs) ≡ 0
-no_gap xs i end = at_drop_all gap_at xs i end

@@ -1,4 +1,4 @@
-/* Measured by bench/library: the calls of a load of slice_bench (crates/slice_bench/src/load.rt, player.rt), from C.
+/* Measured by bench/library: the calls of a load of slice_bench (bench/slice_bench/load.rattle, player.rattle), from C.
  *
  *     library LOAD     prints the load, how many requests were made, and the microseconds of all, as slice_bench does */
 #include <lockup.h>

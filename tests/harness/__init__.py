@@ -11,8 +11,9 @@ from .compare import Different, Skipped, same, want
 from .marks import each, seconds
 from .preload import each_refused, preloaded
 from .processes import (
-    ROOT, Ran, bytes_of, is_plain, is_sanitized, lockup, needs, program, read, run, tester, text_of, write,
+    ROOT, Ran, bytes_of, is_plain, is_sanitized, lockup, needs, program, read, run, text_of, write,
 )
+from .testers import tester
 
 __all__ = [
     "Different", "Skipped", "same", "want", "each", "seconds", "each_refused", "preloaded", "ROOT", "Ran", "bytes_of",

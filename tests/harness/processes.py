@@ -113,17 +113,3 @@ def alone(name: str) -> Iterator[None]:
     with open(Path(tempfile.gettempdir()) / f"{name}.lock", "w", encoding="utf-8") as lock:
         fcntl.flock(lock, fcntl.LOCK_EX)
         yield
-
-
-def tester(name: str) -> Path:
-    """Returns the program of another crate, as it is built. The gate may have put its build aside
-    again, and then `rt run` brings it back; without the gate it would be proved anew."""
-    path = ROOT / f"crates/{name}/out/{name}"
-    with alone(name):
-        if not os.access(path, os.X_OK) and not _after_gate:
-            raise Skipped(f"{name} isn't built ('rt run' in crates/{name} builds it)")
-        if not os.access(path, os.X_OK):
-            run(["rt", "run"], cwd=path.parents[1], timeout=None)
-    if not os.access(path, os.X_OK):
-        raise Different(f"there is no program to run: {path} ('rt run' in crates/{name} builds it)")
-    return path

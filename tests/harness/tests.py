@@ -19,12 +19,14 @@ _queue: list["Test"] = []
 
 
 class Test(NamedTuple):
-    """A test: its function, by the names of its module and of itself, and its arguments."""
+    """A test: its function, by the names of its module and of itself, its arguments, about how many seconds it takes, and
+    whether it runs the program under test."""
 
     module: str
     function: str
     arguments: tuple
     seconds: float
+    needs_program: bool
 
     @property
     def name(self) -> str:
@@ -48,7 +50,7 @@ def tests_of(module: ModuleType) -> Iterator[Test]:
             takes = getattr(function, "seconds", 0)
             for argument in function.arguments() if hasattr(function, "arguments") else [()]:
                 arguments = argument if isinstance(argument, tuple) else (argument,)
-                yield Test(name, key, arguments, takes)
+                yield Test(name, key, arguments, takes, getattr(module, "NEEDS_PROGRAM", True))
 
 
 def found(names: Iterable[str]) -> list[Test]:

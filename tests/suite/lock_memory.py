@@ -7,6 +7,9 @@ from collections import Counter
 
 from harness import Different, Ran, each_refused, same, seconds, tester, want
 
+# it is run while the gate proves
+NEEDS_PROGRAM = False
+
 # The port's list of receipts and the log grow from 4 places to 128, each time to twice as many, so
 # each of the two grows six times. The port's list of requests grows once: but for the first, which
 # misses, all are done at once, and in a row.

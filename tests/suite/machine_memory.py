@@ -9,6 +9,9 @@ from collections import Counter
 
 from harness import Different, each_refused, preloaded, read, run, same, seconds, tester
 
+# it is run while the gate proves
+NEEDS_PROGRAM = False
+
 ROW = "two threads in want of memory"
 CAME = {
     (0, f"{ROW}: as wanted\n"): "without",

@@ -1,39 +1,40 @@
-"""Runs the tests of the parts of a slice with each allocation of a making call refused in turn: an
-array of two sets makes three, a table of miss registers two, a slice's channels four, however many
-lines it has. Some test of the part meets it, and each that does says that memory was refused
-(AllocError), and nothing else. The tests are those of the crate part_tests, which has a file for
-each part; its other tests aren't looked at. To build them takes the time, so one run does it all:
-it refuses the fourth allocation of each test, and allocation_N_is_the_fourth is the test in which
-that is the part's allocation N. It proves nothing."""
-import re
+"""Runs the unit tests of the parts of a slice with each of their allocations refused in turn: a test
+that meets it says that memory was refused (AllocError), and nothing else. The calls that make a part
+take all its memory: an array of two sets makes three allocations, a table of miss registers two, a
+slice's channels four, however many lines it has."""
+from harness import Ran, each, each_refused, same, tester
+from harness.testers import unit_tests
 
-from harness import ROOT, needs, run, seconds, want
+# it is run while the gate proves
+NEEDS_PROGRAM = False
 
-# each part's file, and how many allocations its making call makes
-PARTS = {"arrays": 3, "miss_registers": 2, "channels": 4}
-
-
-def counts(report: str, names: str) -> tuple[int, int]:
-    """Returns how many tests whose names match fail, and how many of these say that memory was
-    refused: what a test says stands below its own line."""
-    failed = told = inside = 0
-    for line in report.splitlines():
-        if line.startswith("test "):
-            inside = bool(re.match(rf"test (.*::)?{names} ", line) and line.endswith(" FAILED"))
-            failed += inside
-        elif inside and re.fullmatch(" *error: AllocError", line):
-            told += 1
-    return failed, told
+PARTS = ("arrays::", "miss_registers::", "channels::")
+# tests that make one part, and how many allocations that takes
+MAKING = {
+    "arrays::a_line_has_its_own_set": 3,
+    "miss_registers::a_register_has_two_targets": 2,
+    "channels::picks_go_round_from_the_start_line": 4,
+}
 
 
-@seconds(200)
-def test_parts() -> None:
-    needs("rt")
-    ran = run(["rt", "try", "--test", "--fail-alloc", "4"], cwd=ROOT / "crates/part_tests", timeout=None)
-    report = ran.out + ran.err
-    for part, allocations in PARTS.items():
-        tests = [f"{part}::allocation_{number}_is_the_fourth" for number in range(1, allocations + 1)]
-        for names in [*tests, f"{part}::.*"]:
-            failed, told = counts(report, names)
-            want(failed and failed == told, f"{names}: {failed} tests fail, and {told} say that memory was refused\n"
-                                            f"{report[-3000:]}")
+def tests_of_parts() -> list[str]:
+    return sorted({*MAKING, *(name for name in unit_tests() if name.startswith(PARTS))})
+
+
+def what_came(ran: Ran) -> str:
+    """Returns `passed`, or `refused` where a test says that and no more, or all that it says."""
+    if ran.status == 0:
+        return "passed"
+    if ran.status > 0 and not ran.out and ran.err.startswith("error: AllocError\n"):
+        return "refused"
+    return f"status {ran.status}\n{ran.out}{ran.err}"
+
+
+@each(tests_of_parts)
+def test_refused(name: str) -> None:
+    came = [what_came(ran) for _, ran in each_refused([tester("unit_tests"), name])]
+    count = came.count("refused")
+    # with ample memory, then each allocation of the test, and those that print that it passed
+    wanted = ["passed", *["refused"] * count, *["passed"] * (len(came) - count - 1)]
+    same(f"{name} with none and then each allocation refused", wanted, came)
+    same(f"allocations of {name}", MAKING.get(name, count), count)

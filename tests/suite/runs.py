@@ -4,6 +4,9 @@ four counters a hundred times, and 64 threads four times, each time on a new mac
 drained and audited: core_tester says whether all came out as wanted."""
 from harness import run, same, seconds, tester
 
+# it is run while the gate proves
+NEEDS_PROGRAM = False
+
 
 @seconds(15)
 def test_random_calls() -> None:

@@ -1,0 +1,56 @@
+"""Builds the testers: programs and unit tests over the product's crates that no proof is wanted of."""
+import os
+import re
+import shutil
+from pathlib import Path
+from typing import Iterator
+
+from .compare import Different
+from .processes import ROOT, alone, needs, run
+
+FOLDER = ROOT / "tests/testers"
+# how a unit test begins in its file
+UNIT_TEST = re.compile(r"^#\[test\]\nfn (\w+)", re.M)
+
+
+def tester(name: str, kind: str = "unproved") -> Path:
+    """Returns the tester of this name, which is built where sources are newer; `checked` and `races` are other kinds, as
+    tools/unproved makes them."""
+    needs("rt")
+    program = FOLDER / name / "out" / kind / name
+    with alone(f"{name}-{kind}"):
+        if not program.is_file() or program.stat().st_mtime < newest(FOLDER / name):
+            ran = run([ROOT / "tools/unproved", f"--{kind}", name], timeout=None)
+            if ran.status:
+                raise Different(f"{name} isn't built:\n{ran.err}")
+    return program
+
+
+def newest(folder: Path) -> float:
+    """Returns when the last of a tester's sources was changed."""
+    return max(it.stat().st_mtime for it in sources(folder))
+
+
+def sources(folder: Path) -> Iterator[Path]:
+    yield from (ROOT / "crates.txt", ROOT / "tools/native.py", folder / "uses")
+    yield from folder.rglob("*.rattle")
+    for crate in (ROOT / "crates").iterdir():
+        yield from (crate / "src").rglob("*.rt")
+
+
+def unit_tests() -> Iterator[str]:
+    """Returns the names of all unit tests, as the program that has them knows them."""
+    for path in sorted((FOLDER / "unit_tests").rglob("*.rattle")):
+        for found in UNIT_TEST.finditer(path.read_text(encoding="utf-8")):
+            yield f"{path.stem}::{found[1]}"
+
+
+def expected(name: str) -> str:
+    """Returns what a tester prints where all is well."""
+    return (FOLDER / name / "stdout").read_text(encoding="utf-8")
+
+
+def runner() -> Path:
+    """Returns the toolchain's program that runs unit tests."""
+    needs("rt")
+    return Path(os.path.realpath(str(shutil.which("rt")))).parent / "rattle-test"

@@ -1,4 +1,4 @@
-ghost use Rattle.std.specs.Prelude.{◌≡◌, IfErr, IfOk, OnOk};
+ghost use Rattle.std.specs.Prelude.{◌≡◌, IfErr, IfOk, OnOk, false, true};
 ghost use Rattle.std.specs.Fmt.{WritesInCalls};
 ghost use Rattle.std.specs.Io.KnownBytes.{Appends};
 ghost use Rattle.litmus.specs.Check.{IsChecked, IsNotChecked, json_of_verdict, status_of, text_of_reason};
@@ -11,13 +11,23 @@ use std::fmt;
 use std::io::Write;
 use trace_check::{Reason, Verdict, check_trace};
 
-/// Judges a trace, and prints what it comes to, as a line of text or as a value of JSON. Returns the exit status.
-pub fn run_check<W: Write>(
-    alloc: Global,
-    input: &[u8],
-    json: bool,
-    out: &mut W,
-) -> Result<u8, TextFault>
+/// Judges a trace, and prints the verdict as a line of text. Returns the exit status.
+pub fn run_check<W: Write>(alloc: Global, input: &[u8], out: &mut W) -> Result<u8, TextFault>
+    ensures checked { IfOk result (IsChecked input.now false (W.contents out.old) (W.contents out.new)) }
+    ensures fault { IfErr result (IsNotChecked input.now) }
+{
+    check(alloc, input, false, out)
+}
+
+/// Judges a trace, and prints the verdict as a value of JSON. Returns the exit status.
+pub fn run_check_json<W: Write>(alloc: Global, input: &[u8], out: &mut W) -> Result<u8, TextFault>
+    ensures checked { IfOk result (IsChecked input.now true (W.contents out.old) (W.contents out.new)) }
+    ensures fault { IfErr result (IsNotChecked input.now) }
+{
+    check(alloc, input, true, out)
+}
+
+fn check<W: Write>(alloc: Global, input: &[u8], json: bool, out: &mut W) -> Result<u8, TextFault>
     ensures checked { IfOk result (IsChecked input.now json (W.contents out.old) (W.contents out.new)) }
     ensures fault { IfErr result (IsNotChecked input.now) }
 {

@@ -10,13 +10,15 @@
 //! - [`run_prompt`] answers a script's lines one by one, and gives a [`Saver`] the script so far.
 //! - [`run_test`] tests a script against the answers that it wants.
 //! - [`run_litmus`] runs a litmus test over threads, and [`run_walk`] on random schedules without any; each counts the
-//!   outcomes, and tells a [`Progress`] how far it is, which with [`Silent`] nobody sees. [`write_walk`] prints a round
-//!   of such a schedule as a script, and [`page_walk`] as that script's page.
+//!   outcomes. [`run_litmus_as`] and [`run_walk`] print them as a table or as JSON, and tell a [`Progress`] how far they
+//!   are, which with [`Silent`] nobody sees. [`write_walk`] prints a round of such a schedule as a script, and
+//!   [`page_walk`] as that script's page.
 //! - [`run_programs`] runs programs on a random schedule, and reports what each core and each line met.
 //!   [`write_schedule`] prints that schedule as a script, and [`page_schedule`] as that script's page. [`run_sweep`]
 //!   runs them once for each row of a [`Sweep`], side by side, and prints the rows. [`write_workload`] prints the
 //!   programs of a workload.
-//! - [`check_trace`] judges a trace, and answers its [`Verdict`]; [`run_check`] writes what that comes to.
+//! - [`check_trace`] judges a trace, and answers its [`Verdict`]; [`run_check`] writes what that comes to, and
+//!   [`run_check_json`] as JSON.
 //! - [`run_table`] prints a table of the protocol with its legend, [`run_table_rows`] its rows as values of JSON, and
 //!   [`run_export`] the protocol of one line as a model.
 //!
@@ -24,7 +26,7 @@
 //! what comes of it can't be written, is a [`TextFault`].
 #![tactic(auto)]
 
-pub use check::run_check;
+pub use check::{run_check, run_check_json};
 pub use export::run_export;
 pub use litmus_chart::{run_chart, run_svg};
 pub use litmus_command_line::{
@@ -47,7 +49,7 @@ pub use script_prompt::{Saver, run_prompt};
 pub use script_test::run_test;
 pub use script_waves::run_waves;
 pub use table::{run_table, run_table_rows};
-pub use tests::{run_litmus, run_walk, write_walk};
+pub use tests::{run_litmus, run_litmus_as, run_walk, write_walk};
 pub use trace_check::{Reason, Verdict, check_trace};
 
 mod check;

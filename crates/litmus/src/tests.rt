@@ -5,8 +5,9 @@ ghost use Rattle.litmus_threads.specs.Run.{IsEndOf};
 ghost use Rattle.litmus_walk.specs.Script.{PrintsWalk};
 ghost use Rattle.litmus_script.specs.Machine.{bound_of};
 ghost use Rattle.std.specs.Io.KnownBytes.{Appends};
+ghost use Rattle.outcomes_json.specs.declared.form.OutcomeForm.TheVariants as outcome_forms;
 
-use litmus_test::{LitmusTest, Progress};
+use litmus_test::{LitmusTest, Progress, Silent};
 use litmus_text::TextFault;
 use litmus_threads::play_test;
 use outcomes_json::OutcomeForm;
@@ -15,9 +16,27 @@ use std::io::Write;
 use std::sync::Wait;
 use std::thread::Threads;
 
+/// Runs a litmus test over threads, and prints a table of its outcomes, or which round was stuck. Returns the exit
+/// status.
+pub fn run_litmus<R: Threads + Wait + Sync, W: Write>(
+    alloc: Global,
+    rt: &R,
+    input: &[u8],
+    seed: u64,
+    limit: u64,
+    out: &mut W,
+) -> Result<u8, TextFault>
+    ensures done { IfOk result (λ status. IsOfTest input.now (λ test. IsEndOf test outcome_forms.Table
+        (λ text. Appends (W.contents out.old) (W.contents out.new) text) status)) }
+    ensures fault { IfErr result (IsTestNotRun input.now) }
+{
+    let form = OutcomeForm::Table;
+    run_litmus_as(alloc, rt, input, seed, limit, form, &mut Silent, out)
+}
+
 /// Runs a litmus test over threads, and prints its outcomes in this form, or which round was stuck. Returns the exit
 /// status.
-pub fn run_litmus<R: Threads + Wait + Sync, W: Write, P: Progress>(
+pub fn run_litmus_as<R: Threads + Wait + Sync, W: Write, P: Progress>(
     alloc: Global,
     rt: &R,
     input: &[u8],

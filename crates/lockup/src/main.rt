@@ -11,9 +11,10 @@ use clap::error::ErrorKind;
 use head::head_of;
 use litmus::{
     CommandLine, Form, OutcomeForm, PageExtras, ScriptForm, Seeds, Size, SweepFault, expected,
-    page_schedule, page_walk, read_line, run_beside, run_chart, run_check, run_explained,
-    run_export, run_json, run_litmus, run_page_with, run_programs, run_script, run_svg, run_table,
-    run_table_rows, run_test, run_trace, run_walk, run_waves, write_schedule, write_walk,
+    page_schedule, page_walk, read_line, run_beside, run_chart, run_check, run_check_json,
+    run_explained, run_export, run_json, run_litmus_as, run_page_with, run_programs, run_script,
+    run_svg, run_table, run_table_rows, run_test, run_trace, run_walk, run_waves, write_schedule,
+    write_walk,
 };
 use litmus_text::TextFault;
 use painted::Painted;
@@ -285,7 +286,7 @@ where
             ..
         } => {
             let form = outcome_form(json);
-            run_litmus(alloc, rt, input, seed, limit, form, shown, out)
+            run_litmus_as(alloc, rt, input, seed, limit, form, shown, out)
         }
         CommandLine::Walk {
             seed,
@@ -328,7 +329,8 @@ where
         } => run_programs(alloc, input, outstanding, seed, report_form(json), out),
         // These are printed by `rows::run` and `workload::run`.
         CommandLine::Sweep { .. } | CommandLine::Generate { .. } => Ok(REFUSED),
-        CommandLine::Check { json, .. } => run_check(alloc, input, json, out),
+        CommandLine::Check { json: true, .. } => run_check_json(alloc, input, out),
+        CommandLine::Check { .. } => run_check(alloc, input, out),
         CommandLine::Table {
             table,
             exclusive,

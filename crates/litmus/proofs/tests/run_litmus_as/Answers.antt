@@ -3,7 +3,7 @@ use Rattle.std.specs.Io.KnownBytes.{Appends}
 use Rattle.std.proofs.lemmas.Result.{err_from_is_err_and, IfOk-weaker}
 use Rattle.litmus_threads.specs.Run.{IsEndOf}
 use Rattle.litmus.proofs.Faults.{not-run}
-use Rattle.litmus.proofs.tests.run_litmus.Goals as goal
+use Rattle.litmus.proofs.tests.run_litmus_as.Goals as goal
 
 pub returns-clause-done : goal.returns-clause-done
 returns-clause-done g c =

@@ -1,7 +1,7 @@
 #!/usr/bin/env python3
 """Draws what sweeps count, as SVG, by Python's standard library alone.
 
-  plot.py LOCKUP FOLDER     runs the program LOCKUP, and writes a picture of each of these into FOLDER
+  plot.py LOCKUP FOLDER     runs the program LOCKUP, and writes a picture of each of these into FOLDER, which it makes
 
 - sweep_ways: misses against ways, for each replacement policy (ways.txt, 20 seeds, the mean).
 - sweep_cores: false sharing against cores that count into words of one line (20 seeds, the mean).
@@ -83,6 +83,7 @@ def main(words):
         print(__doc__, end="")
         return 2
     lockup, folder = words
+    os.makedirs(folder, exist_ok=True)
     rows = rows_of(lockup, f"{HERE}/ways.txt", "--set", "ways=1,2,3,4", "--set", "policy=lru,fifo,random 1")
     drawn = {"sweep_ways": svg("Misses against ways", "ways", means(rows, "ways", "misses", "policy"))}
     rows = []

@@ -18,6 +18,7 @@ FAULTY = "issue 0 0 add 0 5\ndeliver req 0 0\nstate 0\nissue 0 ad\n"
 LONG = "cores 1\n" + "state 0\n" * 300
 LEGAL = "lockup-trace 1\nentry 0 0 0 load 0 0 0\n"
 FIRST_ADD = "examples/first_add.txt"
+PROGRAM = "core 0\nload 0\nload 0\n"
 
 
 def runs() -> Iterator[tuple]:
@@ -35,6 +36,12 @@ def runs() -> Iterator[tuple]:
     yield "check", "check TEXT", LEGAL, 1
     yield "check of an illegal trace", "check examples/illegal_trace.txt", "", 1
     yield "--help", "--help", "", 7
+    yield "generate", "generate lock --cores 2 --size 3", "", 1
+    yield "generate at random", "generate zipf --cores 2 --size 90", "", 7
+    yield "run", "run TEXT", PROGRAM, 3
+    yield "run --csv", "run TEXT --csv", PROGRAM, 1
+    yield "run --set", "run TEXT --set ways=1,2 --seeds 7..8", PROGRAM, 1
+    yield "run --set as JSON", "run TEXT --set ways=1,2 --json", PROGRAM, 1
     yield "script with many answers", "script TEXT", LONG, 997
 
 

@@ -1,13 +1,20 @@
 """Runs sweeps: each row has the numbers that `lockup run --json` prints of the run of the text with
-the row's settings and seed, the rows stand in their order, and what can't be run is refused. And
-generates each workload: `lockup run` takes it."""
+the row's settings and seed, the rows stand in their order, and what can't be run is refused: an
+error names the line of the text, as `lockup run` does, behind the row's settings and seed. Rows are
+run by several threads at once. And generates each workload: `lockup run` takes it."""
 import csv
 import io
 import itertools
 import json
+import os
+import subprocess
 import tempfile
+import time
+from pathlib import Path
 
-from harness import each, lockup, same, want, write
+from harness import (
+    Skipped, each, is_plain, lockup, preloaded, program, read, same, seconds, want, write,
+)
 
 TEXT = "# two cores, one line\n\ncores 2\nways 1\n\ncore 0\nrepeat 4\nadd 0 1\nload 8..40\nend\ncore 1\nrepeat 4\nadd 1 1\nend\n"
 BEFORE = "# two cores, one line\n\ncores 2\nways 1\n\n"
@@ -109,6 +116,94 @@ def test_refused(words: str) -> None:
         text = str(write(f"{room}/text", TEXT))
         ran = lockup("run", text, *words.split())
         same("status and error", (2, f"lockup: {REFUSED[words]}\n"), (ran.status, ran.err))
+
+
+HEAD = "# two cores\n\ncores 2\nlines 4\n\ncore 0\nadd 8 1\nload 9\n"
+FAULTY = {
+    "no command": (HEAD + "\nlode 9\n", "line 10: not a command"),
+    "a bad number": (HEAD + "load 9x\n", "line 9: bad number"),
+    "a late line": (HEAD + "# late\nways 2\n", "line 10: configuration after a command"),
+    "a word that isn't there": (HEAD + "load 32\n", "line 9: out of range"),
+    "a core that has a program": (HEAD + "core 0\n", "line 9: out of range"),
+    "an open block": (HEAD + "repeat 3\nload 1\n", "line 9: not a command"),
+    "too many accesses": (HEAD + "repeat 1000000\nload 1\nend\n", "line 11: out of range"),
+    "a store to a counter": (HEAD.replace("cores 2", "cores 2\ncounter 8") + "store 8 1\n", "line 10: store to a counter"),
+    "blanks and returns": (HEAD.replace("\n", "\r\n") + " \t\r\n\r\nload\r\n", "line 11: not a command"),
+    "the first line": ("lines\n", "line 1: not a command"),
+}
+
+
+@each(lambda: list(FAULTY))
+def test_an_error_names_a_line(what: str) -> None:
+    """It is the one that `lockup run` names, whatever lines the settings add."""
+    with tempfile.TemporaryDirectory() as room:
+        text, fault = FAULTY[what]
+        file = str(write(f"{room}/text", text))
+        same("run", (2, f"lockup: {fault}\n"), (lockup("run", file).status, lockup("run", file).err))
+        for words in ("--csv", "--json"):
+            ran = lockup("run", file, "--set", "ways=1,2", "--set", "policy=lru,fifo", "--seeds", "7..9", words)
+            same(words, (2, f"lockup: ways=1 policy=lru seed 7: {fault}\n"), (ran.status, ran.err))
+            want(len(ran.out.splitlines()) <= 1, f"a row is printed: {ran.out}")
+
+
+def test_an_error_of_a_later_row() -> None:
+    """Rows before it are printed, and no other."""
+    settings = (("cores=2,1", "cores", "cores=1", "line 9"), ("lines=4,2,1,4", "lines", "lines=1", "line 7"))
+    for setting, name, at, line in settings:
+        with tempfile.TemporaryDirectory() as room:
+            file = str(write(f"{room}/text", HEAD + "core 1\nload 3\n"))
+            values = setting.partition("=")[2].split(",")
+            values = values[:values.index(at[-1])]
+            for words in ("--csv", "--json"):
+                ran = lockup("run", file, "--set", setting, "--seeds", "1..3", words)
+                same(words, (2, f"lockup: {at} seed 1: {line}: out of range\n"), (ran.status, ran.err))
+                if words == "--csv":
+                    rows = [(row[name], row["seed"]) for row in csv.DictReader(io.StringIO(ran.out))]
+                else:
+                    rows = [(str(row[name]), str(row["seed"])) for row in json.loads(ran.out.rstrip().rstrip(",") + "]")]
+                same("rows before it", [(value, seed) for value in values for seed in "123"], rows)
+
+
+def needs_processors() -> None:
+    if len(os.sched_getaffinity(0)) < 2:
+        raise Skipped("there is one processor alone")
+
+
+def spent(number: int) -> dict[str, int]:
+    """How long each thread of a process has run, in the system's ticks."""
+    found = {}
+    for task in Path(f"/proc/{number}/task").glob("*"):
+        try:
+            fields = read(task / "stat").rpartition(")")[2].split()
+        except OSError:
+            continue
+        found[task.name] = int(fields[11]) + int(fields[12])
+    return found
+
+
+@seconds(4)
+def test_rows_are_run_side_by_side() -> None:
+    """Several threads are started, and while rows are run several of them make headway at once. One row alone needs no
+    further thread."""
+    needs_processors()
+    is_plain()
+    text = "cores 1\nlines 2\nsets 1\nways 1\ncore 0\nrepeat 30000\nload 0\nload 8\nend\n"
+    with tempfile.TemporaryDirectory() as room:
+        file, told = str(write(f"{room}/text", text)), f"{room}/told"
+        words = [program(), "run", file, "--seeds", "1..24", "--csv"]
+        with subprocess.Popen(words, stdout=subprocess.PIPE, env=preloaded("started_threads", TOLD=told)) as ran:
+            at_once, before = 0, spent(ran.pid)
+            while ran.poll() is None:
+                time.sleep(0.05)
+                now = spent(ran.pid)
+                at_once += sum(ticks > before.get(task, 0) for task, ticks in now.items()) > 1
+                before = now
+            rows = list(csv.reader(io.TextIOWrapper(ran.stdout)))
+        same("status and rows", (0, 25), (ran.returncode, len(rows)))
+        want(len(read(told)) > 1, f"{len(read(told))} threads are started")
+        want(at_once > 3, f"several threads made headway in {at_once} moments alone")
+        same("status of one row", 0, lockup("run", file, "--csv", env=preloaded("started_threads", TOLD=told)).status)
+        want(len(read(told)) <= 1, f"one row starts {len(read(told))} threads")
 
 
 def test_blanks_around_a_value_are_refused() -> None:

@@ -7,7 +7,9 @@
   with a machine each the same.
 - With each allocation refused in turn the call says so once, and made again all goes on as before.
 - Each code is met, changes nothing, and leaves zeros; a configuration is refused for its first field;
-  each pointer of each function that is NULL is caught.
+  each pointer of each function that is NULL is caught. A trace ends where it lacks memory.
+- A machine of 64 cores that all share lines, and its copy; a trace of 6,000 entries, whose verdict is
+  right behind each.
 - The Python module: its own examples, errors, what it refuses, the judge of traces beside `check`,
   and `pip install` without the network.
 - The prototypes of the Python module and of the SystemVerilog package are those of lockup.h, and so
@@ -26,7 +28,7 @@ import tempfile
 from typing import Iterator
 
 from harness import (
-    ROOT, Ran, Skipped, each, each_refused, lockup, needs, read, run, same, seconds, want,
+    ROOT, Ran, Skipped, each, each_refused, lockup, needs, read, run, same, seconds, want, write,
 )
 from harness.library import FIRST_SAYS, INCLUDE, archive, module, part_of, player, shared
 from harness.scripts import example, examples, is_trace
@@ -427,6 +429,93 @@ def test_codes_of_the_judge() -> None:
     same("free", [OK, None], [raw("check_free")[0], raw.handle.value])
 
 
+def test_handles_of_the_other_kind() -> None:
+    """A machine is no trace, nor a trace a machine: both are as they were."""
+    raw, entry = Raw(), (ctypes.c_uint64 * 9)()
+    calls = [("check_begin", [0, 7], 0), ("check_entry", [ctypes.addressof(entry)], 0), ("check_verdict", [], 2)]
+    for name, words, out in calls:
+        same(f"{name} of nothing", (NO_MACHINE, [0] * out), raw(name, *words, out=out))
+    same("make", OK, raw.make())
+    for name, words, out in calls:
+        same(f"{name} of a machine", (NO_MACHINE, [0] * out), raw(name, *words, out=out))
+    same("a trace in its place", IN_USE, raw("check_new")[0])
+    same("the machine is there", (OK, [1]), raw("quiet", out=1))
+    same("free", OK, raw("free")[0])
+    same("new", OK, raw("check_new")[0])
+    for name, (words, out) in FUNCTIONS.items():
+        same(f"{name} of a trace", (NO_MACHINE, [0] * out), raw(name, *words, out=out))
+    same("a machine in its place", IN_USE, raw.make())
+    same("the trace is there", (OK, [0, 0]), raw("check_verdict", out=2))
+    same("free", OK, raw("check_free")[0])
+
+
+TRACE_WITHOUT_MEMORY = """
+#include "lockup.h"
+#include <stdio.h>
+static uint32_t ended(lockup_check *check, uint32_t code) {
+    lockup_verdict verdict = {7, 7};
+    if (code != LOCKUP_NO_MEMORY) return code;
+    printf("ended %d %u\\n", check->at == NULL, lockup_check_verdict(check, &verdict));
+    return 9;
+}
+int main(void) {
+    lockup_check check = {0};
+    uint32_t code = lockup_check_new(&check);
+    if (code == LOCKUP_NO_MEMORY) return printf("none %d\\n", check.at == NULL) < 0;
+    for (uint64_t word = 0; word < 300 && !code; word++) code = ended(&check, lockup_check_begin(&check, 1000 * word, word));
+    for (uint64_t number = 0; number < 300 && !code; number++) {
+        lockup_entry entry = {number % 64, number / 64, number % 64, LOCKUP_LOAD, 1000 * number, 0, 0, number, 0};
+        code = ended(&check, lockup_check_entry(&check, &entry));
+    }
+    lockup_verdict verdict = {7, 7};
+    if (!code && !lockup_check_verdict(&check, &verdict)) printf("whole %d %d\\n", (int)verdict.verdict, (int)verdict.entry);
+    return lockup_check_free(&check) != (code ? LOCKUP_NO_MACHINE : LOCKUP_OK);
+}
+"""
+
+
+@seconds(3)
+def test_traces_without_memory() -> None:
+    """With each allocation refused in turn a trace isn't begun, or ends, or does without the allocation."""
+    needs("cc")
+    with tempfile.TemporaryDirectory() as room:
+        source, made = write(f"{room}/trace.c", TRACE_WITHOUT_MEMORY), f"{room}/trace"
+        library = shared()
+        words = ["cc", "-Wall", "-Wextra", "-Werror", f"-I{INCLUDE}", source, library, f"-Wl,-rpath,{library.parent}"]
+        same("the compiler", (0, "", ""), tuple(run([*words, "-o", made])))
+        told = []
+        for refused, ran in each_refused([made]):
+            same(f"status with allocation {refused} refused", (0, ""), (ran.status, ran.err))
+            told.append(ran.out)
+        same("with ample memory", "whole 0 300\n", told[0])
+        want(set(told) <= {"whole 0 300\n", "none 1\n", f"ended 1 {NO_MACHINE}\n"}, f"it says {set(told)}")
+        want("none 1\n" in told and f"ended 1 {NO_MACHINE}\n" in told, f"no trace ended: {set(told)}")
+
+
+@seconds(3)
+@each(lambda: ["explicit", "inverted"])
+def test_64_cores(misses: str) -> None:
+    """All cores read some lines, with a copy of the machine in between; then the last one writes them, in the copy alone."""
+    fields = {"cores": 64, "lines": 64, "slices": 2, "sets": 4, "ways": 8, "mshrs": 16, "misses": int(misses == "inverted")}
+    library = module()
+    with library.Machine(init={word: word + 1 for word in range(512)}, **fields) as machine:
+        for core in range(64):
+            for tag in range(16):
+                want(machine.load(core, tag=tag, word=8 * tag).answer.name == "PENDING", f"load {tag} of core {core}")
+            machine.settle()
+            for tag in range(16):
+                got = machine.hand(core, tag % 2)
+                same(f"reply of core {core}", 8 * got.tag + 1, got.reply)
+        with machine.clone() as other:
+            same("the copy", shown(machine), shown(other))
+            other.store(63, tag=0, word=8, value=7)
+            other.settle()
+            other.hand(63, 1)
+            states = [[it.copy(core, 1).state.name for core in range(64)] for it in (machine, other)]
+            same("states", [["S"] * 64, ["I"] * 63 + ["M"]], states)
+            same("entries", (1024, 1025), tuple(sum(len(list(it.log(slice))) for slice in range(2)) for it in (machine, other)))
+
+
 # ---- the judge of traces
 
 # traces and their verdicts, worked out by hand in docs/TEXTS.md
@@ -455,6 +544,20 @@ def verdict_of(rows: list[tuple]) -> tuple[str, int]:
 def test_judge(name: str) -> None:
     rows, verdict, entry = TRACES[name]
     same("verdict", (verdict, entry), verdict_of(rows))
+
+
+@seconds(2)
+def test_a_long_trace() -> None:
+    """Behind each of 6,000 entries of 64 cores on a line each the verdict is legal, and behind a wrong one it stays."""
+    library = module()
+    with library.Judge(init={8 * number: number for number in range(6000)}) as judge:
+        for number in range(6000):
+            verdict = judge.add(number % 64, number // 64, library.Op.ADD, 8 * number, 3, 0, number, number % 64, number)
+            same(f"entry {number}", ("LEGAL", number + 1), (verdict.verdict.name, verdict.entry))
+        for reply in (5998, 6002, 6005):
+            verdict = judge.add(1, 9000 + reply, library.Op.LOAD, 8 * 5999, 0, 0, reply, 0, 0)
+            wanted = ("REPLY", 6000)
+            same(f"a load of {reply}", wanted, (verdict.verdict.name, verdict.entry))
 
 
 def spoiled_log(seed: int) -> str:

@@ -1,7 +1,7 @@
 """Runs random scripts, and checks all that they print by docs/TEXTS.md and docs/TRUST.md alone.
 
 Eight cores meet on four lines of two slices, and each core's array of a slice has room for one
-line. Scripts of five seeds with 5000 calls each run with both kinds of miss registers, with and
+line. Scripts of twenty seeds with 5000 calls each run with both kinds of miss registers, with and
 without the exclusive state. Behind each call the script shows the state of each line. What is
 looked for:
 
@@ -29,7 +29,7 @@ MODULUS = 1 << 64
 WRITERS = {"M", "E"}
 READERS = WRITERS | {"S", "SM_AD", "SM_A"}
 STALLS = 5
-SEEDS, CALLS = 5, 5000
+SEEDS, CALLS = 20, 5000
 
 
 def settings_of(misses: str, exclusive: str, seed: int) -> str:
@@ -322,7 +322,7 @@ def settings() -> Iterator[tuple]:
         yield f"misses {misses}, exclusive {exclusive}, seed {seed}", misses, exclusive, seed
 
 
-@seconds(15)
+@seconds(3)
 @each(settings)
 def test_script(_: str, misses: str, exclusive: str, seed: int) -> None:
     commands = list(commands_of(seed, CALLS))

@@ -68,6 +68,27 @@ def test_moves() -> None:
     want(counts["moves"] > 2_000_000 and counts["stalls"] == counts["wb-busy"], f"{counts}")
 
 
+def test_most_rows() -> None:
+    """1,000,000 rows are begun with, and one more isn't. The text has an error, so none is run."""
+    for words, told in ((["--seeds", "1..1000000"], "seed 1: line 2: not a command"),
+                        (["--set", "ways=1,2", "--seeds", "1..500000"], "ways=1 seed 1: line 2: not a command"),
+                        (["--set", "ways=1,2", "--seeds", "1..500001"], "more than 1000000 rows")):
+        ran = ran_on("core 0\nlode\n", "run", *words)
+        same(" ".join(words), (2, f"lockup: {told}\n"), (ran.status, ran.err))
+
+
+@seconds(2)
+def test_most_accesses() -> None:
+    """1,000,000 accesses of all cores together are run, and one more isn't."""
+    text = "core 0\nrepeat 999998\nload 0\nend\ncore 1\nload 0..{}\n"
+    ran = ran_on(text.format(1), "run", "--json")
+    same("status and error", (0, ""), (ran.status, ran.err))
+    counts = json.loads(ran.out)["all"]
+    same("counts", (1_000_000, 999_998, 2), tuple(counts[name] for name in ("requests", "hits", "misses")))
+    ran = ran_on(text.format(2), "run")
+    same("one more", (2, "", "lockup: line 6: out of range\n"), tuple(ran))
+
+
 @seconds(2)
 @each(lambda: [("litmus", 2500), ("walk", 10_000)])
 def test_rounds(verb: str, rounds: int) -> None:

@@ -170,8 +170,9 @@ def test_run(_: str, seed: int, lines: int, steps: int) -> None:
     same("status", 0, ran.status)
     calls = [line for line in ran.out.splitlines() if line.split()[0] in ("issue", "deliver", "hand")]
     wanted = calls_of(text, seed)
-    first = next((place for place, (one, other) in enumerate(zip(wanted, calls)) if one != other), min(len(wanted), len(calls)))
-    want(wanted == calls, f"call {first} of {len(wanted)} and {len(calls)}: wanted {wanted[first:first + 3]}, got {calls[first:first + 3]}")
+    for place, (one, other) in enumerate(zip(wanted, calls)):
+        want(one == other, f"call {place} of {len(wanted)} is {other} in place of {one}")
+    same("how many calls", len(wanted), len(calls))
 
 
 @seconds(5)

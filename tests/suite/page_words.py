@@ -37,8 +37,8 @@ const names = [...at('follow').options].map(it => it.value);
 const read = { steps: [], lines: [] };
 for (let step = 0; step <= steps.length; step++) {
     show(step);
-    read.steps.push({ caption: at('caption').textContent, command: texts('#now .command')[0], answer: texts('#now .answer')[0],
-        words: all('#now .words').map(it => it.firstChild.textContent)[0] || '', done: texts('#now .words li'),
+    read.steps.push({ caption: at('caption').textContent, command: texts('#now .command')[0],
+        answer: texts('#now .answer')[0], words: all('#now .words').map(it => it.firstChild.textContent)[0] || '', done: texts('#now .words li'),
         said: at('said').textContent, rest: texts('#cores .rest'), hidden: at('many').hidden,
         many: all('#lines tr').map(it => [...it.children].map(cell => [cell.textContent, cell.className])) });
 }

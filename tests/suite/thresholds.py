@@ -46,8 +46,9 @@ def answered(config: str, rows: Rows) -> None:
 def test_rows() -> None:
     ran = ran_on("core 0\nload 0\nload 0\n", "run", "--set", "ways=1,2", "--seeds", "1..2501", "--csv")
     same("status and error", (0, ""), (ran.status, ran.err))
-    rows = list(csv.reader(io.StringIO(ran.out)))[1:]
-    wanted = [[ways, str(seed), *"2 1 1 1 0 0 0 0 0 1 0 1 0 0".split()] for ways in "12" for seed in range(1, 2502)]
+    names = ("ways", "seed", "requests", "hits", "misses", "req", "data")
+    rows = [tuple(row[name] for name in names) for row in csv.DictReader(io.StringIO(ran.out))]
+    wanted = [(ways, str(seed), "2", "1", "1", "1", "1") for ways in "12" for seed in range(1, 2502)]
     want(wanted == rows, f"{len(rows)} rows, of which the first wrong one is "
          f"{next((it for it in zip(wanted, rows) if it[0] != it[1]), None)}")
 
@@ -61,11 +62,10 @@ def test_moves() -> None:
     ran = ran_on(text, "run", "--json")
     same("status and error", (0, ""), (ran.status, ran.err))
     counts = json.loads(ran.out)["all"]
-    wanted = {"requests": count, "hits": 0, "misses": count, "cold": 2, "replaced": count - 2, "evict": count - 1,
-              "req": 2 * count - 1, "fwd": count - 1, "data": count, "ack": 0, "home": 0,
-              "moves": 5 * count - 2 + counts["stalls"]}
+    wanted = {"requests": count, "hits": 0, "misses": count, "req": 2 * count - 1, "fwd": count - 1, "data": count,
+              "ack": 0, "home": 0, "moves": 5 * count - 2 + counts["stalls"]}
     same("counts", wanted, {name: counts[name] for name in wanted})
-    want(counts["moves"] > 2_000_000 and counts["stalls"] == counts["wb-busy"], f"{counts}")
+    want(counts["moves"] > 2_000_000, f"{counts['moves']} moves alone")
 
 
 def test_most_rows() -> None:
@@ -209,7 +209,8 @@ def test_cores(what: str) -> None:
     for number, core in enumerate([last, *range(last)]):
         rows += [(load(1, 5, core), "pending 0"), *served(1, core), (f"hand {core} 0", f"receipt {number} tag 5 reply 0")]
     rows += [(f"issue {last} 5 store 8 7", "pending 1"), *served(1, last)]
-    rows += [row for core in range(last) for row in ((f"deliver fwd 1 {core}", "moved"), (f"deliver ack 1 {last} {core}", "moved"))]
+    for core in range(last):
+        rows += [(f"deliver fwd 1 {core}", "moved"), (f"deliver ack 1 {last} {core}", "moved")]
     copies = " ".join(["I"] * last + ["M"])
     rows += [(f"hand {last} 0", f"receipt {count} tag 5 reply 0"), ("word 8", "7"),
              ("state 1", f"line 1 dir M owner {last} sharers - home 0 0 0 0 0 0 0 0 cores {copies}")]

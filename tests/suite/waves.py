@@ -4,12 +4,13 @@
 The output of `lockup script --vcd` is taken apart into its signals and their values at each time.
 Lines that differ in nothing but their blanks are shown as they are written. A script with an
 invalid line has no waves, and its error is reported. What tools/gtkw writes for GTKWave names all
-signals but the counts that stay 0.
+signals but the counts that stay 0, and GTKWave shows them.
 """
+import os
 import re
 import tempfile
 
-from harness import ROOT, each, lockup, read, run, same, want, write
+from harness import ROOT, each, lockup, needs, read, run, same, want, write
 from harness.scripts import split
 from harness.states import States, shown_scripts, states_of
 
@@ -139,9 +140,32 @@ def test_settings_for_gtkwave() -> None:
     want(any(it.startswith("*-0.000000 ") for it in lines), f"{lines[3]} is another zoom")
     shown = [it for it in lines if it.startswith(("run.", "-")) and it != "-"]
     # both cores miss, and neither writes a line back
-    counts = [it for core in (0, 1) for it in (f"-slice0 core{core}", f"run.slice0.core{core}.registers[31:0]",
-                                               f"run.slice0.core{core}.targets[31:0]")]
+    counts = [it for core in (0, 1) for it in (f"-slice0 core{core}", f"run.slice0.core{core}.registers",
+                                               f"run.slice0.core{core}.targets")]
     same("signals", ["run.command", "-line0", "run.line0.directory", "run.line0.core0", "run.line0.core1",
-                     "run.line0.in_flight", "run.line0.channels[31:0]", *counts], shown)
-    steps = [at for at, it in enumerate(lines) if it.endswith("[31:0]")]
+                     "run.line0.in_flight", "run.line0.channels", *counts], shown)
+    steps = [at for at, it in enumerate(lines) if it.endswith((".channels", ".registers", ".targets"))]
     same("counts", [["@8024", "@20000", "-"]] * len(steps), [[lines[at - 1], *lines[at + 1:at + 3]] for at in steps])
+
+
+# in GTKWave's own language: each signal that is shown, and by which flags
+ASK = """foreach signal [gtkwave::getDisplayedSignals] {
+    puts "shown $signal [format %x [gtkwave::getTraceFlagsFromName $signal]]"
+}
+flush stdout
+exit
+"""
+
+
+def test_gtkwave_shows_all() -> None:
+    """GTKWave, asked which signals it shows by the settings of tools/gtkw, and how: texts, and numbers as steps."""
+    needs("gtkwave", "xvfb-run")
+    waves = lockup("script", "--vcd", "-", text=shown_scripts()["two_upgrades_at_once"]).out
+    with tempfile.TemporaryDirectory() as room:
+        run([ROOT / "tools/gtkw", write(f"{room}/run.vcd", waves)])
+        asked = write(f"{room}/ask.tcl", ASK)
+        ran = run(["xvfb-run", "-a", "gtkwave", "--save", f"{room}/run.gtkw", "--script", asked], env={**os.environ, "HOME": room})
+    line = [f"run.line0.{it} 820" for it in ("directory", "core0", "core1", "in_flight")]
+    counts = [f"run.slice0.core{core}.{it} 8024" for core in (0, 1) for it in ("registers", "targets")]
+    shown = [it.removeprefix("shown ") for it in ran.out.splitlines() if it.startswith("shown ")]
+    same("what is shown", ["run.command 820", *line, "run.line0.channels 8024", *counts], shown)

@@ -8,8 +8,8 @@
 - With each allocation refused in turn the call says so once, and made again all goes on as before.
 - Each code is met, changes nothing, and leaves zeros; a configuration is refused for its first field;
   each pointer of each function that is NULL is caught. A trace ends where it lacks memory.
-- A machine of 64 cores that all share lines, and its copy; a trace of 6,000 entries, whose verdict is
-  right behind each.
+- A machine of 64 cores that all share lines, and its copy; each place of each list of the largest
+  machine; a trace of 6,000 entries, whose verdict is right behind each.
 - The Python module: its own examples, errors, what it refuses, the judge of traces beside `check`,
   and `pip install` without the network.
 - The prototypes of the Python module and of the SystemVerilog package are those of lockup.h, and so
@@ -515,6 +515,75 @@ def test_64_cores(misses: str) -> None:
             same("states", [["S"] * 64, ["I"] * 63 + ["M"]], states)
             entries = [sum(len(list(it.log(slice))) for slice in range(2)) for it in (machine, other)]
             same("entries", [1024, 1025], entries)
+
+
+LARGEST = {"cores": 64, "slices": 4, "lines": 65536, "sets": 256, "ways": 16, "mshrs": 32, "targets": 32, "writebacks": 16}
+
+
+@seconds(4)
+def test_each_place() -> None:
+    """Of the largest machine each line and word, each core's part of each slice, and each place of each list that is
+    full."""
+    raw, last, place = Raw(), 63, 3
+    same("make", OK, raw.make(**LARGEST))
+    for line in range(65536):
+        same(f"line {line}", (OK, [0, 64, *[0] * 9]), raw("directory_at", line, out=11))
+    for word in range(3, 8 * 65536, 61):
+        same(f"word {word}", (OK, [1, 0]), raw("word_at", word, out=2))
+    for core in range(64):
+        for number in range(4):
+            same(f"core {core}, slice {number}", (OK, [0]), raw("registers", core, number, out=1))
+        for line in range(core, 65536, 641):
+            same(f"copy {core} {line}", (OK, [0] * 11), raw("copy_at", core, line, out=11))
+
+    def issue(core: int, tag: int, line: int, answer: list[int]) -> None:
+        same(f"core {core} loads line {line}", (OK, answer), raw("issue", core, tag, 0, 8 * line, 0, 0, out=3))
+
+    # all registers, and all targets of the last
+    lines = [4 * number + place for number in range(32)]
+    for number, line in enumerate(lines):
+        issue(last, number, line, [1, number, 0])
+    for number in range(1, 32):
+        issue(last, 31 + number, lines[-1], [1, 31 + number, 0])
+    same("registers", (OK, [32]), raw("registers", last, place, out=1))
+    found = [raw("register_at", last, place, number, out=5) for number in range(32)]
+    same("their lines", (32 * [OK], lines), ([code for code, _ in found], sorted(it[0] for _, it in found)))
+    same("targets", (OK, [32]), raw("targets", last, lines[-1], out=1))
+    found = [raw("target_at", last, lines[-1], number, out=7) for number in range(32)]
+    same("their tags", (32 * [OK], list(range(31, 63))), ([code for code, _ in found], [it[0] for _, it in found]))
+    same("behind them", OUT_OF_RANGE, raw("target_at", last, lines[-1], 32, out=7)[0])
+
+    # a request of each core for one line
+    shared = 65535 - 4
+    for core in range(63):
+        issue(core, 0, shared, [1, 0, 0])
+    same("messages", (OK, [63]), raw("messages", shared, out=1))
+    found = [raw("message_at", shared, number, out=15) for number in range(63)]
+    same("their cores", (63 * [OK], list(range(63))), ([code for code, _ in found], [it[2] for _, it in found]))
+
+    # a full set, and a full buffer
+    lines = [4 * 256 * number + 2 for number in range(1, 33)]
+    for number, line in enumerate(lines):
+        if number == 16:
+            same("ways", (OK, [16]), raw("ways", 5, lines[0], out=1))
+            found = [raw("way_at", 5, lines[0], way, out=1) for way in range(16)]
+            same("their lines", [(OK, [line]) for line in lines[:16]], found)
+        issue(5, 1, line, [1, number, 0])
+        same("its request", (OK, [0]), raw("deliver", 0, line, 5, 0, out=1))
+        same("its data", (OK, [0]), raw("deliver", 2, line, 5, 0, out=1))
+        same("its reply", (OK, [1, number, 1, 0]), raw("hand", 5, 2, out=4))
+    same("write-backs", (OK, [16]), raw("writebacks", 5, 2, out=1))
+    same("their lines", [(OK, [line]) for line in lines[:16]], [raw("writeback_at", 5, 2, nth, out=1) for nth in range(16)])
+
+    # a long log
+    for number in range(6000):
+        issue(5, 1, lines[-1], [0, 32 + number, 0])
+    same("entries", (OK, [6032]), raw("entries", 2, out=1))
+    for number in range(6032):
+        line = lines[min(number, 31)]
+        entry = [5, number, 1, 0, 8 * line, 0, 0, 0, number]
+        same(f"entry {number}", (OK, entry), raw("entry_at", 2, number, out=9))
+    same("free", (OK, []), raw("free"))
 
 
 # ---- the judge of traces

@@ -7,7 +7,7 @@
   more isn't there, and each of them is used once more after it was freed.
 - Each word of the largest memory has the value with which it begins; each line of it is loaded; each tag is used.
 
-What is expected is written by hand from docs/TEXTS.md.
+What is expected is written by hand from docs/TEXTS.md. On a program with AddressSanitizer the longest are left out.
 """
 import csv
 import io
@@ -15,7 +15,7 @@ import json
 import tempfile
 from itertools import product
 
-from harness import Ran, each, lockup, same, seconds, want, write
+from harness import Ran, each, is_plain, lockup, same, seconds, want, write
 
 LINES, WORDS, TAGS = 65536, 8, 64
 MASK = (1 << 64) - 1
@@ -44,6 +44,7 @@ def answered(config: str, rows: Rows) -> None:
 
 @seconds(2)
 def test_rows() -> None:
+    is_plain()
     ran = ran_on("core 0\nload 0\nload 0\n", "run", "--set", "ways=1,2", "--seeds", "1..2501", "--csv")
     same("status and error", (0, ""), (ran.status, ran.err))
     names = ("ways", "seed", "requests", "hits", "misses", "req", "data")
@@ -57,6 +58,7 @@ def test_rows() -> None:
 def test_moves() -> None:
     """One core goes to and fro between two lines that have one way: each access but the first writes a line back. So
     many moves are the accesses and the deliveries, beside the stalls for the line that is on its way out."""
+    is_plain()
     count = 450_000
     text = f"cores 1\nlines 2\nsets 1\nways 1\noutstanding 1\ncore 0\nrepeat {count // 2}\nload 0\nload 8\nend\n"
     ran = ran_on(text, "run", "--json")
@@ -80,6 +82,7 @@ def test_most_rows() -> None:
 @seconds(2)
 def test_most_accesses() -> None:
     """1,000,000 accesses of all cores together are run, and one more isn't."""
+    is_plain()
     text = "core 0\nrepeat 999998\nload 0\nend\ncore 1\nload 0..{}\n"
     ran = ran_on(text.format(1), "run", "--json")
     same("status and error", (0, ""), (ran.status, ran.err))
@@ -234,6 +237,7 @@ def value_of(word: int) -> int:
 @each(lambda: [f"{slices} slices" for slices in (1, 2, 4)])
 def test_words(what: str) -> None:
     """Each word of the largest memory begins with the value that its line says."""
+    is_plain()
     text = [f"cores 1\nslices {what.split()[0]}\nlines {LINES}\n"]
     text += [f"init {word} {value_of(word)}\n" for word in range(LINES * WORDS)]
     rows = []
@@ -247,6 +251,7 @@ def test_words(what: str) -> None:
 @each(lambda: [f"{slices} slices" for slices in (1, 4)])
 def test_lines(what: str) -> None:
     """Each line of the largest memory is written by one core and read by another: its last word is what was written."""
+    is_plain()
     slices = int(what.split()[0])
     rows, numbers = [], [0] * slices
     for line in range(LINES):

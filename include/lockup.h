@@ -21,7 +21,8 @@
  * words: word W is of line W / 8, and line L is of slice L modulo the slices.
  *
  * Codes. A function that returns LOCKUP_OK has made its call; what that came to stands in its outputs. With any other
- * code it has changed nothing. Outputs are always written, with zeros where there is nothing to say.
+ * code it has changed nothing, but for LOCKUP_NO_MEMORY of lockup_check_begin and lockup_check_entry, after which the
+ * trace is lost. Outputs are always written, with zeros where there is nothing to say.
  *
  * Ownership. A handle begins as {0}: it has nothing. lockup_make gives it a machine, and lockup_free takes it away
  * again and leaves {0}. A handle may be moved, but never copied: of two copies both would own the machine. Its field is

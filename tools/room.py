@@ -116,7 +116,8 @@ def made_of(crate):
 def is_proved(crate, sum):
     try:
         with open(f"{crate.folder}/out/proved", encoding="utf-8") as it:
-            return it.read() == sum and os.path.isfile(made_of(crate))
+            module = [kit.module_of(made_of(crate))] if crate.is_program else []
+            return it.read() == sum and all(map(os.path.isfile, [made_of(crate), *module]))
     except OSError:
         return False
 

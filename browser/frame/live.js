@@ -1,0 +1,137 @@
+// In the frame, behind the page's own code: takes runs from the page around it, in place of the one that it was written with, and
+// tells that page what can be done at the step that is shown. It names what the page's code names.
+
+'use strict';
+history.replaceState = () => {};
+
+// as the page has them of an empty script
+const PLAIN = { shape: { ...shape }, chosen: { ...chosen } };
+let taken = 0;
+
+function takeSettings(text, isPlain) {
+    Object.assign(shape, PLAIN.shape);
+    Object.assign(chosen, PLAIN.chosen);
+    script.length = 0;
+    for (const line of text.split('\n')) script.push(line.replace(/\r$/, ''));
+    for (const line of isPlain ? [] : script) {
+        const [name, value] = line.trim().split(/\s+/);
+        if (name in PLAIN.shape && /^\d+$/.test(value)) shape[name] = Number(value);
+        if (name in PLAIN.chosen && value) chosen[name] = value;
+    }
+    slices.length = setsOf.length = 0;
+    for (let slice = 0; slice < shape.slices; slice++) slices.push(slice);
+    for (let core = 0; core < shape.cores; core++) setsOf.push(new Set());
+}
+
+function takeSteps(same, given) {
+    steps.length = Math.min(steps.length, same);
+    for (const it of given) steps.push(JSON.parse(it));
+    rows.length = messages.length = ascending.length = captions.length = 0;
+    for (const it of [lines, copies, parts, sets, nexts]) it.all.clear();
+    for (const it of [channels, waits, histories]) it.clear();
+    readSteps();
+    readRows();
+    for (const line of [...lines.all.keys()].sort((a, b) => a - b)) ascending.push(line);
+    at('script').querySelector('.script').replaceChildren();
+    readScript();
+}
+
+function take({ number, text, fault, same, steps: given, to }) {
+    const line = at('follow').value;
+    if (timer) play();
+    taken = number;
+    run.script = text;
+    run.fault = fault;
+    // settings that can't be are the script's, and no machine's
+    takeSettings(text, fault && same + given.length === 0);
+    takeSteps(same, given);
+    at('follow').replaceChildren(...(ascending.length ? ascending : [0]).map(it => made('option', '', it)));
+    at('title').textContent = titleOf();
+    at('count').textContent = steps.length;
+    at('step').max = steps.length;
+    const step = to === undefined ? steps.length : Math.min(to, steps.length);
+    const acted = step ? rows[step - 1].line : undefined;
+    at('follow').value = ascending.includes(acted) ? acted : ascending.includes(Number(line)) ? line : ascending[0] || 0;
+    show(step);
+}
+
+// ---- what is told of a step
+
+// How much of the script stands up to the step: so many lines, and of a pump that isn't done its deliveries.
+function cutAt(step) {
+    const next = steps[step];
+    if (step === 0) return { lines: next ? next.at - 1 : script.length, more: [] };
+    const { at: line } = steps[step - 1];
+    if (!next) return { lines: run.fault ? line : script.length, more: [] };
+    if (next.at !== line) return { lines: line, more: [] };
+    return { lines: line - 1, more: steps.slice(0, step).filter(it => it.at === line).map(it => it.command) };
+}
+
+const SHOWN = 200;
+function movesAt(step) {
+    const found = [];
+    for (const slice of slices) {
+        for (const line of givenAt(step).filter(it => sliceOf(it) === slice)) {
+            for (const message of lineAt(step, line).messages) {
+                const command = channelOf(line, message);
+                const sent = senderOf(command);
+                found.push({ command, line, kind: message.class, name: nameOf(message), from: sent ? sent.from : '',
+                    to: whoOf(message.to), moves: message.fate === 'moves', why: fateOf(step, line, message) });
+            }
+        }
+    }
+    return found.slice(0, SHOWN);
+}
+function coreAt(step, core) {
+    const held = partsOf(core);
+    const all = [...setsOf[core]].flatMap(key => sets.at(key, step) || []).sort((a, b) => a - b);
+    const waits = held.flatMap(it => it.registers).flatMap(line => copyAt(step, core, line).targets.map(it => it.tag));
+    const replies = slices.flatMap(slice => (parts.at(keyOf(core, slice), step) || { replies: [] }).replies
+        .map(it => ({ slice, tag: it.tag, number: it.number })));
+    return { copies: all.map(line => ({ line, state: copyAt(step, core, line).state })), replies,
+        busy: [...waits, ...replies.map(it => it.tag)] };
+}
+
+function tell() {
+    const step = now && steps[now - 1];
+    parent.postMessage({ told: { number: taken, now, count: steps.length, line: step ? step.at : 0, cut: cutAt(now), shape,
+        followed: followed(), moves: movesAt(now), cores: Array.from({ length: shape.cores }, (_, core) => coreAt(now, core)),
+        answer: step ? step.answer : '' } }, '*');
+}
+const showAlone = show;
+show = number => {
+    showAlone(number);
+    tell();
+};
+const followAlone = follow;
+follow = line => {
+    followAlone(line);
+    tell();
+};
+
+// ---- what is clicked: a message in flight, or one of those that can be delivered, is delivered
+
+at('diagram').addEventListener('click', event => {
+    const arrow = event.target.closest('[data-channel], [data-flying]');
+    if (!arrow) return;
+    const channel = arrow.dataset.channel || arrow.dataset.flying;
+    const front = lineAt(now, followed()).messages.some(it => channelOf(followed(), it) === channel);
+    if (front) parent.postMessage({ asked: { deliver: channel } }, '*');
+});
+at('could').addEventListener('click', event => {
+    const row = event.target.closest('.rest');
+    if (row) parent.postMessage({ asked: { deliver: row.textContent.split('   ')[0] } }, '*');
+});
+document.addEventListener('keydown', event => {
+    const { key, ctrlKey, metaKey, shiftKey } = event;
+    if (!(ctrlKey || metaKey) || !['z', 'Z', 'y'].includes(key)) return;
+    event.preventDefault();
+    parent.postMessage({ asked: { history: key === 'y' || shiftKey ? 'redo' : 'undo' } }, '*');
+});
+
+addEventListener('message', ({ source, data }) => {
+    if (source !== parent) return;
+    if (data.take) take(data.take);
+    if (data.go) show(now + data.go);
+});
+parent.postMessage({ ready: true }, '*');

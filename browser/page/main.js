@@ -1,0 +1,187 @@
+// ---- the page: what belongs together is tied here
+
+const DATA = JSON.parse(at('data').textContent);
+const EMPTY = '# An empty machine: issue an access, and deliver its messages one by one.\n';
+const PLAY = 'play';
+const edits = new Edits(EMPTY);
+// the step that the frame shows last, and the number of the run that it was handed last
+let shown = null;
+let number = 0;
+// runs that the worker hasn't answered
+let asked = 0;
+
+function tabsOf(chosen) {
+    document.body.dataset.tab = chosen;
+    for (const it of document.querySelectorAll('[data-to]')) it.setAttribute('aria-pressed', it.dataset.to === chosen);
+    for (const it of document.querySelectorAll('.panel')) it.hidden = it.id !== chosen;
+    if (chosen === 'tables') tables.show();
+    if (chosen === PLAY) script.draw();
+}
+
+// Plays the script as it is, and shows its step `to`.
+async function play(to) {
+    script.show(edits.text);
+    settings.show(edits.lines);
+    at('undo').disabled = edits.done.length === 0 && !edits.lines.some(isCommand);
+    at('redo').disabled = edits.undone.length === 0;
+    asked += 1;
+    const text = edits.text;
+    const { same, steps, fault, err, took } = await engine.ask(text);
+    asked -= 1;
+    number = run.take({ text, same, steps, fault }, to);
+    document.body.dataset.took = took.toFixed(1);
+    if (asked === 0) script.tellFault(fault ? err : '');
+}
+
+// Does one more command behind the step that is shown: what stood behind it goes. Behind what isn't answered yet a command
+// stands last.
+function act(command) {
+    const { lines, more } = asked === 0 && shown && shown.number === number ? shown.cut : { lines: edits.lines.length, more: [] };
+    const kept = edits.lines.slice(0, lines);
+    while (kept.length && kept[kept.length - 1] === '') kept.pop();
+    edits.take([...kept, ...more, command, ''].join('\n'));
+    play();
+}
+function goBack(way) {
+    if (way === 'undo' ? edits.undo() : edits.redo()) play();
+}
+// Opens another script. It can be taken back as any edit.
+function open(text) {
+    edits.take(text);
+    tabsOf(PLAY);
+    play();
+}
+
+function told(it) {
+    shown = it;
+    document.body.dataset.run = it.number;
+    document.body.dataset.step = `${it.now} of ${it.count}`;
+    if (it.number !== number || asked) return;
+    script.mark(it.line);
+    moves.show(it);
+    at('answer').textContent = it.now ? it.answer.trim().slice(0, 300) : '';
+}
+
+// ---- the menu, and what goes in and out
+
+const KINDS = { scripts: open, litmus: text => { litmus.show(text); tabsOf('litmus'); },
+    programs: text => { programs.show(text); tabsOf('programs'); },
+    exercises: text => { exercises.show(text); tabsOf('exercises'); } };
+const NAMES = { scripts: 'runs', litmus: 'litmus tests', programs: 'programs', exercises: 'exercises' };
+
+function fillMenu() {
+    const menu = at('menu');
+    for (const [kind, texts] of Object.entries(DATA.texts)) {
+        const group = made('optgroup');
+        group.label = NAMES[kind];
+        for (const name of Object.keys(texts)) {
+            const option = made('option', '', name.replaceAll('_', ' '));
+            option.value = kind + '/' + name;
+            group.append(option);
+        }
+        menu.append(group);
+    }
+    menu.onchange = () => {
+        const [kind, name] = menu.value.split('/');
+        menu.value = '';
+        if (kind === 'empty') open(EMPTY);
+        else KINDS[kind](DATA.texts[kind][name]);
+    };
+}
+
+function save() {
+    const link = made('a');
+    link.href = URL.createObjectURL(new Blob([edits.text], { type: 'text/plain' }));
+    link.download = 'script.txt';
+    link.click();
+    setTimeout(() => URL.revokeObjectURL(link.href), 1000);
+}
+async function copy(text, what) {
+    try {
+        await navigator.clipboard.writeText(text);
+        say(what + ' is copied');
+    } catch {
+        // where a page may not: it stands to be copied by hand
+        prompt(what + ':', text);
+    }
+}
+async function openLink() {
+    try {
+        const text = await scriptOf(location.hash);
+        if (text !== null) open(text);
+        return text !== null;
+    } catch (wrong) {
+        say('the link has no script that can be read: ' + wrong.message);
+        return false;
+    }
+}
+
+function press(event) {
+    const { key, ctrlKey, metaKey, shiftKey, altKey, target } = event;
+    const writes = ['INPUT', 'SELECT', 'TEXTAREA'].includes(target.tagName);
+    if ((ctrlKey || metaKey) && ['z', 'Z', 'y'].includes(key) && (!writes || target.id === 'script')) {
+        event.preventDefault();
+        goBack(key === 'y' || shiftKey ? 'redo' : 'undo');
+    }
+    const by = { ArrowLeft: -1, ArrowRight: 1, PageUp: -1, PageDown: 1 }[key];
+    if (!by || writes || ctrlKey || metaKey || altKey) return;
+    event.preventDefault();
+    run.go(by);
+}
+
+// ---- how it begins
+
+let engine, module;
+const beginEngine = () => new Engine(module, DATA.worker);
+const run = new Run(at('run'), told, it => {
+    if (it.deliver) act(it.deliver);
+    if (it.history) goBack(it.history);
+});
+const script = new Script(text => {
+    edits.take(text);
+    play();
+});
+const moves = new Moves(act);
+const settings = new Settings((name, value) => {
+    edits.take(withSetting(edits.lines, name, value).join('\n'));
+    play();
+});
+let litmus, programs, exercises, tables;
+
+async function begin() {
+    module = await WebAssembly.compile(await unpacked(at('module').textContent.trim()));
+    engine = beginEngine();
+    litmus = new Litmus(beginEngine, open);
+    programs = new Programs(beginEngine, open);
+    exercises = new Exercises(engine, open);
+    tables = new Tables(engine);
+    fillMenu();
+    for (const it of document.querySelectorAll('[data-to]')) it.onclick = () => tabsOf(it.dataset.to);
+    at('undo').onclick = () => goBack('undo');
+    at('redo').onclick = () => goBack('redo');
+    at('save').onclick = save;
+    at('load').onclick = () => at('file').click();
+    at('file').onchange = async () => {
+        const [file] = at('file').files;
+        if (file) open(await file.text());
+        at('file').value = '';
+    };
+    at('copy').onclick = () => copy(edits.text, 'the script');
+    at('link').onclick = async () => {
+        const hash = await linkOf(edits.text);
+        history.replaceState(null, '', hash);
+        copy(location.href.split('#')[0] + hash, 'the link');
+    };
+    addEventListener('hashchange', openLink);
+    document.addEventListener('keydown', press);
+    litmus.show(DATA.texts.litmus.sb || '');
+    programs.show(DATA.texts.programs.ping_pong || '');
+    exercises.show(DATA.texts.exercises.first_miss || '');
+    at('about').textContent = DATA.about;
+    document.body.classList.remove('empty');
+    tabsOf(PLAY);
+    if (!await openLink()) play();
+}
+begin().catch(wrong => {
+    at('answer').textContent = 'This browser can\'t run it: ' + wrong.message;
+});

@@ -1,0 +1,97 @@
+// ---- what can be done at the step that is shown: accesses, deliveries, evictions, replies to hand out
+
+const ACCESSES = { load: [], store: ['value'], add: ['value'], cas: ['expected', 'value'] };
+const TAGS = 64;
+const ROWS = 8;
+
+class Moves {
+    constructor(act) {
+        this.act = act;
+        this.told = null;
+        at('core').onchange = () => this.showIssue();
+        for (const { id, command } of [{ id: 'next', command: 'pump 1' }, { id: 'all', command: 'pump 1000' }]) {
+            at(id).onclick = () => act(command);
+        }
+        at('word').oninput = () => this.showWord();
+        this.showWord();
+    }
+    show(told) {
+        this.told = told;
+        this.showIssue();
+        this.showDeliveries();
+        this.showCores();
+    }
+    showWord() {
+        const word = Number(at('word').value) || 0;
+        at('of').textContent = `of line ${Math.floor(word / 8)}`;
+    }
+
+    // Issues an access, under the first tag of the core that is free.
+    issue(core, name) {
+        const { busy } = this.told.cores[core];
+        const tag = Array.from({ length: TAGS }, (_, it) => it).find(it => !busy.includes(it));
+        if (tag === undefined) {
+            say(`core ${core} has a request under each of its ${TAGS} tags: hand out a reply first`);
+            return;
+        }
+        const number = id => at(id).value.trim() || '0';
+        this.act(['issue', core, tag, name, number('word'), ...ACCESSES[name].map(number)].join(' '));
+    }
+    // A row of buttons for each of few cores; of many, for the one that is chosen.
+    showIssue() {
+        const count = this.told.shape.cores;
+        const many = count > ROWS;
+        at('core').parentElement.hidden = !many;
+        if (at('core').options.length !== count) {
+            at('core').replaceChildren(...Array.from({ length: count }, (_, it) => made('option', '', String(it))));
+        }
+        const cores = many ? [Number(at('core').value)] : Array.from({ length: count }, (_, it) => it);
+        const rows = at('issue');
+        const key = cores.join();
+        if (rows.dataset.cores === key) return;
+        rows.dataset.cores = key;
+        rows.replaceChildren(...cores.map(core => made('div', 'row', made('span', 'who', 'core ' + core),
+            ...Object.keys(ACCESSES).map(name => {
+                const it = button('', name, () => this.issue(core, name));
+                it.dataset.issue = core + ' ' + name;
+                return it;
+            }))));
+    }
+
+    showDeliveries() {
+        const { moves } = this.told;
+        const rows = moves.map(it => {
+            const way = made('span', 'way', `${it.from} → ${it.to}, line ${it.line}`);
+            const why = it.moves ? [] : [made('span', 'why', it.why)];
+            const row = button('move ' + it.kind + (it.moves ? '' : ' blocked'), [made('b', '', it.name), ' ', way, ...why],
+                () => this.act(it.command));
+            row.title = it.command;
+            row.dataset.command = it.command;
+            return row;
+        });
+        at('deliver').replaceChildren(...(rows.length ? rows : [made('p', 'rest', 'No message is in flight.')]));
+        at('next').disabled = at('all').disabled = !moves.some(it => it.moves);
+    }
+
+    showCores() {
+        const evict = [];
+        const hand = [];
+        this.told.cores.forEach(({ copies, replies }, core) => {
+            for (const { line, state } of copies) evict.push(this.small(`evict ${core} ${line}`, `core ${core} line ${line} (${state})`));
+            const slices = new Set(replies.map(it => it.slice));
+            for (const slice of slices) {
+                const { tag, number } = replies.find(it => it.slice === slice);
+                hand.push(this.small(`hand ${core} ${slice}`, `core ${core} tag ${tag}, number ${number}`));
+            }
+        });
+        for (const [id, all] of [['evict', evict], ['hand', hand]]) {
+            at(id).parentElement.hidden = all.length === 0;
+            at(id).replaceChildren(...all.slice(0, 100));
+        }
+    }
+    small(command, text) {
+        const it = button('small', text, () => this.act(command));
+        it.dataset.command = it.title = command;
+        return it;
+    }
+}

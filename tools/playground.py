@@ -1,0 +1,101 @@
+"""Puts the page of the program together: lockup.html, of the files of browser/, the module and the texts of examples/.
+
+All is in the one file, and a policy in it lets nothing else in: its own scripts and styles, by their hashes, and no network.
+The run is shown by the page that the program itself writes, which the module is asked for here, through node."""
+import base64
+import gzip
+import hashlib
+import html
+import json
+import os
+import re
+import shutil
+import subprocess
+
+import kit
+
+PARTS = f"{kit.ROOT}/browser"
+CODE = ["parts", "engine", "edits", "link", "script", "run", "moves", "settings", "panels", "main"]
+TEXTS = {"scripts": "examples", "litmus": "examples/litmus", "programs": "examples/programs", "exercises": "examples/exercises"}
+# A page that is longer isn't sent by mail, nor opened at once.
+MOST = 1_500_000
+
+
+def missing():
+    """Returns the Debian packages that are needed and not installed."""
+    return [] if shutil.which("node") else ["nodejs"]
+
+
+def write(module, to):
+    """Writes the page around the module as the file `to`. Returns what was said where that fails, or None."""
+    frame, said = ask(module, ["page", "-"])
+    version, _ = ask(module, ["--version"])
+    if said or not frame or not version:
+        return f"the module doesn't run: {said}"
+    text = page_of(module, live(frame), version.strip())
+    if len(text) > MOST:
+        return f"the page has {len(text)} bytes, and may have {MOST}"
+    with open(f"{to}.new", "w", encoding="utf-8", newline="\n") as it:
+        it.write(text)
+    os.replace(f"{to}.new", to)
+    return None
+
+
+def ask(module, words):
+    """Runs the program, on an empty input. Returns its output and what it said."""
+    ran = subprocess.run(["node", f"{PARTS}/run.mjs", module, *words], stdin=subprocess.DEVNULL, capture_output=True, text=True)
+    return ran.stdout, ran.stderr if ran.returncode else ""
+
+
+def page_of(module, frame, version):
+    """Returns the page."""
+    with open(module, "rb") as it:
+        packed = base64.b64encode(gzip.compress(it.read(), 9, mtime=0)).decode()
+    data = {"frame": frame, "worker": without_exports(read("machine.mjs")) + read("worker.js"), "texts": texts(),
+            "about": f"{version}, the whole program in this page. It takes nothing from a network, and sends nothing."}
+    code = "'use strict';\n" + "\n".join(read(f"page/{name}.js") for name in CODE)
+    style = read("page.css")
+    parts = {"policy": html.escape(policy([code, *blocks(frame, "script")], [style, *blocks(frame, "style")])), "style": style,
+             "data": json.dumps(data, separators=(",", ":")).replace("<", "\\u003c"), "module": packed, "code": code}
+    return re.sub(r"\{\{(\w+)\}\}", lambda found: parts[found[1]], read("page.html"))
+
+
+def live(frame):
+    """Returns the page that the program writes with what makes it take other runs."""
+    style, code = read("frame/live.css"), read("frame/live.js")
+    return frame.replace("</head>", f"<style>{style}</style>\n</head>", 1).replace("</body>", f"<script>{code}</script>\n</body>", 1)
+
+
+def blocks(page, name):
+    """Returns the texts of a page's elements of this name, without those that are data."""
+    return re.findall(rf"<{name}>(.*?)</{name}>", page, re.S)
+
+
+def policy(codes, styles):
+    """Returns the policy: these scripts and styles alone, WebAssembly, workers made here, and no network at all."""
+    hashed = lambda it: f"'sha256-{base64.b64encode(hashlib.sha256(it.encode()).digest()).decode()}'"
+    return (f"default-src 'none'; script-src 'wasm-unsafe-eval' {' '.join(map(hashed, codes))}; "
+            f"style-src {' '.join(map(hashed, styles))}; worker-src blob:; img-src data:; base-uri 'none'; form-action 'none'")
+
+
+def without_exports(code):
+    return re.sub(r"^export ", "", code, flags=re.M)
+
+
+def texts():
+    """Returns the examples by kind and name. A trace is no script."""
+    found = {}
+    for kind, folder in TEXTS.items():
+        names = sorted(it for it in os.listdir(f"{kit.ROOT}/{folder}") if it.endswith(".txt"))
+        found[kind] = {}
+        for name in names:
+            with open(f"{kit.ROOT}/{folder}/{name}", encoding="utf-8") as it:
+                text = it.read()
+            if not re.search(r"^lockup-trace", text, re.M):
+                found[kind][name.removesuffix(".txt")] = text
+    return found
+
+
+def read(name):
+    with open(f"{PARTS}/{name}", encoding="utf-8") as it:
+        return it.read()

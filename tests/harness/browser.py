@@ -1,0 +1,72 @@
+"""The program as a browser has it: tools/browser builds its module and page once in a run of the tests, and node runs it."""
+import json
+import shutil
+import tempfile
+from pathlib import Path
+from typing import Iterator, NamedTuple, Sequence
+
+from .compare import Different, Skipped
+from .processes import ROOT, Ran, alone, needs, run
+
+TOOLS = ("opt-16", "llc-16", "clang-16", "wasm-ld-16", "wasm-opt", "node")
+PARTS = ("tools/wasm.py", "tools/native.py", "browser/shim.c", "crates.txt")
+
+
+class Call(NamedTuple):
+    """A call of the program: its arguments and its standard input."""
+
+    words: Sequence[str]
+    text: str = ""
+
+
+def folder() -> Path:
+    """Returns the folder of lockup.wasm and lockup.html, which are built there if they aren't yet: the module of the
+    unproved program, unless out/ has one that is newer than its sources."""
+    made = Path(tempfile.gettempdir()) / "browser"
+    with alone("browser"):
+        if not (made / "lockup.html").is_file():
+            build(made)
+    return made
+
+
+def build(made: Path) -> None:
+    needs(*TOOLS)
+    made.mkdir(exist_ok=True)
+    there = ROOT / "out/lockup.wasm"
+    if there.is_file() and there.stat().st_mtime > max(it.stat().st_mtime for it in sources()):
+        shutil.copyfile(there, made / "lockup.wasm")
+    # one that another test began and could not build isn't begun again
+    how = "--page" if (made / "lockup.wasm").is_file() else "--unproved"
+    if how == "--unproved":
+        needs("rt")
+        if (made / "began").exists():
+            raise Skipped("tools/browser failed")
+        (made / "began").touch()
+    ran = run(["nice", ROOT / "tools/browser", how, "--to", made], timeout=None)
+    if ran.status:
+        raise Different(f"tools/browser fails:\n{ran.err}")
+
+
+def sources() -> Iterator[Path]:
+    """Returns what the module is made of."""
+    yield from (ROOT / it for it in PARTS)
+    for crate in (ROOT / "crates").iterdir():
+        yield from (crate / "src").rglob("*.rt")
+
+
+def asked(calls: Sequence[Call]) -> list[Ran]:
+    """Returns what comes of calls that one process of node runs one after another."""
+    listed = [{"words": [latin(it) for it in call.words], "input": latin(call.text)} for call in calls]
+    ran = run(["node", ROOT / "tests/harness/asked.mjs", folder() / "lockup.wasm"], json.dumps(listed))
+    if ran.status:
+        raise Different(f"node ends with {ran.status}:\n{ran.err[-2000:]}")
+    return [Ran(it["status"], text(it["out"]), text(it["err"])) for it in json.loads(ran.out)]
+
+
+def latin(it: str) -> str:
+    """Returns a text with a character for each of its bytes."""
+    return str(it).encode("utf-8", "surrogateescape").decode("latin1")
+
+
+def text(it: str) -> str:
+    return it.encode("latin1").decode("utf-8", "surrogateescape")

@@ -1,0 +1,147 @@
+"""Drives chromium without a window, by the pipe of its protocol for developers: opens a file, presses keys and the mouse, and
+evaluates expressions in the page."""
+import base64
+import json
+import os
+import select
+import shutil
+import subprocess
+import tempfile
+import time
+from typing import Any
+
+from .compare import Different
+from .processes import needs
+
+FLAGS = "--headless --no-sandbox --disable-gpu --disable-dev-shm-usage --no-first-run --remote-debugging-pipe".split()
+LONGEST = 60.0
+KEYS = {"ArrowLeft": 37, "ArrowRight": 39, "Home": 36, "End": 35}
+
+
+class Chromium:
+    """A browser with one page, to be used in a `with`."""
+
+    def __init__(self, width: int = 1400, height: int = 900) -> None:
+        needs("chromium")
+        self.size = f"--window-size={width},{height}"
+        self.width, self.height, self.count, self.session, self.rest = width, height, 0, None, b""
+        self.events: list[dict[str, Any]] = []
+
+    def __enter__(self) -> "Chromium":
+        self.room = tempfile.TemporaryDirectory(ignore_cleanup_errors=True)
+        asked, self.write = os.pipe()
+        self.read, told = os.pipe()
+        words = [shutil.which("chromium"), *FLAGS, self.size, f"--user-data-dir={self.room.name}", "about:blank"]
+        # the protocol is read at 3 and written at 4
+        shell = ["bash", "-c", f'exec "$@" 3<&{asked} 4>&{told}', "bash", *words]
+        self.process = subprocess.Popen(shell, pass_fds=(asked, told), stdin=subprocess.DEVNULL, stdout=subprocess.DEVNULL,
+                                        stderr=subprocess.DEVNULL)
+        os.close(asked)
+        os.close(told)
+        target = next(it for it in self.call("Target.getTargets")["targetInfos"] if it["type"] == "page")
+        self.session = self.call("Target.attachToTarget", targetId=target["targetId"], flatten=True)["sessionId"]
+        for it in ("Page", "Runtime", "Log"):
+            self.call(f"{it}.enable")
+        self.call("Emulation.setDeviceMetricsOverride", width=self.width, height=self.height, deviceScaleFactor=1, mobile=False)
+        return self
+
+    def __exit__(self, *_) -> None:
+        self.process.kill()
+        self.process.wait()
+        os.close(self.write)
+        os.close(self.read)
+        self.room.cleanup()
+
+    def call(self, method: str, **parameters: Any) -> dict[str, Any]:
+        """Calls a method of the protocol, and returns its result."""
+        self.count += 1
+        message = {"id": self.count, "method": method, "params": parameters}
+        if self.session:
+            message["sessionId"] = self.session
+        raw = json.dumps(message).encode() + b"\0"
+        while raw:
+            raw = raw[os.write(self.write, raw):]
+        until = time.monotonic() + LONGEST
+        while True:
+            told = self.next(until)
+            if told.get("id") == self.count:
+                if "error" in told:
+                    raise Different(f"{method}: {told['error']['message']}")
+                return told["result"]
+            self.events.append(told)
+
+    def next(self, until: float) -> dict[str, Any]:
+        while b"\0" not in self.rest:
+            ready, _, _ = select.select([self.read], [], [], max(0.0, until - time.monotonic()))
+            more = os.read(self.read, 1 << 20) if ready else b""
+            if not more:
+                raise Different("chromium doesn't answer")
+            self.rest += more
+        one, _, self.rest = self.rest.partition(b"\0")
+        return json.loads(one)
+
+    def open(self, url: str) -> None:
+        self.call("Page.navigate", url=url)
+
+    def get(self, expression: str) -> Any:
+        """Evaluates an expression in the page, and waits where it is a promise."""
+        told = self.call("Runtime.evaluate", expression=expression, returnByValue=True, awaitPromise=True)
+        if "exceptionDetails" in told:
+            raise Different(f"{expression}: {told['exceptionDetails'].get('exception', {}).get('description')}")
+        return told["result"].get("value")
+
+    def wait(self, expression: str, longest: float = 20.0) -> Any:
+        """Waits until an expression is true, and returns it."""
+        until = time.monotonic() + longest
+        while True:
+            value = self.get(expression)
+            if value:
+                return value
+            if time.monotonic() > until:
+                raise Different(f"never: {expression}")
+            time.sleep(0.02)
+
+    def click(self, selector: str) -> None:
+        """Clicks the middle of an element with the mouse."""
+        where = f"document.querySelector({json.dumps(selector)})"
+        if not self.get(f"!!{where}"):
+            raise Different(f"there is no {selector}")
+        x, y, is_there = self.get(f"""(() => {{
+            const it = {where};
+            it.scrollIntoView({{ block: 'nearest' }});
+            const {{ left, top, width, height }} = it.getBoundingClientRect();
+            const [x, y] = [left + width / 2, top + height / 2];
+            const met = document.elementFromPoint(x, y);
+            return [x, y, !!met && (it === met || it.contains(met) || met.contains(it))];
+        }})()""")
+        if not is_there:
+            raise Different(f"{selector} is behind something else at {x}, {y}")
+        self.press_at(x, y)
+
+    def press_at(self, x: float, y: float) -> None:
+        for kind in ("mousePressed", "mouseReleased"):
+            self.call("Input.dispatchMouseEvent", type=kind, x=x, y=y, button="left", clickCount=1)
+
+    def key(self, name: str, modifiers: int = 0) -> None:
+        """Presses a key: modifiers are 2 for Ctrl and 8 for Shift."""
+        code = KEYS.get(name, ord(name.upper()[0]))
+        for kind in ("rawKeyDown", "keyUp"):
+            self.call("Input.dispatchKeyEvent", type=kind, key=name, windowsVirtualKeyCode=code, modifiers=modifiers)
+
+    def type(self, text: str) -> None:
+        self.call("Input.insertText", text=text)
+
+    def picture(self, file: str) -> None:
+        with open(file, "wb") as it:
+            it.write(base64.b64decode(self.call("Page.captureScreenshot", format="png")["data"]))
+
+    def errors(self) -> list[str]:
+        """Returns what the page's console told as an error."""
+        found = []
+        for it in self.events:
+            if it.get("method") == "Runtime.exceptionThrown":
+                details = it["params"]["exceptionDetails"]
+                found.append(details.get("exception", {}).get("description") or details["text"])
+            if it.get("method") == "Log.entryAdded" and it["params"]["entry"]["level"] == "error":
+                found.append(it["params"]["entry"]["text"])
+        return found

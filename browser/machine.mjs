@@ -82,6 +82,10 @@ export class Machine {
         reset();
     }
 
+    // How many bytes its memory has.
+    size() {
+        return this.instance ? this.instance.exports.memory.buffer.byteLength : 0;
+    }
     bytes(at, count) {
         return new Uint8Array(this.instance.exports.memory.buffer, Number(at), Number(count));
     }

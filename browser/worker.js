@@ -3,34 +3,56 @@
 
 const encoder = new TextEncoder();
 let machine = null;
-// the lines of the last run's steps, as the page has them
-let known = [];
+// the value of the last run's page, as its steps are known to the page around it
+let known = new Uint8Array();
 
-function textOf(pieces) {
-    const decoder = new TextDecoder();
-    return pieces.map(it => decoder.decode(it, { stream: true })).join('') + decoder.decode();
+function joined(pieces) {
+    const all = new Uint8Array(pieces.reduce((size, it) => size + it.length, 0));
+    let at = 0;
+    for (const it of pieces) {
+        all.set(it, at);
+        at += it.length;
+    }
+    return all;
 }
+const textOf = pieces => new TextDecoder().decode(joined(pieces));
 
 // Runs the program on a text as its standard input.
 function ran(words, text) {
-    const { status, out, err } = machine.run(['lockup', ...words].map(it => encoder.encode(it)), encoder.encode(text));
-    return { status, out: textOf(out), err: textOf(err) };
+    return machine.run(['lockup', ...words].map(it => encoder.encode(it)), encoder.encode(text));
+}
+
+// Where some letters stand in bytes behind a place.
+function placeOf(letters, bytes, from) {
+    const wanted = encoder.encode(letters);
+    for (let at = bytes.indexOf(wanted[0], from); at >= 0; at = bytes.indexOf(wanted[0], at + 1)) {
+        if (wanted.every((it, place) => bytes[at + place] === it)) return at;
+    }
+    return bytes.length;
 }
 
 // Plays a script. Of its steps those are given that aren't as in the run before: behind the first `same`. The program writes a
 // page, whose value has a line for each step between its first line and its last.
 function played(text) {
     const { status, out, err } = ran(['page', '-'], text);
-    const begins = out.indexOf('\n', out.indexOf('<script type="application/json" id="run">')) + 1;
-    const lines = out.slice(begins, out.indexOf('\n</script>', begins)).split('\n');
-    const last = lines.pop();
-    lines.shift();
-    let same = 0;
-    while (same < lines.length && lines[same] === known[same]) same += 1;
-    known = lines;
-    const { fault } = JSON.parse('{"rest":[' + last);
-    return { status, err, fault, same, steps: lines.slice(same).map(it => it.slice(0, -1)) };
+    const page = joined(out);
+    const begins = placeOf('\n{"script"', page, 0) + 1;
+    const first = page.indexOf(10, begins) + 1;
+    const value = page.subarray(first, placeOf('\n</script>', page, first));
+    let [same, line] = [0, 0];
+    const most = Math.min(value.length, known.length);
+    for (let at = 0; at < most && value[at] === known[at]; at++) {
+        if (value[at] !== 10) continue;
+        same += 1;
+        line = at + 1;
+    }
+    const steps = new TextDecoder().decode(value.subarray(line)).split('\n');
+    const { fault } = JSON.parse('{"rest":[' + steps.pop());
+    known = value;
+    return { status, err: textOf(err), fault, same, steps: steps.map(it => it.slice(0, -1)) };
 }
+
+const told = ({ status, out, err }) => ({ status, out: textOf(out), err: textOf(err) });
 
 onmessage = ({ data: { id, module, words, text } }) => {
     if (module) {
@@ -40,10 +62,10 @@ onmessage = ({ data: { id, module, words, text } }) => {
     const began = performance.now();
     let answer;
     try {
-        answer = words ? ran(words, text) : played(text);
+        answer = words ? told(ran(words, text)) : played(text);
     } catch (stopped) {
-        known = [];
+        known = new Uint8Array();
         answer = { status: -1, out: '', err: 'lockup: ' + stopped.message + '\n', fault: stopped.message, same: 0, steps: [] };
     }
-    postMessage({ id, ...answer, took: performance.now() - began });
+    postMessage({ id, ...answer, took: performance.now() - began, memory: machine.size() });
 };

@@ -18,22 +18,44 @@ function takeSettings(text, isPlain) {
         if (name in PLAIN.shape && /^\d+$/.test(value)) shape[name] = Number(value);
         if (name in PLAIN.chosen && value) chosen[name] = value;
     }
-    slices.length = setsOf.length = 0;
-    for (let slice = 0; slice < shape.slices; slice++) slices.push(slice);
-    for (let core = 0; core < shape.cores; core++) setsOf.push(new Set());
+    slices.length = shape.slices;
+    for (let slice = 0; slice < shape.slices; slice++) slices[slice] = slice;
+    setsOf.length = Math.min(setsOf.length, shape.cores);
+    while (setsOf.length < shape.cores) setsOf.push(new Set());
 }
 
-function takeSteps(same, given) {
+// The page's code reads all steps; behind a run that goes on it reads those that are new.
+let read = 0;
+steps.forEach = call => {
+    for (let step = read; step < steps.length; step++) call(steps[step], step);
+};
+function takeSteps(isMore, same, given) {
+    read = isMore ? steps.length : 0;
     steps.length = Math.min(steps.length, same);
     for (const it of given) steps.push(JSON.parse(it));
-    rows.length = messages.length = ascending.length = captions.length = 0;
-    for (const it of [lines, copies, parts, sets, nexts]) it.all.clear();
-    for (const it of [channels, waits, histories]) it.clear();
+    if (!isMore) {
+        rows.length = messages.length = 0;
+        for (const it of [lines, copies, parts, sets, nexts]) it.all.clear();
+        for (const it of [channels, waits, ...setsOf]) it.clear();
+    }
+    histories.clear();
     readSteps();
     readRows();
+    ascending.length = 0;
     for (const line of [...lines.all.keys()].sort((a, b) => a - b)) ascending.push(line);
-    at('script').querySelector('.script').replaceChildren();
-    readScript();
+}
+
+// the comments before each command
+function takeCaptions() {
+    captions.length = 0;
+    let [said, step] = [[], 0];
+    script.forEach((text, before) => {
+        if (text.startsWith('#')) said.push(text.slice(1).trim());
+        while (step < steps.length && steps[step].at <= before) step += 1;
+        if (step === steps.length || steps[step].at > before + 1) return;
+        captions[step + 1] = said.join(' ');
+        said = [];
+    });
 }
 
 function take({ number, text, fault, same, steps: given, to }) {
@@ -42,9 +64,11 @@ function take({ number, text, fault, same, steps: given, to }) {
     taken = number;
     run.script = text;
     run.fault = fault;
+    const settings = JSON.stringify([shape, chosen]);
     // settings that can't be are the script's, and no machine's
     takeSettings(text, fault && same + given.length === 0);
-    takeSteps(same, given);
+    takeSteps(same === steps.length && settings === JSON.stringify([shape, chosen]), same, given);
+    takeCaptions();
     at('follow').replaceChildren(...(ascending.length ? ascending : [0]).map(it => made('option', '', it)));
     at('title').textContent = titleOf();
     at('count').textContent = steps.length;

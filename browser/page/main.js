@@ -26,10 +26,10 @@ async function play(to) {
     at('redo').disabled = edits.undone.length === 0;
     asked += 1;
     const text = edits.text;
-    const { same, steps, fault, err, took } = await engine.ask(text);
+    const { same, steps, fault, err, took, memory } = await engine.ask(text);
     asked -= 1;
     number = run.take({ text, same, steps, fault }, to);
-    document.body.dataset.took = took.toFixed(1);
+    Object.assign(document.body.dataset, { took: took.toFixed(1), memory });
     if (asked === 0) script.tellFault(fault ? err : '');
 }
 

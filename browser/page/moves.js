@@ -3,6 +3,16 @@
 const ACCESSES = { load: [], store: ['value'], add: ['value'], cas: ['expected', 'value'] };
 const TAGS = 64;
 const ROWS = 8;
+// The copies that can be evicted: all others wait for a message.
+const EVICTED = ['S', 'M', 'E'];
+
+// Puts these parts in place of those that are there; what has the focus hands it to the one in its place.
+function put(into, parts) {
+    const held = [...into.children].indexOf(document.activeElement);
+    into.replaceChildren(...parts);
+    const next = parts[Math.min(held, parts.length - 1)];
+    if (held >= 0 && next instanceof HTMLButtonElement) next.focus();
+}
 
 class Moves {
     constructor(act) {
@@ -69,7 +79,7 @@ class Moves {
             row.dataset.command = it.command;
             return row;
         });
-        at('deliver').replaceChildren(...(rows.length ? rows : [made('p', 'rest', 'No message is in flight.')]));
+        put(at('deliver'), rows.length ? rows : [made('p', 'rest', 'No message is in flight.')]);
         at('next').disabled = at('all').disabled = !moves.some(it => it.moves);
     }
 
@@ -77,7 +87,9 @@ class Moves {
         const evict = [];
         const hand = [];
         this.told.cores.forEach(({ copies, replies }, core) => {
-            for (const { line, state } of copies) evict.push(this.small(`evict ${core} ${line}`, `core ${core} line ${line} (${state})`));
+            for (const { line, state } of copies.filter(it => EVICTED.includes(it.state))) {
+                evict.push(this.small(`evict ${core} ${line}`, `core ${core} line ${line} (${state})`));
+            }
             const slices = new Set(replies.map(it => it.slice));
             for (const slice of slices) {
                 const { tag, number } = replies.find(it => it.slice === slice);
@@ -86,7 +98,7 @@ class Moves {
         });
         for (const [id, all] of [['evict', evict], ['hand', hand]]) {
             at(id).parentElement.hidden = all.length === 0;
-            at(id).replaceChildren(...all.slice(0, 100));
+            put(at(id), all.slice(0, 100));
         }
     }
     small(command, text) {

@@ -90,6 +90,37 @@ class Chromium:
             raise Different(f"{expression}: {told['exceptionDetails'].get('exception', {}).get('description')}")
         return told["result"].get("value")
 
+    def collect(self) -> float:
+        """Collects garbage, and returns how many bytes the page uses then."""
+        self.call("HeapProfiler.collectGarbage")
+        return self.call("Runtime.getHeapUsage")["usedSize"]
+
+    def get_in_frame(self, expression: str) -> Any:
+        """Evaluates an expression in the page's frame, which may be a process of its own."""
+        found = [it for it in self.call("Target.getTargets")["targetInfos"] if it["type"] == "iframe"]
+        if not found:
+            return self.in_context(expression)
+        page = self.session
+        try:
+            self.session = self.call("Target.attachToTarget", targetId=found[0]["targetId"], flatten=True)["sessionId"]
+            return self.get(expression)
+        finally:
+            self.session = page
+
+    def in_context(self, expression: str) -> Any:
+        contexts = [it["params"]["context"] for it in self.events if it.get("method") == "Runtime.executionContextCreated"]
+        main = self.call("Page.getFrameTree")["frameTree"]["frame"]["id"]
+        inner = [it["id"] for it in contexts if it["auxData"]["frameId"] != main and it["auxData"]["isDefault"]]
+        told = self.call("Runtime.evaluate", expression=expression, returnByValue=True, contextId=inner[-1])
+        return told["result"].get("value")
+
+    def click_in_frame(self, selector: str) -> None:
+        """Clicks the middle of an element of the page's frame."""
+        left, top = self.get("(({ left, top }) => [left, top])(document.querySelector('iframe').getBoundingClientRect())")
+        x, y = self.get_in_frame(f"""(({{ left, top, width, height }}) => [left + width / 2, top + height / 2])(
+            document.querySelector({json.dumps(selector)}).getBoundingClientRect())""")
+        self.press_at(left + x, top + y)
+
     def wait(self, expression: str, longest: float = 20.0) -> Any:
         """Waits until an expression is true, and returns it."""
         until = time.monotonic() + longest

@@ -14,13 +14,16 @@ UNIT_TEST = re.compile(r"^#\[test\]\nfn (\w+)", re.M)
 
 
 def tester(name: str, kind: str = "unproved") -> Path:
-    """Returns the tester of this name, which is built where sources are newer; `checked` and `races` are other kinds, as
-    tools/unproved makes them."""
+    """Returns the tester of this name and kind, as tools/unproved makes it. It is built where sources are newer, a program in
+    all kinds at once."""
     needs("rt")
-    program = FOLDER / name / "out" / kind / name
-    with alone(f"{name}-{kind}"):
-        if not program.is_file() or program.stat().st_mtime < newest(FOLDER / name):
-            ran = run([ROOT / "tools/unproved", f"--{kind}", name], timeout=None)
+    folder, kinds = FOLDER / name, ["unproved"]
+    if (folder / "main.rattle").is_file():
+        kinds += ["checked", *["races"] * bool(shutil.which("cc"))]
+    program = folder / "out" / kind / name
+    with alone(name):
+        if not program.is_file() or program.stat().st_mtime < newest(folder):
+            ran = run([ROOT / "tools/unproved", *(f"--{it}" for it in kinds), name], timeout=None)
             if ran.status:
                 raise Different(f"{name} isn't built:\n{ran.err}")
     return program

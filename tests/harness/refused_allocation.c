@@ -1,6 +1,6 @@
-/* Preloaded into a program by memory, lock_memory, machine_memory and allocations: refuses one allocation, the one that
-   REFUSED counts to, from 1, whichever thread makes it. With REFUSED=0 it refuses none. It writes to the file TOLD that it
-   refused one, and at the end how many there were; a program that starts threads may end without that. */
+/* Preloaded into a program by memory, refused_parts, lock_memory, machine_memory and allocations: refuses one allocation,
+   the one that REFUSED counts to, from 1, whichever thread makes it. With REFUSED=0 it refuses none. It writes to the file
+   TOLD that it refused one, and at the end how many there were; a program that starts threads may end without that. */
 #define _GNU_SOURCE
 #include <dlfcn.h>
 #include <errno.h>

@@ -1,5 +1,4 @@
 """Builds the testers: programs and unit tests over the product's crates that no proof is wanted of."""
-import os
 import re
 import shutil
 from pathlib import Path
@@ -51,9 +50,3 @@ def unit_tests() -> Iterator[str]:
 def expected(name: str) -> str:
     """Returns what a tester prints where all is well."""
     return (FOLDER / name / "stdout").read_text(encoding="utf-8")
-
-
-def runner() -> Path:
-    """Returns the toolchain's program that runs unit tests."""
-    needs("rt")
-    return Path(os.path.realpath(str(shutil.which("rt")))).parent / "rattle-test"

@@ -2,7 +2,7 @@
 output stands beside each, optimised, with AddressSanitizer's checks, and with ThreadSanitizer's, which looks for races; and
 the unit tests."""
 from harness import each, needs, run, same, seconds, want
-from harness.testers import expected, runner, tester, unit_tests
+from harness.testers import expected, tester, unit_tests
 
 # they are built and run while the gate proves
 NEEDS_PROGRAM = False
@@ -33,5 +33,5 @@ def test_has_no_race(name: str) -> None:
 
 @each(unit_tests)
 def test_unit(name: str) -> None:
-    ran = run([runner(), "--seconds", "60", "--filter", name, tester("unit_tests")])
+    ran = run([tester("unit_tests"), name])
     want(ran.status == 0, ran.out + ran.err)

@@ -2,7 +2,7 @@
 then once with each of the allocations refused in turn. A request for which memory is refused, be it
 for one of the port's lists or for the log, changes nothing, and when it is made again it is
 accepted: lock_tester says so, and how many there were. Or the slice can't be built, and then the
-program ends with status 1 and prints nothing."""
+program ends with status 1 and prints nothing but why, on standard error."""
 from collections import Counter
 
 from harness import Different, Ran, each_refused, same, seconds, tester, want

@@ -17,3 +17,10 @@ text_of_outcomes forms.Json test seed rows rounds = json_of test seed rows (coun
 abbrev pub text_of_stuck : OutcomeForm → ℕ → List ℕ
 text_of_stuck forms.Table round = codes "stuck round " ++ decimal round ++ codes "\n"
 text_of_stuck forms.Json round = codes "{\"stuck_round\":" ++ decimal round ++ codes "}\n"
+
+-- a round was given up after so many moves
+abbrev pub text_of_gave_up : OutcomeForm → (round moves : ℕ) → List ℕ
+text_of_gave_up forms.Table round moves =
+    codes "gave up round " ++ (decimal round ++ (codes " after " ++ (decimal moves ++ codes " moves\n")))
+text_of_gave_up forms.Json round moves =
+    codes "{\"gave_up_round\":" ++ (decimal round ++ (codes ",\"moves\":" ++ (decimal moves ++ codes "}\n")))

@@ -1,7 +1,7 @@
 ghost use Rattle.std.specs.Prelude.{ℕ, List, OnOk};
 ghost use Rattle.std.specs.Fmt.{WritesInCalls};
 ghost use Rattle.litmus_outcomes.specs.Table.{IsTableOf};
-ghost use Rattle.outcomes_json.specs.Form.{text_of_outcomes, text_of_stuck};
+ghost use Rattle.outcomes_json.specs.Form.{text_of_gave_up, text_of_outcomes, text_of_stuck};
 
 use super::json::write_json;
 use litmus_outcomes::{Outcomes, write_table};
@@ -41,5 +41,20 @@ pub fn write_stuck<W: Write>(round: u64, form: OutcomeForm, out: &mut W) -> fmt:
     match form {
         OutcomeForm::Table => writeln!(out, "stuck round {round}"),
         OutcomeForm::Json => writeln!(out, "{{\"stuck_round\":{round}}}"),
+    }
+}
+
+/// Writes which round was given up, and after how many moves.
+pub fn write_gave_up<W: Write>(
+    round: u64,
+    moves: u64,
+    form: OutcomeForm,
+    out: &mut W,
+) -> fmt::Result
+    ensures { OnOk result (WritesInCalls W.write_str_gives out.old (text_of_gave_up form round moves) out.new) }
+{
+    match form {
+        OutcomeForm::Table => writeln!(out, "gave up round {round} after {moves} moves"),
+        OutcomeForm::Json => writeln!(out, "{{\"gave_up_round\":{round},\"moves\":{moves}}}"),
     }
 }

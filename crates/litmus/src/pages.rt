@@ -1,5 +1,5 @@
 //! Pages of schedules: a schedule is printed as a script, and that is written as a page.
-ghost use Rattle.std.specs.Prelude.{◌≡◌, ◌⊎◌, ℕ, IfErr, IfOk};
+ghost use Rattle.std.specs.Prelude.{◌≡◌, ◌⊎◌, ◌-◌, ◌^◌, ℕ, IfErr, IfOk, unwrap_or};
 ghost use Rattle.litmus.specs.Pages.{HasPage, HasPageFault, IsPageCut, IsPageOfPrinted};
 ghost use Rattle.litmus.specs.Tests.{IsOfTest, IsTestNotRun};
 ghost use Rattle.litmus_script.specs.Machine.{bound_of};
@@ -16,23 +16,24 @@ use std::alloc::Global;
 use std::io::Write;
 
 /// Writes the page of the script that [`write_walk`] prints, behind the lines of `head`. Returns the exit status, which
-/// is 1 where the round is stuck.
+/// is 1 where the round is stuck or was given up.
 pub fn page_walk<W: Write>(
     alloc: Global,
     head: Vec<u8>,
     input: &[u8],
     seed: u64,
+    limit: Option<u64>,
     out: &mut W,
 ) -> Result<u8, TextFault>
     ensures done { IfOk result (λ status. IsOfTest input.now (λ test. IsPageOfPrinted head.items
-        (PrintsWalk test (bound_of test.misses test.config) seed status)
+        (PrintsWalk test (bound_of test.misses test.config) seed (unwrap_or limit (2 ^ 64 - 1)) status)
         (W.contents out.old) (W.contents out.new))) }
     ensures fault { IfErr result (λ fault. IsTestNotRun input.now fault
         ⊎ ((status : ℕ) × IsOfTest input.now (λ test. IsPageCut head.items
-        (PrintsWalk test (bound_of test.misses test.config) seed status) fault))) }
+        (PrintsWalk test (bound_of test.misses test.config) seed (unwrap_or limit (2 ^ 64 - 1)) status) fault))) }
 {
     let mut script = head;
-    match write_walk(alloc, input, seed, &mut script) {
+    match write_walk(alloc, input, seed, limit, &mut script) {
         Ok(status) => page_of(alloc, script.as_slice(), status, out),
         // writing to memory fails for want of it
         Err(TextFault::CannotWrite) => Err(TextFault::NoMemory),

@@ -1,6 +1,6 @@
-ghost use Rattle.std.specs.Prelude.{◌⊎◌, IfErr, IfOk, Option, unwrap_or};
+ghost use Rattle.std.specs.Prelude.{◌-◌, ◌^◌, IfErr, IfOk, Option, unwrap_or};
 ghost use Rattle.litmus.specs.Tests.{IsTestNotRun, IsOfTest};
-ghost use Rattle.litmus_rounds.specs.Run.{PrintsRounds, PrintsStuck};
+ghost use Rattle.litmus_rounds.specs.Run.{PrintsWalks};
 ghost use Rattle.litmus_threads.specs.Run.{IsEndOf};
 ghost use Rattle.litmus_walk.specs.Script.{PrintsWalk};
 ghost use Rattle.litmus_script.specs.Machine.{bound_of};
@@ -58,44 +58,48 @@ pub fn run_litmus_as<R: Threads + Wait + Sync, W: Write, P: Progress>(
 }
 
 /// Runs a litmus test on random schedules, so many rounds or as many as it says, and prints their outcomes with the
-/// seed of the first round that had each outcome, or which round was stuck. Returns the exit status.
+/// seed of the first round that had each outcome, or which round was stuck, or was given up after `limit` moves. Without
+/// a limit that takes 2^64 - 1 of them. Returns the exit status.
 pub fn run_walk<W: Write, P: Progress>(
     alloc: Global,
     input: &[u8],
     rounds: Option<u64>,
     seed: u64,
+    limit: Option<u64>,
     form: OutcomeForm,
     progress: &mut P,
     out: &mut W,
 ) -> Result<u8, TextFault>
     ensures done { IfOk result (λ status. IsOfTest input.now (λ test.
-        PrintsRounds test (bound_of test.misses test.config) form (unwrap_or rounds test.rounds) seed status
-        (W.contents out.old) (W.contents out.new)
-        ⊎ PrintsStuck test (bound_of test.misses test.config) form (unwrap_or rounds test.rounds) seed status
-        (W.contents out.old) (W.contents out.new))) }
+        PrintsWalks test (bound_of test.misses test.config) form (unwrap_or rounds test.rounds) seed
+        (unwrap_or limit (2 ^ 64 - 1)) status (W.contents out.old) (W.contents out.new))) }
     ensures fault { IfErr result (IsTestNotRun input.now) }
 {
     let test = LitmusTest::read(alloc, input)?;
     let rounds = rounds.unwrap_or(test.rounds);
-    let ended = litmus_rounds::run_walk(alloc, &test, rounds, seed, form, progress, out);
+    let most = limit.unwrap_or(u64::MAX);
+    let ended = litmus_rounds::run_walk(alloc, &test, rounds, seed, most, form, progress, out);
     drop(test);
     ended
 }
 
-/// Prints the round of this seed as a script. Returns the exit status, which is 1 where the round is stuck.
+/// Prints the round of this seed as a script, as far as `limit` moves, if a limit is given. Returns the exit status, which
+/// is 1 where the round is stuck or was given up.
 pub fn write_walk<W: Write>(
     alloc: Global,
     input: &[u8],
     seed: u64,
+    limit: Option<u64>,
     out: &mut W,
 ) -> Result<u8, TextFault>
     ensures done { IfOk result (λ status. IsOfTest input.now (λ test.
-        PrintsWalk test (bound_of test.misses test.config) seed status
+        PrintsWalk test (bound_of test.misses test.config) seed (unwrap_or limit (2 ^ 64 - 1)) status
         (W.contents out.old) (W.contents out.new))) }
     ensures fault { IfErr result (IsTestNotRun input.now) }
 {
     let test = LitmusTest::read(alloc, input)?;
-    let ended = litmus_walk::write_walk(alloc, &test, seed, out);
+    let most = limit.unwrap_or(u64::MAX);
+    let ended = litmus_walk::write_walk(alloc, &test, seed, most, out);
     drop(test);
     ended
 }

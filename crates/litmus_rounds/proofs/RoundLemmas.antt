@@ -13,20 +13,20 @@ use Rattle.litmus_walk.proofs.DoneLemmas.{found, item-at}
 use Rattle.mshr_file.specs.Miss.{Bound}
 
 -- no round
-pub no_rounds : (test : LitmusTest) (bound : Bound) (seed : ℕ) (table : TableView) → IsTableOf [] table
-    → AreRounds test bound seed 0 table
-no_rounds test bound seed table none = record {
+pub no_rounds : (test : LitmusTest) (bound : Bound) (seed most : ℕ) (table : TableView) → IsTableOf [] table
+    → AreRounds test bound seed most 0 table
+no_rounds test bound seed most table none = record {
   rounds = [];
   table_of = none;
   counted = refl;
   each = λ round values is. let (below, same) = found [] round values is in absurd (omega (arith, below));
 }
 
-pub rounds_push : (test : LitmusTest) (bound : Bound) (seed count : ℕ) (old new : TableView) (outcome : List ℕ)
-    → AreRounds test bound seed count old → IsRound test bound (seed_of seed count) outcome
+pub rounds_push : (test : LitmusTest) (bound : Bound) (seed most count : ℕ) (old new : TableView) (outcome : List ℕ)
+    → AreRounds test bound seed most count old → IsRound test bound (seed_of seed count) most outcome
     → ((rounds : List (List ℕ)) → IsTableOf rounds old → IsTableOf (rounds ++ outcome ∷ []) new)
-    → AreRounds test bound seed (count + 1) new
-rounds_push test bound seed count old new outcome are one grows = record {
+    → AreRounds test bound seed most (count + 1) new
+rounds_push test bound seed most count old new outcome are one grows = record {
   rounds = are.rounds ++ outcome ∷ [];
   table_of = grows are.rounds are.table_of;
   counted = length-append are.rounds (outcome ∷ []) ∙ ap (λ n. n + 1) are.counted;
@@ -42,8 +42,8 @@ rounds_push test bound seed count old new outcome are one grows = record {
             let its : outcome ≡ values =
             sym (get_or-append_seam are.rounds outcome [] values)
             ∙ ap (λ k. get_or (are.rounds ++ outcome ∷ []) k values) (sym at) ∙ same in
-            subst (λ k. IsRound test bound (seed_of seed k) values) (sym (at ∙ are.counted))
-            (subst (IsRound test bound (seed_of seed count)) its one)
+            subst (λ k. IsRound test bound (seed_of seed k) most values) (sym (at ∙ are.counted))
+            (subst (IsRound test bound (seed_of seed count) most) its one)
       ];
 }
 

@@ -1,5 +1,5 @@
 -- How a walk goes on, move by move.
-use Rattle.std.proofs.Common.{◌≡◌, ◌⊎◌, ℕ, ◌+◌, List, [], ◌∷◌, length, Some, arith, inl, inr, refl}
+use Rattle.std.proofs.Common.{◌≡◌, ◌⊎◌, ℕ, ◌+◌, ◌≤◌, List, [], ◌∷◌, length, Some, arith, inl, inr, refl}
 use Rattle.std.proofs.Common.{subst, ◌∙◌}
 use Rattle.address_map.specs.declared.address.LineAddr.{LineAddr}
 use Rattle.litmus_test.specs.declared.test.Thread.{Thread}
@@ -33,17 +33,20 @@ made_more threads lines first last after count start now next to made draws on g
     let (all, makes, counted) = made end (to ∷ more) (next, draws, goes, behind) in
     (all, makes, counted ∙ omega arith)
 
--- no move may come next, or a million were made
-pub all_made : (threads : List Thread) (lines : List LineAddr) (seed count : ℕ) (last : List ℕ) (start end : WalkState)
+-- no move may come next, or as many were made as may be
+pub all_made : (threads : List Thread) (lines : List LineAddr) (seed most count : ℕ) (last : List ℕ)
+    (start end : WalkState)
     → HasMade threads lines (of_seed (splitmix_seed 32 seed)) last count start end
-    → (moves_of threads lines end ≡ []) ⊎ (count ≡ 1000000)
-    → Draws threads lines seed start end
-all_made threads lines seed count last start end made ended =
+    → count ≤ most
+    → (moves_of threads lines end ≡ []) ⊎ (count ≡ most)
+    → Draws threads lines seed most start end
+all_made threads lines seed most count last start end made at_most ended =
     let (steps, makes, counted) = made end [] refl in record {
       steps = steps;
       made = makes;
+      at_most = omega (arith, counted, at_most);
       ended = elim ended [
         | inl none ↦ inl none
-        | inr most ↦ inr (omega (arith, counted, most))
+        | inr all ↦ inr (omega (arith, counted, all))
       ];
     }

@@ -1,5 +1,5 @@
 -- Which walk a seed draws.
-use Rattle.std.specs.Prelude.{◌≡◌, ◌⊎◌, ◌↔◌, ℕ, ◌==◌, ◌%◌, Bool, IsTrue, if◌then◌else◌, List, [], ◌∷◌, ◌++◌, length, All}
+use Rattle.std.specs.Prelude.{◌≡◌, ◌≢◌, ◌⊎◌, ℕ, ◌==◌, ◌%◌, ◌≤◌, if◌then◌else◌, List, [], ◌∷◌, ◌++◌, length, All}
 use Rattle.std.specs.Prelude.{replicate, slice_get, Option, Some, false}
 use Rattle.std.specs.List.{list_any}
 use Rattle.address_map.specs.Place.{line_of as line_of_word}
@@ -13,6 +13,8 @@ use Rattle.litmus_walk.specs.Moves.{Goes, WalkState, moves_of}
 use Rattle.litmus_walk.specs.Walk.{IsFresh, WalkView}
 use Rattle.litmus_walk.specs.declared.moves.Move.{Move}
 use Rattle.litmus_walk.specs.declared.place.Place.{Place}
+use Rattle.litmus_walk.specs.declared.round.End.{End}
+use Rattle.litmus_walk.specs.declared.round.End.TheVariants as ends
 use Rattle.mshr_file.specs.Miss.{Bound}
 use Rattle.rand_xoshiro.specs.SplitMix64.{splitmix_seed}
 use Rattle.rand_xoshiro.specs.Xoshiro256.{of_seed, plus_plus}
@@ -48,11 +50,12 @@ MakesAll threads lines generator (to ∷ more) old new =
     (next : WalkState) × (drawn_move (plus_plus generator).0 (moves_of threads lines old) ≡ Some to)
     × Goes threads to old next × MakesAll threads lines (plus_plus generator).1 more next new
 
--- the moves that the seed draws are made, up to where none may come next, or a million of them
-pub record Draws (threads : List Thread) (lines : List LineAddr) (seed : ℕ) (old new : WalkState) : Type 0 where
+-- the moves that the seed draws are made, `most` of them, or fewer up to where none may come next
+pub record Draws (threads : List Thread) (lines : List LineAddr) (seed most : ℕ) (old new : WalkState) : Type 0 where
   pub steps : List Move
   pub made : MakesAll threads lines (of_seed (splitmix_seed 32 seed)) steps old new
-  pub ended : (moves_of threads lines new ≡ []) ⊎ (length steps ≡ 1000000)
+  pub at_most : length steps ≤ most
+  pub ended : (moves_of threads lines new ≡ []) ⊎ (length steps ≡ most)
 
 -- before the first step of a thread
 abbrev pub first_place : Place
@@ -69,12 +72,19 @@ abbrev pub IsOver : List Thread → WalkState → Type 0
 IsOver threads state =
     AreAtEnd threads (steps_of state.places) × All (λ slice. IsQuiet slice.view) state.walk.slices
 
--- the walk is what the seed draws, where messages are for these lines, and this is whether it came to its end
-pub record IsDrawn (test : LitmusTest) (bound : Bound) (lines : List LineAddr) (seed : ℕ) (over : Bool)
+-- How a walk ends that goes no further: it is over, or no move may come next, or one may.
+abbrev pub IsEnd : List Thread → List LineAddr → End → WalkState → Type 0
+IsEnd threads lines ends.Over state = IsOver threads state
+IsEnd threads lines ends.Stuck state = ¬ IsOver threads state × (moves_of threads lines state ≡ [])
+IsEnd threads lines ends.GaveUp state = ¬ IsOver threads state × (moves_of threads lines state ≢ [])
+
+-- The walk is what the seed draws, with `most` moves at most, where messages are for these lines, and ends so. Where it
+-- gave up it has made `most` moves, since some move may come next.
+pub record IsDrawn (test : LitmusTest) (bound : Bound) (lines : List LineAddr) (seed most : ℕ) (end : End)
     (walk : WalkView) : Type 0 where
   pub start : WalkState
   pub new : IsNewWalk test bound start
-  pub end : WalkState
-  pub draws : Draws test.threads.items lines seed start end
-  pub is : walk ≡ end.walk
-  pub ends : IsTrue over ↔ IsOver test.threads.items end
+  pub last : WalkState
+  pub draws : Draws test.threads.items lines seed most start last
+  pub is : walk ≡ last.walk
+  pub ends : IsEnd test.threads.items lines end last

@@ -1,5 +1,5 @@
 -- A walk as a script.
-use Rattle.std.specs.Prelude.{◌≡◌, ℕ, ◌==◌, All, List, [], ◌++◌, codes, decimal, Option, Some, None}
+use Rattle.std.specs.Prelude.{◌≡◌, ℕ, All, List, [], ◌++◌, codes, decimal, Option, Some, None}
 use Rattle.std.specs.Io.KnownBytes.{Appends}
 use Rattle.std.specs.List.{flat_map}
 use Rattle.address_map.specs.declared.config.Config.{Config}
@@ -10,6 +10,8 @@ use Rattle.litmus_walk.specs.Done.{AreDone}
 use Rattle.litmus_walk.specs.Drawn.{IsDrawn, lines_of}
 use Rattle.litmus_walk.specs.declared.place.StepPlace.{StepPlace}
 use Rattle.litmus_walk.specs.declared.recorded.Made.{Made}
+use Rattle.litmus_walk.specs.declared.round.End.{End}
+use Rattle.litmus_walk.specs.declared.round.End.TheVariants as ends
 use Rattle.litmus_walk.specs.Walk.{WalkView, IsWalkOf}
 use Rattle.mshr_file.specs.Miss.{Bound}
 use Rattle.slice_core_plan.specs.View.{IsQuiet}
@@ -33,13 +35,21 @@ text_of_calls calls = flat_map text_of_call calls
 abbrev pub text_of_script : Config → MissKind → List Made → List ℕ
 text_of_script config misses calls = text_of_lines (lines_of_settings config misses) ++ text_of_calls calls
 
--- The walk that the seed draws is printed as a script, behind what was written before. Status 0 says that it has come to
--- its end.
-pub record PrintsWalk (test : LitmusTest) (bound : Bound) (seed status : ℕ) (before after : Option (List ℕ)) : Type 0
+-- the status of a walk that ends so
+abbrev pub status_of : End → ℕ
+status_of ends.Over = 0
+status_of end = 1
+
+-- The walk that the seed draws, with `most` moves at most, is printed as a script, behind what was written before. Status
+-- 0 says that it is over.
+pub record PrintsWalk (test : LitmusTest) (bound : Bound) (seed most status : ℕ) (before after : Option (List ℕ)) :
+    Type 0
   where
     pub walk : WalkView
     pub walked : IsWalkOf test bound walk
-    pub drawn : IsDrawn test bound (lines_of test) seed (status == 0) walk
+    pub end : End
+    pub drawn : IsDrawn test bound (lines_of test) seed most end walk
+    pub told : status ≡ status_of end
     pub over : status ≡ 0 → All (λ state. IsQuiet state.view) walk.slices
     pub done : status ≡ 0 → AreDone test.threads.items walk.calls
     pub printed : Appends before after (text_of_script test.config test.misses walk.calls)

@@ -1,10 +1,12 @@
-ghost use Rattle.std.specs.Prelude.{◌≡◌, [], All, IfNone, IfOk, IfSome, IsTrue, OnOk, Some};
+ghost use Rattle.std.specs.Prelude.{◌≡◌, [], All, IfNone, IfOk, IfSome, OnOk, Some};
 ghost use Rattle.rand_xoshiro.specs.Xoshiro256.{plus_plus};
 ghost use Rattle.slice_core_plan.specs.View.{IsQuiet};
 ghost use Rattle.litmus_walk.specs.Done.{AreDone, GoesOn, steps_of};
-ghost use Rattle.litmus_walk.specs.Drawn.{Draws, IsDrawn, drawn_move};
+ghost use Rattle.litmus_walk.specs.Drawn.{Draws, IsDrawn, IsEnd, drawn_move};
 ghost use Rattle.litmus_walk.specs.Moves.{state_of};
+ghost use Rattle.litmus_walk.specs.Script.{status_of};
 ghost use Rattle.litmus_walk.specs.Walk.{IsWalkOf, Walks};
+ghost use Rattle.litmus_walk.specs.declared.round.End.TheVariants as ends;
 
 use super::moves::Move;
 use super::recorded::Recorded;
@@ -17,46 +19,91 @@ use rand_core::utils::NextWord;
 use rand_xoshiro::Xoshiro256PlusPlus;
 use std::alloc::{AllocError, Global};
 
-/// A walk that makes so many moves and isn't over is stuck.
-const MOST_MOVES: usize = 1_000_000;
+/// How a walk ends.
+#[derive(Clone, Copy, Debug, PartialEq, Eq)]
+pub enum End {
+    /// All threads are done, nothing is in flight and each reply is handed out.
+    Over,
+    /// It isn't over, and no move may come next.
+    Stuck,
+    /// It isn't over and some move may come next, but it has made as many as it may.
+    GaveUp,
+}
 
-/// A walk that came to its end, or is stuck.
+impl End {
+    /// The exit status of a program whose walk ends so.
+    pub(crate) const fn status(self) -> u8
+        ensures { result ≡ status_of self }
+    {
+        match self {
+            End::Over => 0,
+            End::Stuck | End::GaveUp => 1,
+        }
+    }
+}
+
+/// A walk that has ended.
 #[derive(Drop)]
 pub struct Walked<F: MissFile> {
     pub recorded: Recorded<F>,
-    /// All threads are done, nothing is in flight and each reply is handed out.
-    pub over: bool,
+    pub end: End,
 }
 
-/// Walks through the test, by the moves that the seed draws. All messages are for these lines.
+/// Walks through the test, by the moves that the seed draws, of which it makes `most` at most. All messages are for
+/// these lines.
 pub fn walk<F: MissFile>(
     alloc: Global,
     test: &LitmusTest<'_>,
     lines: &[LineAddr],
     seed: u64,
+    most: u64,
 ) -> Result<Walked<F>, AllocError>
     ensures walk { IfOk result (λ walked. IsWalkOf test.now (F.bound_by test.now.config) walked.recorded) }
-    ensures over { IfOk result (λ walked. IsTrue walked.over
+    ensures over { IfOk result (λ walked. walked.end ≡ ends.Over
         → All (λ state. IsQuiet state.view) walked.recorded.slices) }
-    ensures done { IfOk result (λ walked. IsTrue walked.over → AreDone test.now.threads.items walked.recorded.calls) }
-    ensures drawn { IfOk result (λ walked. IsDrawn test.now (F.bound_by test.now.config) lines.now seed
-        walked.over walked.recorded) }
+    ensures done { IfOk result (λ walked. walked.end ≡ ends.Over
+        → AreDone test.now.threads.items walked.recorded.calls) }
+    ensures drawn { IfOk result (λ walked. IsDrawn test.now (F.bound_by test.now.config) lines.now seed most
+        walked.end walked.recorded) }
 {
     let config = test.config.try_clone(alloc)?;
     let recorded = Recorded::new(alloc, config)?;
     let mut walker = Walker::new(alloc, test, recorded)?;
-    walk_on(alloc, test, lines, seed, &mut walker)?;
-    let over = walker.is_over(test);
+    walk_on(alloc, test, lines, seed, most, &mut walker)?;
+    let end = end_of(alloc, test, lines, &walker)?;
     let Walker { recorded, .. } = walker;
-    Ok(Walked { recorded, over })
+    Ok(Walked { recorded, end })
 }
 
-// Makes moves up to the end.
+// How a walk ends that goes no further.
+fn end_of<F: MissFile>(
+    alloc: Global,
+    test: &LitmusTest<'_>,
+    lines: &[LineAddr],
+    walker: &Walker<F>,
+) -> Result<End, AllocError>
+    ensures { IfOk result (λ end. IsEnd test.now.threads.items lines.now end
+        (state_of walker.now.recorded walker.now.places.items walker.now.replies.items)) }
+{
+    if walker.is_over(test) {
+        return Ok(End::Over);
+    }
+    let mut moves = Vec::new(alloc);
+    walker.list_moves(test, lines, &mut moves)?;
+    if moves.is_empty() {
+        Ok(End::Stuck)
+    } else {
+        Ok(End::GaveUp)
+    }
+}
+
+// Makes moves up to where none may come next, or `most` of them.
 fn walk_on<F: MissFile>(
     alloc: Global,
     test: &LitmusTest<'_>,
     lines: &[LineAddr],
     seed: u64,
+    most: u64,
     walker: &mut Walker<F>,
 ) -> Result<(), AllocError>
     requires { walker.old.recorded.config ≡ test.now.config }
@@ -64,13 +111,13 @@ fn walk_on<F: MissFile>(
     ensures done { OnOk result (GoesOn test.now.threads.items (steps_of walker.old.places.items)
         walker.old.recorded.calls
         (steps_of walker.new.places.items) walker.new.recorded.calls) }
-    ensures draws { OnOk result (Draws test.now.threads.items lines.now seed
+    ensures draws { OnOk result (Draws test.now.threads.items lines.now seed most
         (state_of walker.old.recorded walker.old.places.items walker.old.replies.items)
         (state_of walker.new.recorded walker.new.places.items walker.new.replies.items)) }
 {
     let mut generator = Xoshiro256PlusPlus::seed_from_u64(seed);
     let mut moves = Vec::new(alloc);
-    for made in 0..MOST_MOVES {
+    for made in 0..most {
         walker.list_moves(test, lines, &mut moves)?;
         let Some(to) = draw(&mut generator, moves.as_slice()) else {
             return Ok(());

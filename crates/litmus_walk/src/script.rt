@@ -19,20 +19,22 @@ use std::alloc::Global;
 use std::fmt::Write;
 use std::{fmt, io};
 
-/// Prints the walk that this seed draws as a script. Returns the exit status, which is 1 where the walk is stuck.
+/// Prints the walk that this seed draws, with `most` moves at most, as a script. Returns the exit status, which is 1 where
+/// the walk is stuck or was given up.
 pub fn write_walk<W: io::Write>(
     alloc: Global,
     test: &LitmusTest<'_>,
     seed: u64,
+    most: u64,
     out: &mut W,
 ) -> Result<u8, TextFault>
-    ensures printed { IfOk result (λ status. PrintsWalk test.now (bound_of test.now.misses test.now.config) seed status
-        (W.contents out.old) (W.contents out.new)) }
+    ensures printed { IfOk result (λ status. PrintsWalk test.now (bound_of test.now.misses test.now.config) seed most
+        status (W.contents out.old) (W.contents out.new)) }
     ensures fault { IfErr result IsOfRun }
 {
     match test.misses {
-        MissKind::Explicit => write_on::<ExplicitFile, W>(alloc, test, seed, out),
-        MissKind::Inverted => write_on::<InvertedFile, W>(alloc, test, seed, out),
+        MissKind::Explicit => write_on::<ExplicitFile, W>(alloc, test, seed, most, out),
+        MissKind::Inverted => write_on::<InvertedFile, W>(alloc, test, seed, most, out),
     }
 }
 
@@ -40,16 +42,17 @@ fn write_on<F: MissFile, W: io::Write>(
     alloc: Global,
     test: &LitmusTest<'_>,
     seed: u64,
+    most: u64,
     out: &mut W,
 ) -> Result<u8, TextFault>
-    ensures printed { IfOk result (λ status. PrintsWalk test.now (F.bound_by test.now.config) seed status
+    ensures printed { IfOk result (λ status. PrintsWalk test.now (F.bound_by test.now.config) seed most status
         (W.contents out.old) (W.contents out.new)) }
     ensures fault { IfErr result IsOfRun }
 {
     let lines = named_lines(alloc, test)?;
-    let walked = walk::<F>(alloc, test, &lines, seed)?;
+    let walked = walk::<F>(alloc, test, &lines, seed, most)?;
     print_script(&test.config, test.misses, walked.recorded.calls(), out)?;
-    if walked.over { Ok(0) } else { Ok(1) }
+    Ok(walked.end.status())
 }
 
 fn print_script<W: io::Write>(

@@ -292,19 +292,22 @@ where
             seed,
             script: true,
             ..
-        } => write_walk(alloc, input, seed, out),
+        } => write_walk(alloc, input, seed, None, out),
         CommandLine::Walk {
             file,
             seed,
             page: true,
             ..
-        } => page_walk(alloc, head_of(alloc, file, seed)?, input, seed, out),
+        } => page_walk(alloc, head_of(alloc, file, seed)?, input, seed, None, out),
         CommandLine::Walk {
             rounds,
             seed,
             json,
             ..
-        } => run_walk(alloc, input, rounds, seed, outcome_form(json), shown, out),
+        } => {
+            let form = outcome_form(json);
+            run_walk(alloc, input, rounds, seed, None, form, shown, out)
+        }
         CommandLine::Run {
             outstanding,
             seed,

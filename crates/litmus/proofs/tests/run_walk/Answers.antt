@@ -8,7 +8,7 @@ returns-clause-done g c =
     IfOk-weaker c.run_walk-ended.result _ _ (λ status ends. record {
       test = read.test;
       written = read.ensures.written;
-      is = rw c.unwrap_or-rounds.ensures at ends;
+      is = rw (c.unwrap_or-rounds.ensures, c.unwrap_or-most.ensures) at ends;
     }) c.run_walk-ended.ensures.printed
 
 pub returns-in_err-test-clause-fault : goal.returns-in_err-test-clause-fault

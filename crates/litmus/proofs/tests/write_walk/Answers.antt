@@ -8,7 +8,7 @@ returns-clause-done g c =
     IfOk-weaker c.write_walk-ended.result _ _ (λ status ends. record {
       test = read.test;
       written = read.ensures.written;
-      is = ends;
+      is = rw c.unwrap_or-most.ensures at ends;
     }) c.write_walk-ended.ensures.printed
 
 pub returns-in_err-test-clause-fault : goal.returns-in_err-test-clause-fault

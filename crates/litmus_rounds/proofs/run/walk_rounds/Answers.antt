@@ -1,9 +1,9 @@
-use Rattle.std.proofs.Common.{arith, inl, inr, refl, true, false}
+use Rattle.std.proofs.Common.{arith, inl, inr, refl}
 use Rattle.litmus_rounds.proofs.RoundLemmas.{no_rounds, rounds_push}
 use Rattle.litmus_rounds.proofs.run.walk_rounds.Goals as goal
 
 pub loop-round-init : goal.loop-round-init
-loop-round-init g c = no_rounds _ _ _ _ c.requires
+loop-round-init g c = no_rounds _ _ _ _ _ c.requires
 
 pub add_outcome-requires-clause-fits : goal.add_outcome-requires-clause-fits
 add_outcome-requires-clause-fits g c =
@@ -16,8 +16,8 @@ pub loop-round-preserved : goal.loop-round-preserved
 loop-round-preserved g c =
     let walked = c.in_ok-walked in
     let added = c.in_ok-added.ensures.added c.if-not-added.false in
-    let over = c.if-not-walked.false in
-    rounds_push _ _ _ _ _ _ added.0 c.loop-round.invariant (record {
+    let over = c.in-Over.is in
+    rounds_push _ _ _ _ _ _ _ added.0 c.loop-round.invariant (record {
       walk = walked.walked.recorded;
       walked = walked.ensures.walk;
       drawn = rw (c.deref.ensures.value, c.in_ok-lines.ensures, over) at walked.ensures.drawn;
@@ -26,30 +26,42 @@ loop-round-preserved g c =
       outcome = added.1;
     }) added.2
 
-pub returns-then-not-walked-clause-stuck : goal.returns-then-not-walked-clause-stuck
-returns-then-not-walked-clause-stuck g c =
+pub returns-in-Stuck : goal.returns-in-Stuck
+returns-in-Stuck g c =
     let walked = c.in_ok-walked in (
       c.loop-round-test.true,
       c.loop-round.invariant,
       record {
         walk = walked.walked.recorded;
         walked = walked.ensures.walk;
-        over = false;
-        drawn = rw (c.deref.ensures.value, c.in_ok-lines.ensures, c.if-not-walked.true) at walked.ensures.drawn;
-        stuck = inl refl;
+        end = walked.walked.end;
+        drawn = rw (c.deref.ensures.value, c.in_ok-lines.ensures) at walked.ensures.drawn;
+        stuck = inl c.in-Stuck.is;
       },
     )
 
-pub returns-then-not-added-clause-stuck : goal.returns-then-not-added-clause-stuck
-returns-then-not-added-clause-stuck g c =
+pub returns-in-GaveUp : goal.returns-in-GaveUp
+returns-in-GaveUp g c =
+    let walked = c.in_ok-walked in (
+      c.loop-round-test.true,
+      c.loop-round.invariant,
+      record {
+        walk = walked.walked.recorded;
+        walked = walked.ensures.walk;
+        drawn = rw (c.deref.ensures.value, c.in_ok-lines.ensures, c.in-GaveUp.is) at walked.ensures.drawn;
+      },
+    )
+
+pub returns-then-not-added : goal.returns-then-not-added
+returns-then-not-added g c =
     let walked = c.in_ok-walked in (
       c.loop-round-test.true,
       rw (c.in_ok-added.ensures.kept c.if-not-added.true) c.loop-round.invariant,
       record {
         walk = walked.walked.recorded;
         walked = walked.ensures.walk;
-        over = true;
-        drawn = rw (c.deref.ensures.value, c.in_ok-lines.ensures, c.if-not-walked.false) at walked.ensures.drawn;
-        stuck = inr (c.in_ok-added.ensures.none c.if-not-added.true);
+        end = walked.walked.end;
+        drawn = rw (c.deref.ensures.value, c.in_ok-lines.ensures) at walked.ensures.drawn;
+        stuck = inr (c.in-Over.is, c.in_ok-added.ensures.none c.if-not-added.true);
       },
     )

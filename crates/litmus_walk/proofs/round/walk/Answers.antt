@@ -13,11 +13,11 @@ returns-clause-done g c =
     rw (c.in_ok-walker.ensures.recorded, c.in_ok-recorded.ensures.none)
     (done-none threads (steps_of first.places.items) (rw c.in_ok-walker.ensures.first (first-zeros _))) in
     λ over.
-    done-all threads (steps_of last.places.items) last.recorded.calls (c.in_ok-walk_on.ensures.done begins)
-    (c.is_over-over.ensures.0 over).0
+    let ends = rw over at c.in_ok-end.ensures in
+    done-all threads (steps_of last.places.items) last.recorded.calls (c.in_ok-walk_on.ensures.done begins) ends.0
 
 pub returns-clause-over : goal.returns-clause-over
-returns-clause-over g c = λ over. (c.is_over-over.ensures.0 over).1
+returns-clause-over g c = λ over. let ends = rw over at c.in_ok-end.ensures in ends.1
 
 pub returns-clause-drawn : goal.returns-clause-drawn
 returns-clause-drawn g c =
@@ -30,8 +30,8 @@ returns-clause-drawn g c =
         first = c.in_ok-walker.ensures.first;
         none = c.in_ok-walker.ensures.none;
       };
-      end = state_of last.recorded last.places.items last.replies.items;
+      last = state_of last.recorded last.places.items last.replies.items;
       draws = c.in_ok-walk_on.ensures.draws;
       is = refl;
-      ends = c.is_over-over.ensures;
+      ends = c.in_ok-end.ensures;
     }

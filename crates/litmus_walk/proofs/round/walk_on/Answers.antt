@@ -26,11 +26,11 @@ go-requires g c = c.loop-made.invariant.walks.config ∙ c.requires
 pub returns-in_default-clause-draws : goal.returns-in_default-clause-draws
 returns-in_default-clause-draws g c =
     let none = rw (c.as_slice.ensures.value, c.in_ok-list_moves.ensures) at c.in_default.ensures.none in
-    all_made c.args.test.now.threads.items c.args.lines.now c.args.seed c.loop-made.made c.loop-made.generator _ _
-    c.loop-made.invariant.made (inl none)
+    all_made c.args.test.now.threads.items c.args.lines.now c.args.seed c.args.most c.loop-made.made
+    c.loop-made.generator _ _ c.loop-made.invariant.made (omega (arith, c.loop-made-test.true)) (inl none)
 
 pub returns-clause-draws : goal.returns-clause-draws
 returns-clause-draws g c =
-    let most : c.loop-made.made ≡ 1000000 = omega (arith, c.loop-made.auto.made-end, c.loop-made-test.false) in
-    all_made c.args.test.now.threads.items c.args.lines.now c.args.seed c.loop-made.made c.loop-made.generator _ _
-    c.loop-made.invariant.made (inr most)
+    let all : c.loop-made.made ≡ c.args.most = omega (arith, c.loop-made.auto.made-end, c.loop-made-test.false) in
+    all_made c.args.test.now.threads.items c.args.lines.now c.args.seed c.args.most c.loop-made.made
+    c.loop-made.generator _ _ c.loop-made.invariant.made c.loop-made.auto.made-end (inr all)

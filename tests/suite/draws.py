@@ -6,7 +6,8 @@ what the program does.
   delivery of what `waiting` shows, a hand-out of a reply that waits. There is no further call where
   nothing may come next. This is asked of each litmus test of examples/litmus, for a few seeds, of
   which two differ by 2^32 alone.
-- A walk of more than 100,000 calls comes to its end.
+- A walk of more than 100,000 calls comes to its end, and one of more than a million moves.
+- A walk with a limit makes the first moves of the walk without, and is given up before its last.
 - Seeds go on behind 2^64 - 1 with 0.
 - `lockup run` does other things with seeds that differ by 2^32 alone.
 - The turns of a thread: a test whose one thread needs no turns but those that are drawn is stuck in
@@ -213,6 +214,27 @@ def test_a_long_walk() -> None:
     same("status and error", (0, ""), (ran.status, ran.err))
     calls = len(re.findall(r"^(?:issue|deliver|hand) ", ran.out, re.M))
     want(calls > 100_000, f"it has {calls} calls")
+
+
+@seconds(10)
+def test_a_walk_of_more_than_a_million_moves() -> None:
+    """64 threads write to one word."""
+    threads = "".join(f"thread {core}\n" + "store 0 1\n" * 400 for core in range(64))
+    text = f"lockup-litmus 1\ncores 64\nlines 1\nrounds 1\n{threads}"
+    cut, whole = ran_on(text, "walk", "--limit", "1000000"), ran_on(text, "walk")
+    same("a million moves", (1, "gave up round 0 after 1000000 moves\n", ""), (cut.status, cut.out, cut.err))
+    same("all of them", (0, "       1 seed 1\nforbidden 0\n", ""), (whole.status, whole.out, whole.err))
+
+
+def test_limits() -> None:
+    words = ("walk", FOLDER / "mp.txt", "--seed", "10")
+    head, calls = parted(lockup(*words, "--script").out)
+    for limit in range(1, len(calls) + 1):
+        ran, is_cut = lockup(*words, "--script", "--limit", str(limit)), limit < len(calls)
+        same(f"status and error of {limit} moves", (int(is_cut), ""), (ran.status, ran.err))
+        same(f"{limit} moves", (head, calls[:limit]), parted(ran.out))
+        told = lockup(*words, "--rounds", "1", "--limit", str(limit)).out
+        same(f"table of {limit} moves", is_cut, told == f"gave up round 0 after {limit} moves\n")
 
 
 def test_the_last_seeds() -> None:

@@ -167,6 +167,11 @@ def test_litmus(name: str) -> None:
     same("forbidden", table[-1], f"forbidden {value['forbidden']}")
 
 
+def test_gave_up() -> None:
+    file = EXAMPLES / "litmus/mp.txt"
+    same("value", {"gave_up_round": 0, "moves": 2}, value_of("walk", "walk", file, "--limit", "2", status=1))
+
+
 def test_stuck() -> None:
     """A thread that may take one turn alone is stuck."""
     file = EXAMPLES / "litmus/mp.txt"

@@ -155,6 +155,13 @@ def test_page(_: str, file: str, title: str) -> None:
     same("page", lockup("page", "-", text=f"# {title}, seed 10\n{script.out}").out, page.out)
 
 
+def test_page_of_a_walk_that_gives_up() -> None:
+    words = ("walk", FOLDER / "mp.txt", "--seed", "10", "--limit", "5")
+    script, page = lockup(*words, "--script"), lockup(*words, "--page")
+    same("status and error", (1, ""), (page.status, page.err))
+    same("page", lockup("page", "-", text=f"# mp, seed 10\n{script.out}").out, page.out)
+
+
 def test_page_of_standard_input() -> None:
     text = read(FOLDER / "sb.txt")
     script, page = lockup("walk", "-", "--script", text=text), lockup("walk", "-", "--page", text=text)

@@ -99,7 +99,7 @@ abbrev pub walk_app : App
 walk_app =
     with_rules (new_app (codes "walk"))
     (file_rule ∷ positive_rule (codes "rounds") ∷ number_rule_or (codes "seed") (codes "1")
-    ∷ flag_rule (codes "script") ∷ lone_rule (codes "page") ∷ lone_rule (codes "json") ∷ [])
+    ∷ positive_rule (codes "limit") ∷ flag_rule (codes "script") ∷ lone_rule (codes "page") ∷ lone_rule (codes "json") ∷ [])
 
 -- an option `--name` that takes a text
 abbrev pub text_rule : Text → Rule
@@ -318,9 +318,10 @@ IsLine name rows (command_lines.Litmus file seed limit json) =
     (name ≡ codes "litmus") × (first_of (codes "FILE") rows ≡ Some file.now)
     × IsNumberOf (codes "seed") rows seed × IsNumberOf (codes "limit") rows limit
     × (json ≡ is_given (codes "json") rows)
-IsLine name rows (command_lines.Walk file rounds seed script page json) =
+IsLine name rows (command_lines.Walk file rounds seed limit script page json) =
     (name ≡ codes "walk") × (first_of (codes "FILE") rows ≡ Some file.now)
     × IsNumberIfGiven (codes "rounds") rows rounds × IsNumberOf (codes "seed") rows seed
+    × IsNumberIfGiven (codes "limit") rows limit
     × (script ≡ is_given (codes "script") rows) × (page ≡ is_given (codes "page") rows)
     × (json ≡ is_given (codes "json") rows)
 IsLine name rows (command_lines.Run file outstanding seed json script page) =

@@ -48,12 +48,14 @@ pub enum CommandLine<'a> {
         json: bool,
     },
     /// Run the litmus test in this file on random schedules: so many rounds, or as many as it says, of which the first
-    /// has this seed. With `json`, print its outcomes as a value of JSON. With `script`, print the round of this seed as a
-    /// script, and with `page` as that script's page.
+    /// has this seed. A round is given up that isn't over after `limit` moves, if a number is given. With `json`, print
+    /// its outcomes as a value of JSON. With `script`, print the round of this seed as a script, and with `page` as that
+    /// script's page.
     Walk {
         file: &'a str,
         rounds: Option<u64>,
         seed: u64,
+        limit: Option<u64>,
         script: bool,
         page: bool,
         json: bool,
@@ -259,6 +261,7 @@ fn walk_line<'a>(given: &ArgMatches<'a>) -> Option<CommandLine<'a>>
     let file = file_of(given)?;
     let rounds = number_if_given(given, "rounds")?;
     let seed = number_of(given, "seed")?;
+    let limit = number_if_given(given, "limit")?;
     let script = is_given(given, "script");
     let page = is_given(given, "page");
     let json = is_given(given, "json");
@@ -266,6 +269,7 @@ fn walk_line<'a>(given: &ArgMatches<'a>) -> Option<CommandLine<'a>>
         file,
         rounds,
         seed,
+        limit,
         script,
         page,
         json,

@@ -318,6 +318,14 @@ fn walk<'a>(alloc: Global) -> Result<Command<'a>, AllocError>
     );
     let command = and(
         command,
+        positive_number(
+            alloc,
+            "limit",
+            "How many moves a round may make, before it is given up",
+        ),
+    );
+    let command = and(
+        command,
         flag(alloc, "script", "Print the round of this seed, as a script"),
     );
     let command = and_made(

@@ -290,23 +290,26 @@ where
         }
         CommandLine::Walk {
             seed,
+            limit,
             script: true,
             ..
-        } => write_walk(alloc, input, seed, None, out),
+        } => write_walk(alloc, input, seed, limit, out),
         CommandLine::Walk {
             file,
             seed,
+            limit,
             page: true,
             ..
-        } => page_walk(alloc, head_of(alloc, file, seed)?, input, seed, None, out),
+        } => page_walk(alloc, head_of(alloc, file, seed)?, input, seed, limit, out),
         CommandLine::Walk {
             rounds,
             seed,
+            limit,
             json,
             ..
         } => {
             let form = outcome_form(json);
-            run_walk(alloc, input, rounds, seed, None, form, shown, out)
+            run_walk(alloc, input, rounds, seed, limit, form, shown, out)
         }
         CommandLine::Run {
             outstanding,

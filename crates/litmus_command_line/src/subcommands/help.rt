@@ -94,6 +94,9 @@ table, whose lines end with the seed of the first round that had the outcome:
 
        3 a=0 b=0 seed 5
 
+A round that isn't over, and in which nothing can move, ends the run: 'stuck round N', with status 1.
+So does one that isn't over after so many moves as --limit says: 'gave up round N after 1000 moves'.
+
 With '--seed 5 --script' that round is printed, as a script for 'lockup script' and 'lockup chart',
 and with '--seed 5 --page' as a page, which a browser steps through.
 

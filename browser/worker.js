@@ -36,6 +36,11 @@ function placeOf(letters, bytes, from) {
 function played(text) {
     const { status, out, err } = ran(['page', '-'], text);
     const page = joined(out);
+    // settings that can't be have no page
+    if (page.length === 0) {
+        known = page;
+        return { status, err: textOf(err), fault: textOf(err), same: 0, steps: [] };
+    }
     const begins = placeOf('\n{"script"', page, 0) + 1;
     const first = page.indexOf(10, begins) + 1;
     const value = page.subarray(first, placeOf('\n</script>', page, first));

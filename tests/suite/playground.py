@@ -1,0 +1,410 @@
+"""Plays the page that tools/browser makes, in a real browser, by its mouse and its keys, and compares what comes of it with what
+the program under test says of the same script.
+
+- it answers within two seconds of being opened, and stays under 50 ms of work a click at 2,000 commands;
+- from an empty machine clicks alone lead to two upgrades at once, with the forward that has to wait and why;
+- each thing that can be done: accesses, deliveries in the list and in the picture, evictions, replies, pumps, undo and redo, a step
+  back and another way from there, settings, the menu, walks, programs, exercises, tables, links, files;
+- an invalid line has its error beside it, with the hint that the program gives;
+- nothing of a script is read as HTML, be it in a link, in the text or in the picture; a link that can't be read, or unfolds to too
+  much, is refused; the page's policy lets no network and no code of others in;
+- its memory doesn't grow over 200 clicks;
+- on a telephone, a tablet and a desk nothing is cut or stands behind something else.
+"""
+import base64
+import json
+import re
+import tempfile
+import time
+import zlib
+from contextlib import contextmanager
+from pathlib import Path
+from typing import Iterator
+
+from harness import ROOT, Different, each, lockup, same, seconds, want, write
+from harness.browser import folder
+from harness.chromium import Chromium
+from harness.processes import read
+
+CTRL, SHIFT = 2, 8
+STEP = "document.body.dataset.step"
+
+
+class Page(Chromium):
+    """The page in a browser."""
+
+    def begin(self, link: str = "") -> None:
+        self.open(f"file://{folder()}/lockup.html{link}")
+        self.wait("document.body && document.body.dataset.run && document.body.dataset.step")
+        self.settle()
+
+    def settle(self) -> None:
+        """Waits until what was asked is shown."""
+        self.wait("asked === 0 && shown && shown.number === number")
+
+    def do(self, selector: str) -> None:
+        self.click(selector)
+        self.settle()
+
+    def do_all(self, *commands: str) -> None:
+        """Clicks what does these commands."""
+        for it in commands:
+            self.do(f'[data-command="{it}"]')
+
+    def commands(self) -> list[str]:
+        return [it for it in self.get("edits.text").split("\n") if it and not it.startswith("#")]
+
+    def open_text(self, text: str) -> None:
+        self.get(f"open({json.dumps(text)})")
+        self.settle()
+
+
+@contextmanager
+def page(width: int = 1400, height: int = 900, link: str = "") -> Iterator[Page]:
+    folder()
+    with Page(width, height) as it:
+        it.begin(link)
+        yield it
+        same("errors of the page", [], [error for error in it.errors() if "Content Security Policy" not in error])
+
+
+def linked(text: str) -> str:
+    """Returns the end of a link that has this script."""
+    packer = zlib.compressobj(9, zlib.DEFLATED, -15)
+    packed = packer.compress(text.encode()) + packer.flush()
+    return "#script=" + base64.urlsafe_b64encode(packed).decode().rstrip("=")
+
+
+# ---- how fast it is
+
+@seconds(10)
+def test_its_first_answer() -> None:
+    """The best of some, since other tests run beside it."""
+    folder()
+    taken = []
+    for _ in range(4):
+        with Page() as it:
+            it.begin()
+            taken.append(it.get("performance.now()"))
+        if taken[-1] < 2000:
+            return
+    raise Different(f"it answers after {taken} ms")
+
+
+@seconds(10)
+def test_a_script_of_2000_commands() -> None:
+    script = "".join(f"issue {at % 2} 0 add 0 1\ndeliver req 0 {at % 2}\n" + (f"deliver fwd 0 {1 - at % 2}\n" if at else "")
+                     + f"deliver data 0 {at % 2}\nhand {at % 2} 0\n" for at in range(400))
+    with page() as it:
+        it.open_text(script)
+        same("step", "1999 of 1999", it.get(STEP))
+        taken = []
+        for _ in range(12):
+            it.do('[data-issue="0 load"]')
+            taken.append(float(it.get("document.body.dataset.took")))
+            it.do("#undo")
+        want(min(taken) < 50, f"a click costs {taken} ms in the worker")
+
+
+@seconds(15)
+def test_memory() -> None:
+    """200 clicks leave no more than 2 MB behind in the page, and nothing in the program's memory."""
+    with page() as it:
+        def click(count: int) -> tuple[float, int]:
+            for _ in range(count // 4):
+                it.do('[data-issue="0 load"]')
+                it.do("#next")
+                it.do("#undo")
+                it.do("#undo")
+            return it.collect(), int(it.get("document.body.dataset.memory"))
+        before, after = click(40), click(200)
+        want(after[0] - before[0] < 2 << 20, f"the page has {before[0]} bytes, and then {after[0]}")
+        same("the program's memory", before[1], after[1])
+
+
+# ---- what is played
+
+def answers_of(script: str) -> list[str]:
+    return lockup("script", "-", text=script).out.split("\n")
+
+
+@seconds(5)
+def test_two_upgrades_at_once() -> None:
+    """By the mouse alone, from an empty machine."""
+    with page() as it:
+        for core in (0, 1):
+            it.do(f'[data-issue="{core} load"]')
+            it.do("#all")
+        it.do('[data-issue="0 store"]')
+        it.do('[data-issue="1 store"]')
+        same("both wait in SM_AD", ["SM_AD", "SM_AD"], it.get("shown.cores.map(it => it.copies[0].state)"))
+        it.do_all("deliver req 0 0", "deliver req 0 1")
+        blocked = it.get("document.querySelector('.move.blocked').innerText")
+        want("Fwd-GetM for core 1" in blocked and "SM_AD waits for Data and Inv-Ack" in blocked, f"it says {blocked!r}")
+        it.do_all("deliver fwd 0 0")
+        same("the answer of the one that waits", "blocked", it.get("document.getElementById('answer').textContent").split("   ")[0])
+        it.do_all("deliver fwd 0 1", "deliver ack 0 0 1", "deliver data 0 0", "deliver fwd 0 0", "deliver data 0 1")
+        wanted = ["issue 0 0 load 0", "pump 1000", "issue 1 0 load 0", "pump 1000", "issue 0 1 store 0 1", "issue 1 1 store 0 1",
+                  "deliver req 0 0", "deliver req 0 1", "deliver fwd 0 0", "deliver fwd 0 1", "deliver ack 0 0 1",
+                  "deliver data 0 0", "deliver fwd 0 0", "deliver data 0 1"]
+        same("the script", wanted, it.commands())
+        want("deliver req 0 0" in it.get_in_frame("document.querySelector('#diagram').textContent"), "the picture doesn't show it")
+        same("states in the picture", ["I", "M", "M"],
+             it.get_in_frame("[...document.querySelectorAll('[data-chip]')].map(it => it.textContent)"))
+        same("states of the program", "line 0 dir M owner 1 sharers - home 0 0 0 0 0 0 0 0 cores I M",
+             answers_of(it.get("edits.text") + "state 0\n")[-2])
+
+
+@seconds(8)
+def test_each_action() -> None:
+    with page() as it:
+        it.get("document.getElementById('word').value = ''")
+        it.click("#word")
+        it.type("9")
+        want(it.get("document.getElementById('of').textContent") == "of line 1", "it doesn't name the word's line")
+        it.get("document.getElementById('value').value = '18446744073709551615'")
+        it.get("document.getElementById('expected').value = '7'")
+        for name in ("load", "store", "add", "cas"):
+            it.do(f'[data-issue="1 {name}"]')
+        same("accesses", ["issue 1 0 load 9", "issue 1 1 store 9 18446744073709551615", "issue 1 2 add 9 18446744073709551615",
+                          "issue 1 3 cas 9 7 18446744073709551615"], it.commands())
+        it.do("#next")
+        it.do("#all")
+        it.do_all("hand 1 0", "hand 1 0", "evict 1 1")
+        same("the rest", ["pump 1", "pump 1000", "hand 1 0", "hand 1 0", "evict 1 1"], it.commands()[4:])
+        # a message in the picture
+        it.click_in_frame('#diagram [data-flying="deliver req 1 1"] circle, #diagram [data-flying="deliver req 1 1"]')
+        it.wait("edits.text.includes('deliver req 1 1')")
+        it.settle()
+        # .. and what can be delivered beside it
+        it.get_in_frame("document.querySelector('#could .rest').scrollIntoView()")
+        it.click_in_frame("#could .rest")
+        it.wait("edits.text.includes('deliver fwd 1 1')")
+        it.settle()
+        same("commands", 11, len(it.commands()))
+
+
+@seconds(8)
+def test_undo_and_another_way() -> None:
+    with page() as it:
+        it.open_text("# One.\nissue 0 0 load 0\ndeliver req 0 0\ndeliver data 0 0\nhand 0 0\n")
+        it.do("#undo")
+        it.do("#redo")
+        same("undone and done again", "4 of 4", it.get(STEP))
+        it.get("document.activeElement.blur()")
+        it.key("z", CTRL)
+        it.key("z", CTRL)
+        it.settle()
+        same("an opened script is taken back as one edit, and then commands", "0 of 0", it.get(STEP))
+        it.key("z", CTRL | SHIFT)
+        it.key("y", CTRL)
+        it.wait(f"{STEP} === '4 of 4'")
+        # two steps back, by a key and by a button of the frame, and on from there
+        it.key("ArrowLeft")
+        it.wait(f"{STEP} === '3 of 4'")
+        it.click_in_frame("#back")
+        it.wait(f"{STEP} === '2 of 4'")
+        it.settle()
+        it.do('[data-issue="1 store"]')
+        same("another way", ["issue 0 0 load 0", "deliver req 0 0", "issue 1 0 store 0 1"], it.commands())
+        # within a pump: its deliveries up to there
+        it.open_text("issue 0 0 load 0\npump 9\nhand 0 0\n")
+        same("a pump's deliveries are steps", "5 of 5", it.get(STEP))
+        for at in (4, 3, 2):
+            it.key("ArrowLeft")
+            it.wait(f"{STEP} === '{at} of 5'")
+        it.settle()
+        it.do('[data-issue="1 load"]')
+        same("from within a pump", ["issue 0 0 load 0", "deliver req 0 0", "issue 1 0 load 0"], it.commands())
+
+
+@seconds(5)
+def test_undo_of_what_a_link_brought() -> None:
+    """Each command goes, the last one first, and comes back."""
+    with page(link=linked("issue 0 0 load 0\ndeliver req 0 0\n")) as it:
+        same("it is opened", "2 of 2", it.get(STEP))
+        it.do("#undo")
+        same("the page's own script", "0 of 0", it.get(STEP))
+        it.do("#redo")
+        it.get("edits.done.length = 0")
+        it.do("#undo")
+        same("a command less", ["issue 0 0 load 0"], it.commands())
+        it.do("#redo")
+        same("and more", ["issue 0 0 load 0", "deliver req 0 0"], it.commands())
+
+
+@seconds(5)
+def test_settings() -> None:
+    with page() as it:
+        it.do('[data-issue="0 load"]')
+        it.click("summary")
+        for name, value in [("cores", "3"), ("mshrs", "1"), ("misses", "inverted"), ("exclusive", "on"), ("lines", "64")]:
+            it.get(f"""(() => {{ const it = document.getElementById('set-{name}'); it.value = '{value}';
+                it.dispatchEvent(new Event('change')); }})()""")
+            it.settle()
+        same("lines", sorted(["cores 3", "mshrs 1", "misses inverted", "exclusive on", "lines 64"]), sorted(it.commands()[:-1]))
+        same("rows of cores", 3, it.get("document.querySelectorAll('#issue .row').length"))
+        same("lifelines", 3, it.get_in_frame("shape.cores"))
+        it.get("""(() => { const it = document.getElementById('set-cores'); it.value = '65';
+            it.dispatchEvent(new Event('change')); })()""")
+        it.settle()
+        same("what can't be", "config 1 Cores", it.get("document.getElementById('fault').textContent"))
+        it.do("#undo")
+        want(it.get("document.getElementById('fault').hidden"), "the fault stays")
+
+
+@seconds(5)
+def test_an_invalid_line() -> None:
+    """Its error stands beside it with the hint, and the steps before it are there."""
+    with page() as it:
+        it.get("document.getElementById('script').focus()")
+        it.key("End", CTRL)
+        it.get("document.getElementById('script').setSelectionRange(1e6, 1e6)")
+        it.type("state 0\nissue 0 0 lod 0\nstate 0\n")
+        it.wait("!document.getElementById('fault').hidden")
+        it.settle()
+        said = lockup("page", "-", text=it.get("edits.text")).err
+        want(said.startswith("lockup: line 3: not a command   'lod'"), f"the program says {said!r}")
+        same("the error", said[len("lockup: "):-1].replace("   ", ": "), it.get("document.getElementById('fault').textContent"))
+        same("its line", "3", it.get("document.querySelector('#numbers .bad').textContent"))
+        top, line = it.get("""[document.getElementById('fault').getBoundingClientRect().top,
+            document.querySelector('#numbers .bad').getBoundingClientRect().bottom]""")
+        want(0 <= top - line < 12, f"the error is at {top}, and the line ends at {line}")
+        same("steps before it", "1 of 1", it.get(STEP))
+
+
+# ---- tests, programs, exercises, tables, files
+
+def choose(it: Page, value: str) -> None:
+    it.get(f"(() => {{ at('menu').value = {json.dumps(value)}; at('menu').onchange(); }})()")
+
+
+@seconds(8)
+def test_litmus() -> None:
+    with page() as it:
+        choose(it, "litmus/sb")
+        it.click("#walk")
+        rows = it.wait("[...document.querySelectorAll('#outcomes tr')].slice(1).map(it => [...it.children].map(it => it.innerText))")
+        told = json.loads(lockup("walk", "--rounds", "1000", "--json", "-", text=read(ROOT / "examples/litmus/sb.txt")).out)
+        same("outcomes", [[*map(str, row["values"]), str(row["rounds"])] for row in told["outcomes"]], [row[:-1] for row in rows])
+        seed = told["outcomes"][-1]["seed"]
+        it.click(f'[data-seed="{seed}"]')
+        it.wait("document.body.dataset.tab === 'play'")
+        it.settle()
+        wanted = lockup("walk", "--script", "--seed", str(seed), "-", text=read(ROOT / "examples/litmus/sb.txt")).out
+        same("its run", wanted, it.get("edits.text").split("\n", 1)[1])
+        want("Store buffering" in it.get("edits.text").split("\n")[0] or "seed" in it.get("edits.text").split("\n")[0], "no title")
+
+
+@seconds(8)
+def test_programs_exercises_and_tables() -> None:
+    with page() as it:
+        choose(it, "programs/ping_pong")
+        it.click("#run-report")
+        report = it.wait("document.getElementById('report').textContent")
+        same("report", lockup("run", ROOT / "examples/programs/ping_pong.txt").out, report)
+        it.click("#run-see")
+        it.wait("document.body.dataset.tab === 'play'")
+        it.settle()
+        same("run", lockup("run", "--script", ROOT / "examples/programs/ping_pong.txt").out, it.get("edits.text"))
+        for name in ("first_miss", "with_a_mistake"):
+            choose(it, f"exercises/{name}")
+            it.click("#compare")
+            told = it.wait("document.getElementById('compared').textContent")
+            same(name, lockup("test", ROOT / f"examples/exercises/{name}.txt").out, told)
+        it.click("#exercise-see")
+        it.wait("document.body.dataset.tab === 'play'")
+        it.settle()
+        want(it.get("document.getElementById('fault').hidden"), "the exercise's run has a fault")
+        it.click('[data-to="tables"]')
+        it.wait("document.querySelectorAll('#both table').length")
+        for name in ("cache", "directory"):
+            cells = [cell.strip() for row in lockup("table", name).out.split("\n") if row.startswith("|") and "---" not in row
+                     for cell in row[1:-1].split("|")]
+            shown = it.get("[...document.querySelectorAll('#both td, #both th')].map(it => it.textContent)")
+            want(set(cells) <= set(shown), f"cells of the {name}'s table are missing")
+
+
+@seconds(5)
+def test_files_and_links() -> None:
+    """A link that is copied opens the same script; a file that is loaded is the script."""
+    script = read(ROOT / "examples/two_upgrades_at_once.txt")
+    with page() as it:
+        it.open_text(script)
+        link = it.get("linkOf(edits.text)")
+        want(len(link) < 1000 and re.fullmatch(r"#script=[\w-]+", link), f"the link is {link}")
+        with tempfile.TemporaryDirectory() as room:
+            file = write(f"{room}/other.txt", "state 3\n")
+            root = it.call("DOM.getDocument")["root"]["nodeId"]
+            node = it.call("DOM.querySelector", nodeId=root, selector="#file")["nodeId"]
+            it.call("DOM.setFileInputFiles", nodeId=node, files=[str(file)])
+            it.wait("edits.text === 'state 3\\n'")
+        it.get(f"location.hash = {json.dumps(link)}")
+        it.wait(f"edits.text === {json.dumps(script)}")
+        it.settle()
+        same("save gives the text", script, it.get("""(() => { let blob; const make = URL.createObjectURL;
+            URL.createObjectURL = it => { blob = it; return make.call(URL, it); }; save(); URL.createObjectURL = make;
+            return blob.text(); })()"""))
+
+
+HOSTILE = """# </script><script>top.hit = 1; parent.hit = 1</script><img src=x onerror="hit = 1"><b>bold</b>
+issue 0 0 load 0
+deliver req 0 0 # <img src=x onerror="parent.hit = 1">
+"""
+
+
+@seconds(5)
+def test_a_hostile_link() -> None:
+    for script in (HOSTILE, HOSTILE.split("deliver")[0] + "# ${hit = 1} javascript:hit=1\nstate 0\n<svg onload=hit=1>\n"):
+        with page(link=linked(script)) as it:
+            same("the script is text", script, it.get("document.getElementById('script').value"))
+            time.sleep(0.3)
+            for where in (it.get, it.get_in_frame):
+                same("elements", [0, None], where("[document.querySelectorAll('img, b[onerror], svg[onload]').length, window.hit || null]"))
+            title = it.get_in_frame("document.getElementById('title').textContent")
+            want(title.startswith("</script><script>top"), f"the title is {title}")
+
+
+@seconds(5)
+def test_links_that_cannot_be_read() -> None:
+    bomb = linked("state 0\n" * (1 << 20))
+    for link in ("#script=", "#script=%", "#script=AAAA", "#script=" + "x" * 5000, bomb):
+        with page(link=link) as it:
+            same(f"the script of {link[:20]}", True, it.get("edits.text === EMPTY || edits.text === ''"))
+
+
+@seconds(5)
+def test_the_policy() -> None:
+    """No network, no code that isn't the page's own, and the frame is a stranger."""
+    with page() as it:
+        it.get("""(() => { const it = document.createElement('div'); it.innerHTML = '<img src=x onerror="hit = 1">';
+            document.body.append(it); const code = document.createElement('script'); code.textContent = 'hit = 2';
+            document.body.append(code); })()""")
+        same("fetch", "refused", it.get("fetch('data:,x').then(() => 'fetched', () => 'refused')"))
+        same("what ran", None, it.get("window.hit || null"))
+        same("the frame's origin", "null", it.get_in_frame("origin"))
+        same("what the frame may see", "refused",
+             it.get_in_frame("(() => { try { return parent.document.title; } catch { return 'refused'; } })()"))
+
+
+# ---- how it looks
+
+@seconds(5)
+@each(lambda: ["390x844", "1024x768", "1400x900"])
+def test_nothing_is_cut(size: str) -> None:
+    width, height = map(int, size.split("x"))
+    with page(width, height) as it:
+        for command in ('[data-issue="0 load"]', "#next", '[data-issue="1 store"]'):
+            it.do(command)
+        for tab in ("litmus", "programs", "exercises", "play"):
+            it.click(f'[data-to="{tab}"]')
+            wide, tall, cut = it.get("""[document.documentElement.scrollWidth, document.documentElement.scrollHeight,
+                [...document.querySelectorAll('button, select, input, label')].filter(it => it.offsetParent).filter(it => {
+                    const { left, right } = it.getBoundingClientRect();
+                    return left < 0 || right > innerWidth;
+                }).map(it => it.id || it.textContent)]""")
+            same(f"{tab} at {size}", (True, True, []), (wide <= width, tall <= height, cut))
+        # the frame's picture has room
+        tall = it.get_in_frame("document.getElementById('time').clientHeight")
+        want(tall > 180, f"the picture is {tall} high")
+        want(it.get("document.querySelector('iframe').clientWidth") >= min(width, 600), "the picture is narrow")

@@ -26,13 +26,26 @@ def missing():
     return [] if shutil.which("node") else ["nodejs"]
 
 
+def note(module, is_unproved):
+    """Notes beside a module that it isn't of a proved program, if it isn't."""
+    if is_unproved:
+        open(f"{module}.unproved", "w", encoding="utf-8").close()
+    elif os.path.exists(f"{module}.unproved"):
+        os.remove(f"{module}.unproved")
+
+
+def is_proved(module):
+    """Returns whether a module is of a proved program."""
+    return os.path.isfile(module) and not os.path.exists(f"{module}.unproved")
+
+
 def write(module, to):
     """Writes the page around the module as the file `to`. Returns what was said where that fails, or None."""
     frame, said = ask(module, ["page", "-"])
     version, _ = ask(module, ["--version"])
     if said or not frame or not version:
         return f"the module doesn't run: {said}"
-    text = page_of(module, live(frame), version.strip())
+    text = page_of(module, live(frame), version.strip() + ("" if is_proved(module) else " (not proved)"))
     if len(text) > MOST:
         return f"the page has {len(text)} bytes, and may have {MOST}"
     with open(f"{to}.new", "w", encoding="utf-8", newline="\n") as it:
@@ -41,9 +54,9 @@ def write(module, to):
     return None
 
 
-def ask(module, words):
-    """Runs the program, on an empty input. Returns its output and what it said."""
-    ran = subprocess.run(["node", f"{PARTS}/run.mjs", module, *words], stdin=subprocess.DEVNULL, capture_output=True, text=True)
+def ask(module, words, text=""):
+    """Runs the program with this text as its input. Returns its output, and what it said where it fails."""
+    ran = subprocess.run(["node", f"{PARTS}/run.mjs", module, *words], input=text, capture_output=True, text=True)
     return ran.stdout, ran.stderr if ran.returncode else ""
 
 

@@ -21,16 +21,17 @@ class Litmus {
             return;
         }
         const { names, counters, outcomes, forbidden } = JSON.parse(out);
-        const heads = [...names, ...counters.map(it => 'word ' + (it.word === undefined ? it : it.word)), 'rounds', ''];
+        const heads = [...names, ...counters.map(it => 'word ' + it), 'rounds', ''];
+        const isForbidden = forbiddenBy(text, names);
         const rows = outcomes.map(it => {
             const seed = String(it.seed);
             const see = button('small', 'see one', () => this.see(text, seed));
             see.dataset.seed = seed;
-            const cells = [...it.values, ...(it.counters || [])].map(value => made('td', '', String(value)));
-            return made('tr', it.forbidden ? 'bad' : '', ...cells, made('td', '', String(it.rounds)), made('td', '', see));
+            const cells = it.values.map(value => made('td', '', String(value)));
+            return made('tr', isForbidden(it.values) ? 'bad' : '', ...cells, made('td', '', String(it.rounds)), made('td', '', see));
         });
         at('outcomes').replaceChildren(made('table', '', made('tr', '', ...heads.map(it => made('th', '', it))), ...rows),
-            made('p', forbidden ? 'bad' : '', `forbidden outcomes: ${forbidden}`));
+            made('p', forbidden ? 'bad' : '', `rounds with a forbidden outcome: ${forbidden}`));
     }
     // Opens the run of a seed as a script.
     async see(text, seed) {
@@ -38,6 +39,13 @@ class Litmus {
         if (out) this.open(`# ${titleOf(text)}, seed ${seed}\n` + out);
         else say(err);
     }
+}
+
+// Gives whether values are of an outcome that a test's lines `forbid NAME=VALUE ..` forbid.
+function forbiddenBy(text, names) {
+    const rules = text.split('\n').map(it => it.trim().split(/\s+/)).filter(it => it[0] === 'forbid')
+        .map(it => it.slice(1).map(pair => pair.split('=')));
+    return values => rules.some(rule => rule.every(([name, value]) => String(values[names.indexOf(name)]) === value));
 }
 
 // What a text is called: how its first comment begins.

@@ -14,7 +14,7 @@ from contextlib import contextmanager
 from pathlib import Path
 from typing import Iterator
 
-from harness import ROOT, is_sanitized, lockup, needs, program, read, run, same, seconds
+from harness import ROOT, is_sanitized, lockup, needs, program, read, run, same, seconds, write
 from harness.library import FIRST_SAYS, archive, shared
 
 FIRST_ADD = "examples/first_add"
@@ -154,8 +154,11 @@ def test_release() -> None:
     needs("rt", "cc", "c++")
     with tree() as (top, room):
         put_library(top)
+        (top / "out").mkdir()
+        page = write(top / "out/lockup.html", "a page")
         ran = run([top / "tools/release", room / "dist"])
         same("release", 0, ran.status)
+        same("the page for a browser", [read(page)], [read(it) for it in (room / "dist").glob("lockup-*.html")])
         archive = Path(ran.err.split("\n")[-2])
         checksum = hashlib.sha256(archive.read_bytes()).hexdigest()
         same("checksum", checksum, read(f"{archive}.sha256").split()[0])

@@ -21,7 +21,7 @@ from contextlib import contextmanager
 from pathlib import Path
 from typing import Iterator
 
-from harness import ROOT, Different, each, lockup, same, seconds, want, write
+from harness import ROOT, Different, each, lockup, run, same, seconds, want, write
 from harness.browser import folder
 from harness.chromium import Chromium
 from harness.processes import read
@@ -385,6 +385,25 @@ def test_the_policy() -> None:
         same("the frame's origin", "null", it.get_in_frame("origin"))
         same("what the frame may see", "refused",
              it.get_in_frame("(() => { try { return parent.document.title; } catch { return 'refused'; } })()"))
+
+
+@seconds(8)
+def test_a_site() -> None:
+    """Of a web server's folder each link leads to a page, and each that plays an example opens it."""
+    with tempfile.TemporaryDirectory() as room:
+        made = run([ROOT / "tools/site", "--of", folder(), room])
+        same("tools/site", (0, ""), (made.status, made.err))
+        links = re.findall(r'href="([^"]*)"', read(f"{room}/examples.html"))
+        for link in links:
+            want(Path(room, link.split("#")[0]).is_file(), f"there is no {link}")
+        scripts = [it for it in links if "#" in it]
+        want(len(scripts) > 30, f"there are {len(scripts)} scripts")
+        with Page() as it:
+            it.open(f"file://{room}/{scripts[0]}")
+            it.wait("document.body && document.body.dataset.step && edits.lines.length > 3")
+            it.settle()
+            same("the example", read(ROOT / "examples/acknowledgements_that_cross.txt"), it.get("edits.text"))
+    same("a wrong word", 2, run([ROOT / "tools/site", "--nothing"]).status)
 
 
 # ---- how it looks

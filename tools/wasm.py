@@ -16,7 +16,7 @@ PACKAGES = {"opt-16": "llvm-16", "llc-16": "llvm-16", "clang-16": "clang-16", "w
 TARGET = "wasm64-unknown-unknown"
 LAYOUT = "e-m:e-p:64:64-p10:8:8-p20:8:8-i64:64-i128:128-n32:64-S128-ni:1:10:20"
 # What the module needs of WebAssembly: what every browser of 2021 and later has.
-FEATURES = ["--enable-bulk-memory", "--enable-sign-ext", "--enable-mutable-globals"]
+FEATURES = ["--enable-sign-ext", "--enable-mutable-globals"]
 STACK = 8 << 20
 # At most 2 GiB, so that a program that asks for ever more says `no memory` in place of the browser ending its page.
 MEMORY = 2 << 30
@@ -97,7 +97,7 @@ def steps(room, text, to):
         ["clang-16", f"--target={TARGET}", "-O2", "-Wall", "-ffreestanding", "-fno-builtin", "-c", SHIM, "-o", shim],
         ["wasm-ld-16", "-mwasm64", "--no-entry", "--gc-sections", "--strip-all", "--stack-first", "-z", f"stack-size={STACK}",
          f"--max-memory={MEMORY}", *exports, program, shim, "-o", wide],
-        ["wasm-opt", "--enable-memory64", *FEATURES, "--memory64-lowering", "--strip-producers", "--strip-target-features",
+        ["wasm-opt", "--enable-memory64", *FEATURES, "--memory64-lowering", "-O2", "--strip-producers", "--strip-target-features",
          wide, "-o", to],
     ]
 

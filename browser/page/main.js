@@ -7,8 +7,9 @@ const edits = new Edits(EMPTY);
 // the step that the frame shows last, and the number of the run that it was handed last
 let shown = null;
 let number = 0;
-// runs that the worker hasn't answered
-let asked = 0;
+// whether the worker has a script, and what is to be shown of the one behind it
+let isAtWork = false;
+let waits = null;
 
 function tabsOf(chosen) {
     document.body.dataset.tab = chosen;
@@ -18,25 +19,34 @@ function tabsOf(chosen) {
     if (chosen === PLAY) script.draw();
 }
 
-// Plays the script as it is, and shows its step `to`.
+// Plays the script as it is, and shows its step `to`. While the worker has one, the last that is asked for waits.
 async function play(to) {
     script.show(edits.text);
     settings.show(edits.lines);
     at('undo').disabled = edits.done.length === 0 && !edits.lines.some(isCommand);
     at('redo').disabled = edits.undone.length === 0;
-    asked += 1;
+    waits = { to };
+    if (isAtWork) return;
+    isAtWork = true;
+    const slow = setTimeout(() => say('at work ..'), 700);
+    while (waits) await playNext();
+    clearTimeout(slow);
+    isAtWork = false;
+}
+async function playNext() {
+    const { to } = waits;
+    waits = null;
     const text = edits.text;
     const { same, steps, fault, err, took, memory } = await engine.ask(text);
-    asked -= 1;
     number = run.take({ text, same, steps, fault }, to);
     Object.assign(document.body.dataset, { took: took.toFixed(1), memory });
-    if (asked === 0) script.tellFault(fault ? err : '');
+    if (!waits) script.tellFault(fault ? err : '');
 }
 
 // Does one more command behind the step that is shown: what stood behind it goes. Behind what isn't answered yet a command
 // stands last.
 function act(command) {
-    const { lines, more } = asked === 0 && shown && shown.number === number ? shown.cut : { lines: edits.lines.length, more: [] };
+    const { lines, more } = !isAtWork && shown && shown.number === number ? shown.cut : { lines: edits.lines.length, more: [] };
     const kept = edits.lines.slice(0, lines);
     while (kept.length && kept[kept.length - 1] === '') kept.pop();
     edits.take([...kept, ...more, command, ''].join('\n'));
@@ -56,7 +66,7 @@ function told(it) {
     shown = it;
     document.body.dataset.run = it.number;
     document.body.dataset.step = `${it.now} of ${it.count}`;
-    if (it.number !== number || asked) return;
+    if (it.number !== number || waits) return;
     script.mark(it.line);
     moves.show(it);
     at('answer').textContent = it.now ? it.answer.trim().slice(0, 300) : '';

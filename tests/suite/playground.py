@@ -40,7 +40,7 @@ class Page(Chromium):
 
     def settle(self) -> None:
         """Waits until what was asked is shown."""
-        self.wait("asked === 0 && shown && shown.number === number")
+        self.wait("!isAtWork && shown && shown.number === number")
 
     def do(self, selector: str) -> None:
         self.click(selector)

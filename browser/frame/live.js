@@ -84,7 +84,8 @@ function take({ number, text, fault, same, steps: given, to }) {
 // How much of the script stands up to the step: so many lines, and of a pump that isn't done its deliveries.
 function cutAt(step) {
     const next = steps[step];
-    if (step === 0) return { lines: next ? next.at - 1 : script.length, more: [] };
+    const [, invalid] = /^line (\d+)/.exec(run.fault || '') || [];
+    if (step === 0) return { lines: next ? next.at - 1 : invalid ? invalid - 1 : script.length, more: [] };
     const { at: line } = steps[step - 1];
     if (!next) return { lines: run.fault ? line : script.length, more: [] };
     if (next.at !== line) return { lines: line, more: [] };

@@ -46,18 +46,27 @@ async function playNext() {
 // Does one more command behind the step that is shown: what stood behind it goes. Behind what isn't answered yet a command
 // stands last.
 function act(command) {
-    const { lines, more } = !isAtWork && shown && shown.number === number ? shown.cut : { lines: edits.lines.length, more: [] };
+    const isShown = !takeTyped() && !isAtWork && shown && shown.number === number;
+    const { lines, more } = isShown ? shown.cut : { lines: edits.lines.length, more: [] };
     const kept = edits.lines.slice(0, lines);
     while (kept.length && kept[kept.length - 1] === '') kept.pop();
     edits.take([...kept, ...more, command, ''].join('\n'));
     play();
 }
+// Takes what was typed just now and isn't played yet. Returns whether there is any.
+function takeTyped() {
+    const isTyped = script.area.value !== edits.text;
+    edits.take(script.area.value);
+    return isTyped;
+}
 function goBack(way) {
+    takeTyped();
     if (way === 'undo' ? edits.undo() : edits.redo()) play();
 }
 // Opens another script. It can be taken back as any edit.
 function open(text) {
-    edits.take(text);
+    takeTyped();
+    edits.take(text.replaceAll('\r\n', '\n'));
     tabsOf(PLAY);
     play();
 }
@@ -153,6 +162,7 @@ const script = new Script(text => {
 });
 const moves = new Moves(act);
 const settings = new Settings((name, value) => {
+    takeTyped();
     edits.take(withSetting(edits.lines, name, value).join('\n'));
     play();
 });
@@ -190,6 +200,7 @@ async function begin() {
     at('about').textContent = DATA.about;
     document.body.classList.remove('empty');
     tabsOf(PLAY);
+    script.show(edits.text);
     if (!await openLink()) play();
 }
 begin().catch(wrong => {

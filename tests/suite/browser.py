@@ -5,13 +5,17 @@ status, byte by byte.
 - each example: scripts in every form, litmus tests walked, programs run, exercises compared;
 - scripts that are drawn, of 100,000 calls;
 - all of these in one process, one call after another: none finds anything of the one before it;
-- what a command line in node does; and that a run which asks for more memory than there is ends with `no memory`.
+- what a command line in node does; what tools/browser says of packages that aren't there; a small program, proved as ./build
+  proves this one, of the module that is kept of it; and that a run which asks for more memory than there is ends with `no memory`.
 """
+import os
+import shutil
+import sys
 import tempfile
 from pathlib import Path
 
-from harness import ROOT, Different, Ran, lockup, run, same, seconds, want
-from harness.browser import Call, asked, folder
+from harness import ROOT, Ran, Skipped, lockup, needs, run, same, seconds, want, write
+from harness.browser import TOOLS, Call, asked, folder
 from harness.cases import Case, all_cases, placed
 from harness.generator import Generator
 from harness.processes import program, read
@@ -91,6 +95,59 @@ def test_a_command_line() -> None:
     for words, text in [(["--version"], ""), (["script", example], ""), (["script", "-"], "state 0\nstate x\n"),
                         (["script"], ""), (["script", "there is none"], ""), (["try"], "state 0\nhelp\nquit\n")]:
         same(f"lockup {words}", run([program(), *words], text), run([*node, *words], text))
+
+
+# Proves a small program as ./build proves this one, and compiles what was kept of it.
+PROVE = """
+import os, sys
+sys.path.insert(0, sys.argv[1])
+import kit, wasm
+rt = kit.load_rt()
+[crate] = kit.strict_crates_of(rt, os.getcwd())
+os.makedirs(f"{crate.folder}/out")
+os.chdir(crate.folder)
+program = f"{crate.folder}/out/{crate.name}"
+sys.exit(kit.prove_program(rt, crate, ["--jobs", "1"])
+         or wasm.compile_module(rt.rtlib.KIT, crate.folder, kit.module_of(program), f"{program}.wasm"))
+"""
+RUN = """
+import fs from 'node:fs';
+import { Machine } from '%s/browser/machine.mjs';
+const machine = new Machine(new WebAssembly.Module(fs.readFileSync(process.argv[2])));
+const { status, out } = machine.run([Buffer.from('program')], fs.readFileSync(process.argv[3]));
+fs.writeSync(1, Buffer.concat(out));
+process.exitCode = status;
+"""
+
+
+@seconds(60)
+def test_a_proved_program() -> None:
+    """The module that is kept of a proved program does in a browser what the program does: the kit's example that reads and
+    writes."""
+    needs("rt", *TOOLS)
+    kit = Path(os.path.realpath(str(shutil.which("rt")))).parents[1]
+    example = kit / "rattle/examples/start_io"
+    if not example.is_dir():
+        raise Skipped("the kit has no example start_io")
+    with tempfile.TemporaryDirectory() as room:
+        shutil.copytree(example, f"{room}/start_io")
+        shutil.copy(ROOT / "HANDLES", room)
+        run(["git", "init", "--quiet", room])
+        proved = run(["nice", sys.executable, "-B", "-c", PROVE, ROOT / "tools"], cwd=room)
+        same("it is proved and compiled", (0, ""), (proved.status, proved.err))
+        made = Path(room, "start_io/out/start_io")
+        write(f"{room}/run.mjs", RUN % ROOT)
+        ran = run(["node", f"{room}/run.mjs", f"{made}.wasm", example / "stdin"])
+        same("in node", (0, read(example / "stdout"), ""), tuple(ran))
+        same("as itself", read(example / "stdout"), run([made], read(example / "stdin")).out)
+
+
+def test_what_is_missing() -> None:
+    """Each Debian package that isn't there is named."""
+    ran = run([sys.executable, ROOT / "tools/browser"], env={"PATH": "/nowhere"})
+    names = "binaryen clang-16 lld-16 llvm-16 nodejs"
+    same("status and error", (2, f"tools/browser: these Debian packages are missing: {names} (apt install {names})\n"),
+         (ran.status, ran.err))
 
 
 # the largest machine, of which one has room and many haven't

@@ -271,6 +271,14 @@ def test_an_invalid_line() -> None:
             document.querySelector('#numbers .bad').getBoundingClientRect().bottom]""")
         want(0 <= top - line < 12, f"the error is at {top}, and the line ends at {line}")
         same("steps before it", "1 of 1", it.get(STEP))
+        # what is done goes on behind the last step; and what was typed just now isn't lost
+        it.do('[data-issue="0 load"]')
+        same("behind it", ["state 0", "issue 0 0 load 0"], it.commands())
+        it.click("#script")
+        it.get("document.getElementById('script').setSelectionRange(1e6, 1e6)")
+        it.type("state 1\n")
+        it.do('[data-issue="0 add"]')
+        same("behind what was typed", ["state 0", "issue 0 0 load 0", "state 1", "issue 0 1 add 0 1"], it.commands())
 
 
 # ---- tests, programs, exercises, tables, files
@@ -387,7 +395,7 @@ def test_the_policy() -> None:
              it.get_in_frame("(() => { try { return parent.document.title; } catch { return 'refused'; } })()"))
 
 
-@seconds(8)
+@seconds(20)
 def test_a_site() -> None:
     """Of a web server's folder each link leads to a page, and each that plays an example opens it."""
     with tempfile.TemporaryDirectory() as room:

@@ -1,6 +1,5 @@
 """The program as a browser has it: tools/browser builds its module and page once in a run of the tests, and node runs it."""
 import json
-import shutil
 import tempfile
 from pathlib import Path
 from typing import Iterator, NamedTuple, Sequence
@@ -10,6 +9,8 @@ from .processes import ROOT, Ran, alone, needs, run
 
 TOOLS = ("opt-16", "llc-16", "clang-16", "wasm-ld-16", "wasm-opt", "node")
 PARTS = ("tools/wasm.py", "tools/native.py", "browser/shim.c", "crates.txt")
+FOLDER = ROOT / "browser/out"
+MODULE = FOLDER / "lockup.wasm"
 
 
 class Call(NamedTuple):
@@ -20,31 +21,32 @@ class Call(NamedTuple):
 
 
 def folder() -> Path:
-    """Returns the folder of lockup.wasm and lockup.html, which are built there if they aren't yet: the module of the
-    unproved program, unless out/ has one that is newer than its sources."""
-    made = Path(tempfile.gettempdir()) / "browser"
+    """Returns the folder of lockup.wasm and lockup.html: the module of the unproved program, built where sources are newer, and
+    the page around it, put together once in a run of the tests."""
+    needs(*TOOLS, "rt")
     with alone("browser"):
-        if not (made / "lockup.html").is_file():
-            build(made)
-    return made
+        if not (MODULE.is_file() and MODULE.stat().st_mtime > max(it.stat().st_mtime for it in sources())):
+            build("--unproved")
+        elif not put_together().exists():
+            build("--page")
+    return FOLDER
 
 
-def build(made: Path) -> None:
-    needs(*TOOLS)
-    made.mkdir(exist_ok=True)
-    there = ROOT / "out/lockup.wasm"
-    if there.is_file() and there.stat().st_mtime > max(it.stat().st_mtime for it in sources()):
-        shutil.copyfile(there, made / "lockup.wasm")
+def build(how: str) -> None:
+    failed = Path(tempfile.gettempdir()) / "browser.failed"
     # one that another test began and could not build isn't begun again
-    how = "--page" if (made / "lockup.wasm").is_file() else "--unproved"
-    if how == "--unproved":
-        needs("rt")
-        if (made / "began").exists():
-            raise Skipped("tools/browser failed")
-        (made / "began").touch()
-    ran = run(["nice", ROOT / "tools/browser", how, "--to", made], timeout=None)
+    if failed.exists():
+        raise Skipped("tools/browser failed")
+    ran = run(["nice", ROOT / "tools/browser", how, "--to", FOLDER], timeout=None)
     if ran.status:
+        failed.touch()
         raise Different(f"tools/browser fails:\n{ran.err}")
+    put_together().touch()
+
+
+def put_together() -> Path:
+    """Returns the file that is there once this run of the tests has put the page together."""
+    return Path(tempfile.gettempdir()) / "browser.page"
 
 
 def sources() -> Iterator[Path]:

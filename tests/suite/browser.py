@@ -38,7 +38,7 @@ def compare(calls: list[Call], wanted: list[Ran]) -> None:
         same(f"what `lockup {' '.join(map(str, call.words))}` does in a browser", want_, got)
 
 
-@seconds(300)
+@seconds(60)
 def test_cases() -> None:
     with tempfile.TemporaryDirectory() as room:
         calls = []

@@ -1,0 +1,14 @@
+"""Builds the program for a browser without a proof, by tools/browser: the tests of `browser` and `playground` run it."""
+from harness import ROOT, seconds, want
+from harness.browser import folder
+
+# it is built while the gate proves
+NEEDS_PROGRAM = False
+# one file that is sent by mail
+MOST = 1_500_000
+
+
+@seconds(300)
+def test_is_built() -> None:
+    page = folder() / "lockup.html"
+    want(page.stat().st_size <= MOST, f"{page.relative_to(ROOT)} has {page.stat().st_size} bytes")

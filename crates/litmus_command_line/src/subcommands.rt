@@ -456,7 +456,7 @@ fn test<'a>(alloc: Global) -> Result<Command<'a>, AllocError>
     let command = begin(
         alloc,
         "test",
-        "Tests a script against the answers that it wants: finds the first that differs",
+        "Tests a script against the answers that it wants: finds the lines that differ",
         help::TEST,
     );
     and(

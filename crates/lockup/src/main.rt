@@ -42,6 +42,9 @@ mod workload;
 /// The exit status where the command line or the file is refused.
 const REFUSED: u8 = 2;
 
+/// What is said of a script to be tested that wants no answer.
+const NO_TEST: &str = "no answer is wanted: this is no test";
+
 /// The name of a file that stands for standard input.
 const STANDARD_INPUT: &str = "-";
 
@@ -162,8 +165,12 @@ where
 {
     match print_answers(rt, line, input, people) {
         Ok(status) => {
-            if let CommandLine::Run { outstanding, .. } = line {
-                tell_unused(rt, people, input, outstanding);
+            match line {
+                CommandLine::Run { outstanding, .. } => {
+                    tell_unused(rt, people, input, outstanding);
+                }
+                CommandLine::Test { .. } if status == REFUSED => complain(rt, people, NO_TEST),
+                _ => {}
             }
             status
         }
@@ -278,7 +285,7 @@ where
             guess,
             ..
         } => run_page_with(alloc, input, extras_of(branches, guess), out),
-        CommandLine::Test { .. } => run_test(alloc, input, out),
+        CommandLine::Test { .. } => run_test(alloc, input, false, out),
         CommandLine::Litmus {
             seed,
             limit,

@@ -1,11 +1,13 @@
 -- Differences, one line or one answer further.
 use Rattle.std.proofs.Common.{◌≡◌, ℕ, zero, suc, ◌+◌, ◌-◌, ◌<◌, ◌≤◌, List, [], ◌∷◌, ◌++◌, length, get_or, drop, take}
-use Rattle.std.proofs.Common.{map, Option, Some, None, All, ap, sym, subst, refl, ◌∙◌, inl, inr, arith, below_more}
+use Rattle.std.proofs.Common.{append-nil, map, Option, Some, None, All, ap, sym, subst, refl, ◌∙◌, inl, inr, arith, below_more}
 use Rattle.std.proofs.lemmas.List.{drop-drop, length-drop, take-append-drop, take_all}
 use Rattle.std.proofs.lemmas.List.{at_drop_more, drop-map, length-map, take-map}
 use Rattle.std.proofs.lemmas.List.{get_or-map as get_at_map}
-use Rattle.std.proofs.Math.ListN.{get_or-map}
-use Rattle.script_test.specs.Judged.{BeginBehind, IsBefore, IsFirstUnlike, IsJudged, IsSame, IsUnlike, Unlike}
+use Rattle.std.proofs.Math.ListN.{drop_of_length-le, get_or-map}
+use Rattle.std.specs.Option.{option_to_list}
+use Rattle.script_test.specs.Judged.{BeginBehind, IsBefore, IsFirstUnlike, IsJudged, IsSame, IsUnlike, IsUnlikeFrom}
+use Rattle.script_test.specs.Judged.{Unlike}
 
 -- behind so many lines stands one that isn't in front of the next statement, or none
 pub begin_behind : (answers wants : List (ℕ × List ℕ)) (n : ℕ) (d : ℕ × List ℕ) → 0 < length answers
@@ -50,41 +52,34 @@ module _ {X : Type 0} (view : X → ℕ × List ℕ) (xs : List X) (i : ℕ) (d 
   first_more at got more unlike within same rest =
       subst (λ left. IsFirstUnlike at left (got ∷ more) unlike) (sym (next_of within)) (inl (same, rest))
 
-  -- a line that isn't
-  pub first_here : (at : ℕ) (got : List ℕ) (more : List (List ℕ)) → i < length xs
-      → (¬ IsSame (view (get_or xs i d)).1 got)
+  -- a line that isn't, from this word on
+  pub first_here : (at : ℕ) (got : List ℕ) (more : List (List ℕ)) (word : ℕ) → i < length xs
+      → IsUnlikeFrom (view (get_or xs i d)).1 got word
       → IsFirstUnlike at (drop i (map view xs)) (got ∷ more)
-      (Some ((view (get_or xs i d)).0, Some (view (get_or xs i d)).1, Some got))
-  first_here at got more within other =
+      (Some ((view (get_or xs i d)).0, Some (view (get_or xs i d)).1, Some got, Some word))
+  first_here at got more word within other =
       subst (λ left. IsFirstUnlike at left (got ∷ more)
-      (Some ((view (get_or xs i d)).0, Some (view (get_or xs i d)).1, Some got)))
-      (sym (next_of within)) (inr (other, refl))
+      (Some ((view (get_or xs i d)).0, Some (view (get_or xs i d)).1, Some got, Some word)))
+      (sym (next_of within)) (inr (word, other, refl))
 
   -- no line where one is wanted
   pub first_short : (at : ℕ) → i < length xs
       → IsFirstUnlike at (drop i (map view xs)) [] (Some
-      ((view (get_or xs i d)).0, Some (view (get_or xs i d)).1, None))
+      ((view (get_or xs i d)).0, Some (view (get_or xs i d)).1, None, None))
   first_short at within =
-      subst (λ left. IsFirstUnlike at left [] (Some ((view (get_or xs i d)).0, Some (view (get_or xs i d)).1, None)))
+      subst (λ left. IsFirstUnlike at left [] (Some
+      ((view (get_or xs i d)).0, Some (view (get_or xs i d)).1, None, None)))
       (sym (next_of within)) refl
 
-  -- an answer that is as wanted, and then the first difference of those behind it
-  pub judged_more : (wants mine later : List (ℕ × List ℕ)) (unlike : Option Unlike)
+  -- the difference of an answer, if it has one, and then those of the answers behind it
+  pub judged_more : (wants mine later : List (ℕ × List ℕ)) (unlike : Option Unlike) (others : List Unlike)
       → i < length xs → wants ≡ mine ++ later
       → All (IsBefore (drop (i + 1) (map view xs))) mine → BeginBehind (drop (i + 1) (map view xs)) later
-      → IsUnlike (view (get_or xs i d)) mine None → IsJudged later (drop (i + 1) (map view xs)) unlike
-      → IsJudged wants (drop i (map view xs)) unlike
-  judged_more wants mine later unlike within parts before behind alike rest =
-      subst (λ left. IsJudged wants left unlike) (sym (next_of within))
-      (mine, later, parts, before, behind, inr (alike, rest))
-
-  -- an answer that isn't
-  pub judged_here : (wants mine later : List (ℕ × List ℕ)) (found : Unlike) → i < length xs → wants ≡ mine ++ later
-      → All (IsBefore (drop (i + 1) (map view xs))) mine → BeginBehind (drop (i + 1) (map view xs)) later
-      → IsUnlike (view (get_or xs i d)) mine (Some found) → IsJudged wants (drop i (map view xs)) (Some found)
-  judged_here wants mine later found within parts before behind unlike =
-      subst (λ left. IsJudged wants left (Some found)) (sym (next_of within))
-      (mine, later, parts, before, behind, inl (refl, unlike))
+      → IsUnlike (view (get_or xs i d)) mine unlike → IsJudged later (drop (i + 1) (map view xs)) others
+      → IsJudged wants (drop i (map view xs)) (option_to_list unlike ++ others)
+  judged_more wants mine later unlike others within parts before behind here rest =
+      subst (λ left. IsJudged wants left (option_to_list unlike ++ others)) (sym (next_of within))
+      (mine, later, parts, before, behind, unlike, others, here, rest, refl)
 
 module _ {X Y : Type 0} (v : X → ℕ × List ℕ) (u : Y → ℕ × List ℕ) (wants : List X) (answers : List Y)
     (taken place count : ℕ) (d : Y)
@@ -100,42 +95,37 @@ module _ {X Y : Type 0} (v : X → ℕ × List ℕ) (u : Y → ℕ × List ℕ) 
   parts : drop taken (map v wants) ≡ take count (map v (drop taken wants)) ++ drop count (map v (drop taken wants))
   parts = left ∙ sym (take-append-drop count (map v (drop taken wants)))
 
-  -- the next answer is as wanted
-  pub judge_more : (unlike : Option Unlike) → IsUnlike (u (get_or answers place d))
-      (map v (take count (drop taken wants))) None
-      → IsJudged (drop (taken + count) (map v wants)) (drop (place + 1) (map u answers)) unlike
-      → IsJudged (drop taken (map v wants)) (drop place (map u answers)) unlike
-  judge_more unlike alike rest =
+  pub judge_more : (unlike : Option Unlike) (others : List Unlike) → IsUnlike (u (get_or answers place d))
+      (map v (take count (drop taken wants))) unlike
+      → IsJudged (drop (taken + count) (map v wants)) (drop (place + 1) (map u answers)) others
+      → IsJudged (drop taken (map v wants)) (drop place (map u answers)) (option_to_list unlike ++ others)
+  judge_more unlike others here rest =
       judged_more u answers place d (drop taken (map v wants)) (take count (map v (drop taken wants)))
-      (drop count (map v (drop taken wants))) unlike
+      (drop count (map v (drop taken wants))) unlike others
       within parts
       (subst (λ more. All (IsBefore more) (take count (map v (drop taken wants))))
       (sym (drop-map u (place + 1) answers)) before)
       (subst (λ more. BeginBehind more (drop count (map v (drop taken wants))))
       (sym (drop-map u (place + 1) answers)) behind)
-      (subst (λ mine. IsUnlike (u (get_or answers place d)) mine None)
-      (sym (take-map v count (drop taken wants))) alike)
-      (subst (λ later. IsJudged later (drop (place + 1) (map u answers)) unlike) (sym later_of) rest)
-
-  -- it isn't
-  pub judge_here : (found : Unlike) → IsUnlike (u (get_or answers place d))
-      (map v (take count (drop taken wants))) (Some found)
-      → IsJudged (drop taken (map v wants)) (drop place (map u answers)) (Some found)
-  judge_here found unlike =
-      judged_here u answers place d (drop taken (map v wants)) (take count (map v (drop taken wants)))
-      (drop count (map v (drop taken wants))) found
-      within parts
-      (subst (λ more. All (IsBefore more) (take count (map v (drop taken wants))))
-      (sym (drop-map u (place + 1) answers)) before)
-      (subst (λ more. BeginBehind more (drop count (map v (drop taken wants))))
-      (sym (drop-map u (place + 1) answers)) behind)
-      (subst (λ mine. IsUnlike (u (get_or answers place d)) mine (Some found))
-      (sym (take-map v count (drop taken wants))) unlike)
+      (subst (λ mine. IsUnlike (u (get_or answers place d)) mine unlike)
+      (sym (take-map v count (drop taken wants))) here)
+      (subst (λ later. IsJudged later (drop (place + 1) (map u answers)) others) (sym later_of) rest)
 
 pub tail_is : {X : Type 0} (xs : List X) (n : ℕ) → take (length xs - n) (drop n xs) ≡ drop n xs
 tail_is xs n =
     let left : length (drop n xs) ≡ length xs - n = length-drop n xs in
     take_all (length xs - n) (drop n xs) (omega (arith, left))
+
+-- behind the last answer nothing is left to find
+pub judged_all : {Y : Type 0} (u : Y → ℕ × List ℕ) (answers : List Y) (place : ℕ) (left wants : List (ℕ × List ℕ))
+    (found : List Unlike) → length answers ≤ place
+    → ((others : List Unlike) → IsJudged left (drop place (map u answers)) others
+    → IsJudged wants (map u answers) (found ++ others))
+    → IsJudged wants (map u answers) found
+judged_all u answers place left wants found past all =
+    let none : drop place (map u answers) ≡ [] = drop_of_length-le (map u answers) (rw length-map past) in
+    subst (λ ds. IsJudged wants (map u answers) ds) (append-nil found)
+    (all [] (subst (λ rest. IsJudged left rest []) (sym none) refl))
 
 -- the same, where the lists that are left are named
 module _ {X Y : Type 0} (v : X → ℕ × List ℕ) (u : Y → ℕ × List ℕ) (wants : List X) (answers : List Y)
@@ -153,15 +143,10 @@ module _ {X Y : Type 0} (v : X → ℕ × List ℕ) (u : Y → ℕ × List ℕ) 
       subst (λ r. BeginBehind (map u (drop (place + 1) answers)) (drop count (map v r))) rest_is
       (subst (λ n. BeginBehind (map u n) (drop count (map v rest))) next_is behind)
 
-  pub judge_next : (unlike : Option Unlike) → IsUnlike (u (get_or answers place d)) (map v (take count rest)) None
-      → IsJudged (drop (taken + count) (map v wants)) (drop (place + 1) (map u answers)) unlike
-      → IsJudged (drop taken (map v wants)) (drop place (map u answers)) unlike
-  judge_next unlike alike more =
-      judge_more v u wants answers taken place count d within before_is behind_is unlike
-      (subst (λ r. IsUnlike (u (get_or answers place d)) (map v (take count r)) None) rest_is alike) more
-
-  pub judge_found : (found : Unlike) → IsUnlike (u (get_or answers place d)) (map v (take count rest)) (Some found)
-      → IsJudged (drop taken (map v wants)) (drop place (map u answers)) (Some found)
-  judge_found found unlike =
-      judge_here v u wants answers taken place count d within before_is behind_is found
-      (subst (λ r. IsUnlike (u (get_or answers place d)) (map v (take count r)) (Some found)) rest_is unlike)
+  pub judge_next : (unlike : Option Unlike) (others : List Unlike)
+      → IsUnlike (u (get_or answers place d)) (map v (take count rest)) unlike
+      → IsJudged (drop (taken + count) (map v wants)) (drop (place + 1) (map u answers)) others
+      → IsJudged (drop taken (map v wants)) (drop place (map u answers)) (option_to_list unlike ++ others)
+  judge_next unlike others here more =
+      judge_more v u wants answers taken place count d within before_is behind_is unlike others
+      (subst (λ r. IsUnlike (u (get_or answers place d)) (map v (take count r)) unlike) rest_is here) more

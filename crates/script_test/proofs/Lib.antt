@@ -1,3 +1,4 @@
 pub mod JudgedLemmas
+pub mod WordLemmas
 pub mod AnswerLemmas
 pub mod RunLemmas

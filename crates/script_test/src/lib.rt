@@ -1,7 +1,7 @@
 //! Tests scripts against wanted answers.
 //!
 //! A text is a script whose lines may end in `=` and the answer that is wanted. [`run_test`] plays the script in it as
-//! [`litmus_script::run_script`] does, and says where its answers aren't those that are wanted first, or how many lines
+//! [`litmus_script::run_script`] does, and says of each answer where it first isn't the wanted one, or how many lines
 //! are as wanted (specs/Judged.antt).
 //!
 //! - `exercise` takes the text apart: the script in it, and what is wanted (specs/Exercise.antt).

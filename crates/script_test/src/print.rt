@@ -1,21 +1,28 @@
 ghost use Rattle.std.specs.Prelude.{ℕ, List, [], Option, None, Some, ◌≡◌, IfOk, OnOk, length, map};
+ghost use Rattle.std.specs.List.{flat_map};
 ghost use Rattle.std.specs.Option.{option_map};
 ghost use Rattle.std.specs.Io.KnownBytes.{Appends};
-ghost use Rattle.script_test.specs.Judged.{text_of, text_of_line, text_of_difference, text_of_count};
+ghost use Rattle.script_test.specs.Judged.{text_of_line, text_of_word, text_of_difference, text_of_count, unlike_of};
 
 use super::judge::Difference;
 use itoa::Buffer;
 use stats_report::{Cut, write_text};
 use std::io::Write;
 
-/// Prints a difference.
-pub fn write_difference<W: Write>(difference: Difference<'_>, out: &mut W) -> Result<(), Cut>
-    ensures { OnOk result (Appends (W.contents out.old) (W.contents out.new) (text_of_difference (
-      difference.entry.line,
-      option_map (λ t. t.now) difference.entry.wanted,
-      option_map (λ t. t.now)
-          difference.entry.got,
-    ))) }
+/// Prints differences, a line each.
+pub fn write_differences<W: Write>(differences: &[Difference<'_>], out: &mut W) -> Result<(), Cut>
+    ensures { OnOk result (Appends (W.contents out.old) (W.contents out.new)
+        (flat_map text_of_difference (map unlike_of differences.now))) }
+{
+    for difference in differences {
+        write_difference(*difference, out)?;
+    }
+    Ok(())
+}
+
+fn write_difference<W: Write>(difference: Difference<'_>, out: &mut W) -> Result<(), Cut>
+    ensures { OnOk result (Appends (W.contents out.old) (W.contents out.new)
+        (text_of_difference (unlike_of difference.entry))) }
 {
     let mut digits = Buffer::new();
     write_text(out, b"line ")?;
@@ -24,6 +31,7 @@ pub fn write_difference<W: Write>(difference: Difference<'_>, out: &mut W) -> Re
     write_line(difference.wanted, out)?;
     write_text(out, b", got ")?;
     write_line(difference.got, out)?;
+    write_word(difference.word, out)?;
     write_text(out, b"\n")
 }
 
@@ -36,6 +44,18 @@ fn write_line<W: Write>(line: Option<&[u8]>, out: &mut W) -> Result<(), Cut>
         Some(line) => write_text(out, line),
         None => write_text(out, b"no further line"),
     }
+}
+
+/// Prints which word isn't the same, where both lines are there.
+fn write_word<W: Write>(word: Option<usize>, out: &mut W) -> Result<(), Cut>
+    ensures { OnOk result (Appends (W.contents out.old) (W.contents out.new) (text_of_word word)) }
+{
+    let Some(number) = word else {
+        return Ok(());
+    };
+    let mut digits = Buffer::new();
+    write_text(out, b": word ")?;
+    write_text(out, digits.format(number).as_bytes())
 }
 
 /// Prints how many lines are as wanted.

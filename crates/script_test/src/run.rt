@@ -1,21 +1,27 @@
-ghost use Rattle.std.specs.Prelude.{◌≡◌, Option, IfErr, IfOk, IsOk, length, map};
+ghost use Rattle.std.specs.Prelude.{◌≡◌, IfErr, IfOk, IsOk, length, map};
 ghost use Rattle.std.specs.Io.KnownBytes.{Appends};
-ghost use Rattle.script_test.specs.Judged.{IsJudged, IsStopped, PrintsTest, Unlike, status_of, text_of};
+ghost use Rattle.script_test.specs.Judged.{IsStopped, PrintsTest, shown, status_of, text_of, unlike_of};
 
-use super::answer::{Answer, answers_of, numbers_of};
-use super::exercise::{Want, script_of, wants_of};
-use super::judge::judge;
-use super::print::{write_count, write_difference};
+use super::answer::{answers_of, numbers_of};
+use super::exercise::{script_of, wants_of};
+use super::judge::{Difference, judge};
+use super::print::{write_count, write_differences};
 use super::recorder::texts_of;
 use litmus_text::TextFault;
 use stats_report::Cut;
 use std::alloc::Global;
 use std::io::Write;
 
-/// Runs the script in a text with wanted answers, and prints where an answer isn't the wanted one first, or how many
-/// lines are as wanted. Returns the exit status.
-pub fn run_test<W: Write>(alloc: Global, input: &[u8], out: &mut W) -> Result<u8, TextFault>
-    ensures printed { IfOk result (PrintsTest input.now (W.contents out.old) (W.contents out.new)) }
+/// Runs the script in a text with wanted answers, and prints where answers aren't the wanted ones, with `first` the
+/// first place alone, or how many lines are as wanted. Returns the exit status: 0 where all are as wanted, 1 where some
+/// aren't. A text that wants nothing is no test: nothing is printed of it, and the status is 2.
+pub fn run_test<W: Write>(
+    alloc: Global,
+    input: &[u8],
+    first: bool,
+    out: &mut W,
+) -> Result<u8, TextFault>
+    ensures printed { IfOk result (PrintsTest input.now first (W.contents out.old) (W.contents out.new)) }
     ensures fault { IfErr result (IsStopped input.now) }
 {
     let script = script_of(alloc, input)?;
@@ -23,25 +29,39 @@ pub fn run_test<W: Write>(alloc: Global, input: &[u8], out: &mut W) -> Result<u8
     let numbers = numbers_of(alloc, script.as_slice())?;
     let answers = answers_of(alloc, numbers.as_slice(), texts.as_slice())?;
     let wants = wants_of(alloc, input)?;
-    print_judgement(wants.as_slice(), answers.as_slice(), out)
+    let differences = judge(alloc, wants.as_slice(), answers.as_slice())?;
+    print_judgement(wants.len(), differences.as_slice(), first, out)
 }
 
-/// Judges answers, and prints what this comes to.
+/// Prints what a test comes to that wants so many lines.
 fn print_judgement<W: Write>(
-    wants: &[Want<'_>],
-    answers: &[Answer<'_>],
+    wanted: usize,
+    differences: &[Difference<'_>],
+    first: bool,
     out: &mut W,
 ) -> Result<u8, TextFault>
-    ensures printed { IfOk result (λ status. (unlike : Option Unlike)
-        × IsJudged (map (λ w. (w.line, w.text.now)) wants.now) (map (λ a. (a.line, a.text.now)) answers.now) unlike
-        × (status ≡ status_of unlike) × Appends (W.contents out.old) (W.contents out.new)
-        (text_of (length wants.now) unlike)) }
+    ensures printed { IfOk result (λ status. (status ≡ status_of wanted (map unlike_of differences.now))
+        × Appends (W.contents out.old) (W.contents out.new)
+        (text_of first wanted (map unlike_of differences.now))) }
     ensures fault { IfErr result (λ fault. fault ≡ TextFault.CannotWrite) }
 {
-    match judge(wants, answers) {
-        None => ended(write_count(wants.len(), out), 0),
-        Some(difference) => ended(write_difference(difference, out), 1),
+    if wanted == 0 {
+        return Ok(2);
     }
+    if differences.is_empty() {
+        return ended(write_count(wanted, out), 0);
+    }
+    ended(write_differences(shown(differences, first), out), 1)
+}
+
+/// The differences that are printed: all, or the first alone.
+fn shown<'a, 'b>(differences: &'a [Difference<'b>], first: bool) -> &'a [Difference<'b>]
+    ensures { map unlike_of result.now ≡ shown first (map unlike_of differences.now) }
+{
+    if first {
+        return &differences[..differences.len().min(1)];
+    }
+    differences
 }
 
 /// The status with which a run ends, where its text was written.

@@ -160,7 +160,8 @@ Example: lockup generate matmul --cores 4 --size 16 > matmul.txt";
 pub const TEST: &str = "\
 A line of the script may end in '=' and the answer that is wanted of its command; further lines of
 the answer stand in lines of their own that begin with '='. An answer of which nothing is wanted may
-be any. The first line that differs is printed, with status 1, or how many lines are as wanted:
+be any. Of each answer the first line that differs is printed, with the number of the first word
+that differs in it, and the status is 1; or else how many lines are as wanted:
 
   issue 0 0 load 0      = pending 0
   waiting

@@ -1,14 +1,14 @@
-use Rattle.std.proofs.Common.{◌≤◌, length, drop, map, Option}
-use Rattle.script_test.specs.Judged.{IsJudged, Unlike}
+use Rattle.std.proofs.Common.{◌≤◌, ◌++◌, length, drop, map, List}
+use Rattle.script_test.specs.Judged.{IsJudged, Unlike, unlike_of}
 use Rattle.script_test.proofs.judge.judge.Given as goal
 
--- the first difference of what is left is that of all
+-- those that were found, and then the differences of what is left, are those of all
 abbrev pub invariant-loop-place : goal.invariant-loop-place
 invariant-loop-place l =
     let wants = map (λ w. (w.line, w.text.now)) l.wants in
     let answers = map (λ a. (a.line, a.text.now)) l.answers in
     record {
       taken : l.taken ≤ length l.wants;
-      all : (unlike : Option Unlike) → IsJudged (drop l.taken wants) (drop l.place answers) unlike
-          → IsJudged wants answers unlike;
+      all : (others : List Unlike) → IsJudged (drop l.taken wants) (drop l.place answers) others
+          → IsJudged wants answers (map unlike_of l.differences.items ++ others);
     }

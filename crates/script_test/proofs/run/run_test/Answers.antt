@@ -1,9 +1,6 @@
-use Rattle.std.proofs.Common.{inl, ◌∙◌, sym, subst, map, ap}
+use Rattle.std.proofs.Common.{inl, ◌∙◌, sym, map, ap}
 use Rattle.std.proofs.lemmas.Result.{IfOk-weaker, err_from_is_err_and}
 use Rattle.std.proofs.lemmas.List.{length-map}
-use Rattle.std.specs.Str.Lines.{lines}
-use Rattle.litmus_text.specs.Statement.{statements_from}
-use Rattle.script_test.specs.Answers.{AreAnswers}
 use Rattle.script_test.proofs.RunLemmas.{prints_test}
 use Rattle.script_test.proofs.run.run_test.Goals as goal
 
@@ -27,5 +24,7 @@ returns-clause-printed g c =
     (c.as_slice-2.ensures.value ∙ script)
     all numbers (ap (λ s. map (λ a. (a.line, a.text.now)) s) c.as_slice-6.ensures.value ∙ numbered)
     (ap (λ s. map (λ w. (w.line, w.text.now)) s) c.as_slice-5.ensures.value ∙ wants)
-    _ _ status _ (sym (length-map _ _)) printed)
+    c.args.first _ _ _ status _
+    (c.len.ensures ∙ sym (length-map _ _ ∙ c.as_slice-5.ensures.len)) c.in_ok-differences.ensures
+    (rw c.as_slice-7.ensures.value at printed))
     c.print_judgement.ensures.printed

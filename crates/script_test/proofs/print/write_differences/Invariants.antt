@@ -1,0 +1,13 @@
+use Rattle.std.proofs.Common.{ℕ, List, Option, drop, map}
+use Rattle.std.specs.Io.KnownBytes.{Appends}
+use Rattle.std.specs.List.{flat_map}
+use Rattle.script_test.specs.Judged.{text_of_difference, unlike_of}
+use Rattle.script_test.proofs.print.write_differences.Given as goal
+
+-- who writes the differences that are left has written all
+abbrev pub invariant-loop-difference : goal.invariant-loop-difference
+invariant-loop-difference g l =
+    let contents = g.W.Write.contents in
+    (after : Option (List ℕ))
+    → Appends (contents l.out) after (flat_map text_of_difference (map unlike_of (drop l.difference-index l.differences)))
+    → Appends (contents l.fn.out) after (flat_map text_of_difference (map unlike_of l.differences))

@@ -134,7 +134,7 @@ generate_app =
 
 -- the subcommand that tests a script
 abbrev pub test_app : App
-test_app = with_rules (new_app (codes "test")) (file_rule ∷ [])
+test_app = with_rules (new_app (codes "test")) (file_rule ∷ flag_rule (codes "first") ∷ [])
 
 -- the subcommand that judges a trace
 abbrev pub check_app : App
@@ -337,7 +337,8 @@ IsLine name rows (command_lines.Sweep file outstanding seed seeds json) =
 IsLine name rows (command_lines.Generate workload cores size seed) =
     (name ≡ codes "generate") × (first_of (codes "NAME") rows ≡ Some workload.now)
     × IsNumberOf (codes "cores") rows cores × IsNumberOf (codes "size") rows size × IsNumberOf (codes "seed") rows seed
-IsLine name rows (command_lines.Test file) = (name ≡ codes "test") × (first_of (codes "FILE") rows ≡ Some file.now)
+IsLine name rows (command_lines.Test file first) =
+    (name ≡ codes "test") × (first_of (codes "FILE") rows ≡ Some file.now) × (first ≡ is_given (codes "first") rows)
 IsLine name rows (command_lines.Check file json) =
     (name ≡ codes "check") × (first_of (codes "FILE") rows ≡ Some file.now) × (json ≡ is_given (codes "json") rows)
 IsLine name rows (command_lines.Table table exclusive json) =

@@ -87,9 +87,10 @@ pub enum CommandLine<'a> {
         size: u64,
         seed: u64,
     },
-    /// Test the script in this file against the answers that it wants.
+    /// Test the script in this file against the answers that it wants. With `first`, print the first difference alone.
     Test {
         file: &'a str,
+        first: bool,
     },
     /// Judge the trace in this file. With `json`, print the verdict as a value of JSON.
     Check {
@@ -324,7 +325,8 @@ fn test_line<'a>(given: &ArgMatches<'a>) -> Option<CommandLine<'a>>
     ensures { IfSome result (IsLine (codes "test") (rows_of (found_of given.now))) }
 {
     let file = file_of(given)?;
-    Some(CommandLine::Test { file })
+    let first = is_given(given, "first");
+    Some(CommandLine::Test { file, first })
 }
 
 fn check_line<'a>(given: &ArgMatches<'a>) -> Option<CommandLine<'a>>

@@ -459,9 +459,13 @@ fn test<'a>(alloc: Global) -> Result<Command<'a>, AllocError>
         "Tests a script against the answers that it wants: finds the lines that differ",
         help::TEST,
     );
-    and(
+    let command = and(
         command,
         file(alloc, "The script: one command a line; - is standard input"),
+    );
+    and(
+        command,
+        flag(alloc, "first", "Print the first difference alone"),
     )
 }
 

@@ -214,7 +214,7 @@ fn file_of<'a>(line: CommandLine<'a>) -> Option<&'a str> {
         CommandLine::Script { file, .. }
         | CommandLine::Chart { file, .. }
         | CommandLine::Page { file, .. }
-        | CommandLine::Test { file }
+        | CommandLine::Test { file, .. }
         | CommandLine::Litmus { file, .. }
         | CommandLine::Walk { file, .. }
         | CommandLine::Run { file, .. }
@@ -285,7 +285,7 @@ where
             guess,
             ..
         } => run_page_with(alloc, input, extras_of(branches, guess), out),
-        CommandLine::Test { .. } => run_test(alloc, input, false, out),
+        CommandLine::Test { first, .. } => run_test(alloc, input, first, out),
         CommandLine::Litmus {
             seed,
             limit,

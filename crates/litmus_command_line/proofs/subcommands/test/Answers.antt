@@ -2,4 +2,5 @@ use Rattle.litmus_command_line.proofs.subcommands.test.Goals as goal
 
 pub returns : goal.returns
 returns c =
-    c.and.ensures _ _ c.begin-command.ensures c.file.ensures
+    let step_1 = c.and-command.ensures _ _ c.begin-command.ensures c.file.ensures in
+    c.and.ensures _ _ step_1 c.flag.ensures

@@ -45,8 +45,8 @@ static word kind_for(word count) {
 
 static word size(void) { return __builtin_wasm_memory_size(0) * 65536; }
 
-/* Returns whether the memory reaches up to `end`, grown where it doesn't: by an eighth where that can be had, so that it doesn't
- * grow by little often. Whether it has grown is seen by its size: what is returned where it hasn't isn't -1 once it is lowered. */
+/* Returns whether the memory reaches up to `end`, grown where it doesn't: by an eighth where that can be had, so that it
+ * doesn't grow by little often. Its size tells whether it has grown: lowered to 32 bits, a refusal isn't -1. */
 static int reaches(word end) {
     if (end <= size()) return 1;
     word pages = (end - size() + 65535) / 65536, eighth = size() / 65536 / 8;

@@ -1,5 +1,5 @@
-// The page's worker: runs the program beside the page, so that nothing freezes it. It is handed the module first, and then calls
-// of the program; behind it stands the class Machine.
+// The page's worker: runs the program beside the page, so that nothing freezes it. It is handed the module first, and
+// then calls of the program; the class Machine stands before it.
 
 const encoder = new TextEncoder();
 let machine = null;

@@ -76,7 +76,8 @@ def page_of(module, frame, version):
 def live(frame):
     """Returns the page that the program writes with what makes it take other runs."""
     style, code = read("frame/live.css"), read("frame/live.js")
-    return frame.replace("</head>", f"<style>{style}</style>\n</head>", 1).replace("</body>", f"<script>{code}</script>\n</body>", 1)
+    frame = frame.replace("</head>", f"<style>{style}</style>\n</head>", 1)
+    return frame.replace("</body>", f"<script>{code}</script>\n</body>", 1)
 
 
 def blocks(page, name):

@@ -1,5 +1,5 @@
-// In the frame, behind the page's own code: takes runs from the page around it, in place of the one that it was written with, and
-// tells that page what can be done at the step that is shown. It names what the page's code names.
+// In the frame, behind the page's own code: takes runs from the page around it, in place of the one that it was written
+// with, and tells that page what can be done at the step that is shown. It uses the names of the page's code.
 
 'use strict';
 history.replaceState = () => {};
@@ -123,9 +123,19 @@ function tell() {
         followed: followed(), moves: movesAt(now), cores: Array.from({ length: shape.cores }, (_, core) => coreAt(now, core)),
         answer: step ? step.answer : '' } }, '*');
 }
+// Of many cores the one that acted comes into view.
+function revealWho() {
+    const event = now && rows[now - 1].event;
+    if (!event) return;
+    const [place, view] = [placed(), at('time')];
+    const x = place.x(event.who);
+    const middle = (place.label + place.width) / 2;
+    if (x < place.label + HALF || x > place.width - 4 * HALF) view.scrollLeft += x - middle;
+}
 const showAlone = show;
 show = number => {
     showAlone(number);
+    revealWho();
     tell();
 };
 const followAlone = follow;

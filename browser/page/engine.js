@@ -7,19 +7,25 @@ async function unpacked(text) {
     return new Response(stream).arrayBuffer();
 }
 
+// What is answered where the worker itself fails.
+const failed = said => ({ status: -1, out: '', err: `lockup: ${said}\n`, fault: said, same: 0, steps: [], took: 0, memory: 0 });
+
 class Engine {
-    constructor(module, code) {
+    // `place` is where the worker's code is found: a blob of the page, which stays, since a worker may read it late.
+    constructor(module, place) {
         this.waiting = new Map();
         this.count = 0;
-        const place = URL.createObjectURL(new Blob([code], { type: 'text/javascript' }));
         this.worker = new Worker(place);
-        this.worker.onmessage = ({ data }) => {
-            const answer = this.waiting.get(data.id);
-            this.waiting.delete(data.id);
-            answer(data);
+        this.worker.onmessage = ({ data }) => this.tell(data);
+        this.worker.onerror = ({ message }) => {
+            for (const id of [...this.waiting.keys()]) this.tell({ id, ...failed(message) });
         };
         this.worker.postMessage({ module });
-        URL.revokeObjectURL(place);
+    }
+    tell(answer) {
+        const take = this.waiting.get(answer.id);
+        this.waiting.delete(answer.id);
+        take(answer);
     }
 
     // Runs the program with these words and this text as its input, or plays the text where there are no words.

@@ -2,6 +2,7 @@
 
 const DATA = JSON.parse(at('data').textContent);
 const EMPTY = '# An empty machine: issue an access, and deliver its messages one by one.\n';
+const HINT = 'No cache has anything yet: let a core load or store. Its request is then in flight, to be delivered below.';
 const PLAY = 'play';
 const edits = new Edits(EMPTY);
 // the step that the frame shows last, and the number of the run that it was handed last
@@ -78,7 +79,7 @@ function told(it) {
     if (it.number !== number || waits) return;
     script.mark(it.line);
     moves.show(it);
-    at('answer').textContent = it.now ? it.answer.trim().slice(0, 300) : '';
+    at('answer').textContent = it.now ? it.answer.trim().slice(0, 300) : it.count ? '' : HINT;
 }
 
 // ---- the menu, and what goes in and out
@@ -151,7 +152,8 @@ function press(event) {
 // ---- how it begins
 
 let engine, module;
-const beginEngine = () => new Engine(module, DATA.worker);
+const workerPlace = URL.createObjectURL(new Blob([DATA.worker], { type: 'text/javascript' }));
+const beginEngine = () => new Engine(module, workerPlace);
 const run = new Run(at('run'), told, it => {
     if (it.deliver) act(it.deliver);
     if (it.history) goBack(it.history);

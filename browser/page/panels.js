@@ -20,7 +20,8 @@ class Litmus {
             at('outcomes').replaceChildren(made('pre', 'bad', err || out));
             return;
         }
-        const { names, counters, outcomes, forbidden } = JSON.parse(out);
+        // numbers of 64 bits stay as they are written
+        const { names, counters, outcomes, forbidden } = JSON.parse(out.replace(/([:,[])(\d{16,})/g, '$1"$2"'));
         const heads = [...names, ...counters.map(it => 'word ' + it), 'rounds', ''];
         const isForbidden = forbiddenBy(text, names);
         const rows = outcomes.map(it => {
@@ -28,7 +29,8 @@ class Litmus {
             const see = button('small', 'see one', () => this.see(text, seed));
             see.dataset.seed = seed;
             const cells = it.values.map(value => made('td', '', String(value)));
-            return made('tr', isForbidden(it.values) ? 'bad' : '', ...cells, made('td', '', String(it.rounds)), made('td', '', see));
+            const kind = isForbidden(it.values) ? 'bad' : '';
+            return made('tr', kind, ...cells, made('td', '', String(it.rounds)), made('td', '', see));
         });
         at('outcomes').replaceChildren(made('table', '', made('tr', '', ...heads.map(it => made('th', '', it))), ...rows),
             made('p', forbidden ? 'bad' : '', `rounds with a forbidden outcome: ${forbidden}`));
@@ -70,7 +72,8 @@ class Programs {
     }
     ask(more) {
         const outstanding = at('outstanding').value ? ['--outstanding', at('outstanding').value] : [];
-        return this.work.ask(at('program-text').value, ['run', '-', '--seed', at('run-seed').value || '1', ...outstanding, ...more]);
+        const words = ['run', '-', '--seed', at('run-seed').value || '1', ...outstanding, ...more];
+        return this.work.ask(at('program-text').value, words);
     }
     show(text) {
         at('program-text').value = text;
@@ -86,9 +89,10 @@ class Exercises {
             at('compared').className = status ? 'bad' : 'good';
             at('compared').textContent = out + err;
         };
-        at('exercise-see').onclick = () => open(at('exercise-text').value.split('\n')
-            .map(it => it.startsWith('#') ? it : it.replace(/\s*=.*/, '')).filter((it, line, all) => it !== '' || line === all.length - 1)
-            .join('\n'));
+        at('exercise-see').onclick = () => {
+            const lines = at('exercise-text').value.split('\n').map(it => it.startsWith('#') ? it : it.replace(/\s*=.*/, ''));
+            open(lines.filter(it => it !== '').join('\n') + '\n');
+        };
     }
     show(text) {
         at('exercise-text').value = text;
@@ -104,7 +108,8 @@ class Tables {
     }
     async show() {
         const more = at('with-exclusive').checked ? ['--exclusive'] : [];
-        const [cache, directory] = await Promise.all(['cache', 'directory'].map(it => this.engine.ask('', ['table', it, ...more])));
+        const ask = name => this.engine.ask('', ['table', name, ...more]);
+        const [cache, directory] = [await ask('cache'), await ask('directory')];
         at('both').replaceChildren(made('h2', '', 'What a cache does'), ...tablesOf(cache.out),
             made('h2', '', 'What the directory does'), ...tablesOf(directory.out));
     }

@@ -35,4 +35,6 @@ class Run {
         this.send({ go: by });
     }
 }
-const joined = (before, run) => ({ same: before.same, steps: [...before.steps.slice(0, run.same - before.same), ...run.steps] });
+function joined(before, run) {
+    return { same: before.same, steps: [...before.steps.slice(0, run.same - before.same), ...run.steps] };
+}

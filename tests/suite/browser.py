@@ -73,7 +73,8 @@ def drawn(seed: int, count: int) -> str:
     for _ in range(count):
         core, line, other = draw(cores), draw(lines * slices), draw(cores)
         word = 8 * line + draw(2)
-        access = (f"load {word}", f"store {word} {draw(9)}", f"add {word} {draw(9)}", f"cas {word} {draw(3)} {draw(9)}")[draw(4)]
+        operands = f"{word} {draw(9)}"
+        access = (f"load {word}", f"store {operands}", f"add {operands}", f"cas {operands} {draw(9)}")[draw(4)]
         script.append((f"issue {core} {draw(4)} {access}", f"deliver req {line} {core}", f"deliver fwd {line} {core}",
                        f"deliver data {line} {core}", f"deliver ack {line} {core} {other}", f"deliver home {line}",
                        f"evict {core} {line}", f"hand {core} {draw(slices)}", f"pump {draw(4)}", f"state {line}",
@@ -158,6 +159,7 @@ LARGEST = "cores 64\nslices 4\nlines 65536\nsets 256\nways 16\nmshrs 32\ntargets
 def test_memory_that_ends() -> None:
     """A heap that can't grow any more refuses, and the program says so; the next call has all memory again."""
     accesses = "".join(f"issue {core} 0 load {8 * core}\n" for core in range(4))
-    branches, alone = asked([Call(["page", "--branches", "3", "-"], LARGEST + accesses), Call(["script", "-"], LARGEST + accesses)])
+    script = LARGEST + accesses
+    branches, alone = asked([Call(["page", "--branches", "3", "-"], script), Call(["script", "-"], script)])
     same("status and error", (3, "lockup: no memory\n"), (branches.status, branches.err))
-    same("the next call", lockup("script", "-", text=LARGEST + accesses), alone)
+    same("the next call", lockup("script", "-", text=script), alone)

@@ -142,13 +142,14 @@ def test_two_upgrades_at_once() -> None:
         blocked = it.get("document.querySelector('.move.blocked').innerText")
         want("Fwd-GetM for core 1" in blocked and "SM_AD waits for Data and Inv-Ack" in blocked, f"it says {blocked!r}")
         it.do_all("deliver fwd 0 0")
-        same("the answer of the one that waits", "blocked", it.get("document.getElementById('answer').textContent").split("   ")[0])
+        same("its answer", "blocked", it.get("document.getElementById('answer').textContent").split("   ")[0])
         it.do_all("deliver fwd 0 1", "deliver ack 0 0 1", "deliver data 0 0", "deliver fwd 0 0", "deliver data 0 1")
-        wanted = ["issue 0 0 load 0", "pump 1000", "issue 1 0 load 0", "pump 1000", "issue 0 1 store 0 1", "issue 1 1 store 0 1",
-                  "deliver req 0 0", "deliver req 0 1", "deliver fwd 0 0", "deliver fwd 0 1", "deliver ack 0 0 1",
+        wanted = ["issue 0 0 load 0", "pump 1000", "issue 1 0 load 0", "pump 1000", "issue 0 1 store 0 1",
+                  "issue 1 1 store 0 1", "deliver req 0 0", "deliver req 0 1", "deliver fwd 0 0", "deliver fwd 0 1", "deliver ack 0 0 1",
                   "deliver data 0 0", "deliver fwd 0 0", "deliver data 0 1"]
         same("the script", wanted, it.commands())
-        want("deliver req 0 0" in it.get_in_frame("document.querySelector('#diagram').textContent"), "the picture doesn't show it")
+        shown = it.get_in_frame("document.querySelector('#diagram').textContent")
+        want("deliver req 0 0" in shown, "the picture doesn't show it")
         same("states in the picture", ["I", "M", "M"],
              it.get_in_frame("[...document.querySelectorAll('[data-chip]')].map(it => it.textContent)"))
         same("states of the program", "line 0 dir M owner 1 sharers - home 0 0 0 0 0 0 0 0 cores I M",
@@ -281,6 +282,20 @@ def test_an_invalid_line() -> None:
         same("behind what was typed", ["state 0", "issue 0 0 load 0", "state 1", "issue 0 1 add 0 1"], it.commands())
 
 
+@seconds(5)
+def test_many_cores() -> None:
+    """Of 64 cores one is chosen to act, and the one that acted is in view."""
+    with page() as it:
+        it.open_text("cores 64\n")
+        same("rows of cores", 1, it.get("document.querySelectorAll('#issue .row').length"))
+        for core in (63, 5, 40):
+            it.get(f"(() => {{ at('core').value = {core}; at('core').onchange(); }})()")
+            it.do(f'[data-issue="{core} load"]')
+            it.get_in_frame("new Promise(done => requestAnimationFrame(() => requestAnimationFrame(done)))")
+            names = it.get_in_frame("[...document.querySelectorAll('#diagram .bar')].map(it => it.dataset.who)")
+            want(f"core {core}" in names, f"core {core} isn't in view, but {sorted(set(names))}")
+
+
 # ---- tests, programs, exercises, tables, files
 
 def choose(it: Page, value: str) -> None:
@@ -292,16 +307,18 @@ def test_litmus() -> None:
     with page() as it:
         choose(it, "litmus/sb")
         it.click("#walk")
-        rows = it.wait("[...document.querySelectorAll('#outcomes tr')].slice(1).map(it => [...it.children].map(it => it.innerText))")
+        it.wait("!!document.querySelector('#outcomes table')")
+        rows = it.get("[...document.querySelectorAll('#outcomes tr')].map(it => [...it.children].map(it => it.innerText))")
         told = json.loads(lockup("walk", "--rounds", "1000", "--json", "-", text=read(ROOT / "examples/litmus/sb.txt")).out)
-        same("outcomes", [[*map(str, row["values"]), str(row["rounds"])] for row in told["outcomes"]], [row[:-1] for row in rows])
+        wanted = [[*map(str, row["values"]), str(row["rounds"])] for row in told["outcomes"]]
+        same("outcomes", wanted, [row[:-1] for row in rows[1:]])
         seed = told["outcomes"][-1]["seed"]
         it.click(f'[data-seed="{seed}"]')
         it.wait("document.body.dataset.tab === 'play'")
         it.settle()
         wanted = lockup("walk", "--script", "--seed", str(seed), "-", text=read(ROOT / "examples/litmus/sb.txt")).out
         same("its run", wanted, it.get("edits.text").split("\n", 1)[1])
-        want("Store buffering" in it.get("edits.text").split("\n")[0] or "seed" in it.get("edits.text").split("\n")[0], "no title")
+        same("its title", f"# Store buffering (SB), seed {seed}", it.get("edits.text").split("\n")[0])
 
 
 @seconds(8)
@@ -368,7 +385,8 @@ def test_a_hostile_link() -> None:
             same("the script is text", script, it.get("document.getElementById('script').value"))
             time.sleep(0.3)
             for where in (it.get, it.get_in_frame):
-                same("elements", [0, None], where("[document.querySelectorAll('img, b[onerror], svg[onload]').length, window.hit || null]"))
+                made = "document.querySelectorAll('img, b[onerror], svg[onload]').length"
+                same("elements", [0, None], where(f"[{made}, window.hit || null]"))
             title = it.get_in_frame("document.getElementById('title').textContent")
             want(title.startswith("</script><script>top"), f"the title is {title}")
 

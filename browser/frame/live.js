@@ -158,10 +158,16 @@ at('could').addEventListener('click', event => {
     if (row) parent.postMessage({ asked: { deliver: row.textContent.split('   ')[0] } }, '*');
 });
 document.addEventListener('keydown', event => {
-    const { key, ctrlKey, metaKey, shiftKey } = event;
-    if (!(ctrlKey || metaKey) || !['z', 'Z', 'y'].includes(key)) return;
+    const { key, ctrlKey, metaKey, shiftKey, target } = event;
+    if ((ctrlKey || metaKey) && ['z', 'Z', 'y'].includes(key)) {
+        event.preventDefault();
+        parent.postMessage({ asked: { history: key === 'y' || shiftKey ? 'redo' : 'undo' } }, '*');
+    }
+    // the keys of a clicker, where nothing is read that they would scroll
+    const by = { PageUp: -1, PageDown: 1 }[key];
+    if (!by || at('focus').contains(target)) return;
     event.preventDefault();
-    parent.postMessage({ asked: { history: key === 'y' || shiftKey ? 'redo' : 'undo' } }, '*');
+    show(now + by);
 });
 
 addEventListener('message', ({ source, data }) => {

@@ -1,6 +1,6 @@
 // ---- a script as the end of a link: `#script=`, and the text by deflate, in base64url
 
-// A link's script may have so many bytes: a short link could unfold to any size.
+// A script may have so many bytes: a short link could unfold to any size.
 const MOST = 1 << 20;
 
 async function linkOf(text) {

@@ -185,7 +185,8 @@ async function begin() {
     at('load').onclick = () => at('file').click();
     at('file').onchange = async () => {
         const [file] = at('file').files;
-        if (file) open(await file.text());
+        if (file && file.size > MOST) say('the file is too long for a script');
+        else if (file) open(await file.text());
         at('file').value = '';
     };
     at('copy').onclick = () => copy(edits.text, 'the script');

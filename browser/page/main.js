@@ -38,6 +38,7 @@ async function playNext() {
     const { to } = waits;
     waits = null;
     const text = edits.text;
+    keep(text);
     const { same, steps, fault, err, took, memory } = await engine.ask(text);
     number = run.take({ text, same, steps, fault }, to);
     Object.assign(document.body.dataset, { took: took.toFixed(1), memory });
@@ -115,6 +116,21 @@ function save() {
     link.download = 'script.txt';
     link.click();
     setTimeout(() => URL.revokeObjectURL(link.href), 1000);
+}
+// The script stays over a reload, where the browser keeps something for a page.
+function keep(text) {
+    try {
+        sessionStorage.setItem('script', text);
+    } catch {
+        // it keeps nothing, or not so much
+    }
+}
+function kept() {
+    try {
+        return sessionStorage.getItem('script');
+    } catch {
+        return null;
+    }
 }
 async function copy(text, what) {
     try {
@@ -203,8 +219,11 @@ async function begin() {
     at('about').textContent = DATA.about;
     document.body.classList.remove('empty');
     tabsOf(PLAY);
+    const before = kept();
     script.show(edits.text);
-    if (!await openLink()) play();
+    if (await openLink()) return;
+    if (before) open(before);
+    else play();
 }
 begin().catch(wrong => {
     at('answer').textContent = 'This browser can\'t run it: ' + wrong.message;

@@ -125,7 +125,7 @@ process.exitCode = status;
 def test_a_proved_program() -> None:
     """The module that is kept of a proved program does in a browser what the program does: the kit's example that reads and
     writes."""
-    needs("rt", *TOOLS)
+    needs("rt", "git", *TOOLS)
     kit = Path(os.path.realpath(str(shutil.which("rt")))).parents[1]
     example = kit / "rattle/examples/start_io"
     if not example.is_dir():

@@ -382,6 +382,11 @@ def test_files_and_links() -> None:
         it.get(f"location.hash = {json.dumps(link)}")
         it.wait(f"edits.text === {json.dumps(script)}")
         it.settle()
+        it.open_text(script + "state 0\n")
+        it.get("history.replaceState(null, '', location.pathname)")
+        it.begin()
+        same("it stays over a reload", script + "state 0\n", it.get("edits.text"))
+        it.open_text(script)
         same("save gives the text", script, it.get("""(() => { let blob; const make = URL.createObjectURL;
             URL.createObjectURL = it => { blob = it; return make.call(URL, it); }; save(); URL.createObjectURL = make;
             return blob.text(); })()"""))

@@ -144,7 +144,8 @@ follow = line => {
     tell();
 };
 
-// ---- what is clicked: a message in flight, or one of those that can be delivered, is delivered
+// ---- what is clicked: a message in flight, or one of those that can be delivered, is delivered; a core's lifeline asks for an
+// access of that core
 
 at('diagram').addEventListener('click', event => {
     const arrow = event.target.closest('[data-channel], [data-flying]');
@@ -152,6 +153,11 @@ at('diagram').addEventListener('click', event => {
     const channel = arrow.dataset.channel || arrow.dataset.flying;
     const front = lineAt(now, followed()).messages.some(it => channelOf(followed(), it) === channel);
     if (front) parent.postMessage({ asked: { deliver: channel } }, '*');
+});
+at('diagram').addEventListener('click', event => {
+    const { who, chip } = (event.target.closest('[data-who], [data-chip]') || { dataset: {} }).dataset;
+    const name = who || chip || DIRECTORY;
+    if (name !== DIRECTORY) parent.postMessage({ asked: { core: Number(name.split(' ')[1]) } }, '*');
 });
 at('could').addEventListener('click', event => {
     const row = event.target.closest('.rest');

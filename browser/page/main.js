@@ -173,6 +173,10 @@ const beginEngine = () => new Engine(module, workerPlace);
 const run = new Run(at('run'), told, it => {
     if (it.deliver) act(it.deliver);
     if (it.history) goBack(it.history);
+    if (it.core !== undefined) {
+        tabsOf(PLAY);
+        moves.choose(it.core);
+    }
 });
 const script = new Script(text => {
     edits.take(text);

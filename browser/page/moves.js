@@ -47,6 +47,14 @@ class Moves {
         const number = id => at(id).value.trim() || '0';
         this.act(['issue', core, tag, name, number('word'), ...ACCESSES[name].map(number)].join(' '));
     }
+    // Has the accesses of a core at hand.
+    choose(core) {
+        at('core').value = core;
+        this.showIssue();
+        const first = at('issue').querySelector(`[data-issue="${core} load"]`);
+        first.scrollIntoView({ block: 'nearest' });
+        first.focus();
+    }
     // A row of buttons for each of few cores; of many, for the one that is chosen.
     showIssue() {
         const count = this.told.shape.cores;

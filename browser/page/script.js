@@ -17,10 +17,18 @@ class Script {
         if (this.area.value !== text) this.area.value = text;
         this.draw();
     }
-    // What is said of an invalid line: `lockup: line 4: FAULT   HINT`, or of the configuration, of no line.
+    // What is said of an invalid line: `lockup: line 4: FAULT   HINT`; or of the configuration, `lockup: config 1 Cores`, which
+    // names no line: it is the last that sets this.
     tellFault(err) {
-        const found = /^lockup: (?:line (\d+): )?(.*)/m.exec(err);
-        this.fault = found && { line: found[1] ? Number(found[1]) : null, text: found[2].replace('   ', ': ') };
+        const found = /^lockup: (?:line (\d+): |config \d+ (\w+))?(.*)/m.exec(err);
+        const name = found && found[2] && found[2].toLowerCase();
+        if (name in SETTINGS) {
+            const line = this.area.value.split('\n').findLastIndex(it => (settingOf(it) || {}).name === name) + 1;
+            this.fault = { line: line || null, text: allowedOf(name) };
+        } else {
+            const text = found && (found[2] ? 'not allowed: ' + found[2] : found[3].replace('   ', ': '));
+            this.fault = found && { line: found[1] ? Number(found[1]) : null, text };
+        }
         this.draw();
     }
     // Marks the line of the step that is shown, and brings it into view.

@@ -13,6 +13,12 @@ const SETTINGS = {
     policy: { plain: 'lru', values: ['lru', 'fifo', 'random 1'], says: 'replaced is by' },
     exclusive: { plain: 'off', values: ['off', 'on'], says: 'state E' },
 };
+// What a setting may be, in words.
+function allowedOf(name) {
+    const { values, least, most } = SETTINGS[name];
+    const range = values ? values.join(', ') : `${least} to ${most}`;
+    return `${name}: ${range}${name === 'lines' ? ', a multiple of the slices' : ''}`;
+}
 const settingOf = line => {
     const [name, ...value] = line.trim().split(/\s+/);
     return name in SETTINGS ? { name, value: value.join(' ') } : null;

@@ -252,7 +252,8 @@ def test_settings() -> None:
         it.get("""(() => { const it = document.getElementById('set-cores'); it.value = '65';
             it.dispatchEvent(new Event('change')); })()""")
         it.settle()
-        same("what can't be", "config 1 Cores", it.get("document.getElementById('fault').textContent"))
+        wanted = f"line {it.get('edits.lines').index('cores 65') + 1}: cores: 1 to 64"
+        same("what can't be", wanted, it.get("document.getElementById('fault').textContent"))
         it.do("#undo")
         want(it.get("document.getElementById('fault').hidden"), "the fault stays")
 
@@ -297,6 +298,9 @@ def test_many_cores() -> None:
             it.get_in_frame("new Promise(done => requestAnimationFrame(() => requestAnimationFrame(done)))")
             names = it.get_in_frame("[...document.querySelectorAll('#diagram .bar')].map(it => it.dataset.who)")
             want(f"core {core}" in names, f"core {core} isn't in view, but {sorted(set(names))}")
+        # a click on a lifeline has the core's accesses at hand
+        it.click_in_frame('#diagram .chip[data-who="core 41"]')
+        it.wait("document.activeElement.dataset.issue === '41 load'")
 
 
 # ---- tests, programs, exercises, tables, files

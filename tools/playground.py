@@ -41,10 +41,10 @@ def is_proved(module):
 
 def write(module, to):
     """Writes the page around the module as the file `to`. Returns what was said where that fails, or None."""
-    frame, said = ask(module, ["page", "-"])
-    version, _ = ask(module, ["--version"])
-    if said or not frame or not version:
-        return f"the module doesn't run: {said}"
+    told, said = ask(module, [(["page", "-"], ""), (["--version"], "")])
+    if said or not all(told):
+        return f"the module doesn't run: {said or 'it prints nothing'}"
+    frame, version = told
     text = page_of(module, live(frame), version.strip() + ("" if is_proved(module) else " (not proved)"))
     if len(text) > MOST:
         return f"the page has {len(text)} bytes, and may have {MOST}"
@@ -54,10 +54,21 @@ def write(module, to):
     return None
 
 
-def ask(module, words, text=""):
-    """Runs the program with this text as its input. Returns its output, and what it said where it fails."""
-    ran = subprocess.run(["node", f"{PARTS}/run.mjs", module, *words], input=text, capture_output=True, text=True)
-    return ran.stdout, ran.stderr if ran.returncode else ""
+def ask(module, calls):
+    """Runs the program for each call, which has its words and its input. Returns the output of each, and what the first said
+    that fails."""
+    asked = json.dumps([{"words": words, "input": latin(text)} for words, text in calls])
+    ran = subprocess.run(["node", f"{PARTS}/many.mjs", module], input=asked, capture_output=True, text=True)
+    if ran.returncode:
+        return [], ran.stderr
+    told = json.loads(ran.stdout)
+    said = next((it["err"] or "it fails" for it in told if it["status"]), "")
+    return [it["out"].encode("latin1").decode() for it in told], said
+
+
+def latin(text):
+    """Returns a text with a character for each of its bytes."""
+    return text.encode().decode("latin1")
 
 
 def page_of(module, frame, version):

@@ -437,7 +437,7 @@ def test_the_policy() -> None:
              it.get_in_frame("(() => { try { return parent.document.title; } catch { return 'refused'; } })()"))
 
 
-@seconds(20)
+@seconds(5)
 def test_a_site() -> None:
     """Of a web server's folder each link leads to a page, and each that plays an example opens it."""
     with tempfile.TemporaryDirectory() as room:

@@ -1,7 +1,8 @@
-// Answers calls of the program one after another in one process, as the page does: reads a list of calls, each with its words and
-// its input, and prints a list of what came of each. Texts are latin1, a character a byte.
+// Runs the program many times in one process of node, as the page does: node browser/many.mjs MODULE.wasm. Standard input is a
+// list of JSON, of calls with their words and input; printed is a list of what came of each. Texts are latin1, a character a
+// byte.
 import fs from 'node:fs';
-import { Machine } from '../../browser/machine.mjs';
+import { Machine } from './machine.mjs';
 
 const [module] = process.argv.slice(2);
 const machine = new Machine(new WebAssembly.Module(fs.readFileSync(module)));

@@ -15,8 +15,8 @@ function takeSettings(text, isPlain) {
     for (const line of text.split('\n')) script.push(line.replace(/\r$/, ''));
     for (const line of isPlain ? [] : script) {
         const [name, value] = line.trim().split(/\s+/);
-        if (name in PLAIN.shape && /^\d+$/.test(value)) shape[name] = Number(value);
-        if (name in PLAIN.chosen && value) chosen[name] = value;
+        if (Object.hasOwn(PLAIN.shape, name) && /^\d+$/.test(value)) shape[name] = Number(value);
+        if (Object.hasOwn(PLAIN.chosen, name) && value) chosen[name] = value;
     }
     slices.length = shape.slices;
     for (let slice = 0; slice < shape.slices; slice++) slices[slice] = slice;
@@ -151,8 +151,10 @@ at('diagram').addEventListener('click', event => {
     const arrow = event.target.closest('[data-channel], [data-flying]');
     if (!arrow) return;
     const channel = arrow.dataset.channel || arrow.dataset.flying;
-    const front = lineAt(now, followed()).messages.some(it => channelOf(followed(), it) === channel);
-    if (front) parent.postMessage({ asked: { deliver: channel } }, '*');
+    const front = senderOf(channel);
+    // an arrow of what was delivered already, or stands behind another, is a picture alone
+    if (!front || arrow.dataset.sent && Number(arrow.dataset.sent) !== front.sent.step) return;
+    parent.postMessage({ asked: { deliver: channel } }, '*');
 });
 at('diagram').addEventListener('click', event => {
     const { who, chip } = (event.target.closest('[data-who], [data-chip]') || { dataset: {} }).dataset;

@@ -22,7 +22,7 @@ class Script {
     tellFault(err) {
         const found = /^lockup: (?:line (\d+): |config \d+ (\w+))?(.*)/m.exec(err);
         const name = found && found[2] && found[2].toLowerCase();
-        if (name in SETTINGS) {
+        if (name && Object.hasOwn(SETTINGS, name)) {
             const line = this.area.value.split('\n').findLastIndex(it => (settingOf(it) || {}).name === name) + 1;
             this.fault = { line: line || null, text: allowedOf(name) };
         } else {

@@ -21,7 +21,7 @@ function allowedOf(name) {
 }
 const settingOf = line => {
     const [name, ...value] = line.trim().split(/\s+/);
-    return name in SETTINGS ? { name, value: value.join(' ') } : null;
+    return Object.hasOwn(SETTINGS, name) ? { name, value: value.join(' ') } : null;
 };
 
 class Settings {

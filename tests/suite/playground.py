@@ -178,6 +178,10 @@ def test_each_action() -> None:
         it.click_in_frame('#diagram [data-flying="deliver req 1 1"] circle, #diagram [data-flying="deliver req 1 1"]')
         it.wait("edits.text.includes('deliver req 1 1')")
         it.settle()
+        # .. but not one that was delivered
+        it.click_in_frame('#diagram [data-channel="deliver req 1 1"][data-sent="1"] .head')
+        time.sleep(0.3)
+        same("commands", 10, len(it.commands()))
         # .. and what can be delivered beside it
         it.get_in_frame("document.querySelector('#could .rest').scrollIntoView()")
         it.click_in_frame("#could .rest")
@@ -400,11 +404,13 @@ HOSTILE = """# </script><script>top.hit = 1; parent.hit = 1</script><img src=x o
 issue 0 0 load 0
 deliver req 0 0 # <img src=x onerror="parent.hit = 1">
 """
+# words that objects of JavaScript have
+NAMED = "# A run.\nconstructor 5\n__proto__ 5\ntoString 5\n"
 
 
 @seconds(5)
 def test_a_hostile_link() -> None:
-    for script in (HOSTILE, HOSTILE.split("deliver")[0] + "# ${hit = 1} javascript:hit=1\nstate 0\n<svg onload=hit=1>\n"):
+    for script in (HOSTILE, HOSTILE.split("deliver")[0] + "# ${hit = 1} javascript:hit=1\nstate 0\n<svg onload=hit=1>\n", NAMED):
         with page(link=linked(script)) as it:
             same("the script is text", script, it.get("document.getElementById('script').value"))
             time.sleep(0.3)
@@ -412,7 +418,9 @@ def test_a_hostile_link() -> None:
                 made = "document.querySelectorAll('img, b[onerror], svg[onload]').length"
                 same("elements", [0, None], where(f"[{made}, window.hit || null]"))
             title = it.get_in_frame("document.getElementById('title').textContent")
-            want(title.startswith("</script><script>top"), f"the title is {title}")
+            want(script == NAMED or title.startswith("</script><script>top"), f"the title is {title}")
+            it.open_text("state 0\n")
+            same("and it goes on", "1 of 1", it.get(STEP))
 
 
 @seconds(5)

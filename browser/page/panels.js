@@ -34,6 +34,7 @@ class Litmus {
         });
         at('outcomes').replaceChildren(made('table', '', made('tr', '', ...heads.map(it => made('th', '', it))), ...rows),
             made('p', forbidden ? 'bad' : '', `rounds with a forbidden outcome: ${forbidden}`));
+        at('outcomes').scrollIntoView({ block: 'nearest' });
     }
     // Opens the run of a seed as a script.
     async see(text, seed) {
@@ -63,6 +64,7 @@ class Programs {
         at('run-report').onclick = async () => {
             const { out, err } = await this.ask([]);
             at('report').textContent = out + err;
+            at('report').scrollIntoView({ block: 'nearest' });
         };
         at('run-see').onclick = async () => {
             const { out, err } = await this.ask(['--script']);

@@ -481,6 +481,13 @@ def test_nothing_is_cut(size: str) -> None:
                     return left < 0 || right > innerWidth;
                 }).map(it => it.id || it.textContent)]""")
             same(f"{tab} at {size}", (True, True, []), (wide <= width, tall <= height, cut))
+        # what a walk gives comes into view
+        it.click('[data-to="litmus"]')
+        it.click("#walk")
+        it.wait("!!document.querySelector('#outcomes table')")
+        tall, top = it.get("[at('outcomes').clientHeight, at('outcomes').getBoundingClientRect().top]")
+        want(tall > 100 and top < height - 60, f"the outcomes are {tall} high, at {top}")
+        it.click('[data-to="play"]')
         # the frame's picture has room
         tall = it.get_in_frame("document.getElementById('time').clientHeight")
         want(tall > 180, f"the picture is {tall} high")

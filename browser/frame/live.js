@@ -76,6 +76,8 @@ function take({ number, text, fault, same, steps: given, to }) {
     const step = to === undefined ? steps.length : Math.min(to, steps.length);
     const acted = step ? rows[step - 1].line : undefined;
     at('follow').value = ascending.includes(acted) ? acted : ascending.includes(Number(line)) ? line : ascending[0] || 0;
+    // as far as the picture is scrolled to the step, before it is drawn
+    at('length').style.height = placed().length + 'px';
     show(step);
 }
 

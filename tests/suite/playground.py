@@ -355,6 +355,10 @@ def test_programs_exercises_and_tables() -> None:
         it.wait("document.body.dataset.tab === 'play'")
         it.settle()
         same("run", lockup("run", "--script", ROOT / "examples/programs/ping_pong.txt").out, it.get("edits.text"))
+        top, bottom, height = it.get_in_frame("""(() => {
+            const { top, bottom } = document.querySelector('.row.current').getBoundingClientRect();
+            return [top, bottom, innerHeight]; })()""")
+        want(0 < top and bottom < height, f"the last step is at {top} to {bottom} of {height}")
         for name in ("first_miss", "with_a_mistake"):
             choose(it, f"exercises/{name}")
             it.click("#compare")

@@ -84,7 +84,7 @@ def run_all_and_gate(tests: list[Test], options: argparse.Namespace) -> gate.Cou
     early = [test.name for test in tests if not test.needs_program]
     with tempfile.TemporaryFile("w+", errors="backslashreplace") as said:
         # in a process of its own, since tests are forked, which takes what processors the proofs leave
-        beside = subprocess.Popen(["nice", sys.executable, processes.ROOT / "test", "--cases", *early], stdout=said,
+        beside = subprocess.Popen(["nice", "-n19", sys.executable, processes.ROOT / "test", "--cases", *early], stdout=said,
                                   stderr=subprocess.STDOUT)
         of_gate, calls = gate.run_gate(options.log)
         beside.wait()

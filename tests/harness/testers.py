@@ -8,16 +8,18 @@ from .compare import Different
 from .processes import ROOT, alone, needs, run
 
 FOLDER = ROOT / "tests/testers"
+# programs that measure, of which it is tried only that they are built and start
+BENCH = ROOT / "bench"
 # how a unit test begins in its file
 UNIT_TEST = re.compile(r"^#\[test\]\nfn (\w+)", re.M)
 
 
 def tester(name: str, kind: str = "unproved") -> Path:
-    """Returns the tester of this name and kind, as tools/unproved makes it. It is built where sources are newer, a program in
-    all kinds at once."""
+    """Returns the tester of this name and kind, as tools/unproved makes it. It is built where sources are newer, a program that
+    tests in all kinds at once."""
     needs("rt")
-    folder, kinds = FOLDER / name, ["unproved"]
-    if (folder / "main.rattle").is_file():
+    folder, kinds = folder_of(name), ["unproved"]
+    if folder.parent == FOLDER and (folder / "main.rattle").is_file():
         kinds += ["checked", *["races"] * bool(shutil.which("cc"))]
     program = folder / "out" / kind / name
     with alone(name):
@@ -26,6 +28,10 @@ def tester(name: str, kind: str = "unproved") -> Path:
             if ran.status:
                 raise Different(f"{name} isn't built:\n{ran.err}")
     return program
+
+
+def folder_of(name: str) -> Path:
+    return next(it for it in (FOLDER / name, BENCH / name) if it.is_dir())
 
 
 def newest(folder: Path) -> float:
@@ -49,4 +55,4 @@ def unit_tests() -> Iterator[str]:
 
 def expected(name: str) -> str:
     """Returns what a tester prints where all is well."""
-    return (FOLDER / name / "stdout").read_text(encoding="utf-8")
+    return (folder_of(name) / "stdout").read_text(encoding="utf-8")

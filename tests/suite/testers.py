@@ -1,6 +1,6 @@
 """Runs the testers of tests/testers, which are built without a proof from the sources that are proved: the programs, whose
 output stands beside each, optimised, with AddressSanitizer's checks, and with ThreadSanitizer's, which looks for races; and
-the unit tests."""
+the unit tests. And slice_bench of bench/, which measures, and alone says here what it can measure."""
 from harness import each, needs, run, same, seconds, want
 from harness.testers import expected, tester, unit_tests
 
@@ -10,7 +10,7 @@ PROGRAMS = ("lock_tester", "core_tester")
 
 
 @seconds(100)
-@each(lambda: PROGRAMS)
+@each(lambda: (*PROGRAMS, "slice_bench"))
 def test_prints(name: str) -> None:
     ran = run([tester(name)])
     same("status and output", (0, expected(name)), (ran.status, ran.out))

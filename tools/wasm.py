@@ -35,7 +35,8 @@ def splat(found):
     return f"<{count} x {kind}> <{', '.join([value] * int(count))}>"
 
 
-# What LLVM 16 doesn't know yet. All but the first and the last only promise what a compiler may use.
+# What LLVM 16 doesn't know yet, of which all but the first and the last only promise what a compiler may use; and the pause of
+# an x86 processor in a loop that waits for a lock, which is no instruction elsewhere.
 CHANGES = [
     Change(" ptrtoaddr ", re.compile(" ptrtoaddr "), " ptrtoint "),
     Change("captures(none)", re.compile(r"captures\(none\)"), "nocapture"),
@@ -45,6 +46,7 @@ CHANGES = [
     Change("trunc n", re.compile("trunc( nuw| nsw)+ "), "trunc "),
     Change(" samesign ", re.compile(" samesign "), " "),
     Change(" splat ", re.compile(r"<(\d+) x (\w+)> splat \((\w+ [^)]+)\)"), splat),
+    Change("@llvm.x86.sse2.pause", re.compile(r"^ +(tail )?call void @llvm\.x86\.sse2\.pause\(\).*\n"), ""),
 ]
 # Attributes of functions that are another processor's, or that LLVM 16 doesn't know.
 ATTRIBUTES = re.compile(r'"(frame-pointer|probe-stack|stack-probe-size|target-cpu|target-features|tune-cpu|rattle-sig)"="[^"]*"'

@@ -28,6 +28,9 @@ def test_prints_under_address_sanitizer(name: str) -> None:
 def test_has_no_race(name: str) -> None:
     needs("cc")
     ran = run([tester(name, "races")])
+    if "unexpected memory mapping" in ran.err:
+        # where the system scatters addresses further than ThreadSanitizer knows
+        ran = run(["setarch", "-R", tester(name, "races")])
     same("status, output and error", (0, expected(name), ""), (ran.status, ran.out, ran.err))
 
 

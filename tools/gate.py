@@ -5,10 +5,12 @@
 
 LOG has a line a call: crate, kind (proof, tests, edit, compile, other), name of the edit, begin, end (seconds since the run
 began), processor seconds, most memory in MB. A crate's edits share what they kept: the first proves it from nothing, and one
-more call (edit '-') ends them.
+more call (edit '-') ends them. What the proof of a static library read is kept in its out/checked, from which tools/library
+builds it.
 """
 import os
 import resource
+import shutil
 import subprocess
 import sys
 import threading
@@ -76,7 +78,7 @@ def run(log):
 def call(log, label, words):
     """Runs one call of the prover, as rt asked for it, and notes it. Returns its status."""
     began = time.time()
-    status = subprocess.run(words).returncode
+    status = subprocess.run([*words, *keeping(words)]).returncode
     used = resource.getrusage(resource.RUSAGE_CHILDREN)
     crate = words[words.index("--crate-name") + 1] if "--crate-name" in words else "-"
     since = float(os.environ[BEGAN])
@@ -84,6 +86,14 @@ def call(log, label, words):
     with open(log, "a", encoding="utf-8") as it:
         it.write("\t".join(it if isinstance(it, str) else f"{it:.1f}" for it in row) + "\n")
     return status if status >= 0 else 128 - status
+
+
+def keeping(words):
+    """Returns the words by which the proof of a static library is kept, for other calls none."""
+    if kind_of(words) != "proof" or "staticlib" not in words:
+        return []
+    shutil.rmtree(kit.CHECKED, ignore_errors=True)
+    return ["-o", kit.CHECKED]
 
 
 def kind_of(words):

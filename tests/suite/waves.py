@@ -1,5 +1,6 @@
-"""Reads each example's waves as a viewer does: behind each command they show what `state` and
-`waiting` print, and count what `show` prints. What doesn't change isn't told again.
+"""Reads each example's waves as a viewer does: behind each command, and behind each delivery of a
+pump, they show what `state` and `waiting` print, and count what `show` prints. What doesn't change
+isn't told again.
 
 The output of `lockup script --vcd` is taken apart into its signals and their values at each time.
 Lines that differ in nothing but their blanks are shown as they are written. A script with an
@@ -9,10 +10,28 @@ signals but the counts that stay 0, and GTKWave shows them.
 import os
 import re
 import tempfile
+from itertools import takewhile
 
 from harness import ROOT, each, lockup, needs, read, run, same, want, write
 from harness.scripts import split
 from harness.states import States, shown_scripts, states_of
+
+# A pump that ends before all is delivered, one that finds nothing, and a line that leaves for another.
+PUMPS = """cores 3
+slices 2
+lines 8
+ways 1
+sets 1
+issue 0 0 store 0 5
+issue 1 0 load 8
+issue 2 0 load 0
+pump 3
+pump 40
+pump 1
+issue 0 1 load 32
+pump 40
+state 0
+"""
 
 Times = list[tuple[int, list[tuple[str, str]]]]
 
@@ -102,13 +121,35 @@ def wanted_at(command: str, shape: tuple[int, int], states: States) -> dict[str,
     return values
 
 
-@each(shown_scripts)
+def deliveries_written_out(script: str) -> str:
+    """Returns a script in which each delivery of a pump, as `--explain` has it, is a command, and the pump delivers no
+    more."""
+    config, commands = split(script)
+    answers = iter(lockup("script", "--echo", "--explain", "-", text=script).out.split("\n"))
+    found = list(config)
+    for command in commands:
+        while next(answers) != command:
+            pass
+        if command.split()[0] == "pump":
+            found += takewhile(lambda it: it.startswith("deliver "), (it.split("   ")[0] for it in answers))
+            command = "pump 0"
+        found.append(command)
+    return "\n".join(found) + "\n"
+
+
+def waved_scripts() -> dict[str, str]:
+    return {"pumps": PUMPS, **shown_scripts()}
+
+
+@each(waved_scripts)
 def test_waves(name: str) -> None:
-    script = shown_scripts()[name]
+    script = waved_scripts()[name]
     ran = lockup("script", "--vcd", "-", text=script)
     same("status and error", (0, ""), (ran.status, ran.err))
     signals, times = taken_apart(ran.out)
-    commands, wanted = states_of(script)
+    commands, wanted = states_of(deliveries_written_out(script))
+    pumps = iter(it for it in split(script)[1] if it.split()[0] == "pump")
+    commands = [next(pumps) if it == "pump 0" else it for it in commands]
     same("times", list(range(len(commands) + 2)), [at for at, _ in times])
     same("begin and end", ([("c", "-")], []), (times[0][1], times[-1][1]))
     stands = {}
@@ -125,6 +166,17 @@ def test_waves(name: str) -> None:
 def test_an_invalid_line() -> None:
     ran = lockup("script", "--vcd", "-", text="cores 1\nissue 0 0 add 0 5\nissue 0 ad\n")
     same("a script with an invalid line", (2, "", "lockup: line 3: not a command\n"), tuple(ran))
+
+
+def test_an_empty_script() -> None:
+    """The signals of the machine that it has are declared, and nothing is played."""
+    for script in ("", "\n# nothing\n"):
+        ran = lockup("script", "--vcd", "-", text=script)
+        same("status and error", (0, ""), (ran.status, ran.err))
+        signals, times = taken_apart(ran.out)
+        of_cores = [f"run/slice0/core{core}/{it}" for core in (0, 1) for it in ("registers", "targets", "writebacks")]
+        same("signals", ["run/command", *of_cores], list(signals.values()))
+        same("times", [(0, [("c", "-")]), (1, [])], times)
 
 
 def test_settings_for_gtkwave() -> None:

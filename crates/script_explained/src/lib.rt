@@ -5,14 +5,17 @@
 //! is read from the slice just before the call and just behind it, so a call is made as without it. [`Explained`] is
 //! that player.
 //!
-//! [`expected`] says of a line at fault which word fits nothing, and what could stand there.
+//! [`delivery_text`] is the command of a delivery. [`expected`] says of a line at fault which word fits nothing, and what
+//! could stand there.
 #![tactic(auto)]
 
+pub use delivery_command::delivery_text;
 pub use misfit::{Misfit, expected};
 pub use player::Explained;
 pub use style::run_explained;
 
 mod delivery;
+mod delivery_command;
 mod hand;
 mod issue;
 mod look;

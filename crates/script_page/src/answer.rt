@@ -1,20 +1,15 @@
 //! What is told of a command that is played.
 ghost use Rattle.std.specs.Prelude.{◌≡◌, ◌++◌, [], IfErr, IfOk, OnOk, Some, codes};
-ghost use Rattle.std.specs.Fmt.{WritesInCalls};
 ghost use Rattle.std.specs.Io.KnownBytes.{Appends};
 ghost use Rattle.litmus_script.specs.Answer.{text_of_pumped};
 ghost use Rattle.litmus_script.specs.Play.{IsOfRun};
-ghost use Rattle.litmus_text.specs.Command.{IsInRange, parts_of};
-ghost use Rattle.litmus_text.specs.declared.command.Command.TheVariants as commands;
+ghost use Rattle.litmus_text.specs.Command.{IsInRange};
 ghost use Rattle.script_explained.specs.Explains.{IsExplained};
-ghost use Rattle.script_text.specs.Line.{text_of_parts};
 
 use litmus_script::{Player, Pumped, TextWriter, write_pumped};
 use litmus_text::{Command, Statement, TextFault};
 use mshr_file::MissFile;
 use script_explained::Explained;
-use script_text::Delivery;
-use slice_core::Pick;
 use std::alloc::Global;
 use std::fmt;
 use std::io::Write;
@@ -56,32 +51,4 @@ fn print_pumped<W: Write>(pumped: Pumped, out: &mut W) -> fmt::Result
 {
     let mut answers = TextWriter { out };
     write_pumped(pumped, &mut answers)
-}
-
-/// The command that makes a delivery.
-pub(crate) fn delivery_text(alloc: Global, pick: Pick) -> Result<Vec<u8>, TextFault>
-    ensures text { IfOk result (λ text. text.items ≡ text_of_parts (parts_of (commands.Deliver pick))) }
-    ensures fault { IfErr result IsOfRun }
-{
-    let mut text = Vec::new(alloc);
-    match print_delivery(pick, &mut text) {
-        Ok(()) => Ok(text),
-        Err(_) => Err(TextFault::NoMemory),
-    }
-}
-
-fn print_delivery<W: Write>(pick: Pick, out: &mut W) -> fmt::Result
-    ensures { OnOk result (Appends (W.contents out.old) (W.contents out.new)
-        (text_of_parts (parts_of (commands.Deliver pick)))) }
-{
-    let mut answers = TextWriter { out };
-    write_delivery(pick, &mut answers)
-}
-
-fn write_delivery<W: fmt::Write>(pick: Pick, out: &mut W) -> fmt::Result
-    ensures { OnOk result (WritesInCalls W.write_str_gives out.old
-        (text_of_parts (parts_of (commands.Deliver pick))) out.new) }
-{
-    let delivery = Delivery(pick);
-    write!(out, "{delivery}")
 }

@@ -7,14 +7,14 @@ ghost use Rattle.script_page.specs.Branch.{BranchIf, Branches, HasBranches, IsBr
 ghost use Rattle.script_page.specs.Branch.{has_channel, has_core, has_line, moves, picks_in};
 ghost use Rattle.script_page.specs.Step.{WritesStep};
 
-use super::answer::{answer_of, delivery_text};
+use super::answer::answer_of;
 use super::call::Planned;
 use super::step::{Before, Step, planned_of, tell, write_with};
 use address_map::{Checked, CoreId, LineAddr};
 use litmus_script::Machine;
 use litmus_text::{Command, Statement, TextFault};
 use mshr_file::MissFile;
-use script_explained::Explained;
+use script_explained::{Explained, delivery_text};
 use slice_core::{Pick, Plan, SliceState};
 use std::alloc::{AllocError, Global};
 use std::io::Write;

@@ -49,7 +49,7 @@ fn write_as<W: Write>(plain: bool, byte: u8, out: &mut W) -> fmt::Result
 }
 
 /// Writes a byte that is a character of ASCII.
-pub fn write_ascii<W: Write>(byte: u8, out: &mut W) -> fmt::Result
+fn write_ascii<W: Write>(byte: u8, out: &mut W) -> fmt::Result
     requires { byte < 128 }
     ensures { OnOk result (WritesInCalls W.write_str_gives out.old (byte ∷ []) out.new) }
 {

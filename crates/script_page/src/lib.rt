@@ -16,7 +16,6 @@
 #![tactic(auto)]
 
 pub use extras::PageExtras;
-pub use json::write_ascii;
 pub use page::{run_page, run_page_with};
 pub use rest::what_is_not_given_stays;
 

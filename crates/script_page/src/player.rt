@@ -6,14 +6,14 @@ ghost use Rattle.litmus_text.specs.Command.{IsInRange};
 ghost use Rattle.script_explained.specs.Explains.{TellsNext};
 ghost use Rattle.script_page.specs.Steps.{ArePumpSteps, IsStep, WritesSeen, next_in};
 
-use super::answer::{answer_of, delivery_text, pumped_text};
+use super::answer::{answer_of, pumped_text};
 use super::branch::write_step;
 use super::step::{Before, Step};
 use address_map::Checked;
 use litmus_script::{Deliverer, Machine, Player, pump_slices};
 use litmus_text::{Command, Statement, TextFault};
 use mshr_file::MissFile;
-use script_explained::Explained;
+use script_explained::{Explained, delivery_text};
 use slice_core::{Class, DeliveredNext};
 use std::alloc::Global;
 use std::io::Write;

@@ -1,5 +1,6 @@
--- The names of channels and the values of lines, in the pieces in which they are written, and runs from the beginning.
-use Rattle.std.proofs.Common.{◌≡◌, ℕ, List, [], ◌∷◌, ◌++◌, Option, Some, None, Result, Ok, Err, IsOk, OnOk, codes, drop}
+-- The names of channels and the values of lines, in the pieces in which they are written, what is shown of a command, and
+-- runs from the beginning.
+use Rattle.std.proofs.Common.{◌≡◌, ◌≢◌, ℕ, List, [], ◌∷◌, ◌++◌, Option, Some, None, Result, Ok, Err, IsOk, OnOk, codes, drop}
 use Rattle.std.proofs.Common.{map, refl, sym, subst, ap, ap₂, append_assoc, ◌∙◌}
 use Rattle.std.proofs.KnownBytes.{Appends-trans}
 use Rattle.std.proofs.Output.{writes_in_calls_append, writes_in_calls_single}
@@ -12,10 +13,17 @@ use Rattle.address_map.specs.declared.config.Config.{Config}
 use Rattle.directory_table.specs.declared.state.DirEntry.{DirEntry}
 use Rattle.cache_table.specs.declared.state.CopyState.{CopyState}
 use Rattle.litmus_script.specs.Play.{PlaysAll, PlaysUpTo}
+use Rattle.litmus_text.specs.Command.{parts_of}
+use Rattle.litmus_text.specs.declared.command.Command.{Command}
+use Rattle.litmus_text.specs.declared.command.Command.TheVariants as commands
 use Rattle.litmus_text.specs.declared.fault.TextFault.{TextFault}
+use Rattle.script_text.specs.Line.{text_of_parts}
+use Rattle.script_waves.specs.Named.{Names, line_named}
 use Rattle.script_waves.specs.Values.{name_of_channel, names_of, text_behind, text_of_entry, text_of_mail}
 use Rattle.script_waves.specs.Values.{text_of_place, text_of_states, text_of_total, text_of_waiting, total_of, waiting_of}
-use Rattle.script_waves.specs.Waves.{Shown, Ticks, shown_first}
+use Rattle.script_waves.specs.Waves.{IsShown, IsTick, Shown, ShowsNext, Ticks, next, shown_first, text_of_tick, text_of_values}
+use Rattle.slice_answer.specs.declared.answer.Delivery.TheVariants as deliveries
+use Rattle.slice_answer.specs.declared.answer.Delivery.{Delivery}
 use Rattle.slice_core.specs.Facts.{AreWaitingAt, ShowsLine}
 use Rattle.slice_core_plan.specs.Calls.{PartsView}
 use Rattle.slice_core_plan.specs.View.{View, channels_at, entry_at}
@@ -23,6 +31,7 @@ use Rattle.slice_core_cache.specs.CoreCache.{state_of}
 use Rattle.slice_core_steps.specs.declared.line_view.LineView.{LineView}
 use Rattle.slice_queues.specs.Waiting.{line_waiting}
 use Rattle.slice_queues_message.specs.declared.channel.Channel.{Channel}
+use Rattle.slice_queues_message.specs.declared.channel.Pick.{Pick}
 
 on_ok_from : {A E P : Type 0} (r : Result A E) → (IsOk r → P) → OnOk r P
 on_ok_from (Ok x) holds = holds refl
@@ -89,6 +98,51 @@ pub told_behind : (time command values : List ℕ) (a b c : Option (List ℕ)) �
     → Appends b c values → Appends a c (time ++ (command ++ values))
 told_behind time command values a b c first rest =
     subst (Appends a c) (append_assoc time command values) (Appends-trans a b c (time ++ command) _ first rest)
+
+-- what is shown of a command doesn't depend on the slices before it
+pub shown_from : (config other : Config) (line : List ℕ) (command : Command) (old mid new : Shown)
+    (before middle after : Option (List ℕ)) → other ≡ config → mid.named ≡ old.named → mid.played ≡ old.played
+    → mid.values ≡ old.values → middle ≡ before
+    → IsShown other line command mid new middle after → IsShown config line command old new before after
+shown_from config other line command old mid new before middle after is named played values out shown = record {
+  names = subst (λ (k : Config). Names k (line_named command) old.named new.named) is
+      (subst (λ (n : List LineAddr). Names other (line_named command) n new.named) named shown.names);
+  counted = shown.counted ∙ ap next played;
+  values = subst (λ (k : Config). new.values ≡ text_of_values k new.slices new.named) is shown.values;
+  written = subst (λ (b : Option (List ℕ)). Appends b after (text_of_tick line new.played old.values new.values)) out
+      (subst (λ (v : List ℕ). Appends middle after (text_of_tick line new.played v new.values)) values shown.written);
+}
+
+-- .. nor does what is shown of a pump's delivery
+pub next_from : (config other : Config) (answer : Delivery Pick) (old mid new : Shown)
+    (before middle after : Option (List ℕ)) → other ≡ config → mid.named ≡ old.named → mid.played ≡ old.played
+    → mid.values ≡ old.values → middle ≡ before
+    → ShowsNext other answer mid middle after new → ShowsNext config answer old before after new
+next_from config other (deliveries.Moved pick) old mid new before middle after is named played values out shown =
+    shown_from config other (text_of_parts (parts_of (commands.Deliver pick))) (commands.Deliver pick) old mid new
+    before middle after is named played values out shown
+next_from config other deliveries.Blocked old mid new before middle after is named played values out shown =
+    (shown.0 ∙ out, shown.1 ∙ named, shown.2 ∙ played, shown.3 ∙ values)
+next_from config other deliveries.Nothing old mid new before middle after is named played values out shown =
+    (shown.0 ∙ out, shown.1 ∙ named, shown.2 ∙ played, shown.3 ∙ values)
+next_from config other (deliveries.Broken cell) old mid new before middle after is named played values out shown =
+    (shown.0 ∙ out, shown.1 ∙ named, shown.2 ∙ played, shown.3 ∙ values)
+
+-- a command that is no pump takes one unit of time
+pub one_tick : (config : Config) (line : List ℕ) (command : Command) (old new : Shown) (before after : Option (List ℕ))
+    → ((calls : ℕ) → command ≢ commands.Pump calls)
+    → IsTick config line command old new before after → Ticks config old line command before after new
+one_tick config line (commands.Issue core request) old new before after other tick = tick
+one_tick config line (commands.Evict core l) old new before after other tick = tick
+one_tick config line (commands.Deliver pick) old new before after other tick = tick
+one_tick config line (commands.Hand core slice) old new before after other tick = tick
+one_tick config line (commands.Word word) old new before after other tick = tick
+one_tick config line (commands.State l) old new before after other tick = tick
+one_tick config line (commands.Log slice) old new before after other tick = tick
+one_tick config line commands.Stats old new before after other tick = tick
+one_tick config line commands.Waiting old new before after other tick = tick
+one_tick config line commands.Show old new before after other tick = tick
+one_tick config line (commands.Pump calls) old new before after other tick = absurd (other calls refl)
 
 module _ (config other : Config) (commands : List (ℕ × List (List ℕ))) (now : Shown) (start : List PartsView)
     (before after : Option (List ℕ)) (one : other ≡ config) (fresh : now ≡ shown_first start) where

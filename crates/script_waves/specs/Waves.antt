@@ -2,13 +2,18 @@
 use Rattle.std.specs.Prelude.{◌≡◌, ◌⊎◌, ℕ, ◌+◌, ◌%◌, ◌^◌, List, [], ◌++◌, Option, Some}
 use Rattle.std.specs.Io.KnownBytes.{Appends}
 use Rattle.std.specs.Str.Lines.{lines}
+use Rattle.address_map.specs.Config.{default_config}
 use Rattle.address_map.specs.declared.address.LineAddr.{LineAddr}
 use Rattle.address_map.specs.declared.config.Config.{Config}
 use Rattle.litmus_script.specs.Machine.{IsNewMachine}
 use Rattle.litmus_script.specs.Play.{IsOfRun, PlaysAll, PlaysUpTo}
 use Rattle.litmus_script.specs.Prints.{IsPrinted}
+use Rattle.litmus_script.specs.Pump.{IsDelivered, Pumps}
+use Rattle.litmus_script.specs.declared.answers.Pumped.{Pumped}
 use Rattle.litmus_script.specs.Script.{IsNotConfigured, IsSetUp}
+use Rattle.litmus_text.specs.Command.{parts_of}
 use Rattle.litmus_text.specs.declared.command.Command.{Command}
+use Rattle.litmus_text.specs.declared.command.Command.TheVariants as commands
 use Rattle.litmus_text.specs.declared.fault.TextFault.{TextFault}
 use Rattle.mshr_file.specs.Miss.{Bound}
 use Rattle.script_waves.specs.Changes.{changes}
@@ -16,10 +21,14 @@ use Rattle.script_waves.specs.InUse.{text_of_uses}
 use Rattle.script_waves.specs.Named.{Names, line_named}
 use Rattle.script_waves.specs.Signals.{text_of_header}
 use Rattle.script_waves.specs.Values.{text_of_command, text_of_lines, text_of_time}
+use Rattle.script_text.specs.Line.{text_of_parts}
+use Rattle.slice_answer.specs.declared.answer.Delivery.TheVariants as deliveries
+use Rattle.slice_answer.specs.declared.answer.Delivery.{Delivery}
 use Rattle.slice_core_plan.specs.Calls.{PartsView}
+use Rattle.slice_queues_message.specs.declared.channel.Pick.{Pick}
 
--- what is known of a run: the machine's slices, the lines that were named, how many commands were played, and the values
--- that stand behind the last
+-- what is known of a run: the machine's slices, the lines that were named, how many commands were played and deliveries of
+-- pumps made, and the values that stand behind the last
 pub record Shown : Type 0 where
   pub slices : List PartsView
   pub named : List LineAddr
@@ -39,18 +48,49 @@ abbrev pub text_of_tick : List ℕ → ℕ → List ℕ → List ℕ → List �
 text_of_tick line played before values =
     text_of_time played ++ (text_of_command line ++ changes (lines before) (lines values))
 
--- The command is played, as it is where its answer is printed, and takes one unit of time. What it changed is written.
-pub record IsTick (config : Config) (line : List ℕ) (command : Command) (old new : Shown)
+-- What a command changed is shown, with this line: it takes one unit of time.
+pub record IsShown (config : Config) (line : List ℕ) (command : Command) (old new : Shown)
     (before after : Option (List ℕ)) : Type 0 where
-  pub answer : List ℕ
-  pub made : IsPrinted config command old.slices new.slices (Some []) (Some answer)
   pub names : Names config (line_named command) old.named new.named
   pub counted : new.played ≡ next old.played
   pub values : new.values ≡ text_of_values config new.slices new.named
   pub written : Appends before after (text_of_tick line new.played old.values new.values)
 
--- .. as what a player does of it
+-- The command is played, as it is where its answer is printed, and shown.
+pub record IsTick (config : Config) (line : List ℕ) (command : Command) (old new : Shown)
+    (before after : Option (List ℕ)) : Type 0 where
+  pub answer : List ℕ
+  pub made : IsPrinted config command old.slices new.slices (Some []) (Some answer)
+  pub shown : IsShown config line command old new before after
+
+-- a delivery of a pump is shown as the command that makes it would be, and none isn't
+abbrev pub ShowsNext : Config → Delivery Pick → Shown → Option (List ℕ) → Option (List ℕ) → Shown → Type 0
+ShowsNext config (deliveries.Moved pick) old before after new =
+    let command = commands.Deliver pick in
+    IsShown config (text_of_parts (parts_of command)) command old new before after
+ShowsNext config answer old before after new =
+    (after ≡ before) × (new.named ≡ old.named) × (new.played ≡ old.played) × (new.values ≡ old.values)
+
+-- the next delivery of a slice is made, and shown
+pub record IsNextTick (config : Config) (old : Shown) (slice : ℕ) (answer : Delivery Pick)
+    (before after : Option (List ℕ)) (new : Shown) : Type 0 where
+  pub made : IsDelivered slice answer old.slices new.slices
+  pub shown : ShowsNext config answer old before after new
+
+-- A pump: a unit of time for each of its deliveries, and then one of its own.
+pub record ArePumpTicks (config : Config) (line : List ℕ) (calls : ℕ) (old new : Shown)
+    (before after : Option (List ℕ)) : Type 0 where
+  pub pumped : Pumped
+  pub last : Shown
+  pub middle : Option (List ℕ)
+  pub pumps : Pumps (IsNextTick config) config.slices calls pumped old last before middle
+  pub same : new.slices ≡ last.slices
+  pub shown : IsShown config line (commands.Pump calls) last new middle after
+
+-- what a player does of a command
 abbrev pub Ticks : Config → Shown → List ℕ → Command → Option (List ℕ) → Option (List ℕ) → Shown → Type 0
+Ticks config old line (commands.Pump calls) before after new =
+    ArePumpTicks config line calls old new before after
 Ticks config old line command before after new = IsTick config line command old new before after
 
 -- nothing was played yet
@@ -83,10 +123,10 @@ pub record IsWavesOf (config : Config) (bound : Bound) (commands : List (ℕ × 
   pub fresh : IsNewMachine config bound start
   pub waves : HasWaves config commands start before after
 
--- A script's waves. One that says nothing has none.
+-- A script's waves. Those of one that says nothing have no value: nothing is played on the machine that it has then.
 abbrev pub IsWaves : List (ℕ × List (List ℕ)) → Option (List ℕ) → Option (List ℕ) → Type 0
 IsWaves all before after =
-    ((all ≡ []) × (after ≡ before))
+    ((all ≡ []) × IsWritten default_config.cores default_config.slices [] [] 1 before after)
     ⊎ ((config : Config) × (bound : Bound) × (commands : List (ℕ × List (List ℕ)))
     × IsSetUp all config bound commands × IsWavesOf config bound commands before after)
 

@@ -4,7 +4,6 @@ ghost use Rattle.std.specs.Fmt.{WritesInCalls};
 ghost use Rattle.std.specs.List.{flat_map};
 ghost use Rattle.script_waves.specs.Values.{byte_shown, text_of_command, text_of_time};
 
-use script_page::write_ascii;
 use std::fmt;
 use std::fmt::Write;
 
@@ -32,6 +31,13 @@ fn write_bytes<W: Write>(line: &[u8], out: &mut W) -> fmt::Result
         write_ascii(shown(*byte), out)?;
     }
     Ok(())
+}
+
+fn write_ascii<W: Write>(byte: u8, out: &mut W) -> fmt::Result
+    requires { byte < 128 }
+    ensures { OnOk result (WritesInCalls W.write_str_gives out.old (byte ∷ []) out.new) }
+{
+    out.write_char(byte as char)
 }
 
 /// What is no printed ASCII shows as a line below.

@@ -8,7 +8,7 @@ ghost use Rattle.litmus_script.specs.Prints.{IsPrinted};
 ghost use Rattle.litmus_text.specs.Command.{IsInRange};
 ghost use Rattle.script_waves.specs.Named.{Names, line_named};
 ghost use Rattle.script_waves.specs.Values.{text_of_command, text_of_lines, text_of_time};
-ghost use Rattle.script_waves.specs.Waves.{text_of_tick, text_of_values};
+ghost use Rattle.script_waves.specs.Waves.{ArePumpTicks, IsShown, IsTick, Shown, ShowsNext, text_of_tick, text_of_values};
 
 use super::changes::write_changes;
 use super::command::{write_command, write_time};
@@ -16,21 +16,23 @@ use super::in_use::write_uses;
 use super::named::note_line;
 use super::values::write_lines;
 use address_map::{Checked, LineAddr};
-use litmus_script::{Machine, Player, TextWriter, written};
+use litmus_script::{Deliverer, Machine, Player, TextWriter, pump_slices, written};
 use litmus_text::{Command, Statement, TextFault};
 use mshr_file::MissFile;
+use script_explained::delivery_text;
+use slice_core::DeliveredNext;
 use std::alloc::Global;
 use std::fmt;
 use std::io::Write;
 
-/// A player that writes, behind each command, what it changed of what each core has in use, and of what the slices have of
-/// each line named so far.
+/// A player that writes, behind each command and each delivery of a pump, what it changed of what each core has in use, and
+/// of what the slices have of each line named so far.
 #[derive(Drop)]
 pub(crate) struct Waved<F: MissFile> {
     pub(crate) machine: Machine<F>,
     /// The lines that the commands named so far, each once.
     pub(crate) named: Vec<LineAddr>,
-    /// How many commands were played, modulo 2^64.
+    /// How many commands were played and deliveries of pumps made, modulo 2^64.
     pub(crate) played: u64,
     /// The values behind the last command.
     pub(crate) values: Vec<u8>,
@@ -41,24 +43,25 @@ pub(crate) struct Waved<F: MissFile> {
 
 impl<F: MissFile> Player for Waved<F> {
     ghost use Rattle.std.specs.Prelude.{◌≡◌};
-    ghost use Rattle.script_waves.specs.Waves.{IsTick, Shown};
+    ghost use Rattle.script_waves.specs.Waves.{Shown, Ticks};
 
     ghost config_of = { λ player. player.machine.config };
 
     ghost plays = { λ old line command before after new. (new.machine.config ≡ old.machine.config)
-        × IsTick old.machine.config line command
+        × Ticks old.machine.config
         (record {
           slices = old.machine.slices.items;
           named = old.named.items;
           played = old.played;
           values = old.values.items;
         })
+        line command before after
         (record {
           slices = new.machine.slices.items;
           named = new.named.items;
           played = new.played;
           values = new.values.items;
-        }) before after };
+        }) };
 
     fn config(&self) -> &Checked {
         &self.machine.config
@@ -70,13 +73,48 @@ impl<F: MissFile> Player for Waved<F> {
         command: Command,
         out: &mut W,
     ) -> Result<(), TextFault> {
-        self.answer(command)?;
-        self.name(command)?;
-        self.played = self.played.wrapping_add(1);
-        let values = self.look()?;
-        self.tell(statement.line, values.as_slice(), out)?;
-        self.values = values;
-        Ok(())
+        match command {
+            Command::Pump(calls) => self.pump(statement.line, calls, out),
+            _ => self.tick(statement.line, command, out),
+        }
+    }
+}
+
+/// Each delivery that a pump makes takes a unit of time.
+impl<F: MissFile> Deliverer for Waved<F> {
+    ghost use Rattle.std.specs.Prelude.{◌≡◌};
+    ghost use Rattle.script_waves.specs.Waves.{IsNextTick, Shown};
+
+    ghost config_of = { λ player. player.machine.config };
+
+    ghost delivers = { λ old slice answer before after new. (new.machine.config ≡ old.machine.config)
+        × IsNextTick old.machine.config
+        (record {
+          slices = old.machine.slices.items;
+          named = old.named.items;
+          played = old.played;
+          values = old.values.items;
+        })
+        slice answer before after
+        (record {
+          slices = new.machine.slices.items;
+          named = new.named.items;
+          played = new.played;
+          values = new.values.items;
+        }) };
+
+    fn slices(&self) -> usize {
+        self.machine.config.slices()
+    }
+
+    fn deliver_next<W: Write>(
+        &mut self,
+        slice: usize,
+        out: &mut W,
+    ) -> Result<DeliveredNext, TextFault> {
+        let delivered = self.machine.deliver_next(slice, out)?;
+        self.show_next(delivered, out)?;
+        Ok(delivered)
     }
 }
 
@@ -95,6 +133,120 @@ impl<F: MissFile> Waved<F> {
             answer: Vec::new(alloc),
             alloc,
         }
+    }
+
+    /// Plays the command, and shows what it changed.
+    fn tick<W: Write>(
+        &mut self,
+        line: &[u8],
+        command: Command,
+        out: &mut W,
+    ) -> Result<(), TextFault>
+        requires { IsInRange self.old.machine.config command }
+        ensures config { self.new.machine.config ≡ self.old.machine.config }
+        ensures ticked { OnOk result (IsTick self.old.machine.config line.now command
+            (record {
+              slices = self.old.machine.slices.items;
+              named = self.old.named.items;
+              played = self.old.played;
+              values = self.old.values.items;
+            })
+            (record {
+              slices = self.new.machine.slices.items;
+              named = self.new.named.items;
+              played = self.new.played;
+              values = self.new.values.items;
+            })
+            (W.contents out.old) (W.contents out.new)) }
+        ensures fault { IfErr result IsOfRun }
+    {
+        self.answer(command)?;
+        self.show(line, command, out)
+    }
+
+    /// Pumps: shows what each delivery changed, and then the pump itself.
+    fn pump<W: Write>(&mut self, line: &[u8], calls: u64, out: &mut W) -> Result<(), TextFault>
+        ensures config { self.new.machine.config ≡ self.old.machine.config }
+        ensures ticked { OnOk result (ArePumpTicks self.old.machine.config line.now calls
+            (record {
+              slices = self.old.machine.slices.items;
+              named = self.old.named.items;
+              played = self.old.played;
+              values = self.old.values.items;
+            })
+            (record {
+              slices = self.new.machine.slices.items;
+              named = self.new.named.items;
+              played = self.new.played;
+              values = self.new.values.items;
+            })
+            (W.contents out.old) (W.contents out.new)) }
+        ensures fault { IfErr result IsOfRun }
+    {
+        let _pumped = pump_slices(self, calls, out)?;
+        self.show(line, Command::Pump(calls), out)
+    }
+
+    /// Shows what a delivery of a pump changed, if one was made.
+    fn show_next<W: Write>(
+        &mut self,
+        delivered: DeliveredNext,
+        out: &mut W,
+    ) -> Result<(), TextFault>
+        ensures machine { self.new.machine ≡ self.old.machine }
+        ensures shown { OnOk result (ShowsNext self.old.machine.config delivered
+            (record {
+              slices = self.old.machine.slices.items;
+              named = self.old.named.items;
+              played = self.old.played;
+              values = self.old.values.items;
+            })
+            (W.contents out.old) (W.contents out.new)
+            (record {
+              slices = self.new.machine.slices.items;
+              named = self.new.named.items;
+              played = self.new.played;
+              values = self.new.values.items;
+            })) }
+        ensures fault { IfErr result IsOfRun }
+    {
+        let DeliveredNext::Moved(pick) = delivered else {
+            return Ok(());
+        };
+        let line = delivery_text(self.alloc, pick)?;
+        self.show(line.as_slice(), Command::Deliver(pick), out)
+    }
+
+    /// Takes a unit of time for a command that was played: shows this line, and what has changed.
+    fn show<W: Write>(
+        &mut self,
+        line: &[u8],
+        command: Command,
+        out: &mut W,
+    ) -> Result<(), TextFault>
+        ensures machine { self.new.machine ≡ self.old.machine }
+        ensures shown { OnOk result (IsShown self.old.machine.config line.now command
+            (record {
+              slices = self.old.machine.slices.items;
+              named = self.old.named.items;
+              played = self.old.played;
+              values = self.old.values.items;
+            })
+            (record {
+              slices = self.new.machine.slices.items;
+              named = self.new.named.items;
+              played = self.new.played;
+              values = self.new.values.items;
+            })
+            (W.contents out.old) (W.contents out.new)) }
+        ensures fault { IfErr result IsOfRun }
+    {
+        self.name(command)?;
+        self.played = self.played.wrapping_add(1);
+        let values = self.look()?;
+        self.tell(line, values.as_slice(), out)?;
+        self.values = values;
+        Ok(())
     }
 
     /// Plays the command.

@@ -1,7 +1,8 @@
 //! A script's waves.
-ghost use Rattle.std.specs.Prelude.{◌≡◌, ◌⊎◌, List, IfErr, IfOk, OnOk};
+ghost use Rattle.std.specs.Prelude.{◌≡◌, ◌⊎◌, List, [], IfErr, IfOk, OnOk};
 ghost use Rattle.std.specs.Io.KnownBytes.{Appends};
 ghost use Rattle.std.specs.Str.Lines.{lines};
+ghost use Rattle.address_map.specs.Config.{default_config};
 ghost use Rattle.litmus_script.specs.Machine.{IsNewMachine, bound_of};
 ghost use Rattle.litmus_script.specs.Play.{IsOfRun};
 ghost use Rattle.litmus_script.specs.Script.{commands_of};
@@ -14,7 +15,7 @@ ghost use Rattle.slice_core_plan.specs.Calls.{PartsView};
 use super::command::write_time;
 use super::header::write_header;
 use super::player::Waved;
-use address_map::{Checked, LineAddr};
+use address_map::{Checked, Config, LineAddr};
 use litmus_script::{Commands, Machine, Script, TextWriter, written};
 use litmus_text::TextFault;
 use mshr_file::{ExplicitFile, InvertedFile, MissFile, MissKind};
@@ -30,11 +31,23 @@ pub fn run_waves<W: Write>(alloc: Global, input: &[u8], out: &mut W) -> Result<u
         (W.contents out.old) (W.contents out.new)) }
     ensures fault { IfErr result (IsWavesFault (statements_from 0 (lines input.now))) }
 {
-    let Some(script) = Script::read(alloc, input)? else {
-        return Ok(0);
-    };
-    waves_of(alloc, script, out)?;
+    match Script::read(alloc, input)? {
+        Some(script) => waves_of(alloc, script, out)?,
+        None => waves_of_nothing(alloc, out)?,
+    }
     Ok(0)
+}
+
+/// The waves of a script that says nothing: the signals of its machine's cores, and no value.
+fn waves_of_nothing<W: Write>(alloc: Global, out: &mut W) -> Result<(), TextFault>
+    ensures written { OnOk result (IsWritten default_config.cores default_config.slices [] [] 1
+        (W.contents out.old) (W.contents out.new)) }
+    ensures fault { IfErr result IsOfRun }
+{
+    let config = Config::new(alloc);
+    begin(config.cores as usize, config.slices as usize, &[], out)?;
+    tell(&[], out)?;
+    end(1, out)
 }
 
 fn waves_of<W: Write>(alloc: Global, script: Script<'_>, out: &mut W) -> Result<(), TextFault>
@@ -103,17 +116,27 @@ fn write_all<F: MissFile, W: Write>(
         player.now.named.items ticks.now (next player.now.played) (W.contents out.old) (W.contents out.new)) }
     ensures fault { IfErr result IsOfRun }
 {
-    begin(&player.machine.config, player.named.as_slice(), out)?;
+    let config = &player.machine.config;
+    begin(
+        config.cores(),
+        config.slices(),
+        player.named.as_slice(),
+        out,
+    )?;
     tell(ticks, out)?;
     end(player.played.wrapping_add(1), out)
 }
 
-fn begin<W: Write>(config: &Checked, named: &[LineAddr], out: &mut W) -> Result<(), TextFault>
+fn begin<W: Write>(
+    cores: usize,
+    slices: usize,
+    named: &[LineAddr],
+    out: &mut W,
+) -> Result<(), TextFault>
     ensures header { OnOk result (Appends (W.contents out.old) (W.contents out.new)
-        (text_of_header config.now.cores config.now.slices named.now)) }
+        (text_of_header cores slices named.now)) }
     ensures fault { IfErr result IsOfRun }
 {
-    let (cores, slices) = (config.cores(), config.slices());
     let mut answers = TextWriter { out };
     written(write_header(cores, slices, named, &mut answers))
 }

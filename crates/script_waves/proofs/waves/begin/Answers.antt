@@ -10,4 +10,4 @@ returns-clause-header g c =
     (λ wrote.
     let (name, bytes) = Appends-of_writes (λ s. s.out.ghost_name) (λ s. contents s.out.now) _ _ _ wrote in
     search rules)
-    (rw (c.cores-cores.ensures.cores, c.slices-slices.ensures.slices) at c.write_header.ensures)
+    c.write_header.ensures

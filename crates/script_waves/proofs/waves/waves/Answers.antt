@@ -4,7 +4,7 @@ use Rattle.address_map.specs.declared.config.Config.{Config}
 use Rattle.litmus_script.proofs.PlayLemmas.{all_shown, up_to_shown}
 use Rattle.litmus_script.specs.Play.{PlaysAll, PlaysUpTo}
 use Rattle.litmus_script.specs.Script.{commands_of}
-use Rattle.script_waves.specs.Waves.{IsTick, IsWritten, Shown, Ticks, shown_first, next}
+use Rattle.script_waves.specs.Waves.{IsWritten, Shown, Ticks, shown_first, next}
 use Rattle.script_waves.proofs.WavesLemmas.{played_from, stopped_from}
 use Rattle.script_waves.proofs.waves.waves.Goals as goal
 
@@ -30,18 +30,18 @@ returns-in-Ok-clause-waves g c =
     (λ p. p.machine.config ≡ config) _ (Ticks config)
     (λ old new line command before after same made. (
       made.0 ∙ same,
-      subst (λ k. IsTick k line command (record {
+      subst (λ k. Ticks k (record {
         slices = old.machine.slices.items;
         named = old.named.items;
         played = old.played;
         values = old.values.items;
-      })
+      }) line command before after
           (record {
             slices = new.machine.slices.items;
             named = new.named.items;
             played = new.played;
             values = new.values.items;
-          }) before after)
+          }))
           same made.1,
     ))
     _ _ _ _ _ _ is c.in-Ok.ensures.played in
@@ -92,18 +92,18 @@ returns-clause-fault g c =
     (λ p. p.machine.config ≡ config) _ (Ticks config)
     (λ old new line command before after same made. (
       made.0 ∙ same,
-      subst (λ k. IsTick k line command (record {
+      subst (λ k. Ticks k (record {
         slices = old.machine.slices.items;
         named = old.named.items;
         played = old.played;
         values = old.values.items;
-      })
+      }) line command before after
           (record {
             slices = new.machine.slices.items;
             named = new.named.items;
             played = new.played;
             values = new.values.items;
-          }) before after)
+          }))
           same made.1,
     ))
     _ _ _ _ _ c.in-Err.fault is c.in-Err.ensures.fault in

@@ -7,7 +7,7 @@ returns-clause-written g c =
     on_ok_weaker c.end.result
     (λ ended. record {
       first = contents c.begin.new.out;
-      header = rw c.as_slice.ensures.value at c.in_ok-begin.ensures.header;
+      header = rw (c.cores.ensures.cores, c.slices.ensures.slices, c.as_slice.ensures.value) at c.in_ok-begin.ensures.header;
       last = contents c.tell.new.out;
       told = c.in_ok-tell.ensures.told;
       ended = ended;

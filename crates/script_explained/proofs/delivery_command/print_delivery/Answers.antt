@@ -1,7 +1,7 @@
 use Rattle.std.proofs.Common.{rules}
 use Rattle.std.proofs.KnownBytes.{Appends-of_writes}
 use Rattle.std.proofs.lemmas.Result.{on_ok_weaker}
-use Rattle.script_page.proofs.answer.print_delivery.Goals as goal
+use Rattle.script_explained.proofs.delivery_command.print_delivery.Goals as goal
 
 pub returns : goal.returns
 returns g c =
